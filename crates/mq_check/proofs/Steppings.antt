@@ -41,7 +41,7 @@ step_wanted : (family : Family) (now : ℕ) (before after : LinkValue) (step : S
 step_wanted family now before after step old begun new messages answers is_family is_own begins out handed =
     let is_returning = not (is_querier before.state.election.role) in
     ap (λ (w : WantingValue). w.checking) (all_wanted family begun messages answers new handed ∙ ap (after_messages family messages) begins)
-    ∙ (λ i. with_messages (is_family i) (is_own i) now is_returning (out.handed i) old.checking)
+    ∙ (λ i. with_messages (is_family i) (is_own i) now old.basis.packets is_returning (out.handed i) old.checking)
 
 pub ticked_is : (family : Family) (within now : ℕ) (before after : LinkValue) (old begun new last : WantingValue) (messages : List Outgoing) (answers : List Bool)
     → family ≡ before.config.family → old.own ≡ before.config.own → begun ≡ begun_at now before old

@@ -11,6 +11,7 @@ use Rattle.mq_replay.specs.Report.{is_gap}
 use Rattle.mq_check.specs.declared.basis.Basis.{Basis}
 use Rattle.mq_check.specs.declared.check_fault.CheckFault.{CheckFault}
 use Rattle.mq_check.specs.declared.check_fault.CheckFault.TheVariants as answer
+use Rattle.mq_check.specs.declared.check_terms.Additions.{Additions}
 use Rattle.mq_check.specs.declared.check_terms.CheckTerms.{CheckTerms}
 use Rattle.mq_check.specs.declared.finding.Finding.{Finding}
 use Rattle.mq_check.specs.declared.totals.Totals.{Totals}
@@ -51,35 +52,35 @@ counted_behind count c basis found = record {
 }
 
 -- the text of the end
-abbrev pub end_text : Family → (cite : Bool) → List (Finding ℕ) → Totals → List ℕ
-end_text family cite found totals = finding_lines family cite found ++ last_lines totals
+abbrev pub end_text : Family → (additions : Additions) → List (Finding ℕ) → Totals → List ℕ
+end_text family additions found totals = finding_lines family additions found ++ last_lines totals
 
 -- The verdict up to and including a moment, after `count` earlier findings.
-abbrev pub end_behind : Family → (cite : Bool) → (count number : ℕ) → CheckingValue → Basis → (found last : List (Finding ℕ)) → Verdict
-end_behind family cite count number c basis found last =
+abbrev pub end_behind : Family → (additions : Additions) → (count number : ℕ) → CheckingValue → Basis → (found last : List (Finding ℕ)) → Verdict
+end_behind family additions count number c basis found last =
     if c.waiting.is_full
-    then record { text = finding_lines family cite found; answer = Err (answer.Waiting number) }
+    then record { text = finding_lines family additions found; answer = Err (answer.Waiting number) }
     else record {
-      text = end_text family cite (found ++ last) (counted_behind count c basis (found ++ last));
+      text = end_text family additions (found ++ last) (counted_behind count c basis (found ++ last));
       answer = Ok (counted_behind count c basis (found ++ last));
     }
 
-unfoldable pub ended_behind : Configuration → (within : ℕ) → (cite : Bool) → (moment count number : ℕ) → Checked → Verdict
-ended_behind config within cite moment count number r =
+unfoldable pub ended_behind : Configuration → (within : ℕ) → (additions : Additions) → (moment count number : ℕ) → Checked → Verdict
+ended_behind config within additions moment count number r =
     let done = settled_through config within moment r in
     let ahead = looked_ahead config within moment done.checked in
     let silence = silence_up_to within config.timing moment done.checked.checking.phase in
-    end_behind config.family cite count number ahead.checked.checking done.checked.basis (done.found ++ ahead.found)
+    end_behind config.family additions count number ahead.checked.checking done.checked.basis (done.found ++ ahead.found)
     (told_at_end within config.timing moment silence ahead.checked.checking)
 
 -- The verdict on the time after the packets of a file that has ended, after `count` earlier findings. `last` is the
 -- moment of the last packet, and `number` is that of the next packet.
-abbrev pub rest_behind : Configuration → (within : ℕ) → (until : Option ℕ) → (cite : Bool) → (last count number : ℕ) → Checked → Verdict
-rest_behind config within until cite last count number r =
+abbrev pub rest_behind : Configuration → (within : ℕ) → (until : Option ℕ) → (additions : Additions) → (last count number : ℕ) → Checked → Verdict
+rest_behind config within until additions last count number r =
     let end = max last (unwrap_or until 0) in
     elim (is_gap last end) [
       | true ↦ record { text = []; answer = Err (answer.Gap number) }
-      | false ↦ ended_behind config within cite end count number r
+      | false ↦ ended_behind config within additions end count number r
     ]
 
 -- the verdict was put, or a prefix of it was written

@@ -141,12 +141,14 @@ fn put_interval<F: Family, A: Allocator>(
     waiting: &mut Waiting<F, A>,
     configured: Timing,
     stamp: Stamp,
+    packet: u64,
     passed: Option<u64>,
 )
-    ensures { waiting.new ≡ spec.with_interval configured stamp passed waiting.old }
+    ensures { waiting.new ≡ spec.with_interval configured stamp packet passed waiting.old }
 {
     if let Some(passed) = passed {
-        waiting.put(Entry::Interval(stamp.moment(), passed, query_interval(configured)));
+        let wanted = query_interval(configured);
+        waiting.put(Entry::Interval(stamp.moment(), packet, passed, wanted));
     }
 }
 
@@ -391,7 +393,7 @@ impl<F: Family, A: Allocator> Checking<F, A> {
         ensures { self.new ≡ spec.with_general within configured stamp (numbered_terms F.Address.number terms) (numbered_terms F.Address.number wanted) self.old }
     {
         let passed = self.phase.wrong_interval(within, configured, stamp.ms());
-        put_interval(&mut self.waiting, configured, stamp, passed);
+        put_interval(&mut self.waiting, configured, stamp, terms.packet, passed);
         self.phase = self.phase.behind(within, configured, stamp.ms());
         self.waiting.join(Side::OfWanted, Asked::AllGroups, terms);
         self.waiting.put(Entry::Seen(
@@ -531,20 +533,21 @@ impl<F: CheckedFamily, A: Allocator> Checking<F, A>
 where
     F::Address: LineKey,
 {
-    /// Handles a query of the checked router that is seen.
+    /// Handles a query of the checked router that is seen in a packet.
     pub(crate) fn query_seen(
         &mut self,
         within: u32,
         link: &Link<F, A>,
         stamp: Stamp,
+        packet: u64,
         to: F::Address,
         query: &Query<'_, F::Address>,
     )
-        ensures { self.new ≡ spec.query_came within link.now.config link.now.state stamp (F.Address.number to) (numbered_query F.Address.number query.now) self.old }
+        ensures { self.new ≡ spec.query_came within link.now.config link.now.state stamp packet (F.Address.number to) (numbered_query F.Address.number query.now) self.old }
     {
         let config = link.config();
         config.is_faultless();
-        let terms = terms_of(to, query);
+        let terms = terms_of(packet, to, query);
         let configured = config.timing();
         let in_force = link.timing();
         if is_general::<F>(query) {
@@ -556,20 +559,22 @@ where
         self.see_specific(stamp.moment(), terms, link, wanted, query);
     }
 
-    /// Handles a query that the link sends. A general query is wanted only if the router becomes querier again.
+    /// Handles a query that the link sends after a packet. A general query is wanted only if the router becomes querier
+    /// again.
     pub(crate) fn query_wanted(
         &mut self,
         moment: Moment,
+        packet: u64,
         is_returning: bool,
         to: F::Address,
         query: &Query<'_, F::Address>,
     )
-        ensures { self.new ≡ spec.one_wanted F.FAMILY moment is_returning (F.Address.number to) (numbered_query F.Address.number query.now) self.old }
+        ensures { self.new ≡ spec.one_wanted F.FAMILY moment packet is_returning (F.Address.number to) (numbered_query F.Address.number query.now) self.old }
     {
         if is_general::<F>(query) && !is_returning {
             return;
         }
-        self.want_all(moment, terms_of(to, query), query);
+        self.want_all(moment, terms_of(packet, to, query), query);
     }
 
     /// Handles the end of the capture, after which the partners of wanted queries may come.

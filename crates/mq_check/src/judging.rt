@@ -19,6 +19,14 @@ use mq_text::LineFault;
 use mq_wire::WireKey;
 use std::io::Write;
 
+/// The moment of a seen query, the number of its packet, and its subject.
+#[derive(Clone, Copy)]
+struct SeenAt<K: WireKey> {
+    moment: Moment,
+    packet: u64,
+    asked: Asked<K>,
+}
+
 /// Returns whether the role changed within the tolerance of a moment.
 fn is_near_change(within: Span, moment: Moment, changed: &Option<Moment>) -> bool
     requires changed_in_range { IfSome changed.now (λ at. at ≤ 2 ^ 53) }
@@ -63,14 +71,15 @@ where
         (output_of W.contents writer.old) (output_of W.contents writer.new) result }
 {
     match entry {
-        Entry::Wanted(moment, asked, _, is_optional, is_found) => {
+        Entry::Wanted(moment, asked, terms, is_optional, is_found) => {
             if *is_optional {
                 return Ok(());
             }
             if *is_found {
                 return Ok(());
             }
-            tell_finding::<F, W>(Finding::Missing(*moment, *asked), told, writer)
+            let missing = Finding::Missing(*moment, terms.packet, *asked);
+            tell_finding::<F, W>(missing, told, writer)
         }
         Entry::Seen(moment, asked, terms, partner, alone) => match partner {
             Some(wanted) => {
@@ -83,8 +92,9 @@ where
                 tell_alone::<F, W>(*moment, *asked, terms, alone, told, writer)
             }
         },
-        Entry::Interval(moment, passed, wanted) => {
-            tell_finding::<F, W>(Finding::Interval(*moment, *passed, *wanted), told, writer)
+        Entry::Interval(moment, packet, passed, wanted) => {
+            let interval = Finding::Interval(*moment, *packet, *passed, *wanted);
+            tell_finding::<F, W>(interval, told, writer)
         }
         Entry::Silence(moment, passed, wanted) => {
             tell_finding::<F, W>(Finding::Silence(*moment, *passed, *wanted), told, writer)
@@ -112,7 +122,8 @@ where
 {
     match alone {
         Unpaired::Extra(is_querier) => {
-            tell_finding::<F, W>(Finding::Extra(moment, asked, *is_querier), told, writer)
+            let extra = Finding::Extra(moment, terms.packet, asked, *is_querier);
+            tell_finding::<F, W>(extra, told, writer)
         }
         Unpaired::Allowed(wanted) => {
             tell_differences::<F, W>(moment, asked, terms, wanted, told, writer)
@@ -136,18 +147,21 @@ where
         (spec.differences_found moment (numbered_asked F.Address.number asked) (numbered_terms F.Address.number seen.now) (numbered_terms F.Address.number wanted.now))
         told.old told.new (output_of W.contents writer.old) (output_of W.contents writer.new) result }
 {
-    tell_difference::<F, W>(moment, asked, version_differs(seen, wanted), told, writer)?;
-    tell_difference::<F, W>(
+    let at = SeenAt {
         moment,
+        packet: seen.packet,
         asked,
+    };
+    tell_difference::<F, W>(at, version_differs(seen, wanted), told, writer)?;
+    tell_difference::<F, W>(
+        at,
         response_differs(seen.response, wanted.response),
         told,
         writer,
     )?;
-    tell_querier_differences::<F, W>(moment, asked, seen.querier, wanted.querier, told, writer)?;
+    tell_querier_differences::<F, W>(at, seen.querier, wanted.querier, told, writer)?;
     tell_difference::<F, W>(
-        moment,
-        asked,
+        at,
         destination_differs::<F>(seen.to, wanted.to),
         told,
         writer,
@@ -156,8 +170,7 @@ where
 
 /// Reports each field that differs among those that only IGMPv3 and MLDv2 have, if both queries have them.
 fn tell_querier_differences<F: Family, W: Write>(
-    moment: Moment,
-    asked: Asked<F::Address>,
+    at: SeenAt<F::Address>,
     seen: Option<QuerierTerms>,
     wanted: Option<QuerierTerms>,
     told: &mut Told,
@@ -166,12 +179,12 @@ fn tell_querier_differences<F: Family, W: Write>(
 where
     F::Address: LineKey,
     ensures { Tells F.Address.family
-        (spec.differ_at moment (numbered_asked F.Address.number asked) (spec.queriers_differ seen wanted))
+        (spec.differ_at at.moment at.packet (numbered_asked F.Address.number at.asked) (spec.queriers_differ seen wanted))
         told.old told.new (output_of W.contents writer.old) (output_of W.contents writer.new) result }
 {
     match (seen, wanted) {
         (Some(seen), Some(wanted)) => {
-            tell_fields::<F, W>(moment, asked, seen, wanted, told, writer)
+            tell_fields::<F, W>(at, seen, wanted, told, writer)
         }
         _ => Ok(()),
     }
@@ -179,8 +192,7 @@ where
 
 /// Reports each field that differs among S, QRV and QQIC.
 fn tell_fields<F: Family, W: Write>(
-    moment: Moment,
-    asked: Asked<F::Address>,
+    at: SeenAt<F::Address>,
     seen: QuerierTerms,
     wanted: QuerierTerms,
     told: &mut Told,
@@ -189,24 +201,22 @@ fn tell_fields<F: Family, W: Write>(
 where
     F::Address: LineKey,
     ensures { Tells F.Address.family
-        (spec.differ_at moment (numbered_asked F.Address.number asked) (spec.fields_differ seen wanted))
+        (spec.differ_at at.moment at.packet (numbered_asked F.Address.number at.asked) (spec.fields_differ seen wanted))
         told.old told.new (output_of W.contents writer.old) (output_of W.contents writer.new) result }
 {
-    tell_difference::<F, W>(moment, asked, suppress_differs(seen, wanted), told, writer)?;
+    tell_difference::<F, W>(at, suppress_differs(seen, wanted), told, writer)?;
     tell_difference::<F, W>(
-        moment,
-        asked,
+        at,
         robustness_differs(seen, wanted),
         told,
         writer,
     )?;
-    tell_difference::<F, W>(moment, asked, interval_differs(seen, wanted), told, writer)
+    tell_difference::<F, W>(at, interval_differs(seen, wanted), told, writer)
 }
 
 /// Reports a field that differs, if there is one.
 fn tell_difference<F: Family, W: Write>(
-    moment: Moment,
-    asked: Asked<F::Address>,
+    at: SeenAt<F::Address>,
     difference: Option<Difference<F::Address>>,
     told: &mut Told,
     writer: &mut Watched<W>,
@@ -214,12 +224,13 @@ fn tell_difference<F: Family, W: Write>(
 where
     F::Address: LineKey,
     ensures { Tells F.Address.family
-        (spec.differ_at moment (numbered_asked F.Address.number asked) (difference_list F.Address.number difference))
+        (spec.differ_at at.moment at.packet (numbered_asked F.Address.number at.asked) (difference_list F.Address.number difference))
         told.old told.new (output_of W.contents writer.old) (output_of W.contents writer.new) result }
 {
     match difference {
         Some(difference) => {
-            tell_finding::<F, W>(Finding::Differs(moment, asked, difference), told, writer)
+            let differs = Finding::Differs(at.moment, at.packet, at.asked, difference);
+            tell_finding::<F, W>(differs, told, writer)
         }
         None => Ok(()),
     }

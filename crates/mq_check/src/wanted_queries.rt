@@ -224,21 +224,24 @@ where
     )
         ensures { self.new ≡ record self.old {
           checking =
-              spec.query_came within link.now.config link.now.state stamp (F.Address.number to) (numbered_query F.Address.number query.now) self.old.checking;
+              spec.query_came within link.now.config link.now.state stamp self.old.basis.packets (F.Address.number to) (numbered_query F.Address.number query.now) self.old.checking;
         } }
     {
-        self.checking.query_seen(within, link, stamp, to, query);
+        let packet = self.basis.packets;
+        self.checking
+            .query_seen(within, link, stamp, packet, to, query);
     }
 
     /// Handles a query that the link sends.
     fn want(&mut self, to: F::Address, query: &Query<'_, F::Address>)
         ensures { self.new ≡ record self.old {
           checking =
-              spec.one_wanted F.FAMILY self.old.moment self.old.is_returning (F.Address.number to) (numbered_query F.Address.number query.now) self.old.checking;
+              spec.one_wanted F.FAMILY self.old.moment self.old.basis.packets self.old.is_returning (F.Address.number to) (numbered_query F.Address.number query.now) self.old.checking;
         } }
     {
+        let packet = self.basis.packets;
         self.checking
-            .query_wanted(self.moment, self.is_returning, to, query);
+            .query_wanted(self.moment, packet, self.is_returning, to, query);
     }
 }
 

@@ -22,10 +22,10 @@ use Rattle.mq_laws.proofs.Courses.{Ended, course}
 
 -- a finding of what was over before a moment
 abbrev IsBefore : (within end : ℕ) → Finding ℕ → Type 0
-IsBefore within end (Missing moment asked) = moment + within < end
-IsBefore within end (finding.Extra moment asked is_querier) = ⊤
-IsBefore within end (finding.Differs moment asked difference) = ⊤
-IsBefore within end (finding.Interval moment after wanted) = ⊤
+IsBefore within end (Missing moment packet asked) = moment + within < end
+IsBefore within end (finding.Extra moment packet asked is_querier) = ⊤
+IsBefore within end (finding.Differs moment packet asked difference) = ⊤
+IsBefore within end (finding.Interval moment packet after wanted) = ⊤
 IsBefore within end (finding.Silence moment after wanted) = ⊤
 IsBefore within end (finding.Packet moment number fault) = ⊤
 
@@ -50,7 +50,7 @@ none_left within end (Wanted m a t o false ∷ es) (LeftOut w ∷ xs) holds ahea
     absurd (omega (arith, all.0, ahead.0))
 none_left within end (Seen m a t None q ∷ es) xs holds ahead all = none_left within end es xs holds ahead.1 all
 none_left within end (Seen m a t (Some w) q ∷ es) xs holds ahead all = none_left within end es xs holds.1 ahead.1 all
-none_left within end (Interval m a w ∷ es) xs holds ahead all = absurd holds
+none_left within end (Interval m n a w ∷ es) xs holds ahead all = absurd holds
 none_left within end (Silence m a w ∷ es) xs holds ahead all = absurd holds
 none_left within end (Packet m number fault ∷ es) xs holds ahead all = absurd holds
 
@@ -61,8 +61,8 @@ none_last (Wanted m a t o true ∷ es) xs holds = none_last es xs holds
 none_last (Wanted m a t o false ∷ es) [] holds = absurd holds
 none_last (Wanted m a t o false ∷ es) (x ∷ xs) holds = none_last es xs holds.1
 none_last (Seen m a t None q ∷ es) xs holds = none_last es xs holds
-none_last (Seen m a t (Some w) q ∷ es) xs holds = (λ i. list_map (Differs m a) (holds.0 i) ++ none_last es xs holds.1 i)
-none_last (Interval m a w ∷ es) xs holds = absurd holds
+none_last (Seen m a t (Some w) q ∷ es) xs holds = (λ i. list_map (Differs m t.packet a) (holds.0 i) ++ none_last es xs holds.1 i)
+none_last (Interval m n a w ∷ es) xs holds = absurd holds
 none_last (Silence m a w ∷ es) xs holds = absurd holds
 none_last (Packet m number fault ∷ es) xs holds = absurd holds
 

@@ -4,6 +4,7 @@ use Rattle.mq_pcap.specs.declared.fault.PcapFault.{PcapFault}
 use Rattle.mq_pcap.specs.declared.form.Form.{Form}
 use Rattle.mq_pcap.specs.Capture.{Captured}
 use Rattle.mq_link.specs.Configuration.{Configuration}
+use Rattle.mq_check.specs.declared.check_terms.Additions.{Additions}
 use Rattle.mq_check.specs.declared.finding.Finding.{Finding}
 use Rattle.mq_check.specs.declared.totals.Totals.{Totals}
 use Rattle.mq_check.specs.Check.{Verdict, check_of}
@@ -16,7 +17,7 @@ pub record CheckedCapture : Type 0 where
   pub config : Configuration
   pub within : ℕ
   pub until : Option ℕ
-  pub cite : Bool
+  pub additions : Additions
   pub strict : Bool
   pub form : Form
   pub packets : List Captured
@@ -31,7 +32,7 @@ abbrev pub end_in : CheckedCapture → ℕ
 end_in c = end_of c.until c.packets
 
 abbrev pub verdict_of : CheckedCapture → Verdict
-verdict_of c = check_of c.config c.within c.until c.cite c.strict (Ok c.form) c.packets c.end
+verdict_of c = check_of c.config c.within c.until c.additions c.strict (Ok c.form) c.packets c.end
 
 -- Its result is the totals. No fault and no gap ended it before, and there was room for all pending entries.
 abbrev pub CameToItsEnd : CheckedCapture → Type 0
@@ -39,7 +40,7 @@ CameToItsEnd c = (verdict_of c).answer ≡ Ok c.totals
 
 -- these are the findings, and the text says so
 pub record Tells (c : CheckedCapture) (found : List (Finding ℕ)) : Type 0 where
-  pub text : (verdict_of c).text ≡ finding_lines c.config.family c.cite found ++ last_lines c.totals
+  pub text : (verdict_of c).text ≡ finding_lines c.config.family c.additions found ++ last_lines c.totals
   pub counted : c.totals.findings ≡ min (length found) (2 ^ 64 - 1)
 
 -- the text has the findings by the events, and there was room for all pending entries

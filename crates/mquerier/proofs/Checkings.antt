@@ -62,9 +62,9 @@ checked_for protocol querier address settings terms input output (Err Conversion
 checked_for protocol querier address settings terms input output (Err Memory) spelled works = (λ e. (address, spelled, works.0 e), λ e. (address, spelled, works.1 e))
 checked_for protocol querier address settings terms input output (Err Write) spelled works = (λ e. (address, spelled, works.0 e), λ e. (address, spelled, works.1 e))
 
-pub check_performed : (protocol : Protocol) (querier : Bor (List ℕ)) (settings : Settings) (within : Option ℕ) (cite strict : Bool) (until : Option ℕ) (file : Option (Bor (List ℕ))) (in_words : Bool) (input : Input) (output errors : Output) (status : ℕ)
-    → PerformsCheck (asked_options protocol settings within until cite strict) querier.now in_words input output errors status → Performs (Check protocol querier settings within cite strict until file) in_words input output errors status
-check_performed protocol querier settings within cite strict until file in_words input output errors status performs =
+pub check_performed : (protocol : Protocol) (querier : Bor (List ℕ)) (settings : Settings) (within : Option ℕ) (cite packets strict : Bool) (until : Option ℕ) (file : Option (Bor (List ℕ))) (in_words : Bool) (input : Input) (output errors : Output) (status : ℕ)
+    → PerformsCheck (asked_options protocol settings within until cite packets strict) querier.now in_words input output errors status → Performs (Check protocol querier settings within cite packets strict until file) in_words input output errors status
+check_performed protocol querier settings within cite packets strict until file in_words input output errors status performs =
     record {
       at_most_four = performs.at_most_four;
       done = performs.done;

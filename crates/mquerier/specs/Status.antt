@@ -76,7 +76,7 @@ IsRefused (Message protocol hex from to) failure =
 IsRefused (Convert interface vlan once file) failure = ⊥
 IsRefused (Show file) failure = ⊥
 IsRefused (Replay protocol own settings until changes file) failure = IsRefusedReplay protocol own.now settings until failure
-IsRefused (Check protocol querier settings within cite strict until file) failure =
+IsRefused (Check protocol querier settings within cite packets strict until file) failure =
     IsRefusedReplay protocol querier.now settings until failure
 
 -- a given text is parsed as this IPv6 address
@@ -124,9 +124,9 @@ IsDone (Show file) input output flag =
     (flag ≡ true) × (output.new.failed ≡ output.old.failed) × (count : ℕ) × WritesListing input output (Ok count)
 IsDone (Replay protocol own settings until changes file) input output flag =
     WritesReport protocol own.now settings (record { until = until; changes = changes }) input output flag
-IsDone (Check protocol querier settings within cite strict until file) input output flag =
+IsDone (Check protocol querier settings within cite packets strict until file) input output flag =
     (flag ≡ true) × (totals : Totals)
-    × WritesVerdict protocol querier.now settings (asked_terms within until cite strict) input output totals
+    × WritesVerdict protocol querier.now settings (asked_terms within until cite packets strict) input output totals
 
 -- The line of a message was not written. Either an allocation failed before any of it, or the output failed after a
 -- prefix.
@@ -151,8 +151,8 @@ IsBroken (Convert interface vlan once file) input output failure =
 IsBroken (Show file) input output failure = IsBrokenOff (WritesListing input output) input output failure
 IsBroken (Replay protocol own settings until changes file) input output failure =
     IsBrokenReplay protocol own.now settings (record { until = until; changes = changes }) input output failure
-IsBroken (Check protocol querier settings within cite strict until file) input output failure =
-    IsBrokenCheck protocol querier.now settings (asked_terms within until cite strict) input output failure
+IsBroken (Check protocol querier settings within cite packets strict until file) input output failure =
+    IsBrokenCheck protocol querier.now settings (asked_terms within until cite packets strict) input output failure
 
 -- a message's fault was written without a line on standard error, or the work ended early and its reason was reported
 abbrev pub IsFaulty : Request → (in_words : Bool) → Input → (output errors : Output) → Type 0
@@ -166,7 +166,7 @@ IsOfMessage (Message protocol hex from to) = Unit {0}
 IsOfMessage (Convert interface vlan once file) = ⊥
 IsOfMessage (Show file) = ⊥
 IsOfMessage (Replay protocol own settings until changes file) = ⊥
-IsOfMessage (Check protocol querier settings within cite strict until file) = ⊥
+IsOfMessage (Check protocol querier settings within cite packets strict until file) = ⊥
 
 -- a request for a conversion
 abbrev pub IsConversion : Request → Type 0
@@ -174,7 +174,7 @@ IsConversion (Message protocol hex from to) = ⊥
 IsConversion (Convert interface vlan once file) = Unit {0}
 IsConversion (Show file) = ⊥
 IsConversion (Replay protocol own settings until changes file) = ⊥
-IsConversion (Check protocol querier settings within cite strict until file) = ⊥
+IsConversion (Check protocol querier settings within cite packets strict until file) = ⊥
 
 -- a request for a check
 abbrev pub IsCheck : Request → Type 0
@@ -182,7 +182,7 @@ IsCheck (Message protocol hex from to) = ⊥
 IsCheck (Convert interface vlan once file) = ⊥
 IsCheck (Show file) = ⊥
 IsCheck (Replay protocol own settings until changes file) = ⊥
-IsCheck (Check protocol querier settings within cite strict until file) = Unit {0}
+IsCheck (Check protocol querier settings within cite packets strict until file) = Unit {0}
 
 -- A check reached its end with these totals, and standard error is unchanged.
 abbrev pub HasChecked : CheckOptions → (querier : List ℕ) → Input → (output errors : Output) → Totals → Type 0
@@ -219,8 +219,8 @@ IsDoneTelling (Convert interface vlan once file) input output errors =
 IsDoneTelling (Show file) input output errors = IsDone (Show file) input output true × (errors.new ≡ errors.old)
 IsDoneTelling (Replay protocol own settings until changes file) input output errors =
     IsDone (Replay protocol own settings until changes file) input output true × (errors.new ≡ errors.old)
-IsDoneTelling (Check protocol querier settings within cite strict until file) input output errors =
-    (totals : Totals) × (totals.findings ≡ 0) × IsJudged totals × HasChecked (asked_options protocol settings within until cite strict) querier.now input output errors totals
+IsDoneTelling (Check protocol querier settings within cite packets strict until file) input output errors =
+    (totals : Totals) × (totals.findings ≡ 0) × IsJudged totals × HasChecked (asked_options protocol settings within until cite packets strict) querier.now input output errors totals
 
 -- A check reached its end without anything to judge, and the reason was reported.
 abbrev pub HasJudgedNothing : CheckOptions → (querier : List ℕ) → Input → (output errors : Output) → Type 0
@@ -235,9 +235,9 @@ IsFinding (Message protocol hex from to) input output errors = ⊥
 IsFinding (Convert interface vlan once file) input output errors = ⊥
 IsFinding (Show file) input output errors = ⊥
 IsFinding (Replay protocol own settings until changes file) input output errors = ⊥
-IsFinding (Check protocol querier settings within cite strict until file) input output errors =
+IsFinding (Check protocol querier settings within cite packets strict until file) input output errors =
     (totals : Totals) × (1 ≤ totals.findings) × IsJudged totals
-    × HasChecked (asked_options protocol settings within until cite strict) querier.now input output errors totals
+    × HasChecked (asked_options protocol settings within until cite packets strict) querier.now input output errors totals
 
 -- A check had nothing to judge.
 abbrev pub IsUnjudged : Request → Input → (output errors : Output) → Type 0
@@ -245,8 +245,8 @@ IsUnjudged (Message protocol hex from to) input output errors = ⊥
 IsUnjudged (Convert interface vlan once file) input output errors = ⊥
 IsUnjudged (Show file) input output errors = ⊥
 IsUnjudged (Replay protocol own settings until changes file) input output errors = ⊥
-IsUnjudged (Check protocol querier settings within cite strict until file) input output errors =
-    HasJudgedNothing (asked_options protocol settings within until cite strict) querier.now input output errors
+IsUnjudged (Check protocol querier settings within cite packets strict until file) input output errors =
+    HasJudgedNothing (asked_options protocol settings within until cite packets strict) querier.now input output errors
 
 -- The request was performed with this status.
 pub record Performs (request : Request) (in_words : Bool) (input : Input) (output errors : Output) (status : ℕ) : Type 0 where

@@ -32,9 +32,9 @@ taking_in (Message protocol hex from to) = None
 taking_in (Convert interface vlan once file) = None
 taking_in (Show file) = None
 taking_in (Replay protocol own settings until changes file) = None
-taking_in (Check protocol querier settings within cite strict until file) =
+taking_in (Check protocol querier settings within cite packets strict until file) =
     if bytes_eq querier.now (codes "auto")
-    then Some (asked_options protocol settings within until cite strict)
+    then Some (asked_options protocol settings within until cite packets strict)
     else None
 
 abbrev pub taking_of : Result Request Error → Option CheckOptions

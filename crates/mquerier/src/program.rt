@@ -17,7 +17,7 @@ use crate::failure::{DONE, FAULTY, FOUND, Failure, REFUSED, UNJUDGED, line_of, s
 use crate::work::{flush, work};
 use clap::Error;
 use clap::error::ErrorKind;
-use mq_check::{CheckTerms, Totals, Unjudged};
+use mq_check::{Additions, CheckTerms, Totals, Unjudged};
 use mq_command::{Interface, Request, VERSION};
 use mq_convert::{Choice, ConvertCounts, Which, name_of};
 use mq_count::Watched;
@@ -162,6 +162,7 @@ pub fn perform<S: Supply, R: Read, W: Write, E: Write>(
             settings,
             within,
             cite,
+            packets,
             strict,
             until,
             ..
@@ -169,7 +170,7 @@ pub fn perform<S: Supply, R: Read, W: Write, E: Write>(
             let options = CheckOptions {
                 protocol: *protocol,
                 settings: *settings,
-                terms: terms_of(*within, *until, *cite, *strict),
+                terms: terms_of(*within, *until, *cite, *packets, *strict),
             };
             perform_check(alloc, &options, querier, supply, input, console)
         }
@@ -252,14 +253,15 @@ pub(crate) fn terms_of(
     within: Option<u32>,
     until: Option<u64>,
     cite: bool,
+    packets: bool,
     strict: bool,
 ) -> CheckTerms
-    ensures { result ≡ asked_terms within until cite strict }
+    ensures { result ≡ asked_terms within until cite packets strict }
 {
     CheckTerms {
         within: within.unwrap_or(WITHIN),
         until,
-        cite,
+        additions: Additions { packets, cite },
         strict,
     }
 }

@@ -35,6 +35,7 @@ pub fn taking_of(asked: &Result<Request<'_>, Error>) -> Option<CheckOptions>
                 settings,
                 within,
                 cite,
+                packets,
                 strict,
                 until,
                 ..
@@ -42,7 +43,7 @@ pub fn taking_of(asked: &Result<Request<'_>, Error>) -> Option<CheckOptions>
         ) if *querier == "auto" => Some(CheckOptions {
             protocol: *protocol,
             settings: *settings,
-            terms: terms_of(*within, *until, *cite, *strict),
+            terms: terms_of(*within, *until, *cite, *packets, *strict),
         }),
         _ => None,
     }
