@@ -49,14 +49,14 @@ pub all_broken : {T E : Type 0} (family : Family) (found : List (Finding ℕ)) (
 all_broken family found old new a b e totals tells = broken_within a.held b.held old.held _ (last_lines totals) tells.text
 
 -- what was counted
-pub totals_counted : (general specific findings count : ℕ) (state checking : CheckingValue) (told rests : Basis) (found : List (Finding ℕ)) → state ≡ checking → general ≡ state.general → specific ≡ state.specific → findings ≡ counted_times (length found) count
-    → told ≡ rests → record { general = general; specific = specific; findings = findings; basis = told } ≡ counted_behind count checking rests found
-totals_counted general specific findings count state checking told rests found is is_general is_specific counts basis =
+pub totals_counted : (general specific findings count : ℕ) (state other checking : CheckingValue) (rests : Basis) (found : List (Finding ℕ)) → state ≡ checking → other ≡ checking → general ≡ state.general → specific ≡ other.specific → findings ≡ counted_times (length found) count
+    → record { general = general; specific = specific; findings = findings; basis = rests } ≡ counted_behind count checking rests found
+totals_counted general specific findings count state other checking rests found is is_too is_general is_specific counts =
     λ i. record {
       general = (is_general ∙ ap (λ (c : CheckingValue). c.general) is) i;
-      specific = (is_specific ∙ ap (λ (c : CheckingValue). c.specific) is) i;
+      specific = (is_specific ∙ ap (λ (c : CheckingValue). c.specific) is_too) i;
       findings = counts i;
-      basis = basis i;
+      basis = rests;
     }
 
 -- the text of the end, behind what was found up to it
