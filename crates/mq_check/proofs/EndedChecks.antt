@@ -176,7 +176,9 @@ pub put_at_end : {E E' : Type 0} (config : Configuration) (within end number : �
     → totals ≡ counted_behind near.count left.checking rests last → Passes z.held w.held near.held new.held (end_text family near.cite last (counted_behind near.count left.checking rests last))
     → IsRestPut (ended_behind config within old.cite end old.count number r) x.held w.held old.held new.held (Ok totals)
 put_at_end {E} config within end number r at left o rests last family old mid near new x y z w totals is_family is same ahead basis finds free first second counts passed =
-    let text = λ i. end_text (is_family i) near.cite (finds i) (counted_behind near.count left.checking (basis i) (finds i)) in
+    let final = told_at_end within config.timing end (silence_up_to within config.timing end at.checking.phase) left.checking in
+    let text : end_text family near.cite last (counted_behind near.count left.checking rests last) ≡ end_text config.family near.cite final (counted_behind near.count left.checking at.basis final) =
+    λ i. end_text (is_family i) near.cite (finds i) (counted_behind near.count left.checking (basis i) (finds i)) in
     rest_as _ _ x.held w.held old.held new.held (Ok totals) (sym (ended_as config within old.cite end old.count number r at left is (ahead ∙ ap (λ (p : Outcome). p.checked) same)))
     (ended_put {E = E} config.family number left.checking at.basis _ _ old near new x z w totals free (told_ahead config within end r at o family old mid near x y z tt (Ok tt) is_family same first second)
     (counts ∙ (λ i. counted_behind near.count left.checking (basis i) (finds i))) (subst (λ (t : List ℕ). Passes z.held w.held near.held new.held t) text passed))
@@ -188,7 +190,9 @@ pub unput_at_end : {E E' : Type 0} (config : Configuration) (within end number :
     → GrowsByBeginning z.held w.held (near.held ++ end_text family near.cite last (counted_behind near.count left.checking rests last))
     → GrowsByBeginning x.held w.held (old.held ++ (ended_behind config within old.cite end old.count number r).text)
 unput_at_end {E} config within end number r at left o rests last family old mid near x y z w is_family is same ahead basis finds free first second begun =
-    let text = λ i. end_text (is_family i) near.cite (finds i) (counted_behind near.count left.checking (basis i) (finds i)) in
+    let final = told_at_end within config.timing end (silence_up_to within config.timing end at.checking.phase) left.checking in
+    let text : end_text family near.cite last (counted_behind near.count left.checking rests last) ≡ end_text config.family near.cite final (counted_behind near.count left.checking at.basis final) =
+    λ i. end_text (is_family i) near.cite (finds i) (counted_behind near.count left.checking (basis i) (finds i)) in
     subst (λ (v : Verdict). GrowsByBeginning x.held w.held (old.held ++ v.text)) (sym (ended_as config within old.cite end old.count number r at left is (ahead ∙ ap (λ (p : Outcome). p.checked) same)))
     (ended_unput {E = E} config.family number left.checking at.basis _ _ old near x z w free (told_ahead config within end r at o family old mid near x y z tt (Ok tt) is_family same first second)
     (subst (λ (t : List ℕ). GrowsByBeginning z.held w.held (near.held ++ t)) text begun))

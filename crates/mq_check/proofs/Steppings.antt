@@ -173,25 +173,25 @@ pub comes_as : {T E : Type 0} (family : Family) (o p : Outcome) (before after : 
 comes_as {T} {E} family o p before after new old_told new_told a b r same comes = subst (λ (q : Outcome). Comes {T = T} {E = E} family q before after new old_told new_told a b r) same comes
 
 -- the ticks up to a moment, and what is over then; or a write failed before
-settled_there : {T E : Type 0} (config : Configuration) (within within' moment : ℕ) (r : Checked) (after : LinkValue) (queries new : WantingValue) (answered : Result T E) → within' ≡ within
-    → checked_in after queries ≡ (ticked_through config within moment r).checked → IfOk answered (λ _. new.checking ≡ settled within' moment queries.checking) → new.basis ≡ queries.basis
-    → IfOk answered (λ _. checked_in after new ≡ (settled_through config within moment r).checked)
+settled_there : {T E : Type 0} (config : Configuration) (within within' moment : ℕ) (r : Checked) (after : LinkValue) (queries new : WantingValue) (outcome : Result T E) → within' ≡ within
+    → checked_in after queries ≡ (ticked_through config within moment r).checked → IfOk outcome (λ _. new.checking ≡ settled within' moment queries.checking) → new.basis ≡ queries.basis
+    → IfOk outcome (λ _. checked_in after new ≡ (settled_through config within moment r).checked)
 settled_there config within within' moment r after queries new (Ok x) same is settles kept =
     (λ i. record { link = after.state; checking = (settles ∙ (λ j. settled (same j) moment queries.checking)) i; basis = kept i }) ∙ ap (settled_at within moment) is
 settled_there config within within' moment r after queries new (Err e) same is settles kept = tt
 
-pub settles_at : {T E E' : Type 0} (family : Family) (within within' m end : ℕ) (before after : LinkValue) (old queries new : WantingValue) (first mid last : ToldState) (x y z : OutputState) (answered : Result T E) → within' ≡ within → m ≡ end
+pub settles_at : {T E E' : Type 0} (family : Family) (within within' m end : ℕ) (before after : LinkValue) (old queries new : WantingValue) (first mid last : ToldState) (x y z : OutputState) (outcome : Result T E) → within' ≡ within → m ≡ end
     → Comes {T = Unit} {E = E'} family (ticked_through before.config within m (checked_in before old)) before after queries first mid x y (Ok tt)
-    → IfOk answered (λ _. new.checking ≡ settled within' m queries.checking) → new.basis ≡ queries.basis → Tells family (told within' m queries.checking) mid last y z answered
-    → Comes family (settled_through before.config within end (checked_in before old)) before after new first last x z answered
-settles_at {T} {E} family within within' m end before after old queries new first mid last x y z answered same is_end comes settles kept tells =
-    let found = λ i. told (same i) m (comes.checked i).checking in
-    let there : Comes {T = T} {E = E} family (settled_through before.config within m (checked_in before old)) before after new first last x z answered = record {
+    → IfOk outcome (λ _. new.checking ≡ settled within' m queries.checking) → new.basis ≡ queries.basis → Tells family (told within' m queries.checking) mid last y z outcome
+    → Comes family (settled_through before.config within end (checked_in before old)) before after new first last x z outcome
+settles_at {T} {E} family within within' m end before after old queries new first mid last x y z outcome same is_end comes settles kept tells =
+    let found : told within' m queries.checking ≡ told within m (ticked_through before.config within m (checked_in before old)).checked.checking = λ i. told (same i) m (comes.checked i).checking in
+    let there : Comes {T = T} {E = E} family (settled_through before.config within m (checked_in before old)) before after new first last x z outcome = record {
       same_config = comes.same_config;
-      checked = settled_there before.config within within' m (checked_in before old) after queries new answered same comes.checked settles kept;
-      tells = then_told family _ _ first mid last x y z tt answered comes.tells (tells_as family _ _ mid last y z answered found tells);
+      checked = settled_there before.config within within' m (checked_in before old) after queries new outcome same comes.checked settles kept;
+      tells = then_told family _ _ first mid last x y z tt outcome comes.tells (tells_as family _ _ mid last y z outcome found tells);
     } in
-    comes_as family _ _ before after new first last x z answered (ap (λ (k : ℕ). settled_through before.config within k (checked_in before old)) is_end) there
+    comes_as family _ _ before after new first last x z outcome (ap (λ (k : ℕ). settled_through before.config within k (checked_in before old)) is_end) there
 
 pub settles_broken : {S T E E' : Type 0} (family : Family) (within m end : ℕ) (before after : LinkValue) (old new : WantingValue) (first last : ToldState) (x y : OutputState) (e : E') (e' : E) → m ≡ end
     → Comes {T = S} family (ticked_through before.config within m (checked_in before old)) before after new first last x y (Err e)
