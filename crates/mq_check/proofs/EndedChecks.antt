@@ -50,14 +50,14 @@ pub all_broken : {T E : Type 0} (family : Family) (found : List (Finding ℕ)) (
 all_broken family found old new a b e totals tells = broken_within a.held b.held old.held _ (last_lines totals) tells.text
 
 -- what was counted
-pub totals_counted : (general specific findings count : ℕ) (state checking : CheckingValue) (told rests : Basis) (found : List (Finding ℕ)) → state ≡ checking → general ≡ state.general → specific ≡ state.specific → findings ≡ counted_times (length found) count
-    → told ≡ rests → record { general = general; specific = specific; findings = findings; basis = told } ≡ counted_behind count checking rests found
-totals_counted general specific findings count state checking told rests found is is_general is_specific counts basis =
+pub totals_counted : (general specific findings count : ℕ) (state other checking : CheckingValue) (rests : Basis) (found : List (Finding ℕ)) → state ≡ checking → other ≡ checking → general ≡ state.general → specific ≡ other.specific → findings ≡ counted_times (length found) count
+    → record { general = general; specific = specific; findings = findings; basis = rests } ≡ counted_behind count checking rests found
+totals_counted general specific findings count state other checking rests found is is_too is_general is_specific counts =
     λ i. record {
       general = (is_general ∙ ap (λ (c : CheckingValue). c.general) is) i;
-      specific = (is_specific ∙ ap (λ (c : CheckingValue). c.specific) is) i;
+      specific = (is_specific ∙ ap (λ (c : CheckingValue). c.specific) is_too) i;
       findings = counts i;
-      basis = basis i;
+      basis = rests;
     }
 
 -- the text of the end, behind what was found up to it
@@ -177,7 +177,9 @@ pub put_at_end : {E E' : Type 0} (config : Configuration) (within end number : �
     → totals ≡ counted_behind near.count left.checking rests last → Passes z.held w.held near.held new.held (end_text family near.additions last (counted_behind near.count left.checking rests last))
     → IsRestPut (ended_behind config within old.additions end old.count number r) x.held w.held old.held new.held (Ok totals)
 put_at_end {E} config within end number r at left o rests last family old mid near new x y z w totals is_family is same ahead basis finds free first second counts passed =
-    let text = λ i. end_text (is_family i) near.additions (finds i) (counted_behind near.count left.checking (basis i) (finds i)) in
+    let final = told_at_end within config.timing end (silence_up_to within config.timing end at.checking.phase) left.checking in
+    let text : end_text family near.additions last (counted_behind near.count left.checking rests last) ≡ end_text config.family near.additions final (counted_behind near.count left.checking at.basis final) =
+    λ i. end_text (is_family i) near.additions (finds i) (counted_behind near.count left.checking (basis i) (finds i)) in
     rest_as _ _ x.held w.held old.held new.held (Ok totals) (sym (ended_as config within old.additions end old.count number r at left is (ahead ∙ ap (λ (p : Outcome). p.checked) same)))
     (ended_put {E = E} config.family number left.checking at.basis _ _ old near new x z w totals free (told_ahead config within end r at o family old mid near x y z tt (Ok tt) is_family same first second)
     (counts ∙ (λ i. counted_behind near.count left.checking (basis i) (finds i))) (subst (λ (t : List ℕ). Passes z.held w.held near.held new.held t) text passed))
@@ -189,7 +191,9 @@ pub unput_at_end : {E E' : Type 0} (config : Configuration) (within end number :
     → GrowsByBeginning z.held w.held (near.held ++ end_text family near.additions last (counted_behind near.count left.checking rests last))
     → GrowsByBeginning x.held w.held (old.held ++ (ended_behind config within old.additions end old.count number r).text)
 unput_at_end {E} config within end number r at left o rests last family old mid near x y z w is_family is same ahead basis finds free first second begun =
-    let text = λ i. end_text (is_family i) near.additions (finds i) (counted_behind near.count left.checking (basis i) (finds i)) in
+    let final = told_at_end within config.timing end (silence_up_to within config.timing end at.checking.phase) left.checking in
+    let text : end_text family near.additions last (counted_behind near.count left.checking rests last) ≡ end_text config.family near.additions final (counted_behind near.count left.checking at.basis final) =
+    λ i. end_text (is_family i) near.additions (finds i) (counted_behind near.count left.checking (basis i) (finds i)) in
     subst (λ (v : Verdict). GrowsByBeginning x.held w.held (old.held ++ v.text)) (sym (ended_as config within old.additions end old.count number r at left is (ahead ∙ ap (λ (p : Outcome). p.checked) same)))
     (ended_unput {E = E} config.family number left.checking at.basis _ _ old near x z w free (told_ahead config within end r at o family old mid near x y z tt (Ok tt) is_family same first second)
     (subst (λ (t : List ℕ). GrowsByBeginning z.held w.held (near.held ++ t)) text begun))

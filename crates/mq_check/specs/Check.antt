@@ -112,9 +112,8 @@ settled_through config within moment r =
       found = done.found ++ told within moment done.checked.checking;
     }
 
--- The ticks after the end of a capture, as long as a query that the link sends may be the partner of a seen one: up to
--- the tolerance after the end, and at most 2^53. A pending wanted query may be left out, since its partner may come after
--- the end.
+-- The ticks up to the tolerance after the end of a capture, at most to 2^53. A query that the link sends then may be the
+-- partner of a seen one. A pending wanted query may be left out, since its partner may come after the end.
 abbrev pub looked_ahead : Configuration → (within moment : ℕ) → Checked → Outcome
 looked_ahead config within moment r =
     ticked_through config within (min (moment + within) (2 ^ 53)) (record r { checking = with_all_excused r.checking })

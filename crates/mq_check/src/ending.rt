@@ -67,8 +67,8 @@ where
         self.end(end, number, writer)
     }
 
-    /// Checks up to and including the end, and reports the totals. What rests on the moment of the end is read before the
-    /// link is ticked further.
+    /// Checks up to and including the end, and reports the totals. The silence and the basis are those of the end, and not
+    /// of the ticks after it.
     fn end<W: Write>(
         &mut self,
         end: Stamp,

@@ -41,8 +41,8 @@ where
     Ok(())
 }
 
-/// Removes all pending entries after the end of a capture, and reports the findings of those that aren't wanted queries.
-/// `changed` is the last change of the role.
+/// Removes all pending entries at the end of a capture, and reports their findings. A wanted query has none. `changed` is
+/// the last change of the role.
 pub(crate) fn tell_rest<F: Family, A: Allocator, W: Write>(
     waiting: &mut Waiting<F, A>,
     within: Span,

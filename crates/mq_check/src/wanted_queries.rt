@@ -152,8 +152,7 @@ where
         self.checking.excuse_all();
     }
 
-    /// Removes all pending entries after the end of a capture, and reports the findings of those that aren't wanted
-    /// queries.
+    /// Removes all pending entries at the end of a capture, and reports their findings. A wanted query has none.
     pub(crate) fn tell_rest<W: Write>(
         &mut self,
         within: u32,
