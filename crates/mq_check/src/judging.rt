@@ -183,9 +183,7 @@ where
         told.old told.new (output_of W.contents writer.old) (output_of W.contents writer.new) result }
 {
     match (seen, wanted) {
-        (Some(seen), Some(wanted)) => {
-            tell_fields::<F, W>(at, seen, wanted, told, writer)
-        }
+        (Some(seen), Some(wanted)) => { tell_fields::<F, W>(at, seen, wanted, told, writer) }
         _ => Ok(()),
     }
 }
@@ -205,12 +203,7 @@ where
         told.old told.new (output_of W.contents writer.old) (output_of W.contents writer.new) result }
 {
     tell_difference::<F, W>(at, suppress_differs(seen, wanted), told, writer)?;
-    tell_difference::<F, W>(
-        at,
-        robustness_differs(seen, wanted),
-        told,
-        writer,
-    )?;
+    tell_difference::<F, W>(at, robustness_differs(seen, wanted), told, writer)?;
     tell_difference::<F, W>(at, interval_differs(seen, wanted), told, writer)
 }
 

@@ -8,8 +8,8 @@ ghost use Rattle.mq_check.specs.Numbered.{numbered_finding};
 ghost use Rattle.mq_check.specs.Checking.{counted_up};
 
 use crate::basis::Basis;
-use crate::finding::Finding;
 use crate::check_terms::Additions;
+use crate::finding::Finding;
 use crate::finding_lines::{
     put_citation, put_finding, put_packet, put_packets, put_querier_line, put_totals,
 };
