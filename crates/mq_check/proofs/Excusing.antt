@@ -52,31 +52,31 @@ excused_view f items more is_full w made are =
 free_still : (side : Side) (asked : Asked ℕ) (entry : Entry ℕ) → is_free side asked (excused entry) ≡ is_free side asked entry
 free_still OfWanted asked (Wanted moment asked' terms is_optional is_found) = refl
 free_still OfWanted asked (Seen moment asked' terms partner alone) = refl
-free_still OfWanted asked (Interval moment after wanted) = refl
+free_still OfWanted asked (Interval moment packet after wanted) = refl
 free_still OfWanted asked (Silence moment after wanted) = refl
 free_still OfWanted asked (Packet moment number fault) = refl
 free_still OfSeen asked (Wanted moment asked' terms is_optional is_found) = refl
 free_still OfSeen asked (Seen moment asked' terms partner alone) = refl
-free_still OfSeen asked (Interval moment after wanted) = refl
+free_still OfSeen asked (Interval moment packet after wanted) = refl
 free_still OfSeen asked (Silence moment after wanted) = refl
 free_still OfSeen asked (Packet moment number fault) = refl
 
 slot_still : (width : ℕ) (entry : Entry ℕ) → wanted_slot width (excused entry) ≡ wanted_slot width entry
 slot_still width (Wanted moment asked terms is_optional is_found) = refl
 slot_still width (Seen moment asked terms partner alone) = refl
-slot_still width (Interval moment after wanted) = refl
+slot_still width (Interval moment packet after wanted) = refl
 slot_still width (Silence moment after wanted) = refl
 slot_still width (Packet moment number fault) = refl
 
 moment_still : (entry : Entry ℕ) → wanted_moment (excused entry) ≡ wanted_moment entry
 moment_still (Wanted moment asked terms is_optional is_found) = refl
 moment_still (Seen moment asked terms partner alone) = refl
-moment_still (Interval moment after wanted) = refl
+moment_still (Interval moment packet after wanted) = refl
 moment_still (Silence moment after wanted) = refl
 moment_still (Packet moment number fault) = refl
 
 entry_still : (es : List (Entry ℕ)) (place : ℕ) → entry_at (list_map excused es) place ≡ excused (entry_at es place)
-entry_still es place = mapped_at excused es place (Interval 0 0 0)
+entry_still es place = mapped_at excused es place (Interval 0 0 0 0)
 
 pub marked_still : (width : ℕ) (es : List (Entry ℕ)) (t : TrailsValue) → AreMarked width es t → AreMarked width (list_map excused es) t
 marked_still width es t marked =
