@@ -68,17 +68,17 @@ told_of within moment changed entries = flat_map (findings_of within changed) (t
 abbrev pub left_of : (within moment : ℕ) → List (Entry ℕ) → List (Entry ℕ)
 left_of within moment entries = drop (prefix_len (is_over within moment) entries) entries
 
-over_told : (within moment : ℕ) (changed : Option ℕ) (e : Entry ℕ) (es : List (Entry ℕ)) → is_over within moment e ≡ true
+pub over_told : (within moment : ℕ) (changed : Option ℕ) (e : Entry ℕ) (es : List (Entry ℕ)) → is_over within moment e ≡ true
     → told_of within moment changed (e ∷ es) ≡ findings_of within changed e ++ told_of within moment changed es
 over_told within moment changed e es is = let more : 1 + prefix_len (is_over within moment) es ≡ suc (prefix_len (is_over within moment) es) = omega arith in rw (is, more) refl
 
-over_left : (within moment : ℕ) (e : Entry ℕ) (es : List (Entry ℕ)) → is_over within moment e ≡ true → left_of within moment (e ∷ es) ≡ left_of within moment es
+pub over_left : (within moment : ℕ) (e : Entry ℕ) (es : List (Entry ℕ)) → is_over within moment e ≡ true → left_of within moment (e ∷ es) ≡ left_of within moment es
 over_left within moment e es is = let more : 1 + prefix_len (is_over within moment) es ≡ suc (prefix_len (is_over within moment) es) = omega arith in rw (is, more) refl
 
-ahead_told : (within moment : ℕ) (changed : Option ℕ) (e : Entry ℕ) (es : List (Entry ℕ)) → is_over within moment e ≡ false → told_of within moment changed (e ∷ es) ≡ []
+pub ahead_told : (within moment : ℕ) (changed : Option ℕ) (e : Entry ℕ) (es : List (Entry ℕ)) → is_over within moment e ≡ false → told_of within moment changed (e ∷ es) ≡ []
 ahead_told within moment changed e es is = rw is refl
 
-ahead_left : (within moment : ℕ) (e : Entry ℕ) (es : List (Entry ℕ)) → is_over within moment e ≡ false → left_of within moment (e ∷ es) ≡ e ∷ es
+pub ahead_left : (within moment : ℕ) (e : Entry ℕ) (es : List (Entry ℕ)) → is_over within moment e ≡ false → left_of within moment (e ∷ es) ≡ e ∷ es
 ahead_left within moment e es is = rw is refl
 
 -- What waits behind a moment that came; no less is missing than was told, and what is still missing.

@@ -1,7 +1,8 @@
 -- What happens in the check of a capture comes in the order of moments.
 use Rattle.std.proofs.Common.{◌≡◌, ℕ, zero, suc, ◌+◌, ◌<◌, ◌≤◌, Bool, true, false, not, ◌&&◌, cond, List, [], ◌∷◌, ◌++◌, refl, arith}
-use Rattle.std.specs.Prelude.{Option, None, Some, nat_lt, unwrap_or}
-use Rattle.std.proofs.lemmas.Bool.{ltb-true, ltb-false}
+use Rattle.std.specs.Prelude.{◌^◌, Option, None, Some, min, nat_le, nat_lt, unwrap_or}
+use Rattle.std.specs.List.{AllByRecursion}
+use Rattle.std.proofs.lemmas.Bool.{leb-true, leb-false, ltb-true, ltb-false}
 use Rattle.mq_pcap.specs.declared.form.Form.{Form}
 use Rattle.mq_pcap.specs.declared.link_type.LinkType.{LinkType}
 use Rattle.mq_pcap.specs.Capture.{Captured}
@@ -22,9 +23,9 @@ use Rattle.mq_replay.specs.Report.{Datagram, datagram_of, all_sent}
 use Rattle.mq_check.specs.declared.headers.HeaderFault.{HeaderFault}
 use Rattle.mq_check.specs.Check.{destination_in, faults_in}
 use Rattle.mq_check.specs.Queries.{asked_in, is_general, terms_of, query_sent, query_seen}
-use Rattle.mq_laws.specs.Captures.{Passage, happening_behind, wanted_for, wanted_of, wanted_by, role_by_tick, role_by_datagram, tick_passage, ticks_passage, ticks_through, event_of, fault_events, datagram_passage, frame_passage, packet_passage, packets_passage, last_of, end_of, events_of}
+use Rattle.mq_laws.specs.Captures.{Passage, happening_behind, wanted_for, wanted_of, wanted_by, role_by_tick, role_by_datagram, tick_passage, ticks_passage, ticks_through, event_of, fault_events, datagram_passage, frame_passage, packet_passage, packets_passage, last_of, end_of, events_ahead, events_of}
 use Rattle.mq_laws.specs.Events.{CheckEvent, Comes, Wants, Sees, SeesGeneral, LosesRole, HasRoleAgain, SeesFault}
-use Rattle.mq_laws.specs.OnTime.{AreInOrder}
+use Rattle.mq_laws.specs.OnTime.{AreAhead, AreInOrder, IsOfTick}
 use Rattle.mq_laws.proofs.Followed.{none_passes, one_passes}
 
 -- what is known of links
@@ -199,6 +200,94 @@ ordered-packets known config link_type first before number (packet ∷ packets) 
     let after = one.later in
     let more = ordered-packets known config link_type (Some (unwrap_or first packet.stamp)) moment (number + 1) packets this.packets this.link faultless one.formed (omega arith) in
     record { order = order-append before moment this.events _ _ one.order more.order; formed = more.formed; next = more.next }
+
+-- a link at the end of a capture, behind all ticks up to then
+at_end : KnownOfLinks → (config : Configuration) (until : Option ℕ) (form : Form) (packets : List Captured) → IsFaultless config
+    → (let p = packets_passage config form.link None 0 1 packets 0 (link_at config 0) in
+    IsOrdered config (last_of None 0 packets) (end_of until packets) (ticks_through config (end_of until packets) p.packets p.link))
+at_end known config until form packets faultless =
+    let last = last_of None 0 packets in
+    let all = ordered-packets known config form.link None 0 1 packets 0 (link_at config 0) faultless (known.start config 0 faultless) (omega arith) in
+    let p = packets_passage config form.link None 0 1 packets 0 (link_at config 0) in
+    ordered-through known config last (end_of until packets) p.packets p.link faultless all.formed (omega arith) all.next
+
+-- the events of ticks
+of_ticks-append : (xs ys : List CheckEvent) → AllByRecursion IsOfTick xs → AllByRecursion IsOfTick ys → AllByRecursion IsOfTick (xs ++ ys)
+of_ticks-append [] ys first second = second
+of_ticks-append (x ∷ xs) ys first second = (first.0, of_ticks-append xs ys first.1 second)
+
+wanted-of_tick : (family : Family) (packets : ℕ) (is_returning : Bool) (to : ℕ) (query : Option (Query ℕ)) → AllByRecursion IsOfTick (wanted_for family packets is_returning to query)
+wanted-of_tick family packets is_returning to None = tt
+wanted-of_tick family packets is_returning to (Some query) = elim (is_general query && not is_returning) as (λ b. (is_general query && not is_returning) ≡ b → AllByRecursion IsOfTick (wanted_for family packets is_returning to (Some query))) [
+  | true ↦ λ is. rw is tt
+  | false ↦ λ is. rw is (tt, tt)
+] refl
+
+all_wanted-of_tick : (config : Configuration) (packets : ℕ) (is_returning : Bool) (messages : List Outgoing) → AllByRecursion IsOfTick (wanted_of config packets is_returning messages)
+all_wanted-of_tick config packets is_returning [] = tt
+all_wanted-of_tick config packets is_returning (message ∷ messages) =
+    of_ticks-append (wanted_for config.family packets is_returning message.to (query_sent config.family config.own message)) (wanted_of config packets is_returning messages)
+    (wanted-of_tick config.family packets is_returning message.to (query_sent config.family config.own message)) (all_wanted-of_tick config packets is_returning messages)
+
+role-of_tick : (was is : Bool) → AllByRecursion IsOfTick (role_by_tick was is)
+role-of_tick true is = tt
+role-of_tick false true = (tt, tt)
+role-of_tick false false = tt
+
+tick-of_tick : (config : Configuration) (moment packets : ℕ) (link : LinkState) → AllByRecursion IsOfTick (tick_passage config moment packets link).events
+tick-of_tick config moment packets link =
+    let step = tick_of config moment link in
+    (tt, of_ticks-append (wanted_by config packets link step) (role_by_tick (is_querier link.election.role) (is_querier step.state.election.role))
+    (all_wanted-of_tick config packets (not (is_querier link.election.role)) (outgoing_of config step)) (role-of_tick (is_querier link.election.role) (is_querier step.state.election.role)))
+
+ticks-of_tick : (most : ℕ) (config : Configuration) (limit packets : ℕ) (link : LinkState) → AllByRecursion IsOfTick (ticks_passage most config limit packets link).events
+unfolding ticks_passage
+ticks-of_tick zero config limit packets link = tt
+ticks-of_tick (suc most) config limit packets link =
+    elim (nat_lt (next_of link) limit) as (λ b. nat_lt (next_of link) limit ≡ b → AllByRecursion IsOfTick (ticks_passage (suc most) config limit packets link).events) [
+      | true ↦ λ due.
+          let first = tick_passage config (next_of link) packets link in
+          rw (one_passes most config limit packets link (ltb-true (next_of link) limit due))
+          (of_ticks-append first.events _ (tick-of_tick config (next_of link) packets link) (ticks-of_tick most config limit packets first.link))
+      | false ↦ λ reached. rw (none_passes (suc most) config limit packets link (ltb-false (next_of link) limit reached)) tt
+    ] refl
+
+-- a later end
+order-until : (now : ℕ) (es : List CheckEvent) (end later : ℕ) → end ≤ later → AreInOrder now es end → AreInOrder now es later
+order-until now [] end later before order = omega (arith, order, before)
+order-until now (Comes moment ∷ es) end later before order = (order.0, order-until moment es end later before order.1)
+order-until now (Wants terms asked ∷ es) end later before order = order-until now es end later before order
+order-until now (Sees terms unheld asked ∷ es) end later before order = order-until now es end later before order
+order-until now (SeesGeneral terms wanted ∷ es) end later before order = order-until now es end later before order
+order-until now (LosesRole ∷ es) end later before order = order-until now es end later before order
+order-until now (HasRoleAgain ∷ es) end later before order = order-until now es end later before order
+order-until now (SeesFault number fault ∷ es) end later before order = order-until now es end later before order
+
+-- the ticks behind the end, where the end is in range and where it isn't
+order-ahead : KnownOfLinks → (config : Configuration) (within end limit packets : ℕ) (link : LinkState) → IsFaultless config → IsWellFormed config link → end < next_of link → limit ≤ end + within
+    → AreInOrder end (ticks_through config limit packets link).events (end + within)
+order-ahead known config within end limit packets link faultless formed next least =
+    elim (nat_le end limit) as (λ b. nat_le end limit ≡ b → AreInOrder end (ticks_through config limit packets link).events (end + within)) [
+      | true ↦ λ is.
+          let there = leb-true end limit is in
+          let all = ordered-through known config end limit packets link faultless formed there (omega (arith, next)) in
+          order-until end (ticks_through config limit packets link).events limit (end + within) least all.order
+      | false ↦ λ is.
+          let past = leb-false end limit is in
+          rw (none_passes (limit + 1) config (limit + 1) packets link (omega (arith, next, past))) (omega arith)
+    ] refl
+
+pub ahead_in_order : KnownOfLinks → (config : Configuration) (within : ℕ) (until : Option ℕ) (form : Form) (packets : List Captured) → IsFaultless config → AreAhead within (end_of until packets) (events_ahead config within until form packets)
+ahead_in_order known config within until form packets faultless =
+    let ended = at_end known config until form packets faultless in
+    let p = packets_passage config form.link None 0 1 packets 0 (link_at config 0) in
+    let end = end_of until packets in
+    let t = ticks_through config end p.packets p.link in
+    let limit = min (end + within) (2 ^ 53) in
+    record {
+      order = order-ahead known config within end limit t.packets t.link faultless ended.formed ended.later (omega arith);
+      of_ticks = ticks-of_tick (limit + 1) config (limit + 1) t.packets t.link;
+    }
 
 pub events_in_order : KnownOfLinks → (config : Configuration) (until : Option ℕ) (form : Form) (packets : List Captured) → IsFaultless config → AreInOrder 0 (events_of config until form packets) (end_of until packets)
 events_in_order known config until form packets faultless =

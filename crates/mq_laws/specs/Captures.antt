@@ -1,6 +1,6 @@
 -- The events in the check of a capture. A link with the querier's own address runs over it, and each query that it
 -- sends is expected. The queries from that address are seen.
-use Rattle.std.specs.Prelude.{ℕ, zero, suc, ◌+◌, ◌&&◌, max, not, nat_lt, Bool, true, false, if◌then◌else◌, List, [], ◌∷◌, ◌++◌, Option, None, Some, unwrap_or, flat_map, map as list_map}
+use Rattle.std.specs.Prelude.{ℕ, zero, suc, ◌+◌, ◌^◌, ◌&&◌, max, min, not, nat_lt, Bool, true, false, if◌then◌else◌, List, [], ◌∷◌, ◌++◌, Option, None, Some, unwrap_or, flat_map, map as list_map}
 use Rattle.mq_pcap.specs.declared.form.Form.{Form}
 use Rattle.mq_pcap.specs.declared.link_type.LinkType.{LinkType}
 use Rattle.mq_pcap.specs.Capture.{Captured}
@@ -151,3 +151,11 @@ abbrev pub events_of : Configuration → (until : Option ℕ) → Form → List 
 events_of config until form packets =
     let all = packets_passage config form.link None 0 1 packets 0 (link_at config 0) in
     all.events ++ (ticks_through config (end_of until packets) all.packets all.link).events
+
+-- The events that are due just after the end, up to the tolerance.
+abbrev pub events_ahead : Configuration → (within : ℕ) → (until : Option ℕ) → Form → List Captured → List CheckEvent
+events_ahead config within until form packets =
+    let all = packets_passage config form.link None 0 1 packets 0 (link_at config 0) in
+    let end = end_of until packets in
+    let ticks = ticks_through config end all.packets all.link in
+    (ticks_through config (min (end + within) (2 ^ 53)) ticks.packets ticks.link).events

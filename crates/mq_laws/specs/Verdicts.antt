@@ -9,7 +9,7 @@ use Rattle.mq_check.specs.declared.finding.Finding.{Finding}
 use Rattle.mq_check.specs.declared.totals.Totals.{Totals}
 use Rattle.mq_check.specs.Check.{Verdict, check_of}
 use Rattle.mq_check.specs.FindingLines.{finding_lines, last_lines}
-use Rattle.mq_laws.specs.Captures.{end_of, events_of}
+use Rattle.mq_laws.specs.Captures.{end_of, events_ahead, events_of}
 use Rattle.mq_laws.specs.Events.{CheckEvent, HasRoom, found_by}
 
 -- A check that came to its end, its request, and the capture.
@@ -24,9 +24,12 @@ pub record CheckedCapture : Type 0 where
   pub end : Option PcapFault
   pub totals : Totals
 
--- the events of the check, up to its end
+-- the events of the check, up to its end, and those that are due just after it
 abbrev pub events_in : CheckedCapture → List CheckEvent
 events_in c = events_of c.config c.until c.form c.packets
+
+abbrev pub ahead_in : CheckedCapture → List CheckEvent
+ahead_in c = events_ahead c.config c.within c.until c.form c.packets
 
 abbrev pub end_in : CheckedCapture → ℕ
 end_in c = end_of c.until c.packets
@@ -45,8 +48,8 @@ pub record Tells (c : CheckedCapture) (found : List (Finding ℕ)) : Type 0 wher
 
 -- the text has the findings by the events, and there was room for all pending entries
 pub record TellsWhatHappened (c : CheckedCapture) : Type 0 where
-  pub room : HasRoom c.within c.config.timing c.strict (events_in c)
-  pub tells : Tells c (found_by c.within c.config.timing c.strict (end_in c) (events_in c))
+  pub room : HasRoom c.within c.config.timing c.strict (end_in c) (events_in c) (ahead_in c)
+  pub tells : Tells c (found_by c.within c.config.timing c.strict (end_in c) (events_in c) (ahead_in c))
 
 -- the text says that there is no finding, and no more
 pub record IsClean (c : CheckedCapture) : Type 0 where
