@@ -19,4 +19,4 @@ returns-in-Check-clause-performs g c =
     let input = input_by g.R.Read.remaining c.args.input.now c.perform_check.new.input in
     let output = output_by g.W.Write.contents c.args.output.now c.perform_check.new.output in
     let errors = output_by g.E.Write.contents c.args.errors.now c.perform_check.new.errors in
-    rw c.in-Check.is (check_performed _ _ _ _ _ _ _ _ _ input output errors c.perform_check.result c.perform_check.ensures.performs)
+    rw c.in-Check.is (check_performed _ _ _ _ _ _ _ _ _ _ input output errors c.perform_check.result c.perform_check.ensures.performs)

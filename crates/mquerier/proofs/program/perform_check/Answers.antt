@@ -25,4 +25,4 @@ returns-in-Err-clause-performs g c =
     let output = output_by g.W.Write.contents c.args.output.now c.check_capture.new.output in
     let errors = output_by g.E.Write.contents c.args.errors.now c.told.new.errors in
     let works = subst (λ (t : CheckTerms). WorksOnCheck c.args.protocol c.args.querier.now c.args.settings.now t input output (Err c.in-Err.failure)) c.terms_of-terms.ensures c.in-Err.ensures.works in
-    check_failed _ _ _ c.args.within _ _ _ _ (unwrap_or c.args.within 100) input output errors _ _ refl works (λ none. rw (c.in-Err.ensures.unread none) refl) (λ none. rw (c.in-Err.ensures.unwritten none) refl) c.told.ensures.status c.told.ensures.line
+    check_failed _ _ _ c.args.within _ _ _ _ _ (unwrap_or c.args.within 100) input output errors _ _ refl works (λ none. rw (c.in-Err.ensures.unread none) refl) (λ none. rw (c.in-Err.ensures.unwritten none) refl) c.told.ensures.status c.told.ensures.line
