@@ -21,4 +21,4 @@ returns-in-Check-clause-performs g c =
     let output = output_by g.W.Write.contents c.args.console.now.output c.perform_check.new.console.output in
     let errors = output_by g.E.Write.contents c.args.console.now.errors c.perform_check.new.console.errors in
     let performs = subst (λ (terms : CheckTerms). PerformsCheck (record { protocol = c.in-Check.protocol; settings = c.in-Check.settings; terms = terms }) c.in-Check.querier.now c.args.console.now.in_words input output errors c.perform_check.result) c.terms_of.ensures c.perform_check.ensures.performs in
-    rw c.in-Check.is (check_performed _ _ _ _ _ _ _ _ _ input output errors c.perform_check.result performs)
+    rw c.in-Check.is (check_performed _ _ _ _ _ _ _ _ _ _ input output errors c.perform_check.result performs)
