@@ -1,5 +1,5 @@
 -- A walk that checks a capture, and what its verdict comes to.
-use Rattle.std.proofs.Common.{◌≡◌, ◌⊎◌, ℕ, zero, suc, ◌+◌, ◌-◌, ◌^◌, ◌≤◌, ◌||◌, min, Bool, true, false, if◌then◌else◌, List, [], ◌∷◌, ◌++◌, length, Option, None, Some, Result, Ok, Err, flat_map, max, unwrap_or, refl, ap, sym, subst, ◌∙◌, append_assoc, append-nil, length-append, inl, inr, arith}
+use Rattle.std.proofs.Common.{◌≡◌, ◌⊎◌, ℕ, zero, suc, ◌+◌, ◌-◌, ◌^◌, ◌≤◌, ◌||◌, min, Bool, true, false, if◌then◌else◌, List, [], ◌∷◌, ◌++◌, length, Option, None, Some, Result, Ok, Err, max, unwrap_or, refl, ap, sym, subst, ◌∙◌, append_assoc, append-nil, length-append, inl, inr, arith}
 use Rattle.std.proofs.Math.Bool.{or-false}
 use Rattle.mq_pcap.specs.declared.link_type.LinkType.{LinkType}
 use Rattle.mq_pcap.specs.declared.fault.PcapFault.{PcapFault}
@@ -8,7 +8,6 @@ use Rattle.mq_pcap.specs.Capture.{Captured, Captures, is_read}
 use Rattle.mq_pcap.specs.Filling.{InputState}
 use Rattle.mq_wire.specs.Family.{Family}
 use Rattle.mq_link.specs.Configuration.{Configuration}
-use Rattle.mq_link.specs.Link.{LinkValue}
 use Rattle.mq_text.specs.Printing.{GrowsByBeginning, OutputState, Passes}
 use Rattle.mq_text.proofs.Passing.{both_passed, broken_behind, nothing_passed}
 use Rattle.mq_replay.specs.declared.walking.Walked.{Walked}
@@ -24,7 +23,6 @@ use Rattle.mq_check.specs.declared.check_fault.CheckFault.{CheckFault}
 use Rattle.mq_check.specs.declared.check_fault.CheckFault.TheVariants as answer
 use Rattle.mq_check.specs.declared.check_terms.Additions.{Additions}
 use Rattle.mq_check.specs.declared.check_terms.CheckTerms.{CheckTerms}
-use Rattle.mq_check.specs.declared.entry.Entry.{Entry}
 use Rattle.mq_check.specs.declared.finding.Finding.{Finding}
 use Rattle.mq_check.specs.declared.totals.Totals.{Totals}
 use Rattle.mq_check.specs.Check.{Checked, Course, Outcome, Verdict, at_the_start, broken_off, check_of, concluded, ended_at, looked_ahead, settled_through, totals_of, verdict_behind, with_all_packets, with_packet, with_packets}
@@ -35,8 +33,6 @@ use Rattle.mq_check.specs.Ending.{IsRestPut, IsVerdictPut, PutsVerdict, counted_
 use Rattle.mq_check.specs.FindingLines.{finding_lines, last_lines}
 use Rattle.mq_check.specs.General.{silence_up_to}
 use Rattle.mq_check.specs.Telling.{ToldState, Tells, counted_times}
-use Rattle.mq_check.specs.Waiting.{WaitingValue}
-use Rattle.mq_check.specs.Waiting as waits
 use Rattle.mq_check.proofs.Tellings.{lines_of_both, none_told, then_told, times_more}
 
 -- a verdict behind a text

@@ -1,5 +1,5 @@
 -- The end of a check: what is put then.
-use Rattle.std.proofs.Common.{◌≡◌, ℕ, Bool, true, false, if◌then◌else◌, List, [], ◌++◌, length, Option, Result, Ok, Err, max, unwrap_or, append_assoc, append-nil, length-append, refl, ap, sym, subst, ◌∙◌}
+use Rattle.std.proofs.Common.{◌≡◌, ℕ, true, false, if◌then◌else◌, List, [], ◌++◌, length, Option, Result, Ok, Err, max, unwrap_or, append_assoc, append-nil, length-append, refl, ap, sym, subst, ◌∙◌}
 use Rattle.mq_wire.specs.Family.{Family}
 use Rattle.mq_link.specs.Configuration.{Configuration}
 use Rattle.mq_text.specs.Printing.{GrowsByBeginning, OutputState, Passes}

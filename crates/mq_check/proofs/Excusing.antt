@@ -1,6 +1,6 @@
 -- What waits at the end of a capture, where each wanted query may be left out.
 use Rattle.std.proofs.Common.{◌≡◌, ℕ, zero, suc, ◌+◌, ◌<◌, Bool, List, [], ◌∷◌, ◌++◌, length, take, drop, set, get_or, refl, ap, sym, ◌∙◌, append-nil, add-one, arith}
-use Rattle.std.specs.Prelude.{map as list_map, None, Some}
+use Rattle.std.specs.Prelude.{map as list_map}
 use Rattle.std.proofs.Math.ListN.{get_or-map as mapped_at}
 use Rattle.std.proofs.Math.Seq.{drop-length, take-length}
 use Rattle.std.proofs.lemmas.List.{length-map as mapped_long, map-set}
@@ -10,7 +10,7 @@ use Rattle.mq_check.specs.declared.entry.Entry.TheVariants.{Wanted, Seen, Interv
 use Rattle.mq_check.specs.declared.waiting.Side.{Side}
 use Rattle.mq_check.specs.declared.waiting.Side.TheVariants.{OfWanted, OfSeen}
 use Rattle.mq_check.specs.Entries.{excused}
-use Rattle.mq_check.specs.Slots.{slot_of, wanted_slot, wanted_moment, entry_at, AreMarked, AreBounded}
+use Rattle.mq_check.specs.Slots.{wanted_slot, wanted_moment, entry_at, AreMarked, AreBounded}
 use Rattle.mq_check.specs.Trails.{TrailsValue}
 use Rattle.mq_check.specs.Waiting.{WaitingValue, all_excused, is_free}
 use Rattle.mq_check.proofs.Waits.{made_at}

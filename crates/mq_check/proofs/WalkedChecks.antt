@@ -1,5 +1,5 @@
 -- A packet of a check, in the terms of a walk.
-use Rattle.std.proofs.Common.{◌≡◌, ℕ, ◌||◌, List, [], Result, Ok, Err}
+use Rattle.std.proofs.Common.{◌≡◌, ◌||◌, [], Result, Ok, Err}
 use Rattle.std.specs.Prelude.{IfOk, is_err}
 use Rattle.mq_wire.specs.Family.{Family}
 use Rattle.mq_link.specs.Link.{LinkValue}

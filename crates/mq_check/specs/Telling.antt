@@ -1,5 +1,5 @@
 -- Buffered output of findings, as contracts see it.
-use Rattle.std.specs.Prelude.{◌≡◌, ℕ, zero, suc, Bool, ◌||◌, List, length, Result, IfOk, is_err}
+use Rattle.std.specs.Prelude.{◌≡◌, ℕ, zero, suc, ◌||◌, List, length, Result, IfOk, is_err}
 use Rattle.mq_wire.specs.Family.{Family}
 use Rattle.mq_text.specs.Printing.{OutputState, Puts}
 use Rattle.mq_check.specs.declared.check_terms.Additions.{Additions}

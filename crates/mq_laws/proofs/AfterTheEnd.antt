@@ -1,19 +1,18 @@
 -- After the end of a capture whose queries pair up, nothing more is found.
-use Rattle.std.proofs.Common.{◌≡◌, ℕ, ◌+◌, ◌<◌, ◌≤◌, Bool, true, false, ◌&&◌, ◌||◌, not, List, [], ◌∷◌, ◌++◌, refl, ap, sym, ◌∙◌, arith, append-nil}
-use Rattle.std.specs.Prelude.{Option, None, Some, ◌⊎◌, fold, flat_map, map as list_map, nat_lt}
+use Rattle.std.proofs.Common.{◌≡◌, ℕ, ◌+◌, ◌≤◌, Bool, true, false, ◌&&◌, ◌||◌, List, [], ◌∷◌, ◌++◌, refl, ap, sym, ◌∙◌, arith, append-nil}
+use Rattle.std.specs.Prelude.{Option, None, Some, ◌⊎◌, fold, flat_map, map as list_map}
 use mathlib.Core.Logic.{inl, inr}
 use Rattle.std.specs.List.{AllByRecursion}
-use Rattle.std.proofs.lemmas.Bool.{ltb-true, or_right}
+use Rattle.std.proofs.lemmas.Bool.{ltb-true}
 use Rattle.mq_table.specs.declared.timing.Timing.{Timing}
 use Rattle.mq_check.specs.declared.asked.Asked.{Asked}
 use Rattle.mq_check.specs.declared.entry.Entry.{Entry}
 use Rattle.mq_check.specs.declared.entry.Entry.TheVariants.{Wanted, Seen, Interval, Silence, Packet}
-use Rattle.mq_check.specs.declared.finding.Finding.{Finding}
 use Rattle.mq_check.specs.declared.finding.Finding.TheVariants.{Differs}
 use Rattle.mq_check.specs.declared.terms.Terms.{Terms}
 use Rattle.mq_check.specs.declared.waiting.Side.TheVariants.{OfSeen}
-use Rattle.mq_check.specs.Checking.{CheckingValue, found_of_last, role_returned, settled, told, with_wanted}
-use Rattle.mq_check.specs.Entries.{excused, findings_of, first_joined, first_terms, is_over, may_be_left_out, moment_of, terms_differ}
+use Rattle.mq_check.specs.Checking.{CheckingValue, found_of_last, role_returned, settled, with_wanted}
+use Rattle.mq_check.specs.Entries.{excused, findings_of, first_joined, is_over, terms_differ}
 use Rattle.mq_check.specs.Queries.{is_same}
 use Rattle.mq_check.specs.Waiting.{WaitingValue, all_excused, is_free}
 use Rattle.mq_laws.specs.Pairing.{Ask, Expected, PairUp, seen_about, wanted_about}

@@ -1,6 +1,6 @@
 -- All that is found of a check whose queries pair up: those that were left out are missing.
 use Rattle.std.proofs.Common.{◌≡◌, ℕ, Bool, ◌+◌, ◌<◌, true, false, List, [], ◌∷◌, ◌++◌, refl, ap, sym, ◌∙◌, arith, append_assoc, append-nil}
-use Rattle.std.specs.Prelude.{None, Some, ⊤, flat_map, map as list_map}
+use Rattle.std.specs.Prelude.{None, Some, ⊤}
 use Rattle.std.specs.List.{AllByRecursion}
 use mathlib.Core.Logic.{inl}
 use Rattle.mq_table.specs.declared.timing.Timing.{Timing}

@@ -9,7 +9,6 @@ use Rattle.mq_pcap.specs.Capture.{Captured}
 use Rattle.mq_pcap.specs.Frame.{carried_in}
 use Rattle.mq_wire.specs.declared.query.Query.{Query}
 use Rattle.mq_wire.specs.Family.{Family}
-use Rattle.mq_table.specs.declared.timing.Timing.{Timing}
 use Rattle.mq_sched.specs.Election.{is_querier}
 use Rattle.mq_link.specs.Configuration.{Configuration, IsFaultless}
 use Rattle.mq_link.specs.Receive.{Envelope, receipt_of}

@@ -2,7 +2,6 @@ use Rattle.std.proofs.Common.{◌≡◌, ap, sym, ◌∙◌}
 use Rattle.std.proofs.lemmas.Result.{err_from_is_err_and}
 use Rattle.mq_link.specs.Configuration.{Configuration}
 use Rattle.mq_text.specs.Printing.{output_of}
-use Rattle.mq_check.specs.declared.check_terms.CheckTerms.{CheckTerms}
 use Rattle.mq_check.specs.Check.{looked_ahead}
 use Rattle.mq_check.specs.Checking.{CheckingValue, told_at_end}
 use Rattle.mq_check.specs.Coming.{checked_in}

@@ -1,4 +1,4 @@
-use Rattle.std.proofs.Common.{ap, ◌∙◌}
+use Rattle.std.proofs.Common.{◌∙◌}
 use Rattle.mq_check.specs.Check.{ticked_through}
 use Rattle.mq_check.specs.Coming.{checked_in}
 use Rattle.mq_check.proofs.Steppings.{comes_as}
