@@ -235,9 +235,11 @@ role-of_tick false false = tt
 
 tick-of_tick : (config : Configuration) (moment packets : ℕ) (link : LinkState) → AllByRecursion IsOfTick (tick_passage config moment packets link).events
 tick-of_tick config moment packets link =
-    let step = tick_of config moment link in
-    (tt, of_ticks-append (wanted_by config packets link step) (role_by_tick (is_querier link.election.role) (is_querier step.state.election.role))
-    (all_wanted-of_tick config packets (not (is_querier link.election.role)) (outgoing_of config step)) (role-of_tick (is_querier link.election.role) (is_querier step.state.election.role)))
+    let step = tick_of config moment link in (
+      tt,
+      of_ticks-append (wanted_by config packets link step) (role_by_tick (is_querier link.election.role) (is_querier step.state.election.role))
+          (all_wanted-of_tick config packets (not (is_querier link.election.role)) (outgoing_of config step)) (role-of_tick (is_querier link.election.role) (is_querier step.state.election.role)),
+    )
 
 ticks-of_tick : (most : ℕ) (config : Configuration) (limit packets : ℕ) (link : LinkState) → AllByRecursion IsOfTick (ticks_passage most config limit packets link).events
 unfolding ticks_passage

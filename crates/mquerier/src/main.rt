@@ -118,15 +118,26 @@ fn run_twice<R: Read + Drop, W: Write, E: Write>(
     again: BufReader<Beginning<R>>,
     console: &mut Console<W, E>,
 ) -> u8 {
-    let beginning = Source::new(reader);
-    let source = Source::new(again);
-    let mut first = Watched::new(&beginning);
-    let mut input = Watched::new(&source);
-    let status = perform_taking(alloc, options, &mut first, &source, &mut input, console);
+    let source = Source::new(reader);
+    let mut first = Watched::new(&source);
+    let status = run_again(alloc, options, &mut first, again, console);
     if console.in_words && status == FAULTY {
-        tell_kind(beginning.first(), false, &mut console.errors);
+        tell_kind(source.first(), false, &mut console.errors);
     }
     status
+}
+
+/// Runs the check after the first reader of the file.
+fn run_again<Q: Read, R: Read + Drop, W: Write, E: Write>(
+    alloc: Global,
+    options: &CheckOptions,
+    first: &mut Watched<Q>,
+    again: BufReader<Beginning<R>>,
+    console: &mut Console<W, E>,
+) -> u8 {
+    let source = Source::new(again);
+    let mut input = Watched::new(&source);
+    perform_taking(alloc, options, first, &source, &mut input, console)
 }
 
 /// Runs on this input. If a file is of another kind, it also tells a person how to read it.
