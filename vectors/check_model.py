@@ -5,6 +5,7 @@ the two at the end. It pairs whole lists, for each group or source apart, and st
 and `check_taking` that about the querier which the capture names.
 """
 
+import copy
 import dataclasses
 
 from model import DAY, Options, Querier
@@ -24,13 +25,15 @@ class Terms:
 @dataclasses.dataclass
 class Asked:
     """A query for one thing: a group, a source of one (`source` is None without), or all groups (`group` is zero). `order` is
-    its place in the order in which things happen. If the standard's words allow a query that was seen, `allowed` has its fields."""
+    its place in the order in which things happen, and `packet` the number of its packet, or of the last one before a wanted query. If
+    the standard's words allow a query that was seen, `allowed` has its fields."""
 
     order: int
     at: int
     group: bytes
     source: bytes | None
     terms: Terms
+    packet: int
     partner: Terms | None = None
     may_be_left_out: bool = False
     in_role: bool = True
@@ -43,6 +46,9 @@ class Asked:
     def text(self):
         return text_of(self.group) + (f" {text_of(self.source)}" if self.source is not None else "")
 
+
+# The latest moment.
+LATEST = 2**53
 
 # Types of Ethernet behind which an IP packet may stand that no check looks into: tags, MPLS, PPPoE, MACsec; and that of `convert`
 # for a link type that it doesn't read.
@@ -99,7 +105,7 @@ class Observed(Querier):
 
     def __init__(self, family, options):
         super().__init__(family, options)
-        self.wanted, self.is_back, self.order, self.heard = [], False, 0, None
+        self.wanted, self.is_back, self.order, self.heard, self.packet = [], False, 0, None, 0
 
     def next_order(self):
         self.order += 1
@@ -128,7 +134,8 @@ class Observed(Querier):
         terms = self.terms(group, s, response)
         for source in sources or [None]:
             other = s and any((it.at, it.group, it.source) == (self.now, group, None) for it in self.wanted)
-            self.wanted.append(Asked(self.next_order(), self.now, group, source, terms, None, other and source is not None))
+            left_out = other and source is not None
+            self.wanted.append(Asked(self.next_order(), self.now, group, source, terms, self.packet, None, left_out))
 
 
 @dataclasses.dataclass
@@ -147,10 +154,10 @@ class Verdict:
 
 
 class Check:
-    """A check of a capture. `findings` are lines with their order."""
+    """A check of a capture. `findings` are lines with their order. With `packets` each has the number of its packet."""
 
-    def __init__(self, family, options, within, strict):
-        self.family, self.it, self.within, self.strict = family, options, within, strict
+    def __init__(self, family, options, within, strict, packets):
+        self.family, self.it, self.within, self.strict, self.packets = family, options, within, strict, packets
         self.link = Observed(family, options)
         self.seen, self.changes, self.findings = [], [], []
         self.general, self.specific = 0, 0
@@ -225,14 +232,14 @@ class Check:
         if any(message.group) or message.sources:
             self.specific += 1
             for source in message.sources or [None]:
-                it = Asked(self.link.next_order(), moment, message.group, source, terms, in_role=in_role)
+                it = Asked(self.link.next_order(), moment, message.group, source, terms, self.link.packet, in_role=in_role)
                 it.allowed = self.allowed(it, message)
                 self.seen.append(it)
             return
         self.general += 1
         if in_role:
             self.interval(moment)
-        it = Asked(self.link.next_order(), moment, message.group, None, terms, in_role=in_role)
+        it = Asked(self.link.next_order(), moment, message.group, None, terms, self.link.packet, in_role=in_role)
         if in_role:
             it.partner = self.link.terms(self.family.zero(), False, self.it.qri)
         self.seen.append(it)
@@ -257,7 +264,7 @@ class Check:
         if passed is not None and self.is_known and startup and self.is_near(passed, first):
             self.startup = startup - 1
         elif passed is not None and (not self.is_near(passed, query) if self.is_known else passed > query + self.within):
-            self.find(self.link.next_order(), f"{moment} general after {passed}, wanted {query}")
+            self.find(self.link.next_order(), f"{moment} general after {passed}, wanted {query}", self.link.packet)
         if not self.is_known and self.before is not None:
             self.startup = startup
         self.before, self.is_known = moment, True
@@ -270,8 +277,9 @@ class Check:
 
     # Findings.
 
-    def find(self, order, line):
-        self.findings.append((order, line))
+    def find(self, order, line, packet=0):
+        """Adds a finding. A silence has no packet, and the line of a packet's headers names it already."""
+        self.findings.append((order, f"{line} packet {packet}" if self.packets and packet else line))
 
     def pair(self):
         """For each thing, in the order of moments: a seen query goes with the earliest wanted one within the tolerance that
@@ -317,26 +325,30 @@ class Check:
         return [f"{it.at} differs {it.text()}: {name} {one}, wanted {other}" for name, one, other in named if one != other]
 
     def judge(self, end):
-        """All lines, where the capture ends at a moment: of what has no partner by then nothing is said, if one may come."""
+        """All lines, where the capture ends at a moment. The partner of a wanted query may come after the end: then it isn't missing. The
+        partner of a seen query is wanted at most the tolerance later, and no report can come before that. So the link is asked
+        what it will send by then. The silence and the basis are those of the end."""
+        if self.link.other is None:
+            self.silence(end, self.link.next_order())
+        basis = copy.copy(self.basis)
+        self.tick_to(min(end + self.within, LATEST))
         self.pair()
         if not self.strict:
             self.schedules()
         for it in self.link.wanted:
             if not it.partner and not it.may_be_left_out and it.at + self.within < end:
-                self.find(it.order, f"{it.at} missing {it.text()}")
+                self.find(it.order, f"{it.at} missing {it.text()}", it.packet)
         for it in self.seen:
             if it.partner:
                 for line in self.differences(it):
-                    self.find(it.order, line)
-            elif it.at + self.within < end and not any(self.is_near(it.at, change) for change in self.changes):
+                    self.find(it.order, line, it.packet)
+            elif not any(self.is_near(it.at, change) for change in self.changes):
                 for line in self.differences(it) if it.allowed else [f"{it.at} extra {it.text()}"]:
-                    self.find(it.order, line)
-        if self.link.other is None:
-            self.silence(end, self.link.next_order())
+                    self.find(it.order, line, it.packet)
         lines = [line for _, line in sorted(self.findings, key=lambda it: it[0])]
         totals = f"checked general {self.general} specific {self.specific}: {len(lines)} findings"
-        unjudged = self.basis.unjudged(self.general, self.specific, len(lines))
-        return Verdict([*lines, totals, *self.basis.lines()], lines, unjudged)
+        unjudged = basis.unjudged(self.general, self.specific, len(lines))
+        return Verdict([*lines, totals, *basis.lines()], lines, unjudged)
 
 
 def ip_in(kind, frame):
@@ -401,7 +413,7 @@ def taken(data, family):
     return (querier, found) if querier else (None, "nothing judged: there is no general query of this family")
 
 
-def check_taking(data, family, given, within=100, strict=False):
+def check_taking(data, family, given, within=100, strict=False, packets=False):
     """The verdict of a whole capture about the querier that it names, or None and what it says. `given` are the options."""
     querier, found = taken(data, family)
     if querier is None:
@@ -409,16 +421,17 @@ def check_taking(data, family, given, within=100, strict=False):
     options = Options(querier, **{**found, **given})
     if options.qri >= 1000 * options.qi:
         return None, "configuration fault 3"
-    verdict, fault = check(data, family, options, within, strict)
+    verdict, fault = check(data, family, options, within, strict, packets)
     if verdict:
         words = [f" {name} {found[name]}" for name in ("rv", "qi", "qri", "lmqi") if name in found and name not in given]
         verdict.lines.append(f"taken from the capture: querier {text_of(querier)}{''.join(words)}")
     return verdict, fault
 
 
-def check(data, family, options, within=100, strict=False):
-    """The verdict of a whole capture, or None and what it says where a fault or a gap ends it. `strict` allows no other readings."""
-    it, last, number = Check(family, options, within, strict), 0, 0
+def check(data, family, options, within=100, strict=False, packets=False):
+    """The verdict of a whole capture, or None and what it says where a fault or a gap ends it. `strict` allows no other readings, and
+    with `packets` findings have the numbers of packets."""
+    it, last, number = Check(family, options, within, strict, packets), 0, 0
     try:
         kind, records = opened(data)
         for number, moment, frame in moments(records):
@@ -426,6 +439,7 @@ def check(data, family, options, within=100, strict=False):
                 return None, f"gap before record {number}"
             last = moment
             it.tick_to(moment)
+            it.link.packet = number
             packet = unwrap(kind, frame)
             it.basis.count(kind, frame, packet)
             if isinstance(packet, str) or packet.family is not family:

@@ -230,6 +230,15 @@ def wrong(b):
         words=("--until", "261000"),
         specific=5,
     )
+    # At the end of a capture.
+    five = range(156260, 156310, 10)
+    bogus, found = having(*(Query(at, LEFT, b.A) for at in five)), tuple(f"{at} extra {a}" for at in five)
+    yield Case("asks five times before the end of the capture", bogus, found, specific=9)
+    yield Case("asks five times before the requested end", bogus, found, words=("--until", "156350"), specific=9)
+    yield Case("asks again too early at the end", both(moved(m51000=50899), without(156250)), (f"50899 extra {s}",), general=2)
+    early = having(dataclasses.replace(b.right()[5], at=50950, qrv=3))
+    yield Case("says another QRV in a last query that is early", both(without(51000, 156250), early), differing((50950,), s, "qrv 3, wanted 2"), general=2)
+    yield Case("asks a last query twice", both(moved(m51000=50950), without(156250), having(Query(50960, BLOCKED, b.B, (b.S,)))), (f"50960 extra {s}",), general=2, specific=5)
     # General queries.
     yield Case("says the wrong response in general queries", each(GENERAL, response=1000), differing(general, zero, "response 1000, wanted 10000"))
     yield Case("sets S in general queries", each(GENERAL, s=True), differing(general, zero, "s 1, wanted 0"))
@@ -263,6 +272,7 @@ def wrong(b):
     # The election: another querier with a lower address is heard at 60000, and is gone 255000 later.
     heard = (60000, b.query(b.general(60000), b.lower))
     yield Case("goes on beside a lower querier", as_it_is, (f"156250 extra {zero}",), hosts=(heard,), words=("--until", "160000"))
+    yield Case("goes on beside a lower querier until the end", as_it_is, (f"156250 extra {zero}",), hosts=(heard,))
     late = (70000, b.report((TO_EX, b.A, ()))), (80000, b.report((TO_IN, b.A, ())))
     yield Case(
         "answers a leave beside a lower querier",
@@ -293,6 +303,14 @@ def right(b):
     yield Case("gives way to a lower querier", without(156250), hosts=(heard,), general=2)
     yield Case("comes back when the lower querier is gone", both(without(156250), having(b.general(315000))), hosts=(heard,), words=("--until", "320000"))
     yield Case("still asks while another takes the role", both(without(156250), having(b.general(60100))), hosts=(heard,))
+    # Its partner is wanted after the end of the capture.
+    again = both(without(156250), having(b.general(314950)))
+    yield Case("comes back before the end, and the capture ends early", again, hosts=(heard,))
+    yield Case("comes back before the end that is requested", again, hosts=(heard,), words=("--until", "314999"))
+    yield Case("asks again before the end, and the capture ends early", both(moved(m51000=50950), without(156250)), general=2)
+    yield Case("asks again as early as the tolerance allows", both(moved(m51000=50900), without(156250)), general=2)
+    # The partner of a wanted query may come after the end.
+    yield Case("may ask again after the end", without(51000, 156250), words=("--until", "51100"), general=2, specific=3)
     yield Case("stays beside a higher querier", as_it_is, hosts=((60000, b.query(b.general(60000), b.higher)),))
     yield Case("hears itself reported to", as_it_is, hosts=((6000, b.report((TO_EX, b.A, ()))), (8000, b.report((ALLOW, b.B, (b.S,))))))
     yield Case("is captured with nanoseconds", as_it_is, form=lambda frames: wire.capture(frames, nanoseconds=True))

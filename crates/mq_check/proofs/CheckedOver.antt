@@ -1,5 +1,5 @@
 -- A walk that checks a capture, and what its verdict comes to.
-use Rattle.std.proofs.Common.{◌≡◌, ◌⊎◌, ℕ, zero, suc, ◌+◌, ◌-◌, ◌^◌, ◌≤◌, ◌||◌, min, Bool, true, false, if◌then◌else◌, List, [], ◌∷◌, ◌++◌, length, Option, None, Some, Result, Ok, Err, flat_map, max, unwrap_or, refl, ap, sym, subst, ◌∙◌, append_assoc, append-nil, length-append, inl, inr, arith}
+use Rattle.std.proofs.Common.{◌≡◌, ◌⊎◌, ℕ, zero, suc, ◌+◌, ◌-◌, ◌^◌, ◌≤◌, ◌||◌, min, Bool, true, false, if◌then◌else◌, List, [], ◌∷◌, ◌++◌, length, Option, None, Some, Result, Ok, Err, max, unwrap_or, refl, ap, sym, subst, ◌∙◌, append_assoc, append-nil, length-append, inl, inr, arith}
 use Rattle.std.proofs.Math.Bool.{or-false}
 use Rattle.mq_pcap.specs.declared.link_type.LinkType.{LinkType}
 use Rattle.mq_pcap.specs.declared.fault.PcapFault.{PcapFault}
@@ -8,7 +8,6 @@ use Rattle.mq_pcap.specs.Capture.{Captured, Captures, is_read}
 use Rattle.mq_pcap.specs.Filling.{InputState}
 use Rattle.mq_wire.specs.Family.{Family}
 use Rattle.mq_link.specs.Configuration.{Configuration}
-use Rattle.mq_link.specs.Link.{LinkValue}
 use Rattle.mq_text.specs.Printing.{GrowsByBeginning, OutputState, Passes}
 use Rattle.mq_text.proofs.Passing.{both_passed, broken_behind, nothing_passed}
 use Rattle.mq_replay.specs.declared.walking.Walked.{Walked}
@@ -22,20 +21,18 @@ use Rattle.mq_replay.proofs.WalkedOver.{steps_counted}
 use Rattle.mq_check.specs.declared.basis.Basis.{Basis}
 use Rattle.mq_check.specs.declared.check_fault.CheckFault.{CheckFault}
 use Rattle.mq_check.specs.declared.check_fault.CheckFault.TheVariants as answer
+use Rattle.mq_check.specs.declared.check_terms.Additions.{Additions}
 use Rattle.mq_check.specs.declared.check_terms.CheckTerms.{CheckTerms}
-use Rattle.mq_check.specs.declared.entry.Entry.{Entry}
 use Rattle.mq_check.specs.declared.finding.Finding.{Finding}
 use Rattle.mq_check.specs.declared.totals.Totals.{Totals}
-use Rattle.mq_check.specs.Check.{Checked, Course, Outcome, Verdict, at_the_start, broken_off, check_of, concluded, ended_at, ticked_through, totals_of, verdict_behind, with_all_packets, with_packet, with_packets}
+use Rattle.mq_check.specs.Check.{Checked, Course, Outcome, Verdict, at_the_start, broken_off, check_of, concluded, ended_at, looked_ahead, settled_through, totals_of, verdict_behind, with_all_packets, with_packet, with_packets}
 use Rattle.mq_check.specs.CheckedCaptures.{IsEndedBy, is_failed_write, packets_text, verdict_of}
-use Rattle.mq_check.specs.Checking.{CheckingValue, counted_up, found_of_last, settled, silence_found, told, told_at_end}
+use Rattle.mq_check.specs.Checking.{CheckingValue, counted_up, told_at_end}
 use Rattle.mq_check.specs.Coming.{CheckState, ChecksPacket, Comes, TakesChecked, checked_in}
-use Rattle.mq_check.specs.Ending.{IsRestPut, IsVerdictPut, PutsVerdict, counted_behind, end_text, ended_behind, last_findings, rest_behind}
+use Rattle.mq_check.specs.Ending.{IsRestPut, IsVerdictPut, PutsVerdict, counted_behind, end_text, ended_behind, rest_behind}
 use Rattle.mq_check.specs.FindingLines.{finding_lines, last_lines}
 use Rattle.mq_check.specs.General.{silence_up_to}
 use Rattle.mq_check.specs.Telling.{ToldState, Tells, counted_times}
-use Rattle.mq_check.specs.Waiting.{WaitingValue}
-use Rattle.mq_check.specs.Waiting as waits
 use Rattle.mq_check.proofs.Tellings.{lines_of_both, none_told, then_told, times_more}
 
 -- a verdict behind a text
@@ -52,85 +49,77 @@ totals_are c rests found rest count counts =
     let findings = sym (counted_to (length (found ++ rest))) ∙ ap (λ (n : ℕ). counted_times n 0) (length-append found rest) ∙ times_more (length found) (length rest) 0 ∙ ap (counted_times (length rest)) (sym counts) in
     λ i. record { general = c.general; specific = c.specific; findings = findings i; basis = rests }
 
--- what no longer waits leaves it as full as it was
-full_still : (within moment : ℕ) (w : WaitingValue) → (waits.settled within moment w).is_full ≡ w.is_full
-unfolding waits.settled
-full_still within moment w = by_room w.entries w.is_full
-  where
-    by_room : (entries : List (Entry ℕ)) (b : Bool) → (waits.settled within moment (record { entries = entries; is_full = b })).is_full ≡ b
-    by_room entries true = refl
-    by_room entries false = refl
-
 -- the end of a check behind what was found before
-ended_joined : (config : Configuration) (within : ℕ) (cite : Bool) (moment number count : ℕ) (found : List (Finding ℕ)) (r : Checked) → count ≡ counted_times (length found) 0
-    → ended_at config within cite moment number found r ≡ verdict_after (finding_lines config.family cite found) (ended_behind config within cite moment count number r)
-unfolding ended_at ended_behind told_at_end
-ended_joined config within cite moment number count found r counts = by_room c.waiting.is_full ∙ ap (verdict_after lines) (ap behind (sym (full_still within moment c.waiting)))
+ended_joined : (config : Configuration) (within : ℕ) (additions : Additions) (moment number count : ℕ) (found : List (Finding ℕ)) (r : Checked) → count ≡ counted_times (length found) 0
+    → ended_at config within additions moment number found r ≡ verdict_after (finding_lines config.family additions found) (ended_behind config within additions moment count number r)
+unfolding ended_at ended_behind
+ended_joined config within additions moment number count found r counts = by_room c.waiting.is_full
   where
     done : Outcome
-    done = ticked_through config within moment r
+    done = settled_through config within moment r
+
+    ahead : Outcome
+    ahead = looked_ahead config within moment done.checked
 
     c : CheckingValue
-    c = done.checked.checking
+    c = ahead.checked.checking
 
-    left : CheckingValue
-    left = settled within moment c
+    rests : Basis
+    rests = done.checked.basis
 
     lines : List ℕ
-    lines = finding_lines config.family cite found
+    lines = finding_lines config.family additions found
 
     more : List (Finding ℕ)
-    more = done.found ++ told within moment c
+    more = done.found ++ ahead.found
 
     last : List (Finding ℕ)
-    last = last_findings within config.timing moment left
+    last = told_at_end within config.timing moment (silence_up_to within config.timing moment done.checked.checking.phase) c
 
     part : List (Finding ℕ)
-    part = found ++ done.found ++ told within moment c
+    part = found ++ done.found ++ ahead.found
 
     all : List (Finding ℕ)
-    all = found ++ done.found ++ (told within moment c ++ flat_map found_of_last left.waiting.entries ++ silence_found config.timing moment (silence_up_to within config.timing moment left.phase))
+    all = part ++ last
 
     at : Bool → Verdict
-    at b = if b then broken_off config cite (answer.Waiting number) part else concluded config cite c done.checked.basis all
+    at b = if b then broken_off config additions (answer.Waiting number) part else concluded config additions c rests all
 
     behind : Bool → Verdict
     behind b =
         if b
-        then record { text = finding_lines config.family cite more; answer = Err (answer.Waiting number) }
-        else record { text = end_text config.family cite (more ++ last) (counted_behind count left done.checked.basis (more ++ last)); answer = Ok (counted_behind count left done.checked.basis (more ++ last)) }
+        then record { text = finding_lines config.family additions more; answer = Err (answer.Waiting number) }
+        else record { text = end_text config.family additions (more ++ last) (counted_behind count c rests (more ++ last)); answer = Ok (counted_behind count c rests (more ++ last)) }
 
     parts : part ≡ found ++ more
-    parts = append_assoc found done.found (told within moment c)
+    parts = append_assoc found done.found ahead.found
 
     same : all ≡ found ++ (more ++ last)
-    same = ap (λ (fs : List (Finding ℕ)). found ++ done.found ++ fs) (append_assoc (told within moment c) (flat_map found_of_last left.waiting.entries) (silence_found config.timing moment (silence_up_to within config.timing moment left.phase)))
-        ∙ append_assoc found done.found (told within moment c ++ last)
-        ∙ ap (λ (fs : List (Finding ℕ)). found ++ fs) (sym (append_assoc done.found (told within moment c) last))
+    same = ap (λ (fs : List (Finding ℕ)). fs ++ last) parts ∙ append_assoc found more last
 
-    totals : totals_of c done.checked.basis all ≡ counted_behind count left done.checked.basis (more ++ last)
-    totals = ap (totals_of c done.checked.basis) same ∙ totals_are c done.checked.basis found (more ++ last) count counts
+    totals : totals_of c rests all ≡ counted_behind count c rests (more ++ last)
+    totals = ap (totals_of c rests) same ∙ totals_are c rests found (more ++ last) count counts
 
     by_room : (b : Bool) → at b ≡ verdict_after lines (behind b)
-    by_room true = λ i. record { text = (ap (finding_lines config.family cite) parts ∙ lines_of_both config.family cite found more) i; answer = Err (answer.Waiting number) }
+    by_room true = λ i. record { text = (ap (finding_lines config.family additions) parts ∙ lines_of_both config.family additions found more) i; answer = Err (answer.Waiting number) }
     by_room false = λ i. record {
-      text = (ap (λ (t : Totals). finding_lines config.family cite all ++ last_lines t) totals
-          ∙ ap (λ (fs : List (Finding ℕ)). finding_lines config.family cite fs ++ last_lines (counted_behind count left done.checked.basis (more ++ last))) same
-          ∙ ap (λ (t : List ℕ). t ++ last_lines (counted_behind count left done.checked.basis (more ++ last))) (lines_of_both config.family cite found (more ++ last))
-          ∙ append_assoc lines (finding_lines config.family cite (more ++ last)) (last_lines (counted_behind count left done.checked.basis (more ++ last)))) i;
+      text = (ap (λ (t : Totals). finding_lines config.family additions all ++ last_lines t) totals
+          ∙ ap (λ (fs : List (Finding ℕ)). finding_lines config.family additions fs ++ last_lines (counted_behind count c rests (more ++ last))) same
+          ∙ ap (λ (t : List ℕ). t ++ last_lines (counted_behind count c rests (more ++ last))) (lines_of_both config.family additions found (more ++ last))
+          ∙ append_assoc lines (finding_lines config.family additions (more ++ last)) (last_lines (counted_behind count c rests (more ++ last)))) i;
       answer = Ok (totals i);
     }
 
 -- what stands behind the packets, behind what was found by them
-rest_joined : (config : Configuration) (within : ℕ) (until : Option ℕ) (cite : Bool) (last number count : ℕ) (found : List (Finding ℕ)) (r : Checked) → count ≡ counted_times (length found) 0
-    → verdict_behind config within until cite number None None (record { checked = r; found = found; moment = last; fault = None }) ≡ verdict_after (finding_lines config.family cite found) (rest_behind config within until cite last count number r)
-rest_joined config within until cite last number count found r counts =
+rest_joined : (config : Configuration) (within : ℕ) (until : Option ℕ) (additions : Additions) (last number count : ℕ) (found : List (Finding ℕ)) (r : Checked) → count ≡ counted_times (length found) 0
+    → verdict_behind config within until additions number None None (record { checked = r; found = found; moment = last; fault = None }) ≡ verdict_after (finding_lines config.family additions found) (rest_behind config within until additions last count number r)
+rest_joined config within until additions last number count found r counts =
     let end = max last (unwrap_or until 0) in
     elim (is_gap last end) as (λ b.
-    elim b [ true ↦ broken_off config cite (answer.Gap number) found | false ↦ ended_at config within cite end number found r ]
-    ≡ verdict_after (finding_lines config.family cite found) (elim b [ true ↦ record { text = []; answer = Err (answer.Gap number) } | false ↦ ended_behind config within cite end count number r ])) [
-      | true ↦ λ i. record { text = sym (append-nil (finding_lines config.family cite found)) i; answer = Err (answer.Gap number) }
-      | false ↦ ended_joined config within cite end number count found r counts
+    elim b [ true ↦ broken_off config additions (answer.Gap number) found | false ↦ ended_at config within additions end number found r ]
+    ≡ verdict_after (finding_lines config.family additions found) (elim b [ true ↦ record { text = []; answer = Err (answer.Gap number) } | false ↦ ended_behind config within additions end count number r ])) [
+      | true ↦ λ i. record { text = sym (append-nil (finding_lines config.family additions found)) i; answer = Err (answer.Gap number) }
+      | false ↦ ended_joined config within additions end number count found r counts
     ]
 
 -- what packets come to behind what was found before them
@@ -192,17 +181,17 @@ found_by_one config within link at packet r none =
     found_within false = ap (λ (c : Course). after.found ++ c.found) (none_left config within link (place_behind at packet.stamp) after.checked) ∙ append-nil after.found
 
 -- what was told went to the writer as the lines of a verdict
-pub lines_passed : {E : Type 0} (config : Configuration) (terms : CheckTerms) (family : Family) (found : List (Finding ℕ)) (told told' : ToldState) (a b : OutputState) → family ≡ config.family → told.cite ≡ terms.cite
-    → Tells {T = Unit} {E = E} family found told told' a b (Ok tt) → Passes a.held b.held told.held told'.held (finding_lines config.family terms.cite found)
+pub lines_passed : {E : Type 0} (config : Configuration) (terms : CheckTerms) (family : Family) (found : List (Finding ℕ)) (told told' : ToldState) (a b : OutputState) → family ≡ config.family → told.additions ≡ terms.additions
+    → Tells {T = Unit} {E = E} family found told told' a b (Ok tt) → Passes a.held b.held told.held told'.held (finding_lines config.family terms.additions found)
 lines_passed config terms family found told told' a b is_family is_cite tells =
-    subst (λ (cite : Bool). Passes a.held b.held told.held told'.held (finding_lines config.family cite found)) is_cite
-    (subst (λ (f : Family). Passes a.held b.held told.held told'.held (finding_lines f told.cite found)) is_family tells.text)
+    subst (λ (additions : Additions). Passes a.held b.held told.held told'.held (finding_lines config.family additions found)) is_cite
+    (subst (λ (f : Family). Passes a.held b.held told.held told'.held (finding_lines f told.additions found)) is_family tells.text)
 
-pub lines_broken : {E : Type 0} (config : Configuration) (terms : CheckTerms) (family : Family) (found : List (Finding ℕ)) (told told' : ToldState) (a b : OutputState) (e : E) → family ≡ config.family → told.cite ≡ terms.cite
-    → Tells {T = Unit} family found told told' a b (Err e) → GrowsByBeginning a.held b.held (told.held ++ finding_lines config.family terms.cite found)
+pub lines_broken : {E : Type 0} (config : Configuration) (terms : CheckTerms) (family : Family) (found : List (Finding ℕ)) (told told' : ToldState) (a b : OutputState) (e : E) → family ≡ config.family → told.additions ≡ terms.additions
+    → Tells {T = Unit} family found told told' a b (Err e) → GrowsByBeginning a.held b.held (told.held ++ finding_lines config.family terms.additions found)
 lines_broken config terms family found told told' a b e is_family is_cite tells =
-    subst (λ (cite : Bool). GrowsByBeginning a.held b.held (told.held ++ finding_lines config.family cite found)) is_cite
-    (subst (λ (f : Family). GrowsByBeginning a.held b.held (told.held ++ finding_lines f told.cite found)) is_family tells.text)
+    subst (λ (additions : Additions). GrowsByBeginning a.held b.held (told.held ++ finding_lines config.family additions found)) is_cite
+    (subst (λ (f : Family). GrowsByBeginning a.held b.held (told.held ++ finding_lines f told.additions found)) is_family tells.text)
 
 module _ {X : Type 0} (family : Family) (state : X → CheckState) where
   abbrev takes : PlacedPacket → X → X → Result Unit CheckFault → Type 0
@@ -260,7 +249,7 @@ module _ {X : Type 0} (family : Family) (state : X → CheckState) where
           tells = then_told family one.found rest.found (state x).told (state mid).told (state x').told (state x).output (state mid).output (state x').output tt (Ok tt) comes.tells rest.tells;
         }
 
-    module _ (x : X) (is_config : (state x).link.config ≡ config) (is_terms : (state x).terms ≡ terms) (is_family : family ≡ config.family) (is_cite : (state x).told.cite ≡ terms.cite)
+    module _ (x : X) (is_config : (state x).link.config ≡ config) (is_terms : (state x).terms ≡ terms) (is_family : family ≡ config.family) (is_cite : (state x).told.additions ≡ terms.additions)
         (starts : here x ≡ at_the_start config terms.within terms.strict) where
       over : (form : Form) (to : Place) (packets : List Captured) (x' : X) → StepsOver takes form.link at_first packets x to x' → IsCheckedOver form.link at_first to packets x x'
       over form to packets x' steps = checked_over form.link at_first to packets x x' is_config is_terms steps
@@ -283,7 +272,7 @@ module _ {X : Type 0} (family : Family) (state : X → CheckState) where
 
       -- the lines of what was found
       passed : (found : List (Finding ℕ)) (x' : X) → Tells {T = Unit} {E = Unit} family found (state x).told (state x').told (state x).output (state x').output (Ok tt)
-          → Passes (state x).output.held (state x').output.held (state x).told.held (state x').told.held (finding_lines config.family terms.cite found)
+          → Passes (state x).output.held (state x').output.held (state x).told.held (state x').told.held (finding_lines config.family terms.additions found)
       passed found x' tells = lines_passed {E = Unit} config terms family found (state x).told (state x').told (state x).output (state x').output is_family is_cite tells
 
       -- the capture has a fault, or a read failed
@@ -306,9 +295,9 @@ module _ {X : Type 0} (family : Family) (state : X → CheckState) where
           let all = over form to c.packets x' steps in
           let course = course_here form to c.packets x' all in
           record {
-            text = finding_lines config.family terms.cite all.found;
-            so_far = rw is_header (ap (λ (k : Course). finding_lines config.family terms.cite k.found) course);
-            verdict = λ ends. rw (is_header, ends) (ap (λ (k : Course). verdict_behind config terms.within terms.until terms.cite (length c.packets + 1) (Some f) k.fault k) course);
+            text = finding_lines config.family terms.additions all.found;
+            so_far = rw is_header (ap (λ (k : Course). finding_lines config.family terms.additions k.found) course);
+            verdict = λ ends. rw (is_header, ends) (ap (λ (k : Course). verdict_behind config terms.within terms.until terms.additions (length c.packets + 1) (Some f) k.fault k) course);
             put = passed all.found x' all.tells;
             unfailed = all.tells.failed ∙ or-false _;
           }
@@ -345,9 +334,9 @@ module _ {X : Type 0} (family : Family) (state : X → CheckState) where
 
         -- the verdict where the last packet ends it
         broken : (checked : Checked) (more : List (Finding ℕ)) (moment : ℕ) (e : CheckFault) → with_packets config form.link terms.within to.first to.before to.number (last ∷ []) (here between) ≡ record { checked = checked; found = more; moment = moment; fault = Some e }
-            → verdict_of config terms stopped ≡ broken_off config terms.cite e (all.found ++ more)
+            → verdict_of config terms stopped ≡ broken_off config terms.additions e (all.found ++ more)
         broken checked more moment e breaks =
-            ap (λ (k : Course). verdict_behind config terms.within terms.until terms.cite (length (some ++ last ∷ []) + 1) None k.fault k) (course_of form to some (last ∷ []) between all ∙ ap (course_behind all.found) breaks)
+            ap (λ (k : Course). verdict_behind config terms.within terms.until terms.additions (length (some ++ last ∷ []) + 1) None k.fault k) (course_of form to some (last ∷ []) between all ∙ ap (course_behind all.found) breaks)
 
         at_gap : (number : ℕ) → takes (placed form.link to last) between x' (Err (answer.Gap number))
             → IsEndedBy config terms stopped old new (Err (answer.Gap number)) × IsVerdictPut config terms stopped new (state x).output.held (state x').output.held (state x).told.held (state x').told.held (Err (answer.Gap number))
@@ -358,7 +347,7 @@ module _ {X : Type 0} (family : Family) (state : X → CheckState) where
               (ap (λ (v : Verdict). v.answer) verdict, inl (within_packets number stops.1), failed),
               subst (λ (s : CheckState). Passes (state x).output.held s.output.held (state x).told.held s.told.held (verdict_of config terms stopped).text) (sym stops.2)
                   (subst (λ (v : Verdict). Passes (state x).output.held (state between).output.held (state x).told.held (state between).told.held v.text) (sym verdict)
-                  (subst (λ (fs : List (Finding ℕ)). Passes (state x).output.held (state between).output.held (state x).told.held (state between).told.held (finding_lines config.family terms.cite fs)) (sym (append-nil all.found)) put)),
+                  (subst (λ (fs : List (Finding ℕ)). Passes (state x).output.held (state between).output.held (state x).told.held (state between).told.held (finding_lines config.family terms.additions fs)) (sym (append-nil all.found)) put)),
               ap (λ (s : CheckState). s.output.failed) stops.2 ∙ all.tells.failed ∙ or-false _,
             )
 
@@ -383,7 +372,7 @@ module _ {X : Type 0} (family : Family) (state : X → CheckState) where
             let tells = then_told {E = Unit} family all.found one.found (state x).told (state between).told (state x').told (state x).output (state between).output (state x').output tt (Err tt) all.tells comes.tells in
             let found = ap (λ (k : Course). k.found) (course_of form to some (last ∷ []) between all) ∙ ap (λ (fs : List (Finding ℕ)). all.found ++ fs) (found_by_one config terms.within form.link to last (here between) stops.no_gap) in
             let begun = lines_broken {E = Unit} config terms family (all.found ++ one.found) (state x).told (state x').told (state x).output (state x').output tt is_family is_cite tells in
-            (inl (subst (λ (fs : List (Finding ℕ)). GrowsByBeginning (state x).output.held (state x').output.held ((state x).told.held ++ finding_lines config.family terms.cite fs)) (sym found) begun), tells.failed)
+            (inl (subst (λ (fs : List (Finding ℕ)). GrowsByBeginning (state x).output.held (state x').output.held ((state x).told.held ++ finding_lines config.family terms.additions fs)) (sym found) begun), tells.failed)
 
       -- the walk ended early
       pub verdict_early : (old new : InputState) (x' : X) (e : CheckFault) → Walks takes (λ f it. it ≡ answer.Pcap f) old new x x' (Err e) → Verdicts old new x' e
@@ -437,7 +426,7 @@ module _ {X : Type 0} (family : Family) (state : X → CheckState) where
 
       -- the walk came to the end of the capture, and the end was put
       pub verdict_well : (old new : InputState) (x' : X) (w : Walked) (after : Option (List ℕ)) (left : List ℕ) (it : Result Totals CheckFault) → (state x).told.count ≡ 0 → Walks takes (λ f it. it ≡ answer.Pcap f) old new x x' (Ok w)
-          → IsRestPut (rest_behind (state x').link.config (state x').terms.within (state x').terms.until (state x').told.cite w.last (state x').told.count (w.packets + 1) (here x')) (state x').output.held after (state x').told.held left it
+          → IsRestPut (rest_behind (state x').link.config (state x').terms.within (state x').terms.until (state x').told.additions w.last (state x').told.count (w.packets + 1) (here x')) (state x').output.held after (state x').told.held left it
           → PutsVerdict config terms old new (state x).output.held after (state x).told.held left it
       verdict_well old new x' w after left it none walks put = by_answer it (subst (λ (v : Verdict). IsRestPut v (state x').output.held after (state x').told.held left it) same put)
         where
@@ -460,22 +449,22 @@ module _ {X : Type 0} (family : Family) (state : X → CheckState) where
           counts = all.tells.count ∙ ap (counted_times (length all.found)) none
 
           rest : Verdict
-          rest = rest_behind config terms.within terms.until terms.cite w.last count (w.packets + 1) (here x')
+          rest = rest_behind config terms.within terms.until terms.additions w.last count (w.packets + 1) (here x')
 
-          same : rest_behind (state x').link.config (state x').terms.within (state x').terms.until (state x').told.cite w.last count (w.packets + 1) (here x') ≡ rest
-          same = λ i. rest_behind (all.same_config i) (all.same_terms i).within (all.same_terms i).until ((all.tells.cite ∙ is_cite) i) w.last count (w.packets + 1) (here x')
+          same : rest_behind (state x').link.config (state x').terms.within (state x').terms.until (state x').told.additions w.last count (w.packets + 1) (here x') ≡ rest
+          same = λ i. rest_behind (all.same_config i) (all.same_terms i).within (all.same_terms i).until ((all.tells.additions ∙ is_cite) i) w.last count (w.packets + 1) (here x')
 
           counted : length c.packets ≡ w.packets
           counted = let numbered : w.packets + 1 ≡ 1 + length c.packets = steps_counted takes walked.form.link at_first to c.packets x x' walked.steps in omega (arith, numbered)
 
           lines : List ℕ
-          lines = finding_lines config.family terms.cite all.found
+          lines = finding_lines config.family terms.additions all.found
 
           verdict : verdict_of config terms c ≡ verdict_after lines rest
-          verdict = (λ i. check_of config terms.within terms.until terms.cite terms.strict (walked.header i) c.packets (walked.end i))
-              ∙ ap (λ (k : Course). verdict_behind config terms.within terms.until terms.cite (length c.packets + 1) None k.fault k) (course_here walked.form to c.packets x' all)
-              ∙ ap (λ (n : ℕ). verdict_behind config terms.within terms.until terms.cite (n + 1) None None (record { checked = here x'; found = all.found; moment = w.last; fault = None })) counted
-              ∙ rest_joined config terms.within terms.until terms.cite w.last (w.packets + 1) count all.found (here x') counts
+          verdict = (λ i. check_of config terms.within terms.until terms.additions terms.strict (walked.header i) c.packets (walked.end i))
+              ∙ ap (λ (k : Course). verdict_behind config terms.within terms.until terms.additions (length c.packets + 1) None k.fault k) (course_here walked.form to c.packets x' all)
+              ∙ ap (λ (n : ℕ). verdict_behind config terms.within terms.until terms.additions (n + 1) None None (record { checked = here x'; found = all.found; moment = w.last; fault = None })) counted
+              ∙ rest_joined config terms.within terms.until terms.additions w.last (w.packets + 1) count all.found (here x') counts
 
           whole : Passes (state x').output.held after (state x').told.held left rest.text → Passes (state x).output.held after (state x).told.held left (verdict_of config terms c).text
           whole p = subst (λ (v : Verdict). Passes (state x).output.held after (state x).told.held left v.text) (sym verdict)

@@ -34,15 +34,15 @@ datagram_received config link within moment number frame datagram before after q
 
 -- a query of the querier that is checked
 pub datagram_seen : (config : Configuration) (link : LinkType) (within moment number to : ℕ) (frame : List ℕ) (datagram : Datagram) (query : Query ℕ) (before : LinkValue) (queries left new : WantingValue)
-    → left.checking ≡ headers_checked config link within moment number frame datagram queries.checking → new.basis ≡ queries.basis → new.checking ≡ query_came within config before.state moment to query left.checking
+    → left.checking ≡ headers_checked config link within moment number frame datagram queries.checking → left.basis ≡ queries.basis → new.basis ≡ queries.basis → new.checking ≡ query_came within config before.state moment left.basis.packets to query left.checking
     → to ≡ destination_in config.family link frame datagram.envelope → Some query ≡ query_seen config datagram
     → checked_in before new ≡ (with_datagram config link within moment number frame (Some datagram) (checked_in before queries)).checked
 unfolding seen_at
-datagram_seen config link within moment number to frame datagram query before queries left new settles kept is goes some =
+datagram_seen config link within moment number to frame datagram query before queries left new settles left_so kept is goes some =
     let there = destination_in config.family link frame datagram.envelope in
     let r = with_faults moment number (faults_in config link frame datagram) (settled_at within moment (checked_in before queries)) in
     let here : checked_in before new ≡ seen_at config within moment there query r =
-    λ i. record { link = before.state; checking = (is ∙ (λ j. query_came within config before.state moment (goes j) query (settles j))) i; basis = kept i } in
+    λ i. record { link = before.state; checking = (is ∙ (λ j. query_came within config before.state moment (left_so j).packets (goes j) query (settles j))) i; basis = kept i } in
     here ∙ ap (λ (q : Option (Query ℕ)). seen_or_received config within moment there datagram q r) some
 
 -- the same in the terms of the code
@@ -53,13 +53,13 @@ received_comes config config' link within moment m number frame datagram before 
     datagram_received config link within moment number frame datagram before after queries left new (settles ∙ (λ i. headers_checked (is_config i) link within (is_moment i) number frame datagram queries.checking)) kept is (none ∙ ap (λ (k : Configuration). query_seen k datagram) is_config)
 
 pub seen_comes : (config config' config'' : Configuration) (link : LinkType) (within moment m number to : ℕ) (frame : List ℕ) (datagram : Datagram) (query : Query ℕ) (family : Family) (before : LinkValue) (queries left new : WantingValue)
-    → Some query ≡ query_seen config' datagram → config' ≡ config → m ≡ moment → left.checking ≡ headers_checked config' link within m number frame datagram queries.checking → new.basis ≡ queries.basis
-    → new.checking ≡ query_came within config'' before.state moment to query left.checking → config'' ≡ config
+    → Some query ≡ query_seen config' datagram → config' ≡ config → m ≡ moment → left.checking ≡ headers_checked config' link within m number frame datagram queries.checking → left.basis ≡ queries.basis → new.basis ≡ queries.basis
+    → new.checking ≡ query_came within config'' before.state moment left.basis.packets to query left.checking → config'' ≡ config
     → to ≡ destination_in family link frame datagram.envelope → family ≡ config.family
     → checked_in before new ≡ (with_datagram config link within moment number frame (Some datagram) (checked_in before queries)).checked
-seen_comes config config' config'' link within moment m number to frame datagram query family before queries left new some is_config is_moment settles kept is same_config goes is_family =
-    datagram_seen config link within moment number to frame datagram query before queries left new (settles ∙ (λ i. headers_checked (is_config i) link within (is_moment i) number frame datagram queries.checking)) kept
-    (is ∙ (λ i. query_came within (same_config i) before.state moment to query left.checking)) (goes ∙ ap (λ (f : Family). destination_in f link frame datagram.envelope) is_family)
+seen_comes config config' config'' link within moment m number to frame datagram query family before queries left new some is_config is_moment settles left_so kept is same_config goes is_family =
+    datagram_seen config link within moment number to frame datagram query before queries left new (settles ∙ (λ i. headers_checked (is_config i) link within (is_moment i) number frame datagram queries.checking)) left_so kept
+    (is ∙ (λ i. query_came within (same_config i) before.state moment left.basis.packets to query left.checking)) (goes ∙ ap (λ (f : Family). destination_in f link frame datagram.envelope) is_family)
     (some ∙ ap (λ (k : Configuration). query_seen k datagram) is_config)
 
 -- the headers were looked at behind what was over, by a configuration that the code names otherwise

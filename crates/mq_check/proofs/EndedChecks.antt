@@ -1,7 +1,6 @@
 -- The end of a check: what is put then.
-use Rattle.std.proofs.Common.{◌≡◌, ℕ, Bool, true, false, if◌then◌else◌, List, [], ◌++◌, length, Option, Result, Ok, Err, max, unwrap_or, append_assoc, append-nil, length-append, refl, ap, sym, subst, ◌∙◌}
+use Rattle.std.proofs.Common.{◌≡◌, ℕ, true, false, if◌then◌else◌, List, [], ◌++◌, length, Option, Result, Ok, Err, max, unwrap_or, append_assoc, append-nil, length-append, refl, ap, sym, subst, ◌∙◌}
 use Rattle.mq_wire.specs.Family.{Family}
-use Rattle.mq_table.specs.declared.timing.Timing.{Timing}
 use Rattle.mq_link.specs.Configuration.{Configuration}
 use Rattle.mq_text.specs.Printing.{GrowsByBeginning, OutputState, Passes}
 use Rattle.mq_text.proofs.Passing.{broken_behind, broken_within, both_passed, nothing_passed}
@@ -9,14 +8,16 @@ use Rattle.mq_replay.specs.Report.{is_gap}
 use Rattle.mq_check.specs.declared.basis.Basis.{Basis}
 use Rattle.mq_check.specs.declared.check_fault.CheckFault.{CheckFault}
 use Rattle.mq_check.specs.declared.check_fault.CheckFault.TheVariants as answer
+use Rattle.mq_check.specs.declared.check_terms.Additions.{Additions}
 use Rattle.mq_check.specs.declared.finding.Finding.{Finding}
 use Rattle.mq_check.specs.declared.totals.Totals.{Totals}
-use Rattle.mq_check.specs.Check.{Checked, Verdict, ticked_through}
-use Rattle.mq_check.specs.Checking.{CheckingValue, settled, told}
-use Rattle.mq_check.specs.Ending.{IsRestPut, counted_behind, end_behind, end_text, ended_behind, last_findings, rest_behind}
+use Rattle.mq_check.specs.Check.{Checked, Outcome, Verdict, looked_ahead, settled_through}
+use Rattle.mq_check.specs.Checking.{CheckingValue, told_at_end}
+use Rattle.mq_check.specs.Ending.{IsRestPut, counted_behind, end_behind, end_text, ended_behind, rest_behind}
 use Rattle.mq_check.specs.FindingLines.{finding_lines, last_lines}
+use Rattle.mq_check.specs.General.{silence_up_to}
 use Rattle.mq_check.specs.Telling.{ToldState, Tells, counted_times}
-use Rattle.mq_check.proofs.Tellings.{lines_of_both, then_told, times_more, told_broken}
+use Rattle.mq_check.proofs.Tellings.{lines_of_both, tells_as, then_told, times_more, told_broken}
 
 -- the same of a family that is named otherwise
 pub tells_in : {T E : Type 0} (family other : Family) (found : List (Finding ℕ)) (old new : ToldState) (a b : OutputState) (r : Result T E) → family ≡ other → Tells family found old new a b r → Tells other found old new a b r
@@ -28,190 +29,187 @@ rest_as v w before after held left r same put = subst (λ (x : Verdict). IsRestP
 
 -- the totals were put behind the findings, or not whole
 pub end_passed : {S E : Type 0} (family : Family) (found : List (Finding ℕ)) (old mid : ToldState) (a b : OutputState) (c : Option (List ℕ)) (left : List ℕ) (x : S) (totals other : Totals)
-    → Tells {E = E} family found old mid a b (Ok x) → totals ≡ other → Passes b.held c mid.held left (last_lines totals) → Passes a.held c old.held left (end_text family old.cite found other)
+    → Tells {E = E} family found old mid a b (Ok x) → totals ≡ other → Passes b.held c mid.held left (last_lines totals) → Passes a.held c old.held left (end_text family old.additions found other)
 end_passed family found old mid a b c left x totals other tells same put =
-    subst (λ (t : Totals). Passes a.held c old.held left (finding_lines family old.cite found ++ last_lines t)) same (both_passed a.held b.held c old.held mid.held left _ _ tells.text put)
+    subst (λ (t : Totals). Passes a.held c old.held left (finding_lines family old.additions found ++ last_lines t)) same (both_passed a.held b.held c old.held mid.held left _ _ tells.text put)
 
 pub end_unpassed : {S E : Type 0} (family : Family) (found : List (Finding ℕ)) (old mid : ToldState) (a b : OutputState) (c : Option (List ℕ)) (x : S) (totals other : Totals)
-    → Tells {E = E} family found old mid a b (Ok x) → totals ≡ other → GrowsByBeginning b.held c (mid.held ++ last_lines totals) → GrowsByBeginning a.held c (old.held ++ end_text family old.cite found other)
+    → Tells {E = E} family found old mid a b (Ok x) → totals ≡ other → GrowsByBeginning b.held c (mid.held ++ last_lines totals) → GrowsByBeginning a.held c (old.held ++ end_text family old.additions found other)
 end_unpassed family found old mid a b c x totals other tells same begun =
-    subst (λ (t : Totals). GrowsByBeginning a.held c (old.held ++ (finding_lines family old.cite found ++ last_lines t))) same (broken_behind a.held b.held c old.held mid.held _ _ tells.text begun)
+    subst (λ (t : Totals). GrowsByBeginning a.held c (old.held ++ (finding_lines family old.additions found ++ last_lines t))) same (broken_behind a.held b.held c old.held mid.held _ _ tells.text begun)
 
 -- a finding was not put whole
 pub end_broken : {T E : Type 0} (family : Family) (found rest : List (Finding ℕ)) (old new : ToldState) (a b : OutputState) (e : E) (totals : Totals)
-    → Tells {T = T} family found old new a b (Err e) → GrowsByBeginning a.held b.held (old.held ++ end_text family old.cite (found ++ rest) totals)
+    → Tells {T = T} family found old new a b (Err e) → GrowsByBeginning a.held b.held (old.held ++ end_text family old.additions (found ++ rest) totals)
 end_broken {T} family found rest old new a b e totals tells =
     let told = told_broken {T = T} family found rest old new a b e tells in
     broken_within a.held b.held old.held _ (last_lines totals) told.text
 
 pub all_broken : {T E : Type 0} (family : Family) (found : List (Finding ℕ)) (old new : ToldState) (a b : OutputState) (e : E) (totals : Totals)
-    → Tells {T = T} family found old new a b (Err e) → GrowsByBeginning a.held b.held (old.held ++ end_text family old.cite found totals)
+    → Tells {T = T} family found old new a b (Err e) → GrowsByBeginning a.held b.held (old.held ++ end_text family old.additions found totals)
 all_broken family found old new a b e totals tells = broken_within a.held b.held old.held _ (last_lines totals) tells.text
 
 -- what was counted
-pub totals_counted : (general specific findings count : ℕ) (state checking : CheckingValue) (told rests : Basis) (found : List (Finding ℕ)) → state ≡ checking → general ≡ state.general → specific ≡ state.specific → findings ≡ counted_times (length found) count
-    → told ≡ rests → record { general = general; specific = specific; findings = findings; basis = told } ≡ counted_behind count checking rests found
-totals_counted general specific findings count state checking told rests found is is_general is_specific counts basis =
+pub totals_counted : (general specific findings count : ℕ) (state other checking : CheckingValue) (rests : Basis) (found : List (Finding ℕ)) → state ≡ checking → other ≡ checking → general ≡ state.general → specific ≡ other.specific → findings ≡ counted_times (length found) count
+    → record { general = general; specific = specific; findings = findings; basis = rests } ≡ counted_behind count checking rests found
+totals_counted general specific findings count state other checking rests found is is_too is_general is_specific counts =
     λ i. record {
       general = (is_general ∙ ap (λ (c : CheckingValue). c.general) is) i;
-      specific = (is_specific ∙ ap (λ (c : CheckingValue). c.specific) is) i;
+      specific = (is_specific ∙ ap (λ (c : CheckingValue). c.specific) is_too) i;
       findings = counts i;
-      basis = basis i;
+      basis = rests;
     }
 
 -- the text of the end, behind what was found up to it
-both_texts : (family : Family) (cite : Bool) (found last : List (Finding ℕ)) (totals : Totals) → end_text family cite (found ++ last) totals ≡ finding_lines family cite found ++ end_text family cite last totals
-both_texts family cite found last totals =
-    ap (λ (t : List ℕ). t ++ last_lines totals) (lines_of_both family cite found last) ∙ append_assoc (finding_lines family cite found) (finding_lines family cite last) (last_lines totals)
+both_texts : (family : Family) (additions : Additions) (found last : List (Finding ℕ)) (totals : Totals) → end_text family additions (found ++ last) totals ≡ finding_lines family additions found ++ end_text family additions last totals
+both_texts family additions found last totals =
+    ap (λ (t : List ℕ). t ++ last_lines totals) (lines_of_both family additions found last) ∙ append_assoc (finding_lines family additions found) (finding_lines family additions last) (last_lines totals)
 
-begins : (family : Family) (cite : Bool) (count number : ℕ) (c : CheckingValue) (rests : Basis) (found last : List (Finding ℕ)) → (more : List ℕ) × ((end_behind family cite count number c rests found last).text ≡ finding_lines family cite found ++ more)
-begins family cite count number c rests found last =
+begins : (family : Family) (additions : Additions) (count number : ℕ) (c : CheckingValue) (rests : Basis) (found last : List (Finding ℕ)) → (more : List ℕ) × ((end_behind family additions count number c rests found last).text ≡ finding_lines family additions found ++ more)
+begins family additions count number c rests found last =
     let all = counted_behind count c rests (found ++ last) in
-    let full : Verdict = record { text = finding_lines family cite found; answer = Err (answer.Waiting number) } in
-    let whole : Verdict = record { text = end_text family cite (found ++ last) all; answer = Ok all } in
-    elim c.waiting.is_full as (λ b. (more : List ℕ) × ((if◌then◌else◌ {A = Verdict} b full whole).text ≡ finding_lines family cite found ++ more)) [
-      | true ↦ ([], sym (append-nil (finding_lines family cite found)))
-      | false ↦ (end_text family cite last all, both_texts family cite found last all)
+    let full : Verdict = record { text = finding_lines family additions found; answer = Err (answer.Waiting number) } in
+    let whole : Verdict = record { text = end_text family additions (found ++ last) all; answer = Ok all } in
+    elim c.waiting.is_full as (λ b. (more : List ℕ) × ((if◌then◌else◌ {A = Verdict} b full whole).text ≡ finding_lines family additions found ++ more)) [
+      | true ↦ ([], sym (append-nil (finding_lines family additions found)))
+      | false ↦ (end_text family additions last all, both_texts family additions found last all)
     ]
 
 -- a finding up to the end was not put whole
 pub ended_broken : {T E : Type 0} (family : Family) (count number : ℕ) (c : CheckingValue) (rests : Basis) (found last : List (Finding ℕ)) (old new : ToldState) (a b : OutputState) (e : E)
-    → Tells {T = T} family found old new a b (Err e) → GrowsByBeginning a.held b.held (old.held ++ (end_behind family old.cite count number c rests found last).text)
+    → Tells {T = T} family found old new a b (Err e) → GrowsByBeginning a.held b.held (old.held ++ (end_behind family old.additions count number c rests found last).text)
 ended_broken family count number c rests found last old new a b e tells =
-    let start = begins family old.cite count number c rests found last in
+    let start = begins family old.additions count number c rests found last in
     subst (λ (t : List ℕ). GrowsByBeginning a.held b.held (old.held ++ t)) (sym start.1) (broken_within a.held b.held old.held _ start.0 tells.text)
 
 -- too much waits
 pub ended_full : {E : Type 0} (family : Family) (count number : ℕ) (c : CheckingValue) (rests : Basis) (found last : List (Finding ℕ)) (old new : ToldState) (a b : OutputState) → c.waiting.is_full ≡ true
-    → Tells {T = Unit} {E = E} family found old new a b (Ok tt) → IsRestPut (end_behind family old.cite count number c rests found last) a.held b.held old.held new.held (Err (answer.Waiting number))
+    → Tells {T = Unit} {E = E} family found old new a b (Ok tt) → IsRestPut (end_behind family old.additions count number c rests found last) a.held b.held old.held new.held (Err (answer.Waiting number))
 ended_full family count number c rests found last old new a b is tells = rw is (refl, tells.text)
 
 -- what is found at the end was put behind what was found up to it
-ended_open : (family : Family) (cite : Bool) (count number counted : ℕ) (c : CheckingValue) (rests : Basis) (found last : List (Finding ℕ)) → c.waiting.is_full ≡ false → counted ≡ counted_times (length found) count
-    → end_behind family cite count number c rests found last ≡ record { text = finding_lines family cite found ++ end_text family cite last (counted_behind counted c rests last); answer = Ok (counted_behind counted c rests last) }
-ended_open family cite count number counted c rests found last is counts =
+ended_open : (family : Family) (additions : Additions) (count number counted : ℕ) (c : CheckingValue) (rests : Basis) (found last : List (Finding ℕ)) → c.waiting.is_full ≡ false → counted ≡ counted_times (length found) count
+    → end_behind family additions count number c rests found last ≡ record { text = finding_lines family additions found ++ end_text family additions last (counted_behind counted c rests last); answer = Ok (counted_behind counted c rests last) }
+ended_open family additions count number counted c rests found last is counts =
     let findings : counted_times (length (found ++ last)) count ≡ counted_times (length last) counted =
     ap (λ (n : ℕ). counted_times n count) (length-append found last) ∙ times_more (length found) (length last) count ∙ ap (counted_times (length last)) (sym counts) in
     let totals : counted_behind count c rests (found ++ last) ≡ counted_behind counted c rests last = λ i. record { general = c.general; specific = c.specific; findings = findings i; basis = rests } in
     rw is (λ i. record {
-      text = (both_texts family cite found last (counted_behind count c rests (found ++ last)) ∙ ap (λ (t : Totals). finding_lines family cite found ++ end_text family cite last t) totals) i;
+      text = (both_texts family additions found last (counted_behind count c rests (found ++ last)) ∙ ap (λ (t : Totals). finding_lines family additions found ++ end_text family additions last t) totals) i;
       answer = Ok (totals i);
     })
 
 pub ended_put : {E : Type 0} (family : Family) (number : ℕ) (c : CheckingValue) (rests : Basis) (found last : List (Finding ℕ)) (old mid new : ToldState) (x y z : OutputState) (totals : Totals) → c.waiting.is_full ≡ false
-    → Tells {T = Unit} {E = E} family found old mid x y (Ok tt) → totals ≡ counted_behind mid.count c rests last → Passes y.held z.held mid.held new.held (end_text family mid.cite last (counted_behind mid.count c rests last))
-    → IsRestPut (end_behind family old.cite old.count number c rests found last) x.held z.held old.held new.held (Ok totals)
+    → Tells {T = Unit} {E = E} family found old mid x y (Ok tt) → totals ≡ counted_behind mid.count c rests last → Passes y.held z.held mid.held new.held (end_text family mid.additions last (counted_behind mid.count c rests last))
+    → IsRestPut (end_behind family old.additions old.count number c rests found last) x.held z.held old.held new.held (Ok totals)
 ended_put family number c rests found last old mid new x y z totals is tells counts passed =
-    let same = ended_open family old.cite old.count number mid.count c rests found last is tells.count in
-    let cited = subst (λ (cite : Bool). Passes y.held z.held mid.held new.held (end_text family cite last (counted_behind mid.count c rests last))) tells.cite passed in (
+    let same = ended_open family old.additions old.count number mid.count c rests found last is tells.count in
+    let cited = subst (λ (additions : Additions). Passes y.held z.held mid.held new.held (end_text family additions last (counted_behind mid.count c rests last))) tells.additions passed in (
       ap (λ (v : Verdict). v.answer) same ∙ ap Ok (sym counts),
       subst (λ (v : Verdict). Passes x.held z.held old.held new.held v.text) (sym same) (both_passed x.held y.held z.held old.held mid.held new.held _ _ tells.text cited),
     )
 
 pub ended_unput : {E : Type 0} (family : Family) (number : ℕ) (c : CheckingValue) (rests : Basis) (found last : List (Finding ℕ)) (old mid : ToldState) (x y z : OutputState) → c.waiting.is_full ≡ false
-    → Tells {T = Unit} {E = E} family found old mid x y (Ok tt) → GrowsByBeginning y.held z.held (mid.held ++ end_text family mid.cite last (counted_behind mid.count c rests last))
-    → GrowsByBeginning x.held z.held (old.held ++ (end_behind family old.cite old.count number c rests found last).text)
+    → Tells {T = Unit} {E = E} family found old mid x y (Ok tt) → GrowsByBeginning y.held z.held (mid.held ++ end_text family mid.additions last (counted_behind mid.count c rests last))
+    → GrowsByBeginning x.held z.held (old.held ++ (end_behind family old.additions old.count number c rests found last).text)
 ended_unput family number c rests found last old mid x y z is tells begun =
-    let same = ended_open family old.cite old.count number mid.count c rests found last is tells.count in
-    let cited = subst (λ (cite : Bool). GrowsByBeginning y.held z.held (mid.held ++ end_text family cite last (counted_behind mid.count c rests last))) tells.cite begun in
+    let same = ended_open family old.additions old.count number mid.count c rests found last is tells.count in
+    let cited = subst (λ (additions : Additions). GrowsByBeginning y.held z.held (mid.held ++ end_text family additions last (counted_behind mid.count c rests last))) tells.additions begun in
     subst (λ (v : Verdict). GrowsByBeginning x.held z.held (old.held ++ v.text)) (sym same) (broken_behind x.held y.held z.held old.held mid.held _ _ tells.text cited)
 
--- the end in the terms of the code: the check behind the ticks, and behind what no longer waits
-pub ended_as : (config : Configuration) (within : ℕ) (cite : Bool) (moment count number : ℕ) (r : Checked) (mid left : CheckingValue) (rests : Basis) → mid ≡ (ticked_through config within moment r).checked.checking → left ≡ settled within moment mid → rests ≡ (ticked_through config within moment r).checked.basis
-    → ended_behind config within cite moment count number r
-    ≡ end_behind config.family cite count number left rests ((ticked_through config within moment r).found ++ told within moment mid) (last_findings within config.timing moment left)
+-- the end, from a check at the end and one that has looked ahead
+abbrev end_from : Configuration → (within : ℕ) → (additions : Additions) → (moment count number : ℕ) → (found : List (Finding ℕ)) → (at left : Checked) → Verdict
+end_from config within additions moment count number found at left =
+    end_behind config.family additions count number left.checking at.basis (found ++ (looked_ahead config within moment at).found)
+    (told_at_end within config.timing moment (silence_up_to within config.timing moment at.checking.phase) left.checking)
+
+-- the end in the terms of the code: the check at the end, and the one that has looked ahead
+pub ended_as : (config : Configuration) (within : ℕ) (additions : Additions) (moment count number : ℕ) (r at left : Checked) → at ≡ (settled_through config within moment r).checked → left ≡ (looked_ahead config within moment at).checked
+    → ended_behind config within additions moment count number r ≡ end_from config within additions moment count number (settled_through config within moment r).found at left
 unfolding ended_behind
-ended_as config within cite moment count number r mid left rests is settles basis =
-    let found = (ticked_through config within moment r).found in
-    (λ i. end_behind config.family cite count number (settled within moment (sym is i)) (sym basis i) (found ++ told within moment (sym is i)) (last_findings within config.timing moment (settled within moment (sym is i))))
-    ∙ (λ i. end_behind config.family cite count number (sym settles i) rests (found ++ told within moment mid) (last_findings within config.timing moment (sym settles i)))
+ended_as config within additions moment count number r at left is ahead =
+    let found = (settled_through config within moment r).found in
+    ap (λ (k : Checked). end_from config within additions moment count number found k (looked_ahead config within moment k).checked) (sym is)
+    ∙ ap (λ (k : Checked). end_from config within additions moment count number found at k) (sym ahead)
 
--- what was told up to the end: by the ticks, and of what no longer waits then
-told_to_end : {S T E E' : Type 0} (config : Configuration) (within m end : ℕ) (r : Checked) (c : CheckingValue) (family : Family) (old mid new : ToldState) (x y z : OutputState) (s : S) (answered : Result T E) → family ≡ config.family → m ≡ end
-    → Tells {E = E'} family (ticked_through config within m r).found old mid x y (Ok s) → Tells family (told within m c) mid new y z answered
-    → Tells config.family ((ticked_through config within end r).found ++ told within end c) old new x z answered
-told_to_end {T = T} {E = E} config within m end r c family old mid new x y z s answered is_family is_end first second =
-    subst (λ (k : ℕ). Tells {T = T} {E = E} config.family ((ticked_through config within k r).found ++ told within k c) old new x z answered) is_end
-    (tells_in family config.family _ old new x z answered is_family (then_told family _ _ old mid new x y z s answered first second))
+-- what was told up to the end, and by the look-ahead
+told_ahead : {S T E E' : Type 0} (config : Configuration) (within end : ℕ) (r at : Checked) (o : Outcome) (family : Family) (old mid new : ToldState) (x y z : OutputState) (s : S) (answered : Result T E) → family ≡ config.family → o ≡ looked_ahead config within end at
+    → Tells {E = E'} family (settled_through config within end r).found old mid x y (Ok s) → Tells family o.found mid new y z answered
+    → Tells config.family ((settled_through config within end r).found ++ (looked_ahead config within end at).found) old new x z answered
+told_ahead config within end r at o family old mid new x y z s answered is_family is first second =
+    tells_in family config.family _ old new x z answered is_family
+    (then_told family _ _ old mid new x y z s answered first (tells_as family _ _ mid new y z answered (ap (λ (p : Outcome). p.found) is) second))
 
--- the end in the terms of the code, whose moment is named otherwise
-end_there : (config : Configuration) (within m end : ℕ) (cite : Bool) (count number : ℕ) (r : Checked) (c left : CheckingValue) (rests : Basis) → m ≡ end → c ≡ (ticked_through config within m r).checked.checking → left ≡ settled within m c → rests ≡ (ticked_through config within m r).checked.basis
-    → ended_behind config within cite end count number r
-    ≡ end_behind config.family cite count number left rests ((ticked_through config within end r).found ++ told within end c) (last_findings within config.timing end left)
-end_there config within m end cite count number r c left rests is_end is settles basis =
-    ended_as config within cite end count number r c left rests (is ∙ ap (λ (k : ℕ). (ticked_through config within k r).checked.checking) is_end) (settles ∙ ap (λ (k : ℕ). settled within k c) is_end) (basis ∙ ap (λ (k : ℕ). (ticked_through config within k r).checked.basis) is_end)
+-- a write failed up to the end
+pub broken_to_end : {T E : Type 0} (config : Configuration) (within end number : ℕ) (r : Checked) (family : Family) (old new : ToldState) (x y : OutputState) (e : E) → family ≡ config.family
+    → Tells {T = T} family (settled_through config within end r).found old new x y (Err e) → GrowsByBeginning x.held y.held (old.held ++ (ended_behind config within old.additions end old.count number r).text)
+broken_to_end {T} {E} config within end number r family old new x y e is_family tells =
+    let done = settled_through config within end r in
+    let ahead = looked_ahead config within end done.checked in
+    let here : Tells {T = T} {E = E} config.family done.found old new x y (Err e) = tells_in {T = T} family config.family _ old new x y (Err e) is_family tells in
+    subst (λ (v : Verdict). GrowsByBeginning x.held y.held (old.held ++ v.text)) (sym (ended_as config within old.additions end old.count number r done.checked ahead.checked refl refl))
+    (ended_broken {T = T} config.family old.count number ahead.checked.checking done.checked.basis (done.found ++ ahead.found) _ old new x y e (told_broken {T = T} config.family done.found ahead.found old new x y e here))
 
--- a write failed while the ticks were made
-pub ticks_broken_at_end : {T E : Type 0} (config : Configuration) (within m end number : ℕ) (r : Checked) (family : Family) (old new : ToldState) (x y : OutputState) (e : E) → family ≡ config.family → m ≡ end
-    → Tells {T = T} family (ticked_through config within m r).found old new x y (Err e) → GrowsByBeginning x.held y.held (old.held ++ (ended_behind config within old.cite end old.count number r).text)
-ticks_broken_at_end {T} {E} config within m end number r family old new x y e is_family is_end tells =
-    let done = ticked_through config within end r in
-    let c = done.checked.checking in
-    let left = settled within end c in
-    let more = told within end c in
-    let here : Tells {T = T} {E = E} config.family done.found old new x y (Err e) =
-    subst (λ (k : ℕ). Tells {T = T} {E = E} config.family (ticked_through config within k r).found old new x y (Err e)) is_end (tells_in {T = T} family config.family _ old new x y (Err e) is_family tells) in
-    subst (λ (v : Verdict). GrowsByBeginning x.held y.held (old.held ++ v.text)) (sym (ended_as config within old.cite end old.count number r c left done.checked.basis refl refl refl))
-    (ended_broken {T = T} config.family old.count number left done.checked.basis (done.found ++ more) (last_findings within config.timing end left) old new x y e (told_broken {T = T} config.family done.found more old new x y e here))
+-- a write failed in the look-ahead
+pub broken_ahead : {S T E E' : Type 0} (config : Configuration) (within end number : ℕ) (r at : Checked) (o : Outcome) (family : Family) (old mid new : ToldState) (x y z : OutputState) (s : S) (e : E) → family ≡ config.family
+    → at ≡ (settled_through config within end r).checked → o ≡ looked_ahead config within end at
+    → Tells {E = E'} family (settled_through config within end r).found old mid x y (Ok s) → Tells {T = T} family o.found mid new y z (Err e)
+    → GrowsByBeginning x.held z.held (old.held ++ (ended_behind config within old.additions end old.count number r).text)
+broken_ahead {T = T} config within end number r at o family old mid new x y z s e is_family is same first second =
+    let left = (looked_ahead config within end at).checked in
+    subst (λ (v : Verdict). GrowsByBeginning x.held z.held (old.held ++ v.text)) (sym (ended_as config within old.additions end old.count number r at left is refl))
+    (ended_broken {T = T} config.family old.count number left.checking at.basis _ _ old new x z e (told_ahead {T = T} config within end r at o family old mid new x y z s (Err e) is_family same first second))
 
--- a write failed while it was told what no longer waits
-pub settling_broken_at_end : {S T E E' : Type 0} (config : Configuration) (within m end number : ℕ) (r : Checked) (c : CheckingValue) (family : Family) (old mid new : ToldState) (x y z : OutputState) (s : S) (e : E) → family ≡ config.family → m ≡ end
-    → c ≡ (ticked_through config within m r).checked.checking → Tells {E = E'} family (ticked_through config within m r).found old mid x y (Ok s) → Tells {T = T} family (told within m c) mid new y z (Err e)
-    → GrowsByBeginning x.held z.held (old.held ++ (ended_behind config within old.cite end old.count number r).text)
-settling_broken_at_end {T = T} config within m end number r c family old mid new x y z s e is_family is_end is first second =
-    let left = settled within m c in
-    let rests = (ticked_through config within m r).checked.basis in
-    subst (λ (v : Verdict). GrowsByBeginning x.held z.held (old.held ++ v.text)) (sym (end_there config within m end old.cite old.count number r c left rests is_end is refl refl))
-    (ended_broken {T = T} config.family old.count number left rests _ (last_findings within config.timing end left) old new x z e (told_to_end {T = T} config within m end r c family old mid new x y z s (Err e) is_family is_end first second))
-
--- too much waits at the end
-pub full_at_end : {E E' : Type 0} (config : Configuration) (within m end number : ℕ) (r : Checked) (c left : CheckingValue) (rests : Basis) (family : Family) (old mid new : ToldState) (x y z : OutputState) → family ≡ config.family → m ≡ end
-    → c ≡ (ticked_through config within m r).checked.checking → left ≡ settled within m c → rests ≡ (ticked_through config within m r).checked.basis → left.waiting.is_full ≡ true
-    → Tells {T = Unit} {E = E'} family (ticked_through config within m r).found old mid x y (Ok tt) → Tells {T = Unit} {E = E} family (told within m c) mid new y z (Ok tt)
-    → IsRestPut (ended_behind config within old.cite end old.count number r) x.held z.held old.held new.held (Err (answer.Waiting number))
-full_at_end {E} config within m end number r c left rests family old mid new x y z is_family is_end is settles basis full first second =
-    rest_as _ _ x.held z.held old.held new.held (Err (answer.Waiting number)) (sym (end_there config within m end old.cite old.count number r c left rests is_end is settles basis))
-    (ended_full {E = E} config.family old.count number left rests _ (last_findings within config.timing end left) old new x z full (told_to_end config within m end r c family old mid new x y z tt (Ok tt) is_family is_end first second))
+-- too much waits after the look-ahead
+pub full_at_end : {E E' : Type 0} (config : Configuration) (within end number : ℕ) (r at left : Checked) (o : Outcome) (family : Family) (old mid new : ToldState) (x y z : OutputState) → family ≡ config.family
+    → at ≡ (settled_through config within end r).checked → o ≡ looked_ahead config within end at → left ≡ o.checked → left.checking.waiting.is_full ≡ true
+    → Tells {T = Unit} {E = E'} family (settled_through config within end r).found old mid x y (Ok tt) → Tells {T = Unit} {E = E} family o.found mid new y z (Ok tt)
+    → IsRestPut (ended_behind config within old.additions end old.count number r) x.held z.held old.held new.held (Err (answer.Waiting number))
+full_at_end {E} config within end number r at left o family old mid new x y z is_family is same ahead full first second =
+    rest_as _ _ x.held z.held old.held new.held (Err (answer.Waiting number)) (sym (ended_as config within old.additions end old.count number r at left is (ahead ∙ ap (λ (p : Outcome). p.checked) same)))
+    (ended_full {E = E} config.family old.count number left.checking at.basis _ _ old new x z full (told_ahead config within end r at o family old mid new x y z tt (Ok tt) is_family same first second))
 
 -- the end was put whole, or not
-pub put_at_end : {E E' : Type 0} (config : Configuration) (within m end number : ℕ) (r : Checked) (c left : CheckingValue) (rests : Basis) (configured : Timing) (family : Family) (old mid near new : ToldState) (x y z w : OutputState) (totals : Totals)
-    → family ≡ config.family → m ≡ end → configured ≡ config.timing → c ≡ (ticked_through config within m r).checked.checking → left ≡ settled within m c → rests ≡ (ticked_through config within m r).checked.basis → left.waiting.is_full ≡ false
-    → Tells {T = Unit} {E = E'} family (ticked_through config within m r).found old mid x y (Ok tt) → Tells {T = Unit} {E = E} family (told within m c) mid near y z (Ok tt)
-    → totals ≡ counted_behind near.count left rests (last_findings within configured end left)
-    → Passes z.held w.held near.held new.held (end_text family near.cite (last_findings within configured end left) (counted_behind near.count left rests (last_findings within configured end left)))
-    → IsRestPut (ended_behind config within old.cite end old.count number r) x.held w.held old.held new.held (Ok totals)
-put_at_end {E} config within m end number r c left rests configured family old mid near new x y z w totals is_family is_end is_timing is settles basis free first second counts passed =
-    let last = ap (λ (t : Timing). last_findings within t end left) is_timing in
-    let in_family = subst (λ (f : Family). Passes z.held w.held near.held new.held (end_text f near.cite (last_findings within configured end left) (counted_behind near.count left rests (last_findings within configured end left)))) is_family passed in
-    let here = subst (λ (fs : List (Finding ℕ)). Passes z.held w.held near.held new.held (end_text config.family near.cite fs (counted_behind near.count left rests fs))) last in_family in
-    rest_as _ _ x.held w.held old.held new.held (Ok totals) (sym (end_there config within m end old.cite old.count number r c left rests is_end is settles basis))
-    (ended_put {E = E} config.family number left rests _ (last_findings within config.timing end left) old near new x z w totals free (told_to_end config within m end r c family old mid near x y z tt (Ok tt) is_family is_end first second)
-    (counts ∙ ap (counted_behind near.count left rests) last) here)
+pub put_at_end : {E E' : Type 0} (config : Configuration) (within end number : ℕ) (r at left : Checked) (o : Outcome) (rests : Basis) (last : List (Finding ℕ)) (family : Family) (old mid near new : ToldState) (x y z w : OutputState) (totals : Totals) → family ≡ config.family
+    → at ≡ (settled_through config within end r).checked → o ≡ looked_ahead config within end at → left ≡ o.checked → rests ≡ at.basis
+    → last ≡ told_at_end within config.timing end (silence_up_to within config.timing end at.checking.phase) left.checking → left.checking.waiting.is_full ≡ false
+    → Tells {T = Unit} {E = E'} family (settled_through config within end r).found old mid x y (Ok tt) → Tells {T = Unit} {E = E} family o.found mid near y z (Ok tt)
+    → totals ≡ counted_behind near.count left.checking rests last → Passes z.held w.held near.held new.held (end_text family near.additions last (counted_behind near.count left.checking rests last))
+    → IsRestPut (ended_behind config within old.additions end old.count number r) x.held w.held old.held new.held (Ok totals)
+put_at_end {E} config within end number r at left o rests last family old mid near new x y z w totals is_family is same ahead basis finds free first second counts passed =
+    let final = told_at_end within config.timing end (silence_up_to within config.timing end at.checking.phase) left.checking in
+    let text : end_text family near.additions last (counted_behind near.count left.checking rests last) ≡ end_text config.family near.additions final (counted_behind near.count left.checking at.basis final) =
+    λ i. end_text (is_family i) near.additions (finds i) (counted_behind near.count left.checking (basis i) (finds i)) in
+    rest_as _ _ x.held w.held old.held new.held (Ok totals) (sym (ended_as config within old.additions end old.count number r at left is (ahead ∙ ap (λ (p : Outcome). p.checked) same)))
+    (ended_put {E = E} config.family number left.checking at.basis _ _ old near new x z w totals free (told_ahead config within end r at o family old mid near x y z tt (Ok tt) is_family same first second)
+    (counts ∙ (λ i. counted_behind near.count left.checking (basis i) (finds i))) (subst (λ (t : List ℕ). Passes z.held w.held near.held new.held t) text passed))
 
-pub unput_at_end : {E E' : Type 0} (config : Configuration) (within m end number : ℕ) (r : Checked) (c left : CheckingValue) (rests : Basis) (configured : Timing) (family : Family) (old mid near : ToldState) (x y z w : OutputState)
-    → family ≡ config.family → m ≡ end → configured ≡ config.timing → c ≡ (ticked_through config within m r).checked.checking → left ≡ settled within m c → rests ≡ (ticked_through config within m r).checked.basis → left.waiting.is_full ≡ false
-    → Tells {T = Unit} {E = E'} family (ticked_through config within m r).found old mid x y (Ok tt) → Tells {T = Unit} {E = E} family (told within m c) mid near y z (Ok tt)
-    → GrowsByBeginning z.held w.held (near.held ++ end_text family near.cite (last_findings within configured end left) (counted_behind near.count left rests (last_findings within configured end left)))
-    → GrowsByBeginning x.held w.held (old.held ++ (ended_behind config within old.cite end old.count number r).text)
-unput_at_end {E} config within m end number r c left rests configured family old mid near x y z w is_family is_end is_timing is settles basis free first second begun =
-    let last = ap (λ (t : Timing). last_findings within t end left) is_timing in
-    let in_family = subst (λ (f : Family). GrowsByBeginning z.held w.held (near.held ++ end_text f near.cite (last_findings within configured end left) (counted_behind near.count left rests (last_findings within configured end left)))) is_family begun in
-    let here = subst (λ (fs : List (Finding ℕ)). GrowsByBeginning z.held w.held (near.held ++ end_text config.family near.cite fs (counted_behind near.count left rests fs))) last in_family in
-    subst (λ (v : Verdict). GrowsByBeginning x.held w.held (old.held ++ v.text)) (sym (end_there config within m end old.cite old.count number r c left rests is_end is settles basis))
-    (ended_unput {E = E} config.family number left rests _ (last_findings within config.timing end left) old near x z w free (told_to_end config within m end r c family old mid near x y z tt (Ok tt) is_family is_end first second) here)
+pub unput_at_end : {E E' : Type 0} (config : Configuration) (within end number : ℕ) (r at left : Checked) (o : Outcome) (rests : Basis) (last : List (Finding ℕ)) (family : Family) (old mid near : ToldState) (x y z w : OutputState) → family ≡ config.family
+    → at ≡ (settled_through config within end r).checked → o ≡ looked_ahead config within end at → left ≡ o.checked → rests ≡ at.basis
+    → last ≡ told_at_end within config.timing end (silence_up_to within config.timing end at.checking.phase) left.checking → left.checking.waiting.is_full ≡ false
+    → Tells {T = Unit} {E = E'} family (settled_through config within end r).found old mid x y (Ok tt) → Tells {T = Unit} {E = E} family o.found mid near y z (Ok tt)
+    → GrowsByBeginning z.held w.held (near.held ++ end_text family near.additions last (counted_behind near.count left.checking rests last))
+    → GrowsByBeginning x.held w.held (old.held ++ (ended_behind config within old.additions end old.count number r).text)
+unput_at_end {E} config within end number r at left o rests last family old mid near x y z w is_family is same ahead basis finds free first second begun =
+    let final = told_at_end within config.timing end (silence_up_to within config.timing end at.checking.phase) left.checking in
+    let text : end_text family near.additions last (counted_behind near.count left.checking rests last) ≡ end_text config.family near.additions final (counted_behind near.count left.checking at.basis final) =
+    λ i. end_text (is_family i) near.additions (finds i) (counted_behind near.count left.checking (basis i) (finds i)) in
+    subst (λ (v : Verdict). GrowsByBeginning x.held w.held (old.held ++ v.text)) (sym (ended_as config within old.additions end old.count number r at left is (ahead ∙ ap (λ (p : Outcome). p.checked) same)))
+    (ended_unput {E = E} config.family number left.checking at.basis _ _ old near x z w free (told_ahead config within end r at o family old mid near x y z tt (Ok tt) is_family same first second)
+    (subst (λ (t : List ℕ). GrowsByBeginning z.held w.held (near.held ++ t)) text begun))
 
 -- a gap before the end, or none
-pub rest_at_gap : (config : Configuration) (within : ℕ) (until : Option ℕ) (cite : Bool) (last count number : ℕ) (r : Checked) → is_gap last (max last (unwrap_or until 0)) ≡ true
-    → rest_behind config within until cite last count number r ≡ record { text = []; answer = Err (answer.Gap number) }
-rest_at_gap config within until cite last count number r gap =
-    ap (λ b. elim b [ true ↦ record { text = []; answer = Err (answer.Gap number) } | false ↦ ended_behind config within cite (max last (unwrap_or until 0)) count number r ]) gap
+pub rest_at_gap : (config : Configuration) (within : ℕ) (until : Option ℕ) (additions : Additions) (last count number : ℕ) (r : Checked) → is_gap last (max last (unwrap_or until 0)) ≡ true
+    → rest_behind config within until additions last count number r ≡ record { text = []; answer = Err (answer.Gap number) }
+rest_at_gap config within until additions last count number r gap =
+    ap (λ b. elim b [ true ↦ record { text = []; answer = Err (answer.Gap number) } | false ↦ ended_behind config within additions (max last (unwrap_or until 0)) count number r ]) gap
 
-pub gap_at_rest : (config : Configuration) (within : ℕ) (until : Option ℕ) (cite : Bool) (last count number : ℕ) (r : Checked) (before : Option (List ℕ)) (held : List ℕ) → is_gap last (max last (unwrap_or until 0)) ≡ true
-    → IsRestPut (rest_behind config within until cite last count number r) before before held held (Err (answer.Gap number))
-gap_at_rest config within until cite last count number r before held gap =
-    rest_as _ _ before before held held (Err (answer.Gap number)) (sym (rest_at_gap config within until cite last count number r gap)) (refl, nothing_passed before held)
+pub gap_at_rest : (config : Configuration) (within : ℕ) (until : Option ℕ) (additions : Additions) (last count number : ℕ) (r : Checked) (before : Option (List ℕ)) (held : List ℕ) → is_gap last (max last (unwrap_or until 0)) ≡ true
+    → IsRestPut (rest_behind config within until additions last count number r) before before held held (Err (answer.Gap number))
+gap_at_rest config within until additions last count number r before held gap =
+    rest_as _ _ before before held held (Err (answer.Gap number)) (sym (rest_at_gap config within until additions last count number r gap)) (refl, nothing_passed before held)
 
-pub rest_at_end : (config : Configuration) (within : ℕ) (until : Option ℕ) (cite : Bool) (last count number : ℕ) (r : Checked) → is_gap last (max last (unwrap_or until 0)) ≡ false
-    → rest_behind config within until cite last count number r ≡ ended_behind config within cite (max last (unwrap_or until 0)) count number r
-rest_at_end config within until cite last count number r none =
-    ap (λ b. elim b [ true ↦ record { text = []; answer = Err (answer.Gap number) } | false ↦ ended_behind config within cite (max last (unwrap_or until 0)) count number r ]) none
+pub rest_at_end : (config : Configuration) (within : ℕ) (until : Option ℕ) (additions : Additions) (last count number : ℕ) (r : Checked) → is_gap last (max last (unwrap_or until 0)) ≡ false
+    → rest_behind config within until additions last count number r ≡ ended_behind config within additions (max last (unwrap_or until 0)) count number r
+rest_at_end config within until additions last count number r none =
+    ap (λ b. elim b [ true ↦ record { text = []; answer = Err (answer.Gap number) } | false ↦ ended_behind config within additions (max last (unwrap_or until 0)) count number r ]) none

@@ -59,12 +59,12 @@ seen_put moment terms unheld asked viewed recently old partnered put partner alo
     }
 
 pub general_put : (within : ℕ) (configured : Timing) (moment at : ℕ) (terms wanted : Terms ℕ) (viewed old : CheckingValue) (judged partnered put : WaitingValue) (passed : Option ℕ) (phase : Phase)
-    → viewed ≡ old → at ≡ moment → passed ≡ wrong_interval within configured moment viewed.phase → judged ≡ with_interval configured moment passed viewed.waiting → phase ≡ phase_behind within configured moment viewed.phase
+    → viewed ≡ old → at ≡ moment → passed ≡ wrong_interval within configured moment viewed.phase → judged ≡ with_interval configured moment terms.packet passed viewed.waiting → phase ≡ phase_behind within configured moment viewed.phase
     → partnered ≡ with_partner OfWanted AllGroups terms judged → put ≡ with_entry (Seen at AllGroups terms (Some wanted) (Extra true)) partnered
     → record viewed { waiting = put; phase = phase } ≡ with_general within configured moment terms wanted old
 unfolding with_general
 general_put within configured moment at terms wanted viewed old judged partnered put passed phase same now wrong judging behind joined is =
-    let judged_too = judging ∙ ap (λ (p : Option ℕ). with_interval configured moment p viewed.waiting) wrong in
+    let judged_too = judging ∙ ap (λ (p : Option ℕ). with_interval configured moment terms.packet p viewed.waiting) wrong in
     let joined_too = joined ∙ ap (with_partner OfWanted AllGroups terms) judged_too in
     let here : record viewed { waiting = put; phase = phase } ≡ with_general within configured moment terms wanted viewed =
     λ i. record viewed { waiting = (is ∙ (λ j. with_entry (Seen (now j) AllGroups terms (Some wanted) (Extra true)) (joined_too j))) i; phase = behind i } in

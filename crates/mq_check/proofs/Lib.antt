@@ -4,6 +4,7 @@ pub mod CheckedOver
 pub mod CheckedPackets
 pub mod EndedChecks
 pub mod Entering
+pub mod Excusing
 pub mod IpOptions
 pub mod LinkedSlots
 pub mod MarkedEntries

@@ -53,13 +53,13 @@ pub free_slot : (width : ℕ) (side : Side) (asked : Asked ℕ) (entry : Entry �
 free_slot width OfWanted asked (Wanted moment asked' terms is_optional true) free = let found = both_second (is_same asked asked') true free in cc
 free_slot width OfWanted asked (Wanted moment asked' terms is_optional false) free = ap (slot_of width OfWanted) (sym (same_asked asked asked' (both_first _ _ free)))
 free_slot width OfWanted asked (Seen moment asked' terms partner is_querier) free = cc
-free_slot width OfWanted asked (Interval moment after wanted) free = cc
+free_slot width OfWanted asked (Interval moment packet after wanted) free = cc
 free_slot width OfWanted asked (Silence moment after wanted) free = cc
 free_slot width OfWanted asked (Packet moment number fault) free = cc
 free_slot width OfSeen asked (Wanted moment asked' terms is_optional is_found) free = cc
 free_slot width OfSeen asked (Seen moment asked' terms (Some partner) is_querier) free = let found = both_second (is_same asked asked') true free in cc
 free_slot width OfSeen asked (Seen moment asked' terms None is_querier) free = ap (slot_of width OfSeen) (sym (same_asked asked asked' (both_first _ _ free)))
-free_slot width OfSeen asked (Interval moment after wanted) free = cc
+free_slot width OfSeen asked (Interval moment packet after wanted) free = cc
 free_slot width OfSeen asked (Silence moment after wanted) free = cc
 free_slot width OfSeen asked (Packet moment number fault) free = cc
 
@@ -71,12 +71,12 @@ and_false false = refl
 joined_free : (side : Side) (asked : Asked ℕ) (other : Terms ℕ) (entry : Entry ℕ) → is_free side asked (joined other entry) ≡ false
 joined_free OfWanted asked other (Wanted moment asked' terms is_optional is_found) = and_false (is_same asked asked')
 joined_free OfWanted asked other (Seen moment asked' terms partner is_querier) = refl
-joined_free OfWanted asked other (Interval moment after wanted) = refl
+joined_free OfWanted asked other (Interval moment packet after wanted) = refl
 joined_free OfWanted asked other (Silence moment after wanted) = refl
 joined_free OfWanted asked other (Packet moment number fault) = refl
 joined_free OfSeen asked other (Wanted moment asked' terms is_optional is_found) = refl
 joined_free OfSeen asked other (Seen moment asked' terms partner is_querier) = and_false (is_same asked asked')
-joined_free OfSeen asked other (Interval moment after wanted) = refl
+joined_free OfSeen asked other (Interval moment packet after wanted) = refl
 joined_free OfSeen asked other (Silence moment after wanted) = refl
 joined_free OfSeen asked other (Packet moment number fault) = refl
 
@@ -92,8 +92,8 @@ pub marked_pushed : (width : ℕ) (entries : List (Entry ℕ)) (entry : Entry �
     → Reaches new (length old.slots) → ((k : ℕ) → k < length old.slots → Reaches old k → Reaches new k) → AreMarked width (entries ++ entry ∷ []) new
 marked_pushed width entries entry old new marked slots here others =
     let put : List (Entry ℕ) = entries ++ entry ∷ [] in
-    let before : (place : ℕ) → place < length entries → entry_at put place ≡ entry_at entries place = λ place within. get_or_append_left entries (entry ∷ []) (Interval 0 0 0) place within in
-    let last : entry_at put (length entries) ≡ entry = get_or_push entries entry (Interval 0 0 0) (length entries) refl in
+    let before : (place : ℕ) → place < length entries → entry_at put place ≡ entry_at entries place = λ place within. get_or_append_left entries (entry ∷ []) (Interval 0 0 0 0) place within in
+    let last : entry_at put (length entries) ≡ entry = get_or_push entries entry (Interval 0 0 0 0) (length entries) refl in
     record {
       long = ap length slots ∙ length_push old.slots (slot_in width entry) ∙ ap (λ (n : ℕ). n + 1) marked.long ∙ sym (length_push entries entry);
       slot = λ place side asked within free. elim (cases_lt place (length entries)) [
@@ -124,7 +124,7 @@ marked_joined width entries at other entry old new marked there slots others =
     let long = length-set entries at (joined other entry) in
     let not_at : (place : ℕ) (side : Side) (asked : Asked ℕ) → is_free side asked (entry_at (set entries at (joined other entry)) place) ≡ true → place ≡ at → ⊥ = λ place side asked free same.
     let is : is_free side asked (joined other entry) ≡ true =
-    ap (is_free side asked) (sym (ap (entry_at (set entries at (joined other entry))) same ∙ get_or-set_same entries at (joined other entry) (Interval 0 0 0) there)) ∙ free in
+    ap (is_free side asked) (sym (ap (entry_at (set entries at (joined other entry))) same ∙ get_or-set_same entries at (joined other entry) (Interval 0 0 0 0) there)) ∙ free in
     let isnt = joined_free side asked other entry in
     cc in
     record {
@@ -132,18 +132,18 @@ marked_joined width entries at other entry old new marked there slots others =
       slot = λ place side asked within free.
           let inside : place < length entries = omega (arith, within, long) in
           ap (λ (s : List ℕ). get_or s place 0) slots
-          ∙ marked.slot place side asked inside (ap (is_free side asked) (sym (get_or-set_other entries at place (joined other entry) (Interval 0 0 0) (not_at place side asked free))) ∙ free);
+          ∙ marked.slot place side asked inside (ap (is_free side asked) (sym (get_or-set_other entries at place (joined other entry) (Interval 0 0 0 0) (not_at place side asked free))) ∙ free);
       reached = λ place side asked within free.
           let inside : place < length entries = omega (arith, within, long) in
           others place (omega (arith, inside, marked.long)) (not_at place side asked free)
-          (marked.reached place side asked inside (ap (is_free side asked) (sym (get_or-set_other entries at place (joined other entry) (Interval 0 0 0) (not_at place side asked free))) ∙ free));
+          (marked.reached place side asked inside (ap (is_free side asked) (sym (get_or-set_other entries at place (joined other entry) (Interval 0 0 0 0) (not_at place side asked free))) ∙ free));
     }
 
 -- the first entry is gone
 pub marked_popped : (width : ℕ) (entries rest : List (Entry ℕ)) (old new : TrailsValue) → AreMarked width entries old → rest ≡ drop 1 entries → 0 < length entries → new.slots ≡ drop 1 old.slots
     → ((k : ℕ) → k + 1 < length old.slots → Reaches old (k + 1) → Reaches new k) → AreMarked width rest new
 marked_popped width entries rest old new marked popped some slots others =
-    let behind : (place : ℕ) → entry_at rest place ≡ entry_at entries (1 + place) = λ place. ap (λ (es : List (Entry ℕ)). entry_at es place) popped ∙ get_or_after_one entries place (Interval 0 0 0) in
+    let behind : (place : ℕ) → entry_at rest place ≡ entry_at entries (1 + place) = λ place. ap (λ (es : List (Entry ℕ)). entry_at es place) popped ∙ get_or_after_one entries place (Interval 0 0 0 0) in
     let one_more : (place : ℕ) → place < length rest → 1 + place < length entries = λ place within. omega (arith, within, ap length popped, length-drop {A = Entry ℕ} 1 entries) in
     record {
       long = omega (arith, ap length slots, ap length popped, length-drop {A = ℕ} 1 old.slots, length-drop {A = Entry ℕ} 1 entries, marked.long);
@@ -178,7 +178,7 @@ none_further width side asked entries t slot place next entry marked is there re
   none = λ k below within. elim (cases_lt k place) [
     | inl earlier ↦ before.none k earlier within
     | inr later ↦ elim (cases_eq k place) [
-      | inl same ↦ ap (λ (p : ℕ). is_free side asked (entry_at entries p)) same ∙ ap (is_free side asked) (sym (get_or_read entries place entry there read (Interval 0 0 0))) ∙ not_free
+      | inl same ↦ ap (λ (p : ℕ). is_free side asked (entry_at entries p)) same ∙ ap (is_free side asked) (sym (get_or_read entries place entry there read (Interval 0 0 0 0))) ∙ not_free
       | inr other ↦ elim (cases_Bool (is_free side asked (entry_at entries k))) [
         | inl free ↦ absurd (passed k (omega (arith, later, other)) below (omega (arith, within, marked.long)) (marked.slot k side asked within free ∙ sym is))
         | inr not_free_too ↦ not_free_too
@@ -193,7 +193,7 @@ passed_up_to side asked entries (suc n) before within =
     let there : n < length entries = omega (arith, within) in
     let more : n < suc n = omega arith in
     let earlier : AreNoneBefore side asked entries n = record { none = λ k below inside. before.none k (omega (arith, below)) inside } in
-    let step = one_passed side asked entries n (entry_at entries n) there (get_or_default entries n (Interval 0 0 0) (entry_at entries n) there) (before.none n more there)
+    let step = one_passed side asked entries n (entry_at entries n) there (get_or_default entries n (Interval 0 0 0 0) (entry_at entries n) there) (before.none n more there)
     (passed_up_to side asked entries n earlier (omega (arith, within))) in
     subst (IsPassed side asked entries) (add-one n) step
 
@@ -214,12 +214,12 @@ bounded_pushed width entries entry latest later bounded known first second =
     record {
       by = λ place within. elim (cases_lt place (length entries)) [
         | inl inside ↦
-            let same : entry_at put place ≡ entry_at entries place = get_or_append_left entries (entry ∷ []) (Interval 0 0 0) place inside in
+            let same : entry_at put place ≡ entry_at entries place = get_or_append_left entries (entry ∷ []) (Interval 0 0 0 0) place inside in
             subst (λ (e : Entry ℕ). wanted_moment e ≤ get_or (set latest slot later) (wanted_slot width e) 0) (sym same)
             (omega (arith, bounded.by place inside, higher (wanted_slot width (entry_at entries place))))
         | inr beyond ↦
             let there : length entries ≡ place = omega (arith, length_push entries entry, within, beyond) in
-            subst (λ (e : Entry ℕ). wanted_moment e ≤ get_or (set latest slot later) (wanted_slot width e) 0) (sym (get_or_push entries entry (Interval 0 0 0) place there)) here
+            subst (λ (e : Entry ℕ). wanted_moment e ≤ get_or (set latest slot later) (wanted_slot width e) 0) (sym (get_or_push entries entry (Interval 0 0 0 0) place there)) here
       ];
     }
 
@@ -227,7 +227,7 @@ bounded_pushed width entries entry latest later bounded known first second =
 joined_bounded : (width : ℕ) (latest : List ℕ) (other : Terms ℕ) (entry : Entry ℕ) → wanted_moment entry ≤ get_or latest (wanted_slot width entry) 0 → wanted_moment (joined other entry) ≤ get_or latest (wanted_slot width (joined other entry)) 0
 joined_bounded width latest other (Wanted moment asked terms is_optional is_found) bound = bound
 joined_bounded width latest other (Seen moment asked terms partner is_querier) bound = bound
-joined_bounded width latest other (Interval moment after wanted) bound = bound
+joined_bounded width latest other (Interval moment packet after wanted) bound = bound
 joined_bounded width latest other (Silence moment after wanted) bound = bound
 joined_bounded width latest other (Packet moment number fault) bound = bound
 
@@ -235,14 +235,14 @@ pub bounded_joined : (width : ℕ) (entries : List (Entry ℕ)) (at : ℕ) (othe
     → AreBounded width (set entries at (joined other entry)) latest
 bounded_joined width entries at other entry latest bounded there read =
     let P : Entry ℕ → Type 0 = λ e. wanted_moment e ≤ get_or latest (wanted_slot width e) 0 in
-    let same_entry : entry_at entries at ≡ entry = sym (get_or_read entries at entry there read (Interval 0 0 0)) in
+    let same_entry : entry_at entries at ≡ entry = sym (get_or_read entries at entry there read (Interval 0 0 0 0)) in
     record {
       by = λ place within.
           let inside : place < length entries = omega (arith, within, length-set entries at (joined other entry)) in
           elim (cases_eq place at) [
-            | inl same ↦ subst P (sym (ap (entry_at (set entries at (joined other entry))) same ∙ get_or-set_same entries at (joined other entry) (Interval 0 0 0) there))
+            | inl same ↦ subst P (sym (ap (entry_at (set entries at (joined other entry))) same ∙ get_or-set_same entries at (joined other entry) (Interval 0 0 0 0) there))
                 (joined_bounded width latest other entry (subst P same_entry (bounded.by at there)))
-            | inr different ↦ subst P (sym (get_or-set_other entries at place (joined other entry) (Interval 0 0 0) different)) (bounded.by place inside)
+            | inr different ↦ subst P (sym (get_or-set_other entries at place (joined other entry) (Interval 0 0 0 0) different)) (bounded.by place inside)
           ];
     }
 
@@ -252,7 +252,7 @@ bounded_popped width entries rest latest bounded popped =
     record {
       by = λ place within.
           let inside : 1 + place < length entries = omega (arith, within, ap length popped, length-drop {A = Entry ℕ} 1 entries) in
-          let same : entry_at rest place ≡ entry_at entries (1 + place) = ap (λ (es : List (Entry ℕ)). entry_at es place) popped ∙ get_or_after_one entries place (Interval 0 0 0) in
+          let same : entry_at rest place ≡ entry_at entries (1 + place) = ap (λ (es : List (Entry ℕ)). entry_at es place) popped ∙ get_or_after_one entries place (Interval 0 0 0 0) in
           subst P (sym same) (bounded.by (1 + place) inside);
     }
 
@@ -267,7 +267,7 @@ later_than width moment group latest (Wanted moment' asked terms is_optional is_
   | inr isnt ↦ isnt
 ]
 later_than width moment group latest (Seen moment' asked terms partner is_querier) below bound = refl
-later_than width moment group latest (Interval moment' after wanted) below bound = refl
+later_than width moment group latest (Interval moment' packet after wanted) below bound = refl
 later_than width moment group latest (Silence moment' after wanted) below bound = refl
 later_than width moment group latest (Packet moment' number fault) below bound = refl
 

@@ -1,5 +1,6 @@
 -- The steps of a check: a tick, a datagram, and the ticks up to a moment.
-use Rattle.std.proofs.Common.{◌≡◌, ℕ, zero, suc, ◌+◌, ◌<◌, ◌≤◌, Bool, true, false, not, List, [], ◌++◌, Ok, refl, ap, sym, ◌∙◌, append_assoc, append-nil, arith}
+use Rattle.std.proofs.Common.{◌≡◌, ℕ, zero, suc, ◌+◌, ◌<◌, ◌≤◌, Bool, true, false, not, List, [], ◌++◌, Result, Ok, Err, refl, ap, sym, subst, ◌∙◌, append_assoc, append-nil, arith}
+use Rattle.std.specs.Prelude.{IfOk}
 use Rattle.std.proofs.lemmas.Bool.{lt-ltb, le-ltb}
 use Rattle.mq_wire.specs.Family.{Family}
 use Rattle.mq_sched.specs.Election.{is_querier}
@@ -13,13 +14,13 @@ use Rattle.mq_link.specs.Tick.{Step, tick_of, next_of}
 use Rattle.mq_text.specs.Printing.{OutputState}
 use Rattle.mq_replay.specs.Report.{Datagram, all_sent}
 use Rattle.mq_check.specs.declared.finding.Finding.{Finding}
-use Rattle.mq_check.specs.Check.{Checked, Outcome, quiet, behind, settled_at, wanted_by, ticked, ticked_within, received}
+use Rattle.mq_check.specs.Check.{Checked, Outcome, quiet, behind, settled_at, settled_through, wanted_by, ticked, ticked_through, ticked_within, received}
 use Rattle.mq_check.specs.Basis as basis
 use Rattle.mq_check.specs.Checking.{settled, told, with_messages, role_after_tick, role_changed}
 use Rattle.mq_check.specs.Coming.{Comes, checked_in}
 use Rattle.mq_check.specs.Telling.{ToldState, Tells}
 use Rattle.mq_check.specs.Wanting.{WantingValue, TakesMessage}
-use Rattle.mq_check.proofs.Tellings.{tells_as}
+use Rattle.mq_check.proofs.Tellings.{broken_as, tells_as, then_told, told_broken}
 use Rattle.mq_check.proofs.WantedMessages.{after_messages, all_wanted, basis_kept, each_sent}
 
 -- the outlet as it begins to take what a link sends at a moment
@@ -41,7 +42,7 @@ step_wanted : (family : Family) (now : ℕ) (before after : LinkValue) (step : S
 step_wanted family now before after step old begun new messages answers is_family is_own begins out handed =
     let is_returning = not (is_querier before.state.election.role) in
     ap (λ (w : WantingValue). w.checking) (all_wanted family begun messages answers new handed ∙ ap (after_messages family messages) begins)
-    ∙ (λ i. with_messages (is_family i) (is_own i) now is_returning (out.handed i) old.checking)
+    ∙ (λ i. with_messages (is_family i) (is_own i) now old.basis.packets is_returning (out.handed i) old.checking)
 
 pub ticked_is : (family : Family) (within now : ℕ) (before after : LinkValue) (old begun new last : WantingValue) (messages : List Outgoing) (answers : List Bool)
     → family ≡ before.config.family → old.own ≡ before.config.own → begun ≡ begun_at now before old
@@ -165,3 +166,40 @@ ticks_done family config within limit all done before after new old_told new_tol
       checked = sym (ap (λ (o : Outcome). o.checked) is);
       tells = tells_as family _ _ old_told new_told a b (Ok tt) (sym (ap (λ (o : Outcome). o.found) is)) tells;
     }
+
+-- an outcome that is named otherwise
+pub comes_as : {T E : Type 0} (family : Family) (o p : Outcome) (before after : LinkValue) (new : WantingValue) (old_told new_told : ToldState) (a b : OutputState) (r : Result T E) → o ≡ p
+    → Comes family o before after new old_told new_told a b r → Comes family p before after new old_told new_told a b r
+comes_as {T} {E} family o p before after new old_told new_told a b r same comes = subst (λ (q : Outcome). Comes {T = T} {E = E} family q before after new old_told new_told a b r) same comes
+
+-- the ticks up to a moment, and what is over then; or a write failed before
+settled_there : {T E : Type 0} (config : Configuration) (within within' moment : ℕ) (r : Checked) (after : LinkValue) (queries new : WantingValue) (outcome : Result T E) → within' ≡ within
+    → checked_in after queries ≡ (ticked_through config within moment r).checked → IfOk outcome (λ _. new.checking ≡ settled within' moment queries.checking) → new.basis ≡ queries.basis
+    → IfOk outcome (λ _. checked_in after new ≡ (settled_through config within moment r).checked)
+settled_there config within within' moment r after queries new (Ok x) same is settles kept =
+    (λ i. record { link = after.state; checking = (settles ∙ (λ j. settled (same j) moment queries.checking)) i; basis = kept i }) ∙ ap (settled_at within moment) is
+settled_there config within within' moment r after queries new (Err e) same is settles kept = tt
+
+pub settles_at : {T E E' : Type 0} (family : Family) (within within' m end : ℕ) (before after : LinkValue) (old queries new : WantingValue) (first mid last : ToldState) (x y z : OutputState) (outcome : Result T E) → within' ≡ within → m ≡ end
+    → Comes {T = Unit} {E = E'} family (ticked_through before.config within m (checked_in before old)) before after queries first mid x y (Ok tt)
+    → IfOk outcome (λ _. new.checking ≡ settled within' m queries.checking) → new.basis ≡ queries.basis → Tells family (told within' m queries.checking) mid last y z outcome
+    → Comes family (settled_through before.config within end (checked_in before old)) before after new first last x z outcome
+settles_at {T} {E} family within within' m end before after old queries new first mid last x y z outcome same is_end comes settles kept tells =
+    let found : told within' m queries.checking ≡ told within m (ticked_through before.config within m (checked_in before old)).checked.checking = λ i. told (same i) m (comes.checked i).checking in
+    let there : Comes {T = T} {E = E} family (settled_through before.config within m (checked_in before old)) before after new first last x z outcome = record {
+      same_config = comes.same_config;
+      checked = settled_there before.config within within' m (checked_in before old) after queries new outcome same comes.checked settles kept;
+      tells = then_told family _ _ first mid last x y z tt outcome comes.tells (tells_as family _ _ mid last y z outcome found tells);
+    } in
+    comes_as family _ _ before after new first last x z outcome (ap (λ (k : ℕ). settled_through before.config within k (checked_in before old)) is_end) there
+
+pub settles_broken : {S T E E' : Type 0} (family : Family) (within m end : ℕ) (before after : LinkValue) (old new : WantingValue) (first last : ToldState) (x y : OutputState) (e : E') (e' : E) → m ≡ end
+    → Comes {T = S} family (ticked_through before.config within m (checked_in before old)) before after new first last x y (Err e)
+    → Comes {T = T} family (settled_through before.config within end (checked_in before old)) before after new first last x y (Err e')
+settles_broken {S} {T} family within m end before after old new first last x y e e' is_end comes =
+    let there : Comes {T = T} family (settled_through before.config within m (checked_in before old)) before after new first last x y (Err e') = record {
+      same_config = comes.same_config;
+      checked = tt;
+      tells = broken_as {S = S} family _ first last x y e e' (told_broken {T = S} family _ _ first last x y e comes.tells);
+    } in
+    comes_as family _ _ before after new first last x y (Err e') (ap (λ (k : ℕ). settled_through before.config within k (checked_in before old)) is_end) there

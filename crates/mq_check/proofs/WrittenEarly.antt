@@ -14,12 +14,12 @@ still_counted times old mid new (Err e) counted same = tt
 
 -- some were told, and then nothing more was put
 pub then_nothing : (T E : Type 0) (family : Family) (xs : List (Finding ℕ)) (old mid new : ToldState) (a b c : OutputState) (x : T) (r : Result T E)
-    → Tells {T = T} {E = E} family xs old mid a b (Ok x) → Puts b.held c.held mid.held new.held [] r → new.cite ≡ mid.cite → new.count ≡ mid.count → c.failed ≡ (b.failed || is_err r)
+    → Tells {T = T} {E = E} family xs old mid a b (Ok x) → Puts b.held c.held mid.held new.held [] r → new.additions ≡ mid.additions → new.count ≡ mid.count → c.failed ≡ (b.failed || is_err r)
     → Tells {T = T} {E = E} family xs old new a c r
-then_nothing T E family xs old mid new a b c x r tells put cite count failed =
-    let text = finding_lines family old.cite xs in
+then_nothing T E family xs old mid new a b c x r tells put additions count failed =
+    let text = finding_lines family old.additions xs in
     record {
-      cite = cite ∙ tells.cite;
+      additions = additions ∙ tells.additions;
       count = still_counted (length xs) old.count mid.count new.count r tells.count count;
       text = put_as a.held c.held old.held new.held (text ++ []) text r (append-nil text) (then_put a.held b.held c.held old.held mid.held new.held text [] r tells.text put);
       failed = failed ∙ ap (λ (f : Bool). f || is_err r) (tells.failed ∙ or-false a.failed);

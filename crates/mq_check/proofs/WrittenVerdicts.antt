@@ -16,13 +16,15 @@ use Rattle.mq_replay.specs.Report.{is_gap}
 use Rattle.mq_replay.proofs.Headers.{cut_header}
 use Rattle.mq_check.specs.declared.check_fault.CheckFault.{CheckFault}
 use Rattle.mq_check.specs.declared.check_fault.CheckFault.TheVariants as answer
+use Rattle.mq_check.specs.declared.check_terms.Additions.{Additions}
 use Rattle.mq_check.specs.declared.check_terms.CheckTerms.{CheckTerms}
 use Rattle.mq_check.specs.declared.finding.Finding.{Finding}
 use Rattle.mq_check.specs.declared.totals.Totals.{Totals}
-use Rattle.mq_check.specs.Check.{Checked, Course, Verdict, broken_off, check_of, concluded, ended_at, last_moment, ticked_through, verdict_behind, with_all_packets}
+use Rattle.mq_check.specs.Check.{Checked, Course, Outcome, Verdict, broken_off, check_of, concluded, ended_at, last_moment, looked_ahead, settled_through, verdict_behind, with_all_packets}
 use Rattle.mq_check.specs.CheckedCaptures.{Checks, IsBrokenOffAt, IsEndedBy, IsEndedByFault, IsWrittenBy, is_failed_write, packets_text, so_far, text_by, verdict_of}
-use Rattle.mq_check.specs.Checking.{CheckingValue, told, told_at_end}
+use Rattle.mq_check.specs.Checking.{told_at_end}
 use Rattle.mq_check.specs.Ending.{IsPutBy, PutsVerdict}
+use Rattle.mq_check.specs.General.{silence_up_to}
 use Rattle.mq_check.specs.FindingLines.{finding_lines}
 
 -- what a buffer that held nothing passed on whole was written, or a beginning of it
@@ -77,64 +79,69 @@ one_of b x y = elim b [ true ↦ x | false ↦ y ]
 abbrev IsFaultText : (number : ℕ) → (end : Option PcapFault) → (packets : List ℕ) → Verdict → CheckFault → Type 0
 IsFaultText number end packets v e = (v.text ≡ packets) ⊎ ((end ≡ None) × (e ≡ answer.Waiting number))
 
-fault_of_end : (config : Configuration) (within : ℕ) (cite : Bool) (moment number : ℕ) (found : List (Finding ℕ)) (r : Checked) (packets : List ℕ) (e : CheckFault) → (ended_at config within cite moment number found r).answer ≡ Err e
-    → IsFaultText number None packets (ended_at config within cite moment number found r) e
+fault_of_end : (config : Configuration) (within : ℕ) (additions : Additions) (moment number : ℕ) (found : List (Finding ℕ)) (r : Checked) (packets : List ℕ) (e : CheckFault) → (ended_at config within additions moment number found r).answer ≡ Err e
+    → IsFaultText number None packets (ended_at config within additions moment number found r) e
 unfolding ended_at
-fault_of_end config within cite moment number found r packets e is = by_room c.waiting.is_full is
+fault_of_end config within additions moment number found r packets e is = by_room ahead.checked.checking.waiting.is_full is
   where
-    c : CheckingValue
-    c = (ticked_through config within moment r).checked.checking
+    done : Outcome
+    done = settled_through config within moment r
+
+    ahead : Outcome
+    ahead = looked_ahead config within moment done.checked
 
     broken : Verdict
-    broken = broken_off config cite (answer.Waiting number) (found ++ (ticked_through config within moment r).found ++ told within moment c)
+    broken = broken_off config additions (answer.Waiting number) (found ++ done.found ++ ahead.found)
 
     whole : Verdict
-    whole = concluded config cite c (ticked_through config within moment r).checked.basis (found ++ (ticked_through config within moment r).found ++ told_at_end within config.timing moment c)
+    whole =
+        concluded config additions ahead.checked.checking done.checked.basis
+        (found ++ done.found ++ ahead.found ++ told_at_end within config.timing moment (silence_up_to within config.timing moment done.checked.checking.phase) ahead.checked.checking)
 
     by_room : (b : Bool) → (either b broken whole).answer ≡ Err e → IsFaultText number None packets (either b broken whole) e
     by_room true is = inr (refl, sym (cc is))
     by_room false is = absurd (cc is)
 
-fault_behind : (config : Configuration) (within : ℕ) (until : Option ℕ) (cite : Bool) (number : ℕ) (end : Option PcapFault) (fault : Option CheckFault) (course : Course) (e : CheckFault) → (verdict_behind config within until cite number end fault course).answer ≡ Err e
-    → IsFaultText number end (finding_lines config.family cite course.found) (verdict_behind config within until cite number end fault course) e
-fault_behind config within until cite number end (Some f) course e is = inl refl
-fault_behind config within until cite number (Some f) None course e is = inl refl
-fault_behind config within until cite number None None course e is = by_gap (is_gap course.moment (last_moment until course)) is
+fault_behind : (config : Configuration) (within : ℕ) (until : Option ℕ) (additions : Additions) (number : ℕ) (end : Option PcapFault) (fault : Option CheckFault) (course : Course) (e : CheckFault) → (verdict_behind config within until additions number end fault course).answer ≡ Err e
+    → IsFaultText number end (finding_lines config.family additions course.found) (verdict_behind config within until additions number end fault course) e
+fault_behind config within until additions number end (Some f) course e is = inl refl
+fault_behind config within until additions number (Some f) None course e is = inl refl
+fault_behind config within until additions number None None course e is = by_gap (is_gap course.moment (last_moment until course)) is
   where
     broken : Verdict
-    broken = broken_off config cite (answer.Gap number) course.found
+    broken = broken_off config additions (answer.Gap number) course.found
 
     whole : Verdict
-    whole = ended_at config within cite (last_moment until course) number course.found course.checked
+    whole = ended_at config within additions (last_moment until course) number course.found course.checked
 
-    by_gap : (b : Bool) → (one_of b broken whole).answer ≡ Err e → IsFaultText number None (finding_lines config.family cite course.found) (one_of b broken whole) e
+    by_gap : (b : Bool) → (one_of b broken whole).answer ≡ Err e → IsFaultText number None (finding_lines config.family additions course.found) (one_of b broken whole) e
     by_gap true is = inl refl
-    by_gap false is = fault_of_end config within cite (last_moment until course) number course.found course.checked (finding_lines config.family cite course.found) e is
+    by_gap false is = fault_of_end config within additions (last_moment until course) number course.found course.checked (finding_lines config.family additions course.found) e is
 
 fault_text : (config : Configuration) (terms : CheckTerms) (c : ReadCapture) (e : CheckFault) → (verdict_of config terms c).answer ≡ Err e → IsFaultText (length c.packets + 1) c.end (packets_text config terms c) (verdict_of config terms c) e
 fault_text config terms c e is = by_header c.header is
   where
-    by_header : (header : Result Form PcapFault) → (check_of config terms.within terms.until terms.cite terms.strict header c.packets c.end).answer ≡ Err e
-        → IsFaultText (length c.packets + 1) c.end (so_far config terms header c.packets) (check_of config terms.within terms.until terms.cite terms.strict header c.packets c.end) e
+    by_header : (header : Result Form PcapFault) → (check_of config terms.within terms.until terms.additions terms.strict header c.packets c.end).answer ≡ Err e
+        → IsFaultText (length c.packets + 1) c.end (so_far config terms header c.packets) (check_of config terms.within terms.until terms.additions terms.strict header c.packets c.end) e
     by_header (Err f) is = inl refl
     by_header (Ok form) is =
         let course = with_all_packets config terms.within terms.strict form c.packets in
-        fault_behind config terms.within terms.until terms.cite (length c.packets + 1) c.end course.fault course e is
+        fault_behind config terms.within terms.until terms.additions (length c.packets + 1) c.end course.fault course e is
 
 -- one that ends with totals is that of a file without a fault
-whole_behind : (config : Configuration) (within : ℕ) (until : Option ℕ) (cite : Bool) (number : ℕ) (end : Option PcapFault) (fault : Option CheckFault) (course : Course) (totals : Totals) → (verdict_behind config within until cite number end fault course).answer ≡ Ok totals → end ≡ None
-whole_behind config within until cite number end (Some f) course totals is = absurd (cc is)
-whole_behind config within until cite number (Some f) None course totals is = absurd (cc is)
-whole_behind config within until cite number None None course totals is = refl
+whole_behind : (config : Configuration) (within : ℕ) (until : Option ℕ) (additions : Additions) (number : ℕ) (end : Option PcapFault) (fault : Option CheckFault) (course : Course) (totals : Totals) → (verdict_behind config within until additions number end fault course).answer ≡ Ok totals → end ≡ None
+whole_behind config within until additions number end (Some f) course totals is = absurd (cc is)
+whole_behind config within until additions number (Some f) None course totals is = absurd (cc is)
+whole_behind config within until additions number None None course totals is = refl
 
 whole_end : (config : Configuration) (terms : CheckTerms) (c : ReadCapture) (totals : Totals) → (verdict_of config terms c).answer ≡ Ok totals → c.end ≡ None
 whole_end config terms c totals is = by_header c.header is
   where
-    by_header : (header : Result Form PcapFault) → (check_of config terms.within terms.until terms.cite terms.strict header c.packets c.end).answer ≡ Ok totals → c.end ≡ None
+    by_header : (header : Result Form PcapFault) → (check_of config terms.within terms.until terms.additions terms.strict header c.packets c.end).answer ≡ Ok totals → c.end ≡ None
     by_header (Err f) is = absurd (cc is)
     by_header (Ok form) is =
         let course = with_all_packets config terms.within terms.strict form c.packets in
-        whole_behind config terms.within terms.until terms.cite (length c.packets + 1) c.end course.fault course totals is
+        whole_behind config terms.within terms.until terms.additions (length c.packets + 1) c.end course.fault course totals is
 
 -- of no text a part is left
 none_begun : (before after : Option (List ℕ)) → GrowsByBeginning before after [] → ⊥

@@ -22,14 +22,16 @@ use Rattle.mq_replay.specs.Report.{Datagram, datagram_of, all_sent, is_gap}
 use Rattle.mq_check.specs.declared.basis.Basis.{Basis}
 use Rattle.mq_check.specs.declared.check_fault.CheckFault.{CheckFault}
 use Rattle.mq_check.specs.declared.check_fault.CheckFault.TheVariants.{Pcap, Gap, Waiting}
+use Rattle.mq_check.specs.declared.check_terms.Additions.{Additions}
 use Rattle.mq_check.specs.declared.finding.Finding.{Finding}
 use Rattle.mq_check.specs.declared.headers.HeaderFault.{HeaderFault}
 use Rattle.mq_check.specs.declared.headers.Headers.{Headers}
 use Rattle.mq_check.specs.declared.totals.Totals.{Totals}
 use Rattle.mq_check.specs.Basis.{basis_at_start, named, with_frame, with_other_querier}
 use Rattle.mq_check.specs.Basis as basis
-use Rattle.mq_check.specs.Checking.{CheckingValue, checking_at_start, told, settled, faults_seen, with_messages, role_changed, role_after_tick, query_came, told_at_end}
+use Rattle.mq_check.specs.Checking.{CheckingValue, checking_at_start, told, settled, faults_seen, with_all_excused, with_messages, role_changed, role_after_tick, query_came, told_at_end}
 use Rattle.mq_check.specs.FindingLines.{finding_lines, last_lines}
+use Rattle.mq_check.specs.General.{silence_up_to}
 use Rattle.mq_check.specs.Headers.{faults_if, faults_of, has_reserved_bits, headers4_in, is_broken_query, is_own_query}
 use Rattle.mq_check.specs.Queries.{query_seen}
 
@@ -64,11 +66,12 @@ behind found o = record o { found = found ++ o.found }
 abbrev pub settled_at : (within moment : ℕ) → Checked → Checked
 settled_at within moment r = record r { checking = settled within moment r.checking }
 
--- the treatment of queries after those of one step of the link became wanted
+-- The treatment of queries after those of one step of the link became wanted. The basis has the number of packets so far,
+-- which is the number of the last packet.
 abbrev pub wanted_by : Configuration → (moment : ℕ) → Step → Checked → CheckingValue
 wanted_by config moment step r =
     let is_returning = not (is_querier r.link.election.role) in
-    with_messages config.family config.own moment is_returning (outgoing_of config step) r.checking
+    with_messages config.family config.own moment r.basis.packets is_returning (outgoing_of config step) r.checking
 
 -- the check after a tick, by which the router may become querier again
 unfoldable pub ticked : Configuration → (within moment : ℕ) → Checked → Checked
@@ -99,6 +102,21 @@ ticked_within (suc most) config within limit r =
 -- All ticks up to and including a moment. After each, the link's next moment is later.
 abbrev pub ticked_through : Configuration → (within moment : ℕ) → Checked → Outcome
 ticked_through config within moment r = ticked_within (moment + 1) config within (moment + 1) r
+
+-- all ticks up to and including a moment, and the removal of the entries that have expired then
+abbrev pub settled_through : Configuration → (within moment : ℕ) → Checked → Outcome
+settled_through config within moment r =
+    let done = ticked_through config within moment r in
+    record {
+      checked = settled_at within moment done.checked;
+      found = done.found ++ told within moment done.checked.checking;
+    }
+
+-- The ticks up to the tolerance after the end of a capture, at most to 2^53. A query that the link sends then may be the
+-- partner of a seen one. A pending wanted query may be left out, since its partner may come after the end.
+abbrev pub looked_ahead : Configuration → (within moment : ℕ) → Checked → Outcome
+looked_ahead config within moment r =
+    ticked_through config within (min (moment + within) (2 ^ 53)) (record r { checking = with_all_excused r.checking })
 
 -- the IP packet of a frame, after an Ethernet header and at most one tag
 abbrev pub packet_in : LinkType → (frame : List ℕ) → List ℕ
@@ -145,7 +163,7 @@ received config within moment datagram r =
 -- the check after a query of the checked querier was seen
 unfoldable pub seen_at : Configuration → (within moment to : ℕ) → Query ℕ → Checked → Checked
 seen_at config within moment to query r =
-    record r { checking = query_came within config r.link moment to query r.checking }
+    record r { checking = query_came within config r.link moment r.basis.packets to query r.checking }
 
 -- the check after a datagram: a seen query of the checked querier, or a datagram for the link
 abbrev pub seen_or_received : Configuration → (within moment to : ℕ) → Datagram → Option (Query ℕ) → Checked → Checked
@@ -224,25 +242,27 @@ totals_of c basis found = record {
   basis = basis;
 }
 
-abbrev pub broken_off : Configuration → (cite : Bool) → CheckFault → List (Finding ℕ) → Verdict
-broken_off config cite fault found = record { text = finding_lines config.family cite found; answer = Err fault }
+abbrev pub broken_off : Configuration → (additions : Additions) → CheckFault → List (Finding ℕ) → Verdict
+broken_off config additions fault found = record { text = finding_lines config.family additions found; answer = Err fault }
 
 -- the verdict at the end of a capture
-abbrev pub concluded : Configuration → (cite : Bool) → CheckingValue → Basis → List (Finding ℕ) → Verdict
-concluded config cite c basis found = record {
-  text = finding_lines config.family cite found ++ last_lines (totals_of c basis found);
+abbrev pub concluded : Configuration → (additions : Additions) → CheckingValue → Basis → List (Finding ℕ) → Verdict
+concluded config additions c basis found = record {
+  text = finding_lines config.family additions found ++ last_lines (totals_of c basis found);
   answer = Ok (totals_of c basis found);
 }
 
--- The verdict after a check up to and including a moment, with the earlier findings first.
-unfoldable pub ended_at : Configuration → (within : ℕ) → (cite : Bool) → (moment number : ℕ) → (found : List (Finding ℕ)) → Checked → Verdict
-ended_at config within cite moment number found r =
-    let done = ticked_through config within moment r in
-    let checking = done.checked.checking in
-    if checking.waiting.is_full
-    then broken_off config cite (Waiting number) (found ++ done.found ++ told within moment checking)
-    else concluded config cite checking done.checked.basis
-    (found ++ done.found ++ told_at_end within config.timing moment checking)
+-- The verdict after a check up to and including a moment, with the earlier findings first. The link is ticked further,
+-- so that each seen query can find its partner. The basis and the silence are those of the moment.
+unfoldable pub ended_at : Configuration → (within : ℕ) → (additions : Additions) → (moment number : ℕ) → (found : List (Finding ℕ)) → Checked → Verdict
+ended_at config within additions moment number found r =
+    let done = settled_through config within moment r in
+    let ahead = looked_ahead config within moment done.checked in
+    let silence = silence_up_to within config.timing moment done.checked.checking.phase in
+    if ahead.checked.checking.waiting.is_full
+    then broken_off config additions (Waiting number) (found ++ done.found ++ ahead.found)
+    else concluded config additions ahead.checked.checking done.checked.basis
+    (found ++ done.found ++ ahead.found ++ told_at_end within config.timing moment silence ahead.checked.checking)
 
 -- the moment at which a check ends: that of the last packet, or the requested one if that is later
 abbrev pub last_moment : (until : Option ℕ) → Course → ℕ
@@ -250,19 +270,19 @@ last_moment until course = max course.moment (unwrap_or until 0)
 
 -- The verdict after the packets: the end of the capture or its fault, unless the check has ended before. `number` is
 -- that of the next packet.
-abbrev pub verdict_behind : Configuration → (within : ℕ) → (until : Option ℕ) → (cite : Bool) → (number : ℕ) → (end : Option PcapFault) → (fault : Option CheckFault) → Course → Verdict
-verdict_behind config within until cite number end (Some fault) course = broken_off config cite fault course.found
-verdict_behind config within until cite number (Some fault) None course =
-    broken_off config cite (Pcap fault) course.found
-verdict_behind config within until cite number None None course =
+abbrev pub verdict_behind : Configuration → (within : ℕ) → (until : Option ℕ) → (additions : Additions) → (number : ℕ) → (end : Option PcapFault) → (fault : Option CheckFault) → Course → Verdict
+verdict_behind config within until additions number end (Some fault) course = broken_off config additions fault course.found
+verdict_behind config within until additions number (Some fault) None course =
+    broken_off config additions (Pcap fault) course.found
+verdict_behind config within until additions number None None course =
     elim (is_gap course.moment (last_moment until course)) [
-      | true ↦ broken_off config cite (Gap number) course.found
-      | false ↦ ended_at config within cite (last_moment until course) number course.found course.checked
+      | true ↦ broken_off config additions (Gap number) course.found
+      | false ↦ ended_at config within additions (last_moment until course) number course.found course.checked
     ]
 
 -- The check of a capture: its header, its packets, and its end.
-abbrev pub check_of : Configuration → (within : ℕ) → (until : Option ℕ) → (cite strict : Bool) → Result Form PcapFault → List Captured → (end : Option PcapFault) → Verdict
-check_of config within until cite strict (Err fault) packets end = record { text = []; answer = Err (Pcap fault) }
-check_of config within until cite strict (Ok form) packets end =
+abbrev pub check_of : Configuration → (within : ℕ) → (until : Option ℕ) → (additions : Additions) → (strict : Bool) → Result Form PcapFault → List Captured → (end : Option PcapFault) → Verdict
+check_of config within until additions strict (Err fault) packets end = record { text = []; answer = Err (Pcap fault) }
+check_of config within until additions strict (Ok form) packets end =
     let course = with_all_packets config within strict form packets in
-    verdict_behind config within until cite (length packets + 1) end course.fault course
+    verdict_behind config within until additions (length packets + 1) end course.fault course

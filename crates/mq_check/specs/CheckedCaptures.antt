@@ -18,13 +18,13 @@ use Rattle.mq_check.specs.FindingLines.{finding_lines}
 
 -- the verdict of a capture
 abbrev pub verdict_of : Configuration → CheckTerms → ReadCapture → Verdict
-verdict_of config terms c = check_of config terms.within terms.until terms.cite terms.strict c.header c.packets c.end
+verdict_of config terms c = check_of config terms.within terms.until terms.additions terms.strict c.header c.packets c.end
 
 -- the lines of the findings up to the last packet, without those of the end
 abbrev pub so_far : Configuration → CheckTerms → Result Form PcapFault → List Captured → List ℕ
 so_far config terms (Err fault) packets = []
 so_far config terms (Ok form) packets =
-    finding_lines config.family terms.cite (with_all_packets config terms.within terms.strict form packets).found
+    finding_lines config.family terms.additions (with_all_packets config terms.within terms.strict form packets).found
 
 abbrev pub packets_text : Configuration → CheckTerms → ReadCapture → List ℕ
 packets_text config terms c = so_far config terms c.header c.packets

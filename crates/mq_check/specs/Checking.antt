@@ -18,7 +18,7 @@ use Rattle.mq_check.specs.declared.phase.Phase.{Phase}
 use Rattle.mq_check.specs.declared.phase.Phase.TheVariants.{Starting, Heard, Returned, NotQuerier}
 use Rattle.mq_check.specs.declared.terms.Terms.{Terms}
 use Rattle.mq_check.specs.declared.waiting.Side.TheVariants.{OfWanted, OfSeen}
-use Rattle.mq_check.specs.Entries.{first_terms, may_be_left_out, differences_found}
+use Rattle.mq_check.specs.Entries.{first_terms, may_be_left_out, excused, findings_of}
 use Rattle.mq_check.specs.General.{phase_at_start, wrong_interval, phase_behind, silence_up_to, phase_again}
 use Rattle.mq_check.specs.Unheld.{specific_terms, unheld}
 use Rattle.mq_check.specs.Schedules.{SchedulesValue, schedules_at_start, schedules_seen, schedules_wanted, recent, allowed_by}
@@ -138,10 +138,10 @@ with_seen moment terms unheld c asked =
     }
 
 -- the entries with a wrong interval, or with a silence that is too long, if there is one
-abbrev pub with_interval : (configured : Timing) → (moment : ℕ) → Option ℕ → WaitingValue → WaitingValue
-with_interval configured moment None w = w
-with_interval configured moment (Some passed) w =
-    with_entry (Interval moment passed (query_interval configured)) w
+abbrev pub with_interval : (configured : Timing) → (moment packet : ℕ) → Option ℕ → WaitingValue → WaitingValue
+with_interval configured moment packet None w = w
+with_interval configured moment packet (Some passed) w =
+    with_entry (Interval moment packet passed (query_interval configured)) w
 
 abbrev pub with_silence : (configured : Timing) → (moment : ℕ) → Option ℕ → WaitingValue → WaitingValue
 with_silence configured moment None w = w
@@ -152,7 +152,8 @@ with_silence configured moment (Some passed) w = with_entry (Silence moment pass
 -- again.
 unfoldable pub with_general : (within : ℕ) → (configured : Timing) → (moment : ℕ) → (terms wanted : Terms ℕ) → CheckingValue → CheckingValue
 with_general within configured moment terms wanted c =
-    let judged = with_interval configured moment (wrong_interval within configured moment c.phase) c.waiting in
+    let judged =
+    with_interval configured moment terms.packet (wrong_interval within configured moment c.phase) c.waiting in
     record c {
       waiting = with_entry (Seen moment AllGroups terms (Some wanted) (Extra true)) (with_partner OfWanted AllGroups terms judged);
       phase = phase_behind within configured moment c.phase;
@@ -186,34 +187,37 @@ with_fault moment number c fault = record c { waiting = with_entry (Packet momen
 abbrev pub faults_seen : (moment number : ℕ) → List HeaderFault → CheckingValue → CheckingValue
 faults_seen moment number faults c = fold (with_fault moment number) c faults
 
--- The check after a query of the checked querier was seen. A general query is compared with one of the timing in force.
-unfoldable pub query_came : (within : ℕ) → Configuration → LinkState → (moment to : ℕ) → Query ℕ → CheckingValue → CheckingValue
-query_came within config link moment to query c =
-    let terms = terms_of config.family to query in
+-- The check after a query of the checked querier was seen in a packet. A general query is compared with one of the
+-- timing in force.
+unfoldable pub query_came : (within : ℕ) → Configuration → LinkState → (moment packet to : ℕ) → Query ℕ → CheckingValue → CheckingValue
+query_came within config link moment packet to query c =
+    let terms = terms_of config.family packet to query in
     if is_general query
     then general_seen within config.timing moment terms (general_terms config link.election.timing) c
     else specific_seen moment terms (unheld config.family link.groups (specific_terms config link.election.timing query)) (asked_in query) c
 
 -- The check after a query that the link sends. A general query is wanted at its moment only if the router becomes
--- querier again (RFC 3376 section 6.6.2, RFC 3810 section 7.6.2).
-abbrev pub one_wanted : Family → (moment : ℕ) → (is_returning : Bool) → (to : ℕ) → Query ℕ → CheckingValue → CheckingValue
-one_wanted family moment is_returning to query c =
+-- querier again (RFC 3376 section 6.6.2, RFC 3810 section 7.6.2). `packet` is the number of the last packet before. If a
+-- datagram causes the query, it is the packet with this datagram.
+abbrev pub one_wanted : Family → (moment packet : ℕ) → (is_returning : Bool) → (to : ℕ) → Query ℕ → CheckingValue → CheckingValue
+one_wanted family moment packet is_returning to query c =
     if is_general query && not is_returning
     then c
-    else fold (with_wanted moment (terms_of family to query)) c (asked_in query)
+    else fold (with_wanted moment (terms_of family packet to query)) c (asked_in query)
 
-abbrev pub query_wanted : Family → (moment : ℕ) → (is_returning : Bool) → (to : ℕ) → Option (Query ℕ) → CheckingValue → CheckingValue
-query_wanted family moment is_returning to None c = c
-query_wanted family moment is_returning to (Some query) c = one_wanted family moment is_returning to query c
+abbrev pub query_wanted : Family → (moment packet : ℕ) → (is_returning : Bool) → (to : ℕ) → Option (Query ℕ) → CheckingValue → CheckingValue
+query_wanted family moment packet is_returning to None c = c
+query_wanted family moment packet is_returning to (Some query) c =
+    one_wanted family moment packet is_returning to query c
 
 -- the check after one message of the link with this own address, and after all messages of a step
-unfoldable pub with_message : Family → (own moment : ℕ) → (is_returning : Bool) → CheckingValue → Outgoing → CheckingValue
-with_message family own moment is_returning c message =
-    query_wanted family moment is_returning message.to (query_sent family own message) c
+unfoldable pub with_message : Family → (own moment packet : ℕ) → (is_returning : Bool) → CheckingValue → Outgoing → CheckingValue
+with_message family own moment packet is_returning c message =
+    query_wanted family moment packet is_returning message.to (query_sent family own message) c
 
-abbrev pub with_messages : Family → (own moment : ℕ) → (is_returning : Bool) → List Outgoing → CheckingValue → CheckingValue
-with_messages family own moment is_returning messages c =
-    fold (with_message family own moment is_returning) c messages
+abbrev pub with_messages : Family → (own moment packet : ℕ) → (is_returning : Bool) → List Outgoing → CheckingValue → CheckingValue
+with_messages family own moment packet is_returning messages c =
+    fold (with_message family own moment packet is_returning) c messages
 
 -- The check after the role was lost, from which no general query is wanted, or after the role returned.
 unfoldable pub role_lost : (within : ℕ) → (configured : Timing) → (moment : ℕ) → CheckingValue → CheckingValue
@@ -239,25 +243,21 @@ role_after_tick within moment true is_querier c = c
 role_after_tick within moment false true c = role_returned within moment c
 role_after_tick within moment false false c = c
 
--- The findings of an entry that is pending at the end of a capture. A query without a partner isn't reported: its
--- partner may come later.
-abbrev pub found_of_last : Entry ℕ → List (Finding ℕ)
-found_of_last (Wanted moment asked terms is_optional is_found) = []
-found_of_last (Seen moment asked terms None alone) = []
-found_of_last (Seen moment asked terms (Some wanted) alone) = differences_found moment asked terms wanted
-found_of_last (Interval moment after wanted) = finding.Interval moment after wanted ∷ []
-found_of_last (Silence moment after wanted) = finding.Silence moment after wanted ∷ []
-found_of_last (Packet moment number fault) = finding.Packet moment number fault ∷ []
+-- the check at the end of a capture, after which the partners of wanted queries may come
+abbrev pub with_all_excused : CheckingValue → CheckingValue
+with_all_excused c = record c { waiting = waits.all_excused c.waiting }
+
+-- The findings of an entry that is pending after the end of a capture, if the role changed last at `changed`. A wanted
+-- query isn't reported.
+abbrev pub found_of_last : (within : ℕ) → (changed : Option ℕ) → Entry ℕ → List (Finding ℕ)
+found_of_last within changed entry = findings_of within changed (excused entry)
 
 abbrev pub silence_found : (configured : Timing) → (moment : ℕ) → Option ℕ → List (Finding ℕ)
 silence_found configured moment None = []
 silence_found configured moment (Some passed) =
     finding.Silence moment passed (query_interval configured) ∷ []
 
--- the findings at the end of a check, in order: expired entries, pending ones, and a silence that is too long
-unfoldable pub told_at_end : (within : ℕ) → (configured : Timing) → (moment : ℕ) → CheckingValue → List (Finding ℕ)
-told_at_end within configured moment c =
-    let left = settled within moment c in
-    told within moment c
-    ++ flat_map found_of_last left.waiting.entries
-    ++ silence_found configured moment (silence_up_to within configured moment left.phase)
+-- the last findings: those of the pending entries, and a silence up to the end that is too long
+abbrev pub told_at_end : (within : ℕ) → (configured : Timing) → (moment : ℕ) → (silence : Option ℕ) → CheckingValue → List (Finding ℕ)
+told_at_end within configured moment silence c =
+    flat_map (found_of_last within c.changed) c.waiting.entries ++ silence_found configured moment silence

@@ -1,10 +1,9 @@
 -- Outcomes of the parts of a check that go to a writer through a buffer.
-use Rattle.std.specs.Prelude.{◌≡◌, ◌⊎◌, ℕ, max, Bool, true, false, if◌then◌else◌, List, [], ◌++◌, length, flat_map, Option, None, Result, Ok, Err, unwrap_or}
+use Rattle.std.specs.Prelude.{◌≡◌, ◌⊎◌, ℕ, max, Bool, true, false, if◌then◌else◌, List, [], ◌++◌, length, Option, None, Result, Ok, Err, unwrap_or}
 use Rattle.std.specs.Io.KnownBytes.{IsAtEnd}
 use Rattle.mq_pcap.specs.Capture.{Captures}
 use Rattle.mq_pcap.specs.Filling.{InputState, Takes}
 use Rattle.mq_wire.specs.Family.{Family}
-use Rattle.mq_table.specs.declared.timing.Timing.{Timing}
 use Rattle.mq_link.specs.Configuration.{Configuration}
 use Rattle.mq_text.specs.Printing.{GrowsByBeginning, Passes}
 use Rattle.mq_replay.specs.Replaying.{ReadCapture}
@@ -12,12 +11,13 @@ use Rattle.mq_replay.specs.Report.{is_gap}
 use Rattle.mq_check.specs.declared.basis.Basis.{Basis}
 use Rattle.mq_check.specs.declared.check_fault.CheckFault.{CheckFault}
 use Rattle.mq_check.specs.declared.check_fault.CheckFault.TheVariants as answer
+use Rattle.mq_check.specs.declared.check_terms.Additions.{Additions}
 use Rattle.mq_check.specs.declared.check_terms.CheckTerms.{CheckTerms}
 use Rattle.mq_check.specs.declared.finding.Finding.{Finding}
 use Rattle.mq_check.specs.declared.totals.Totals.{Totals}
-use Rattle.mq_check.specs.Check.{Checked, Verdict, ticked_through}
+use Rattle.mq_check.specs.Check.{Checked, Verdict, looked_ahead, settled_through}
 use Rattle.mq_check.specs.CheckedCaptures.{IsEndedBy, is_failed_write, packets_text, text_by, verdict_of}
-use Rattle.mq_check.specs.Checking.{CheckingValue, found_of_last, settled, silence_found, told}
+use Rattle.mq_check.specs.Checking.{CheckingValue, told_at_end}
 use Rattle.mq_check.specs.FindingLines.{finding_lines, last_lines}
 use Rattle.mq_check.specs.General.{silence_up_to}
 use Rattle.mq_check.specs.Telling.{counted_times}
@@ -42,11 +42,6 @@ pub record PutsVerdict (config : Configuration) (terms : CheckTerms) (old new : 
   pub ended : IsEndedBy config terms read old new r
   pub put : IsVerdictPut config terms read new before after held left r
 
--- the findings at the end, after the expired entries
-abbrev pub last_findings : (within : ℕ) → (configured : Timing) → (moment : ℕ) → CheckingValue → List (Finding ℕ)
-last_findings within configured moment c =
-    flat_map found_of_last c.waiting.entries ++ silence_found configured moment (silence_up_to within configured moment c.phase)
-
 -- the totals, after `count` earlier findings
 abbrev pub counted_behind : (count : ℕ) → CheckingValue → Basis → List (Finding ℕ) → Totals
 counted_behind count c basis found = record {
@@ -57,34 +52,35 @@ counted_behind count c basis found = record {
 }
 
 -- the text of the end
-abbrev pub end_text : Family → (cite : Bool) → List (Finding ℕ) → Totals → List ℕ
-end_text family cite found totals = finding_lines family cite found ++ last_lines totals
+abbrev pub end_text : Family → (additions : Additions) → List (Finding ℕ) → Totals → List ℕ
+end_text family additions found totals = finding_lines family additions found ++ last_lines totals
 
 -- The verdict up to and including a moment, after `count` earlier findings.
-abbrev pub end_behind : Family → (cite : Bool) → (count number : ℕ) → CheckingValue → Basis → (found last : List (Finding ℕ)) → Verdict
-end_behind family cite count number c basis found last =
+abbrev pub end_behind : Family → (additions : Additions) → (count number : ℕ) → CheckingValue → Basis → (found last : List (Finding ℕ)) → Verdict
+end_behind family additions count number c basis found last =
     if c.waiting.is_full
-    then record { text = finding_lines family cite found; answer = Err (answer.Waiting number) }
+    then record { text = finding_lines family additions found; answer = Err (answer.Waiting number) }
     else record {
-      text = end_text family cite (found ++ last) (counted_behind count c basis (found ++ last));
+      text = end_text family additions (found ++ last) (counted_behind count c basis (found ++ last));
       answer = Ok (counted_behind count c basis (found ++ last));
     }
 
-unfoldable pub ended_behind : Configuration → (within : ℕ) → (cite : Bool) → (moment count number : ℕ) → Checked → Verdict
-ended_behind config within cite moment count number r =
-    let done = ticked_through config within moment r in
-    let left = settled within moment done.checked.checking in
-    end_behind config.family cite count number left done.checked.basis (done.found ++ told within moment done.checked.checking)
-    (last_findings within config.timing moment left)
+unfoldable pub ended_behind : Configuration → (within : ℕ) → (additions : Additions) → (moment count number : ℕ) → Checked → Verdict
+ended_behind config within additions moment count number r =
+    let done = settled_through config within moment r in
+    let ahead = looked_ahead config within moment done.checked in
+    let silence = silence_up_to within config.timing moment done.checked.checking.phase in
+    end_behind config.family additions count number ahead.checked.checking done.checked.basis (done.found ++ ahead.found)
+    (told_at_end within config.timing moment silence ahead.checked.checking)
 
 -- The verdict on the time after the packets of a file that has ended, after `count` earlier findings. `last` is the
 -- moment of the last packet, and `number` is that of the next packet.
-abbrev pub rest_behind : Configuration → (within : ℕ) → (until : Option ℕ) → (cite : Bool) → (last count number : ℕ) → Checked → Verdict
-rest_behind config within until cite last count number r =
+abbrev pub rest_behind : Configuration → (within : ℕ) → (until : Option ℕ) → (additions : Additions) → (last count number : ℕ) → Checked → Verdict
+rest_behind config within until additions last count number r =
     let end = max last (unwrap_or until 0) in
     elim (is_gap last end) [
       | true ↦ record { text = []; answer = Err (answer.Gap number) }
-      | false ↦ ended_behind config within cite end count number r
+      | false ↦ ended_behind config within additions end count number r
     ]
 
 -- the verdict was put, or a prefix of it was written

@@ -19,7 +19,7 @@ use Rattle.mq_check.specs.Queries.{is_same}
 abbrev pub moment_of : Entry ℕ → ℕ
 moment_of (Wanted moment asked terms is_optional is_found) = moment
 moment_of (Seen moment asked terms partner alone) = moment
-moment_of (Interval moment after wanted) = moment
+moment_of (Interval moment packet after wanted) = moment
 moment_of (Silence moment after wanted) = moment
 moment_of (Packet moment number fault) = moment
 
@@ -35,7 +35,7 @@ is_over within now entry = nat_lt (moment_of entry + within) now
 abbrev pub is_free_wanted : Asked ℕ → Entry ℕ → Bool
 is_free_wanted asked (Wanted moment asked' terms is_optional is_found) = is_same asked asked' && not is_found
 is_free_wanted asked (Seen moment asked' terms partner alone) = false
-is_free_wanted asked (Interval moment after wanted) = false
+is_free_wanted asked (Interval moment packet after wanted) = false
 is_free_wanted asked (Silence moment after wanted) = false
 is_free_wanted asked (Packet moment number fault) = false
 
@@ -43,14 +43,14 @@ is_free_wanted asked (Packet moment number fault) = false
 abbrev pub is_free_seen : Asked ℕ → Entry ℕ → Bool
 is_free_seen asked (Wanted moment asked' terms is_optional is_found) = false
 is_free_seen asked (Seen moment asked' terms partner alone) = is_same asked asked' && not (is_some partner)
-is_free_seen asked (Interval moment after wanted) = false
+is_free_seen asked (Interval moment packet after wanted) = false
 is_free_seen asked (Silence moment after wanted) = false
 is_free_seen asked (Packet moment number fault) = false
 
 abbrev pub terms_in : Entry ℕ → Option (Terms ℕ)
 terms_in (Wanted moment asked terms is_optional is_found) = Some terms
 terms_in (Seen moment asked terms partner alone) = Some terms
-terms_in (Interval moment after wanted) = None
+terms_in (Interval moment packet after wanted) = None
 terms_in (Silence moment after wanted) = None
 terms_in (Packet moment number fault) = None
 
@@ -58,7 +58,7 @@ terms_in (Packet moment number fault) = None
 abbrev pub joined : Terms ℕ → Entry ℕ → Entry ℕ
 joined other (Wanted moment asked terms is_optional is_found) = Wanted moment asked terms is_optional true
 joined other (Seen moment asked terms partner alone) = Seen moment asked terms (Some other) alone
-joined other (Interval moment after wanted) = Interval moment after wanted
+joined other (Interval moment packet after wanted) = Interval moment packet after wanted
 joined other (Silence moment after wanted) = Silence moment after wanted
 joined other (Packet moment number fault) = Packet moment number fault
 
@@ -85,7 +85,7 @@ left_of (Scheduled left) = left
 abbrev pub left_in : Entry ℕ → ℕ
 left_in (Wanted moment asked terms is_optional is_found) = 0
 left_in (Seen moment asked terms partner alone) = left_of alone
-left_in (Interval moment after wanted) = 0
+left_in (Interval moment packet after wanted) = 0
 left_in (Silence moment after wanted) = 0
 left_in (Packet moment number fault) = 0
 
@@ -93,7 +93,7 @@ left_in (Packet moment number fault) = 0
 abbrev pub is_group_wanted : (moment group : ℕ) → Entry ℕ → Bool
 is_group_wanted moment group (Wanted moment' asked terms is_optional is_found) = is_same (Group group) asked && (moment == moment')
 is_group_wanted moment group (Seen moment' asked terms partner alone) = false
-is_group_wanted moment group (Interval moment' after wanted) = false
+is_group_wanted moment group (Interval moment' packet after wanted) = false
 is_group_wanted moment group (Silence moment' after wanted) = false
 is_group_wanted moment group (Packet moment' number fault) = false
 
@@ -146,17 +146,17 @@ abbrev pub is_near_change : (within moment : ℕ) → (changed : Option ℕ) →
 is_near_change within moment None = false
 is_near_change within moment (Some changed) = is_within within moment changed
 
--- the findings of a pair
-abbrev pub differ_at : (moment : ℕ) → Asked ℕ → List (Difference ℕ) → List (Finding ℕ)
-differ_at moment asked differences = list_map (finding.Differs moment asked) differences
+-- the findings of a pair, with the number of the packet of the seen query
+abbrev pub differ_at : (moment packet : ℕ) → Asked ℕ → List (Difference ℕ) → List (Finding ℕ)
+differ_at moment packet asked differences = list_map (finding.Differs moment packet asked) differences
 
 abbrev pub differences_found : (moment : ℕ) → Asked ℕ → (seen wanted : Terms ℕ) → List (Finding ℕ)
-differences_found moment asked seen wanted = differ_at moment asked (terms_differ seen wanted)
+differences_found moment asked seen wanted = differ_at moment seen.packet asked (terms_differ seen wanted)
 
 -- The findings of a seen query without a partner. It is extra, or it is allowed and compared with a query of these
 -- terms.
 abbrev pub findings_alone : (moment : ℕ) → Asked ℕ → Terms ℕ → Unpaired ℕ → List (Finding ℕ)
-findings_alone moment asked terms (Extra is_querier) = finding.Extra moment asked is_querier ∷ []
+findings_alone moment asked terms (Extra is_querier) = finding.Extra moment terms.packet asked is_querier ∷ []
 findings_alone moment asked terms (Allowed wanted) = differences_found moment asked terms wanted
 findings_alone moment asked terms (Scheduled left) = []
 
@@ -166,12 +166,21 @@ findings_of_seen within changed moment asked terms None alone =
     if is_near_change within moment changed then [] else findings_alone moment asked terms alone
 findings_of_seen within changed moment asked terms (Some wanted) alone = differences_found moment asked terms wanted
 
+-- The entry at the end of a capture. The partner of a wanted query may come after the end, so the query may be left
+-- out.
+abbrev pub excused : Entry ℕ → Entry ℕ
+excused (Wanted moment asked terms is_optional is_found) = Wanted moment asked terms true is_found
+excused (Seen moment asked terms partner alone) = Seen moment asked terms partner alone
+excused (Interval moment packet after wanted) = Interval moment packet after wanted
+excused (Silence moment after wanted) = Silence moment after wanted
+excused (Packet moment number fault) = Packet moment number fault
+
 -- the findings of an expired entry, if the role changed last at `changed`
 abbrev pub findings_of : (within : ℕ) → (changed : Option ℕ) → Entry ℕ → List (Finding ℕ)
 findings_of within changed (Wanted moment asked terms is_optional is_found) =
-    if is_optional || is_found then [] else finding.Missing moment asked ∷ []
+    if is_optional || is_found then [] else finding.Missing moment terms.packet asked ∷ []
 findings_of within changed (Seen moment asked terms partner alone) =
     findings_of_seen within changed moment asked terms partner alone
-findings_of within changed (Interval moment after wanted) = finding.Interval moment after wanted ∷ []
+findings_of within changed (Interval moment packet after wanted) = finding.Interval moment packet after wanted ∷ []
 findings_of within changed (Silence moment after wanted) = finding.Silence moment after wanted ∷ []
 findings_of within changed (Packet moment number fault) = finding.Packet moment number fault ∷ []

@@ -1,6 +1,7 @@
 -- The data of the worked examples: a query for the group 5 of a querier with the default variables. It is wanted and
 -- seen in either order, and expired entries are removed before the second. Or it is only seen, and the link doesn't hold
--- the group. Or it is wanted and seen several times.
+-- the group. Or it is wanted and seen several times. Its
+-- packet is always the seventh.
 use Rattle.std.specs.Prelude.{ℕ, Bool, true, false, None, Some}
 use Rattle.mq_table.specs.declared.timing.Timing.{Timing}
 use Rattle.mq_check.specs.declared.asked.Asked.TheVariants.{Group}
@@ -16,6 +17,7 @@ a_query = record {
   response = Some 1000;
   querier = Some (record { suppress = false; robustness = 2; interval = 125 });
   to = 5;
+  packet = 7;
 }
 
 -- the check after the query was wanted at a moment and seen at a later one

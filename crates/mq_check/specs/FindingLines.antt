@@ -1,5 +1,5 @@
 -- The lines of a check, and the sections of the standards that findings cite.
-use Rattle.std.specs.Prelude.{ℕ, ◌==◌, Bool, true, false, if◌then◌else◌, List, [], ◌++◌, codes}
+use Rattle.std.specs.Prelude.{ℕ, ◌==◌, ◌&&◌, not, Bool, true, false, if◌then◌else◌, List, [], ◌++◌, codes}
 use Rattle.std.specs.List.{flat_map}
 use Rattle.std.specs.Fmt.{decimal}
 use Rattle.mq_wire.specs.Family.{Family, Igmp, Mld}
@@ -7,6 +7,7 @@ use Rattle.mq_lines.specs.Text.{address_text}
 pub use Rattle.mq_lines.specs.Text.{flag_text}
 use Rattle.mq_check.specs.declared.asked.Asked.{Asked}
 use Rattle.mq_check.specs.declared.asked.Asked.TheVariants.{AllGroups, Group, Source}
+use Rattle.mq_check.specs.declared.check_terms.Additions.{Additions}
 use Rattle.mq_check.specs.declared.finding.Difference.{Difference}
 use Rattle.mq_check.specs.declared.finding.Difference.TheVariants.{Version, Response, Suppress, Robustness, QueryInterval, Destination}
 use Rattle.mq_check.specs.declared.finding.Finding.{Finding}
@@ -54,11 +55,11 @@ header_fault_text number WrongChecksum = decimal number ++ codes " checksum"
 header_fault_text number ReservedBits = decimal number ++ codes " reserved"
 
 abbrev pub finding_text : Family → Finding ℕ → List ℕ
-finding_text family (Missing moment asked) = at_moment moment (codes " missing ") ++ asked_text family asked
-finding_text family (Extra moment asked is_querier) = at_moment moment (codes " extra ") ++ asked_text family asked
-finding_text family (Differs moment asked difference) =
+finding_text family (Missing moment packet asked) = at_moment moment (codes " missing ") ++ asked_text family asked
+finding_text family (Extra moment packet asked is_querier) = at_moment moment (codes " extra ") ++ asked_text family asked
+finding_text family (Differs moment packet asked difference) =
     at_moment moment (codes " differs ") ++ asked_text family asked ++ codes ": " ++ difference_text family difference
-finding_text family (Interval moment after wanted) =
+finding_text family (Interval moment packet after wanted) =
     at_moment moment (codes " general after ") ++ interval_text after wanted
 finding_text family (Silence moment after wanted) =
     at_moment moment (codes " general none for ") ++ interval_text after wanted
@@ -112,10 +113,10 @@ fault_section family ReservedBits = of_family family (codes "4.1.4") (codes "5.1
 
 -- the section of RFC 3376 or RFC 3810 that a finding violates; for intervals that of the Query Interval
 abbrev pub section_of : Family → Finding ℕ → List ℕ
-section_of family (Missing moment asked) = sending_section family asked
-section_of family (Extra moment asked is_querier) = extra_section family is_querier asked
-section_of family (Differs moment asked difference) = field_section family asked difference
-section_of family (Interval moment after wanted) = of_family family (codes "8.2") (codes "9.2")
+section_of family (Missing moment packet asked) = sending_section family asked
+section_of family (Extra moment packet asked is_querier) = extra_section family is_querier asked
+section_of family (Differs moment packet asked difference) = field_section family asked difference
+section_of family (Interval moment packet after wanted) = of_family family (codes "8.2") (codes "9.2")
 section_of family (Silence moment after wanted) = of_family family (codes "8.2") (codes "9.2")
 section_of family (Packet moment number fault) = fault_section family fault
 
@@ -126,12 +127,35 @@ citation_text family true finding =
     codes " (RFC " ++ of_family family (codes "3376") (codes "3810") ++ codes " section " ++ section_of family finding
     ++ codes ")" ++ codes "\n"
 
-abbrev pub finding_line : Family → (cite : Bool) → Finding ℕ → List ℕ
-finding_line family cite finding = finding_text family finding ++ citation_text family cite finding
+-- The number of a finding's packet. A silence has none, and the text of a fault of the headers has it already: then it
+-- is 0. A missing query has that of the last packet before it is wanted, and any other finding that of the seen query.
+abbrev pub packet_in : Finding ℕ → ℕ
+packet_in (Missing moment packet asked) = packet
+packet_in (Extra moment packet asked is_querier) = packet
+packet_in (Differs moment packet asked difference) = packet
+packet_in (Interval moment packet after wanted) = packet
+packet_in (Silence moment after wanted) = 0
+packet_in (Packet moment number fault) = 0
+
+-- the number of a packet if it is requested and isn't 0
+unfoldable pub number_text : (number : ℕ) → List ℕ
+number_text number = codes " packet " ++ decimal number
+
+abbrev pub packet_text : (packets : Bool) → Finding ℕ → List ℕ
+packet_text packets finding =
+    if packets && not (packet_in finding == 0) then number_text (packet_in finding) else []
+
+-- the additions to the line of a finding: the number of the packet, then the section
+abbrev pub additions_text : Family → Additions → Finding ℕ → List ℕ
+additions_text family additions finding =
+    packet_text additions.packets finding ++ citation_text family additions.cite finding
+
+abbrev pub finding_line : Family → Additions → Finding ℕ → List ℕ
+finding_line family additions finding = finding_text family finding ++ additions_text family additions finding
 
 -- the lines of findings, in order
-abbrev pub finding_lines : Family → (cite : Bool) → List (Finding ℕ) → List ℕ
-finding_lines family cite findings = flat_map (finding_line family cite) findings
+abbrev pub finding_lines : Family → Additions → List (Finding ℕ) → List ℕ
+finding_lines family additions findings = flat_map (finding_line family additions) findings
 
 -- a name and a count
 unfoldable pub count_text : (name : List ℕ) → (count : ℕ) → List ℕ

@@ -27,7 +27,7 @@ numbered_asked number (Source group source) = Source (number group) (number sour
 
 abbrev pub numbered_terms : {K : Type 0} → (K → ℕ) → Terms K → Terms ℕ
 numbered_terms number terms =
-    record { version = terms.version; response = terms.response; querier = terms.querier; to = number terms.to }
+    record { version = terms.version; response = terms.response; querier = terms.querier; to = number terms.to; packet = terms.packet }
 
 abbrev pub numbered_announced : {K : Type 0} → (K → ℕ) → Announced K → Announced ℕ
 numbered_announced number a = record {
@@ -61,7 +61,7 @@ numbered_entry number (Wanted moment asked terms is_optional is_found) =
 numbered_entry number (Seen moment asked terms partner alone) =
     Seen moment (numbered_asked number asked) (numbered_terms number terms) (numbered_terms_if number partner)
     (numbered_unpaired number alone)
-numbered_entry number (Interval moment after wanted) = Interval moment after wanted
+numbered_entry number (Interval moment packet after wanted) = Interval moment packet after wanted
 numbered_entry number (Silence moment after wanted) = Silence moment after wanted
 numbered_entry number (Packet moment packet fault) = Packet moment packet fault
 
@@ -83,11 +83,12 @@ difference_list number None = []
 difference_list number (Some difference) = numbered_difference number difference ∷ []
 
 abbrev pub numbered_finding : {K : Type 0} → (K → ℕ) → Finding K → Finding ℕ
-numbered_finding number (finding.Missing moment asked) = finding.Missing moment (numbered_asked number asked)
-numbered_finding number (finding.Extra moment asked is_querier) =
-    finding.Extra moment (numbered_asked number asked) is_querier
-numbered_finding number (finding.Differs moment asked difference) =
-    finding.Differs moment (numbered_asked number asked) (numbered_difference number difference)
-numbered_finding number (finding.Interval moment after wanted) = finding.Interval moment after wanted
+numbered_finding number (finding.Missing moment packet asked) =
+    finding.Missing moment packet (numbered_asked number asked)
+numbered_finding number (finding.Extra moment packet asked is_querier) =
+    finding.Extra moment packet (numbered_asked number asked) is_querier
+numbered_finding number (finding.Differs moment packet asked difference) =
+    finding.Differs moment packet (numbered_asked number asked) (numbered_difference number difference)
+numbered_finding number (finding.Interval moment packet after wanted) = finding.Interval moment packet after wanted
 numbered_finding number (finding.Silence moment after wanted) = finding.Silence moment after wanted
 numbered_finding number (finding.Packet moment packet fault) = finding.Packet moment packet fault

@@ -68,13 +68,14 @@ querier_terms (Current fields) = Some (record {
   interval = fields.interval;
 })
 
--- the version, the fields and the destination of a query
-abbrev pub terms_of : Family → (to : ℕ) → Query ℕ → Terms ℕ
-terms_of family to query = record {
+-- the version, the fields and the destination of a query, and the number of a packet
+abbrev pub terms_of : Family → (packet to : ℕ) → Query ℕ → Terms ℕ
+terms_of family packet to query = record {
   version = query_version family query.version;
   response = response_said family query.response query.version;
   querier = querier_terms query.version;
   to = to;
+  packet = packet;
 }
 
 -- The terms of a general query. The response is the Query Response Interval, and QRV and QQIC are those in force, each
@@ -90,6 +91,7 @@ general_terms config in_force = record {
     interval = interval_lowered in_force.query_seconds;
   });
   to = general_destination config.family;
+  packet = 0;
 }
 
 -- the query that was read, if there is one

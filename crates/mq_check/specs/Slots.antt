@@ -45,13 +45,13 @@ slot_of_seen width asked None = slot_of width OfSeen asked
 abbrev pub slot_in : (width : ℕ) → Entry ℕ → ℕ
 slot_in width (Wanted moment asked terms is_optional is_found) = slot_of_wanted width asked is_found
 slot_in width (Seen moment asked terms partner alone) = slot_of_seen width asked partner
-slot_in width (Interval moment after wanted) = unused
+slot_in width (Interval moment packet after wanted) = unused
 slot_in width (Silence moment after wanted) = unused
 slot_in width (Packet moment number fault) = unused
 
 -- the entry at a place; after the last one, an entry that can't find a partner
 abbrev pub entry_at : List (Entry ℕ) → (place : ℕ) → Entry ℕ
-entry_at entries place = slice_index_or entries place (Interval 0 0 0)
+entry_at entries place = slice_index_or entries place (Interval 0 0 0 0)
 
 -- each entry without a partner is in its slot, and a search of the slot reaches it
 pub record AreMarked (width : ℕ) (entries : List (Entry ℕ)) (t : TrailsValue) : Type 0 where
@@ -63,14 +63,14 @@ pub record AreMarked (width : ℕ) (entries : List (Entry ℕ)) (t : TrailsValue
 abbrev pub wanted_slot : (width : ℕ) → Entry ℕ → ℕ
 wanted_slot width (Wanted moment asked terms is_optional is_found) = slot_of width OfWanted asked
 wanted_slot width (Seen moment asked terms partner alone) = unused
-wanted_slot width (Interval moment after wanted) = unused
+wanted_slot width (Interval moment packet after wanted) = unused
 wanted_slot width (Silence moment after wanted) = unused
 wanted_slot width (Packet moment number fault) = unused
 
 abbrev pub wanted_moment : Entry ℕ → ℕ
 wanted_moment (Wanted moment asked terms is_optional is_found) = moment
 wanted_moment (Seen moment asked terms partner alone) = 0
-wanted_moment (Interval moment after wanted) = 0
+wanted_moment (Interval moment packet after wanted) = 0
 wanted_moment (Silence moment after wanted) = 0
 wanted_moment (Packet moment number fault) = 0
 

@@ -35,6 +35,7 @@ specific_terms config in_force query = record {
     interval = interval_lowered in_force.query_seconds;
   });
   to = query.group;
+  packet = 0;
 }
 
 -- the terms of a query on a subject, if the link doesn't hold it

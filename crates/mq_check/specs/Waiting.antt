@@ -1,7 +1,7 @@
 -- Pending entries, whose partners may still come, and their findings. A wanted query and a seen one are partners if
 -- they have the same subject and lie at most the tolerance apart. Each has at most one partner, and the earlier query
 -- is paired first.
-use Rattle.std.specs.Prelude.{ℕ, nat_lt, Bool, true, false, if◌then◌else◌, List, [], ◌∷◌, ◌++◌, length, drop, Option, take_while, flat_map}
+use Rattle.std.specs.Prelude.{ℕ, nat_lt, Bool, true, false, if◌then◌else◌, List, [], ◌∷◌, ◌++◌, length, drop, map as list_map, Option, take_while, flat_map}
 use Rattle.std.specs.List.{prefix_len}
 use Rattle.mq_check.specs.declared.asked.Asked.{Asked}
 use Rattle.mq_check.specs.declared.entry.Entry.{Entry}
@@ -9,7 +9,7 @@ use Rattle.mq_check.specs.declared.finding.Finding.{Finding}
 use Rattle.mq_check.specs.declared.terms.Terms.{Terms}
 use Rattle.mq_check.specs.declared.waiting.Side.{Side}
 use Rattle.mq_check.specs.declared.waiting.Side.TheVariants.{OfWanted, OfSeen}
-use Rattle.mq_check.specs.Entries.{is_over, is_free_wanted, is_free_seen, first_joined, findings_of}
+use Rattle.mq_check.specs.Entries.{is_over, is_free_wanted, is_free_seen, first_joined, excused, findings_of}
 
 -- the most pending entries
 abbrev pub room : ℕ
@@ -38,6 +38,10 @@ is_free OfSeen asked entry = is_free_seen asked entry
 -- the list after the first of these entries has found a partner with these terms
 unfoldable pub with_partner : Side → Asked ℕ → Terms ℕ → WaitingValue → WaitingValue
 with_partner side asked other w = record w { entries = first_joined (is_free side asked) other w.entries }
+
+-- the list at the end of a capture
+unfoldable pub all_excused : WaitingValue → WaitingValue
+all_excused w = record w { entries = list_map excused w.entries }
 
 -- The findings of the entries that have expired at a moment, and the list after their removal. If an entry had no room,
 -- nothing more is found.

@@ -16,4 +16,4 @@ pub record WantingValue : Type 0 where
 -- the outlet took one message
 pub record TakesMessage (family : Family) (old : WantingValue) (to : ℕ) (bytes : List ℕ) (sent : Bool) (new : WantingValue) : Type 0 where
   pub sent_is : sent ≡ true
-  pub takes : new ≡ record old { checking = with_message family old.own old.moment old.is_returning old.checking (record { to = to; bytes = bytes }) }
+  pub takes : new ≡ record old { checking = with_message family old.own old.moment old.basis.packets old.is_returning old.checking (record { to = to; bytes = bytes }) }

@@ -1,5 +1,14 @@
 //! Terms of a check.
 
+/// Additions to the line of a finding.
+#[derive(Clone, Copy)]
+pub struct Additions {
+    /// True if it has the number of the packet.
+    pub packets: bool,
+    /// True if it cites a section of the standard, after that number.
+    pub cite: bool,
+}
+
 /// The terms of a check.
 #[derive(Clone, Copy)]
 pub struct CheckTerms {
@@ -7,8 +16,8 @@ pub struct CheckTerms {
     pub within: u32,
     /// The end of the capture if it is later than the last packet, in milliseconds from the first packet; at most 2^53.
     pub until: Option<u64>,
-    /// True if each finding cites a section of the standard.
-    pub cite: bool,
+    /// The additions to the line of each finding.
+    pub additions: Additions,
     /// True if only this project's own readings of the standard are accepted.
     pub strict: bool,
 }

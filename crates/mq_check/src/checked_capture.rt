@@ -116,7 +116,7 @@ where
     requires room { most_bytes ≤ length packet.old }
     requires in_range { IfSome check.old.terms.until (λ ms. ms ≤ 2 ^ 53) }
     requires starts { checked_in check.old.link check.old.queries ≡ at_the_start check.old.link.config check.old.terms.within check.old.terms.strict }
-    requires told { check.old.told ≡ record { held = []; cite = check.old.terms.cite; count = 0 } }
+    requires told { check.old.told ≡ record { held = []; additions = check.old.terms.additions; count = 0 } }
     ensures checks { spec.Checks check.old.link.config check.old.terms
         (input_of R.remaining reader.old) (input_of R.remaining reader.new)
         (W.contents (inner_of writer.old)) (W.contents (inner_of writer.new))
@@ -145,7 +145,7 @@ where
     requires room { most_bytes ≤ length packet.old }
     requires in_range { IfSome check.old.terms.until (λ ms. ms ≤ 2 ^ 53) }
     requires starts { checked_in check.old.link check.old.queries ≡ at_the_start check.old.link.config check.old.terms.within check.old.terms.strict }
-    requires told { check.old.told ≡ record { held = []; cite = check.old.terms.cite; count = 0 } }
+    requires told { check.old.told ≡ record { held = []; additions = check.old.terms.additions; count = 0 } }
     ensures puts { PutsVerdict check.old.link.config check.old.terms
         (input_of R.remaining reader.old) (input_of R.remaining reader.new)
         (W.contents (inner_of writer.old)) (W.contents (inner_of writer.new))

@@ -141,12 +141,14 @@ fn put_interval<F: Family, A: Allocator>(
     waiting: &mut Waiting<F, A>,
     configured: Timing,
     stamp: Stamp,
+    packet: u64,
     passed: Option<u64>,
 )
-    ensures { waiting.new ≡ spec.with_interval configured stamp passed waiting.old }
+    ensures { waiting.new ≡ spec.with_interval configured stamp packet passed waiting.old }
 {
     if let Some(passed) = passed {
-        waiting.put(Entry::Interval(stamp.moment(), passed, query_interval(configured)));
+        let wanted = query_interval(configured);
+        waiting.put(Entry::Interval(stamp.moment(), packet, passed, wanted));
     }
 }
 
@@ -391,7 +393,7 @@ impl<F: Family, A: Allocator> Checking<F, A> {
         ensures { self.new ≡ spec.with_general within configured stamp (numbered_terms F.Address.number terms) (numbered_terms F.Address.number wanted) self.old }
     {
         let passed = self.phase.wrong_interval(within, configured, stamp.ms());
-        put_interval(&mut self.waiting, configured, stamp, passed);
+        put_interval(&mut self.waiting, configured, stamp, terms.packet, passed);
         self.phase = self.phase.behind(within, configured, stamp.ms());
         self.waiting.join(Side::OfWanted, Asked::AllGroups, terms);
         self.waiting.put(Entry::Seen(
@@ -531,20 +533,21 @@ impl<F: CheckedFamily, A: Allocator> Checking<F, A>
 where
     F::Address: LineKey,
 {
-    /// Handles a query of the checked router that is seen.
+    /// Handles a query of the checked router that is seen in a packet.
     pub(crate) fn query_seen(
         &mut self,
         within: u32,
         link: &Link<F, A>,
         stamp: Stamp,
+        packet: u64,
         to: F::Address,
         query: &Query<'_, F::Address>,
     )
-        ensures { self.new ≡ spec.query_came within link.now.config link.now.state stamp (F.Address.number to) (numbered_query F.Address.number query.now) self.old }
+        ensures { self.new ≡ spec.query_came within link.now.config link.now.state stamp packet (F.Address.number to) (numbered_query F.Address.number query.now) self.old }
     {
         let config = link.config();
         config.is_faultless();
-        let terms = terms_of(to, query);
+        let terms = terms_of(packet, to, query);
         let configured = config.timing();
         let in_force = link.timing();
         if is_general::<F>(query) {
@@ -556,32 +559,48 @@ where
         self.see_specific(stamp.moment(), terms, link, wanted, query);
     }
 
-    /// Handles a query that the link sends. A general query is wanted only if the router becomes querier again.
+    /// Handles a query that the link sends after a packet. A general query is wanted only if the router becomes querier
+    /// again.
     pub(crate) fn query_wanted(
         &mut self,
         moment: Moment,
+        packet: u64,
         is_returning: bool,
         to: F::Address,
         query: &Query<'_, F::Address>,
     )
-        ensures { self.new ≡ spec.one_wanted F.FAMILY moment is_returning (F.Address.number to) (numbered_query F.Address.number query.now) self.old }
+        ensures { self.new ≡ spec.one_wanted F.FAMILY moment packet is_returning (F.Address.number to) (numbered_query F.Address.number query.now) self.old }
     {
         if is_general::<F>(query) && !is_returning {
             return;
         }
-        self.want_all(moment, terms_of(to, query), query);
+        self.want_all(moment, terms_of(packet, to, query), query);
     }
 
-    /// Removes all pending entries at the end of a capture, and reports their findings.
+    /// Handles the end of the capture, after which the partners of wanted queries may come.
+    pub(crate) fn excuse_all(&mut self)
+        ensures { self.new ≡ spec.with_all_excused self.old }
+    {
+        self.waiting.excuse();
+    }
+
+    /// Removes all pending entries at the end of a capture, and reports their findings. A wanted query has none.
     pub(crate) fn tell_rest<W: Write>(
         &mut self,
+        within: u32,
         told: &mut Told,
         writer: &mut Watched<W>,
     ) -> Result<(), LineFault>
-        ensures { Tells F.Address.family (flat_map spec.found_of_last self.old.waiting.entries) told.old told.new
+        ensures { Tells F.Address.family (flat_map (spec.found_of_last within self.old.changed) self.old.waiting.entries) told.old told.new
             (output_of W.contents writer.old) (output_of W.contents writer.new) result }
     {
-        tell_rest::<F, A, W>(&mut self.waiting, told, writer)
+        tell_rest::<F, A, W>(
+            &mut self.waiting,
+            Span::from_ms(within),
+            &self.changed,
+            told,
+            writer,
+        )
     }
 
     /// Removes the entries that have expired at a moment, and reports their findings.

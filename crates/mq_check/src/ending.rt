@@ -4,11 +4,12 @@ ghost use Rattle.std.specs.Prelude.{◌≡◌, ◌≤◌, ◌^◌, ◌||◌, IfO
 ghost use Rattle.mq_count.specs.Streams.{inner_of, has_failed};
 ghost use Rattle.mq_text.specs.Printing.{Puts, output_of};
 ghost use Rattle.mq_check.specs.CheckedCaptures as spec;
-ghost use Rattle.mq_check.specs.Checking.{silence_found};
+ghost use Rattle.mq_check.specs.Checking.{silence_found, told_at_end};
 ghost use Rattle.mq_check.specs.Coming.{checked_in};
-ghost use Rattle.mq_check.specs.Ending.{IsRestPut, counted_behind, end_text, ended_behind, last_findings, rest_behind};
+ghost use Rattle.mq_check.specs.Ending.{IsRestPut, counted_behind, end_text, ended_behind, rest_behind};
 ghost use Rattle.mq_check.specs.Telling.{Tells};
 
+use crate::basis::Basis;
 use crate::check_fault::CheckFault;
 use crate::checked_family::CheckedFamily;
 use crate::finding::Finding;
@@ -18,7 +19,6 @@ use crate::running_check::Check;
 use crate::stamp::Stamp;
 use crate::told::Told;
 use crate::totals::Totals;
-use crate::wanted_queries::WantedQueries;
 use mq_count::Watched;
 use mq_lines::LineKey;
 use mq_link::Family;
@@ -53,7 +53,7 @@ where
     ) -> Result<Totals, CheckFault>
         requires in_range { IfSome self.old.terms.until (λ ms. ms ≤ 2 ^ 53) }
         ensures rest { IsRestPut
-            (rest_behind self.old.link.config self.old.terms.within self.old.terms.until self.old.told.cite last self.old.told.count number (checked_in self.old.link self.old.queries))
+            (rest_behind self.old.link.config self.old.terms.within self.old.terms.until self.old.told.additions last self.old.told.count number (checked_in self.old.link self.old.queries))
             (W.contents (inner_of writer.old)) (W.contents (inner_of writer.new))
             self.old.told.held self.new.told.held result }
         ensures failed { has_failed writer.new ≡ has_failed writer.old || spec.is_failed_write result }
@@ -67,7 +67,8 @@ where
         self.end(end, number, writer)
     }
 
-    /// Checks up to and including the end, and reports the totals.
+    /// Checks up to and including the end, and reports the totals. The silence and the basis are those of the end, and not
+    /// of the ticks after it.
     fn end<W: Write>(
         &mut self,
         end: Stamp,
@@ -75,68 +76,58 @@ where
         writer: &mut Watched<W>,
     ) -> Result<Totals, CheckFault>
         ensures rest { IsRestPut
-            (ended_behind self.old.link.config self.old.terms.within self.old.told.cite end self.old.told.count number (checked_in self.old.link self.old.queries))
+            (ended_behind self.old.link.config self.old.terms.within self.old.told.additions end self.old.told.count number (checked_in self.old.link self.old.queries))
             (W.contents (inner_of writer.old)) (W.contents (inner_of writer.new))
             self.old.told.held self.new.told.held result }
         ensures failed { has_failed writer.new ≡ has_failed writer.old || spec.is_failed_write result }
     {
         self.link.config().is_faultless();
         let configured = self.link.config().timing();
-        let within = self.terms.within;
-        let now = end.moment();
-        self.tick_through(now, writer)?;
-        self.queries.settle(within, now, &mut self.told, writer)?;
+        self.settle_through(end, writer)?;
+        let passed = self
+            .queries
+            .checking()
+            .silence(self.terms.within, configured, end);
+        let rests_on = *self.queries.basis();
+        self.look_ahead(end, writer)?;
         if self.queries.checking().is_full() {
             return Err(CheckFault::Waiting { number });
         }
-        let totals = tell_end(
-            &mut self.queries,
-            within,
-            configured,
-            end,
-            &mut self.told,
-            writer,
-        )?;
+        let totals = self.tell_end(end, passed, rests_on, writer)?;
         Ok(totals)
     }
-}
 
-/// Reports the findings of the pending entries at the end, then a silence that is too long, then the totals.
-fn tell_end<F: CheckedFamily, A: Allocator, W: Write>(
-    queries: &mut WantedQueries<F, A>,
-    within: u32,
-    configured: Timing,
-    end: Stamp,
-    told: &mut Told,
-    writer: &mut Watched<W>,
-) -> Result<Totals, LineFault>
-where
-    F::Address: LineKey,
-    ensures own { queries.new.own ≡ queries.old.own }
-    ensures text { let found = last_findings within configured end queries.old.checking in Puts
-        (W.contents (inner_of writer.old)) (W.contents (inner_of writer.new))
-        told.old.held told.new.held
-        (end_text F.Address.family told.old.cite found (counted_behind told.old.count queries.old.checking queries.old.basis found)) result }
-    ensures totals { let found = last_findings within configured end queries.old.checking in
-        IfOk result (λ totals. totals ≡ counted_behind told.old.count queries.old.checking queries.old.basis found) }
-    ensures failed { has_failed writer.new ≡ has_failed writer.old || is_err result }
-{
-    let state = queries.checking();
-    let passed = state.silence(within, configured, end);
-    let general_queries = state.general();
-    let other_queries = state.specific();
-    let rests_on = *queries.basis();
-    queries.tell_rest(told, writer)?;
-    tell_silence::<F, W>(configured, end, passed, told, writer)?;
-    let all_findings = told.count();
-    let totals = Totals {
-        general: general_queries,
-        specific: other_queries,
-        findings: all_findings,
-        basis: rests_on,
-    };
-    told.tell_last(&totals, writer)?;
-    Ok(totals)
+    /// Reports the findings of the pending entries, then a silence up to the end that is too long, then the totals.
+    fn tell_end<W: Write>(
+        &mut self,
+        end: Stamp,
+        passed: Option<u64>,
+        rests_on: Basis,
+        writer: &mut Watched<W>,
+    ) -> Result<Totals, LineFault>
+        ensures text { let found = told_at_end self.old.terms.within self.old.link.config.timing end passed self.old.queries.checking in Puts
+            (W.contents (inner_of writer.old)) (W.contents (inner_of writer.new))
+            self.old.told.held self.new.told.held
+            (end_text F.Address.family self.old.told.additions found (counted_behind self.old.told.count self.old.queries.checking rests_on found)) result }
+        ensures totals { let found = told_at_end self.old.terms.within self.old.link.config.timing end passed self.old.queries.checking in
+            IfOk result (λ totals. totals ≡ counted_behind self.old.told.count self.old.queries.checking rests_on found) }
+        ensures failed { has_failed writer.new ≡ has_failed writer.old || is_err result }
+    {
+        let configured = self.link.config().timing();
+        let general_queries = self.queries.checking().general();
+        let other_queries = self.queries.checking().specific();
+        self.queries
+            .tell_rest(self.terms.within, &mut self.told, writer)?;
+        tell_silence::<F, W>(configured, end, passed, &mut self.told, writer)?;
+        let totals = Totals {
+            general: general_queries,
+            specific: other_queries,
+            findings: self.told.count(),
+            basis: rests_on,
+        };
+        self.told.tell_last(&totals, writer)?;
+        Ok(totals)
+    }
 }
 
 /// Reports a silence up to the end, if it is too long.

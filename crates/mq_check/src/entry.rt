@@ -17,8 +17,8 @@ pub enum Entry<K: WireKey> {
     Wanted(Moment, Asked<K>, Terms<K>, bool, bool),
     /// A seen query: its moment, subject and terms, its partner's terms if it has one, and its verdict without one.
     Seen(Moment, Asked<K>, Terms<K>, Option<Terms<K>>, Unpaired<K>),
-    /// A general query at a wrong interval: its moment, the interval, and the wanted one.
-    Interval(Moment, u64, u64),
+    /// A general query at a wrong interval: its moment, the number of its packet, the interval, and the wanted one.
+    Interval(Moment, u64, u64, u64),
     /// A time without general queries: its end, its length, and the wanted interval.
     Silence(Moment, u64, u64),
     /// A fault in the headers of a query's packet: its moment, the number of the packet, and the fault.
@@ -67,6 +67,18 @@ impl<K: WireKey> Entry<K> {
         match self {
             Entry::Seen(_, _, _, _, Unpaired::Scheduled(left)) => *left,
             _ => 0,
+        }
+    }
+
+    /// Returns the entry at the end of a capture, after which the partner of a wanted query may come.
+    pub(crate) fn excused(self) -> Entry<K>
+        ensures { numbered_entry K.number result ≡ spec.excused (numbered_entry K.number self) }
+    {
+        match self {
+            Entry::Wanted(moment, asked, terms, _, is_found) => {
+                Entry::Wanted(moment, asked, terms, true, is_found)
+            }
+            other => other,
         }
     }
 

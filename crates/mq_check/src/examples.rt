@@ -6,6 +6,7 @@ ghost use Rattle.mq_pcap.specs.declared.fault.PcapFault.{PcapFault};
 ghost use Rattle.mq_pcap.specs.Capture.{Captured};
 ghost use Rattle.mq_link.specs.Configuration.{Configuration};
 ghost use Rattle.mq_check.specs.declared.check_fault.CheckFault.TheVariants.{Pcap};
+ghost use Rattle.mq_check.specs.declared.check_terms.Additions.{Additions};
 ghost use Rattle.mq_check.specs.Check.{check_of};
 ghost use Rattle.mq_check.specs.declared.asked.Asked.TheVariants.{Group};
 ghost use Rattle.mq_check.specs.declared.finding.Finding.TheVariants.{Missing, Extra, Interval};
@@ -19,7 +20,7 @@ pub fn late_by_the_tolerance()
 
 /// Shows a query that is a millisecond later: the wanted one is missing, and the seen one is extra.
 pub fn late_by_more()
-    ensures { told 100 5000 (wanted_first 1000 1101) ≡ Extra 1101 (Group 5) true ∷ [] }
+    ensures { told 100 5000 (wanted_first 1000 1101) ≡ Extra 1101 7 (Group 5) true ∷ [] }
 {}
 
 /// Shows that a query that is early by the tolerance has no finding.
@@ -29,12 +30,12 @@ pub fn early_by_the_tolerance()
 
 /// Shows a query that is a millisecond earlier. It expires before its partner is wanted, so the wanted one is missing.
 pub fn early_by_more()
-    ensures { told 100 5000 (seen_first 1000 1101) ≡ Missing 1101 (Group 5) ∷ [] }
+    ensures { told 100 5000 (seen_first 1000 1101) ≡ Missing 1101 7 (Group 5) ∷ [] }
 {}
 
 /// Shows general queries a minute apart, where the wanted query interval is 125 seconds.
 pub fn a_minute_apart()
-    ensures { told 100 200000 (two_general 90000 150000) ≡ Interval 150000 60000 125000 ∷ [] }
+    ensures { told 100 200000 (two_general 90000 150000) ≡ Interval 150000 7 60000 125000 ∷ [] }
 {}
 
 /// Shows that general queries a query interval and the tolerance apart have no finding.
@@ -46,13 +47,13 @@ pub fn a_query_interval_apart()
 /// tolerance, the querier may hold the group since before the capture. A strict check finds it extra.
 pub fn a_group_from_before_the_capture()
     ensures allowed { told 100 300000 (seen_unheld false 260100) ≡ [] }
-    ensures late { told 100 300000 (seen_unheld false 260101) ≡ Extra 260101 (Group 5) true ∷ [] }
-    ensures strict { told 100 300000 (seen_unheld true 1000) ≡ Extra 1000 (Group 5) true ∷ [] }
+    ensures late { told 100 300000 (seen_unheld false 260101) ≡ Extra 260101 7 (Group 5) true ∷ [] }
+    ensures strict { told 100 300000 (seen_unheld true 1000) ≡ Extra 1000 7 (Group 5) true ∷ [] }
 {}
 
 /// Shows that this query is extra if one for the group was wanted before: then the querier has lowered its timer too.
 pub fn a_group_that_was_left()
-    ensures { told 100 300000 (seen_again 1000 3000) ≡ Extra 3000 (Group 5) true ∷ [] }
+    ensures { told 100 300000 (seen_again 1000 3000) ≡ Extra 3000 7 (Group 5) true ∷ [] }
 {}
 
 /// Shows queries that are wanted at 1000 and 1400. The retransmission of the first one, at 2000, may go on beside the
@@ -60,18 +61,18 @@ pub fn a_group_that_was_left()
 pub fn a_schedule_that_goes_on()
     ensures on_time { told 100 5000 (both_schedules false 2000) ≡ [] }
     ensures late { told 100 5000 (both_schedules false 2100) ≡ [] }
-    ensures too_late { told 100 5000 (both_schedules false 2101) ≡ Extra 2101 (Group 5) true ∷ [] }
-    ensures too_early { told 100 5000 (both_schedules false 1899) ≡ Extra 1899 (Group 5) true ∷ [] }
-    ensures strict { told 100 5000 (both_schedules true 2000) ≡ Extra 2000 (Group 5) true ∷ [] }
+    ensures too_late { told 100 5000 (both_schedules false 2101) ≡ Extra 2101 7 (Group 5) true ∷ [] }
+    ensures too_early { told 100 5000 (both_schedules false 1899) ≡ Extra 1899 7 (Group 5) true ∷ [] }
+    ensures strict { told 100 5000 (both_schedules true 2000) ≡ Extra 2000 7 (Group 5) true ∷ [] }
 {}
 
 /// Shows that a third query, an interval after the last one of the first schedule, is extra.
 pub fn a_third_query_of_a_schedule()
-    ensures { told 100 5000 third_query ≡ Extra 3000 (Group 5) true ∷ [] }
+    ensures { told 100 5000 third_query ≡ Extra 3000 7 (Group 5) true ∷ [] }
 {}
 
 /// Shows that a file whose header has a fault has no text.
 pub fn a_faulty_header()
-    ensures { (config : Configuration) (within : ℕ) (until : Option ℕ) (cite strict : Bool) (fault : PcapFault) (packets : List Captured) (end : Option PcapFault)
-        → check_of config within until cite strict (Err fault) packets end ≡ record { text = []; answer = Err (Pcap fault) } }
+    ensures { (config : Configuration) (within : ℕ) (until : Option ℕ) (additions : Additions) (strict : Bool) (fault : PcapFault) (packets : List Captured) (end : Option PcapFault)
+        → check_of config within until additions strict (Err fault) packets end ≡ record { text = []; answer = Err (Pcap fault) } }
 {}

@@ -1,27 +1,46 @@
 //! Findings of a check.
 
+ghost use Rattle.std.specs.Prelude.{◌≡◌};
+ghost use Rattle.mq_check.specs.FindingLines.{packet_in};
+ghost use Rattle.mq_check.specs.Numbered.{numbered_finding};
+
 use crate::asked::Asked;
 use crate::headers::HeaderFault;
 use mq_count::Moment;
 use mq_wire::WireKey;
 
-/// A finding of a check. Each but `Silence` has the moment of its query.
+/// A finding of a check. Each but `Silence` has the moment of its query and the number of a packet.
 #[derive(Clone, Copy)]
 pub enum Finding<K: WireKey> {
-    /// A missing query: it is wanted at this moment, and none was seen.
-    Missing(Moment, Asked<K>),
+    /// A missing query: it is wanted at this moment, after this packet, and none was seen.
+    Missing(Moment, u64, Asked<K>),
     /// An extra query: it was seen, and none is wanted. The flag is set if the router was querier then.
-    Extra(Moment, Asked<K>, bool),
+    Extra(Moment, u64, Asked<K>, bool),
     /// A seen query that differs from the wanted one.
-    Differs(Moment, Asked<K>, Difference<K>),
+    Differs(Moment, u64, Asked<K>, Difference<K>),
     /// A general query this many milliseconds after the one before it, or after the start of the capture. The last
     /// number is the wanted query interval in milliseconds.
-    Interval(Moment, u64, u64),
+    Interval(Moment, u64, u64, u64),
     /// A silence of this many milliseconds without a general query, up to this moment. The role was lost then, or the
     /// capture ended. The last number is the wanted query interval in milliseconds.
     Silence(Moment, u64, u64),
     /// A fault in the headers of a query's packet: the number of the packet, and the fault.
     Packet(Moment, u64, HeaderFault),
+}
+
+impl<K: WireKey> Finding<K> {
+    /// Returns the number of its packet if its text doesn't have it, and 0 otherwise.
+    pub(crate) fn packet(&self) -> u64
+        ensures { result ≡ packet_in (numbered_finding K.number self.now) }
+    {
+        match self {
+            Finding::Missing(_, packet, ..)
+            | Finding::Extra(_, packet, ..)
+            | Finding::Differs(_, packet, ..)
+            | Finding::Interval(_, packet, ..) => *packet,
+            Finding::Silence(..) | Finding::Packet(..) => 0,
+        }
+    }
 }
 
 /// A field of a query that differs: the seen value, then the wanted one.

@@ -113,21 +113,21 @@ where
     ensures room { array_vec_len text.new ≤ array_vec_len text.old + 204 }
 {
     match finding {
-        Finding::Missing(moment, asked) => {
+        Finding::Missing(moment, _, asked) => {
             put_moment(text, moment, b" missing ");
             put_asked::<F>(text, asked);
         }
-        Finding::Extra(moment, asked, _) => {
+        Finding::Extra(moment, _, asked, _) => {
             put_moment(text, moment, b" extra ");
             put_asked::<F>(text, asked);
         }
-        Finding::Differs(moment, asked, difference) => {
+        Finding::Differs(moment, _, asked, difference) => {
             put_moment(text, moment, b" differs ");
             put_asked::<F>(text, asked);
             put(text, b": ");
             put_difference(text, difference);
         }
-        Finding::Interval(moment, passed, wanted) => {
+        Finding::Interval(moment, _, passed, wanted) => {
             put_moment(text, moment, b" general after ");
             put_interval(text, passed, wanted);
         }
@@ -259,13 +259,27 @@ fn put_section<K: LineKey>(text: &mut Text, finding: Finding<K>)
     ensures room { array_vec_len text.new ≤ array_vec_len text.old + 14 }
 {
     match finding {
-        Finding::Missing(_, asked) | Finding::Extra(_, asked, true) => {
+        Finding::Missing(_, _, asked) | Finding::Extra(_, _, asked, true) => {
             put_sending_section(text, asked)
         }
-        Finding::Extra(_, _, false) => put_of_family::<K>(text, b"6.6.2", b"7.6.2"),
-        Finding::Differs(_, asked, difference) => put_field_section(text, asked, difference),
+        Finding::Extra(_, _, _, false) => put_of_family::<K>(text, b"6.6.2", b"7.6.2"),
+        Finding::Differs(_, _, asked, difference) => put_field_section(text, asked, difference),
         Finding::Interval(..) | Finding::Silence(..) => put_of_family::<K>(text, b"8.2", b"9.2"),
         Finding::Packet(_, _, fault) => put_fault_section::<K>(text, fault),
+    }
+}
+
+/// Appends the number of a finding's packet, if it is requested and there is one.
+#[tactic(auto, unfolding(crate::specs::FindingLines::number_text))]
+pub(crate) fn put_packet<K: LineKey>(text: &mut Text, packets: bool, finding: Finding<K>)
+    requires { array_vec_len text.old + 28 ≤ 4096 }
+    ensures text { text.new.items ≡ text.old.items ++ spec.packet_text packets (numbered_finding K.number finding) }
+    ensures room { array_vec_len text.new ≤ array_vec_len text.old + 28 }
+{
+    let number = finding.packet();
+    if packets && number != 0 {
+        put(text, b" packet ");
+        put_decimal(text, number);
     }
 }
 

@@ -3,7 +3,6 @@
 ghost use Rattle.std.specs.Prelude.{◌≡◌, ◌≤◌, ◌^◌, ◌==◌, [], ◌∷◌, IfSome, not};
 ghost use Rattle.mq_text.specs.Printing.{output_of};
 ghost use Rattle.mq_check.specs.declared.finding.Difference.TheVariants as field;
-ghost use Rattle.mq_check.specs.Checking.{found_of_last};
 ghost use Rattle.mq_check.specs.Entries as spec;
 ghost use Rattle.mq_check.specs.Numbered.{difference_list, numbered_asked, numbered_entry, numbered_finding, numbered_terms, numbered_unpaired};
 ghost use Rattle.mq_check.specs.Telling.{Tells};
@@ -20,9 +19,16 @@ use mq_text::LineFault;
 use mq_wire::WireKey;
 use std::io::Write;
 
+/// The moment of a seen query, the number of its packet, and its subject.
+#[derive(Clone, Copy)]
+struct SeenAt<K: WireKey> {
+    moment: Moment,
+    packet: u64,
+    asked: Asked<K>,
+}
+
 /// Returns whether the role changed within the tolerance of a moment.
 fn is_near_change(within: Span, moment: Moment, changed: &Option<Moment>) -> bool
-    requires in_range { moment ≤ 2 ^ 53 }
     requires changed_in_range { IfSome changed.now (λ at. at ≤ 2 ^ 53) }
     ensures { result ≡ spec.is_near_change within moment changed.now }
 {
@@ -30,7 +36,10 @@ fn is_near_change(within: Span, moment: Moment, changed: &Option<Moment>) -> boo
         return false;
     };
     let mut meter = Meter::new();
-    meter.reached(moment, changed.after(within)) && meter.reached(changed, moment.after(within))
+    if !meter.reached(moment, changed.after(within)) {
+        return false;
+    }
+    !moment.in_range() || meter.reached(changed, moment.after(within))
 }
 
 /// Reports one finding.
@@ -57,20 +66,20 @@ pub(crate) fn tell_entry<F: Family, W: Write>(
 ) -> Result<(), LineFault>
 where
     F::Address: LineKey,
-    requires in_range { spec.moment_of (numbered_entry F.Address.number entry.now) ≤ 2 ^ 53 }
     requires changed_in_range { IfSome changed.now (λ at. at ≤ 2 ^ 53) }
     ensures { Tells F.Address.family (spec.findings_of within changed.now (numbered_entry F.Address.number entry.now)) told.old told.new
         (output_of W.contents writer.old) (output_of W.contents writer.new) result }
 {
     match entry {
-        Entry::Wanted(moment, asked, _, is_optional, is_found) => {
+        Entry::Wanted(moment, asked, terms, is_optional, is_found) => {
             if *is_optional {
                 return Ok(());
             }
             if *is_found {
                 return Ok(());
             }
-            tell_finding::<F, W>(Finding::Missing(*moment, *asked), told, writer)
+            let missing = Finding::Missing(*moment, terms.packet, *asked);
+            tell_finding::<F, W>(missing, told, writer)
         }
         Entry::Seen(moment, asked, terms, partner, alone) => match partner {
             Some(wanted) => {
@@ -83,8 +92,9 @@ where
                 tell_alone::<F, W>(*moment, *asked, terms, alone, told, writer)
             }
         },
-        Entry::Interval(moment, passed, wanted) => {
-            tell_finding::<F, W>(Finding::Interval(*moment, *passed, *wanted), told, writer)
+        Entry::Interval(moment, packet, passed, wanted) => {
+            let interval = Finding::Interval(*moment, *packet, *passed, *wanted);
+            tell_finding::<F, W>(interval, told, writer)
         }
         Entry::Silence(moment, passed, wanted) => {
             tell_finding::<F, W>(Finding::Silence(*moment, *passed, *wanted), told, writer)
@@ -112,43 +122,13 @@ where
 {
     match alone {
         Unpaired::Extra(is_querier) => {
-            tell_finding::<F, W>(Finding::Extra(moment, asked, *is_querier), told, writer)
+            let extra = Finding::Extra(moment, terms.packet, asked, *is_querier);
+            tell_finding::<F, W>(extra, told, writer)
         }
         Unpaired::Allowed(wanted) => {
             tell_differences::<F, W>(moment, asked, terms, wanted, told, writer)
         }
         Unpaired::Scheduled(_) => Ok(()),
-    }
-}
-
-/// Reports the findings of an entry that is pending at the end of a capture.
-pub(crate) fn tell_last<F: Family, W: Write>(
-    entry: &Entry<F::Address>,
-    told: &mut Told,
-    writer: &mut Watched<W>,
-) -> Result<(), LineFault>
-where
-    F::Address: LineKey,
-    ensures { Tells F.Address.family (found_of_last (numbered_entry F.Address.number entry.now)) told.old told.new
-        (output_of W.contents writer.old) (output_of W.contents writer.new) result }
-{
-    match entry {
-        Entry::Wanted(..) => Ok(()),
-        Entry::Seen(moment, asked, terms, partner, _) => match partner {
-            Some(wanted) => {
-                tell_differences::<F, W>(*moment, *asked, terms, wanted, told, writer)
-            }
-            None => Ok(()),
-        },
-        Entry::Interval(moment, passed, wanted) => {
-            tell_finding::<F, W>(Finding::Interval(*moment, *passed, *wanted), told, writer)
-        }
-        Entry::Silence(moment, passed, wanted) => {
-            tell_finding::<F, W>(Finding::Silence(*moment, *passed, *wanted), told, writer)
-        }
-        Entry::Packet(moment, number, fault) => {
-            tell_finding::<F, W>(Finding::Packet(*moment, *number, *fault), told, writer)
-        }
     }
 }
 
@@ -167,18 +147,21 @@ where
         (spec.differences_found moment (numbered_asked F.Address.number asked) (numbered_terms F.Address.number seen.now) (numbered_terms F.Address.number wanted.now))
         told.old told.new (output_of W.contents writer.old) (output_of W.contents writer.new) result }
 {
-    tell_difference::<F, W>(moment, asked, version_differs(seen, wanted), told, writer)?;
-    tell_difference::<F, W>(
+    let at = SeenAt {
         moment,
+        packet: seen.packet,
         asked,
+    };
+    tell_difference::<F, W>(at, version_differs(seen, wanted), told, writer)?;
+    tell_difference::<F, W>(
+        at,
         response_differs(seen.response, wanted.response),
         told,
         writer,
     )?;
-    tell_querier_differences::<F, W>(moment, asked, seen.querier, wanted.querier, told, writer)?;
+    tell_querier_differences::<F, W>(at, seen.querier, wanted.querier, told, writer)?;
     tell_difference::<F, W>(
-        moment,
-        asked,
+        at,
         destination_differs::<F>(seen.to, wanted.to),
         told,
         writer,
@@ -187,8 +170,7 @@ where
 
 /// Reports each field that differs among those that only IGMPv3 and MLDv2 have, if both queries have them.
 fn tell_querier_differences<F: Family, W: Write>(
-    moment: Moment,
-    asked: Asked<F::Address>,
+    at: SeenAt<F::Address>,
     seen: Option<QuerierTerms>,
     wanted: Option<QuerierTerms>,
     told: &mut Told,
@@ -197,21 +179,18 @@ fn tell_querier_differences<F: Family, W: Write>(
 where
     F::Address: LineKey,
     ensures { Tells F.Address.family
-        (spec.differ_at moment (numbered_asked F.Address.number asked) (spec.queriers_differ seen wanted))
+        (spec.differ_at at.moment at.packet (numbered_asked F.Address.number at.asked) (spec.queriers_differ seen wanted))
         told.old told.new (output_of W.contents writer.old) (output_of W.contents writer.new) result }
 {
     match (seen, wanted) {
-        (Some(seen), Some(wanted)) => {
-            tell_fields::<F, W>(moment, asked, seen, wanted, told, writer)
-        }
+        (Some(seen), Some(wanted)) => { tell_fields::<F, W>(at, seen, wanted, told, writer) }
         _ => Ok(()),
     }
 }
 
 /// Reports each field that differs among S, QRV and QQIC.
 fn tell_fields<F: Family, W: Write>(
-    moment: Moment,
-    asked: Asked<F::Address>,
+    at: SeenAt<F::Address>,
     seen: QuerierTerms,
     wanted: QuerierTerms,
     told: &mut Told,
@@ -220,24 +199,17 @@ fn tell_fields<F: Family, W: Write>(
 where
     F::Address: LineKey,
     ensures { Tells F.Address.family
-        (spec.differ_at moment (numbered_asked F.Address.number asked) (spec.fields_differ seen wanted))
+        (spec.differ_at at.moment at.packet (numbered_asked F.Address.number at.asked) (spec.fields_differ seen wanted))
         told.old told.new (output_of W.contents writer.old) (output_of W.contents writer.new) result }
 {
-    tell_difference::<F, W>(moment, asked, suppress_differs(seen, wanted), told, writer)?;
-    tell_difference::<F, W>(
-        moment,
-        asked,
-        robustness_differs(seen, wanted),
-        told,
-        writer,
-    )?;
-    tell_difference::<F, W>(moment, asked, interval_differs(seen, wanted), told, writer)
+    tell_difference::<F, W>(at, suppress_differs(seen, wanted), told, writer)?;
+    tell_difference::<F, W>(at, robustness_differs(seen, wanted), told, writer)?;
+    tell_difference::<F, W>(at, interval_differs(seen, wanted), told, writer)
 }
 
 /// Reports a field that differs, if there is one.
 fn tell_difference<F: Family, W: Write>(
-    moment: Moment,
-    asked: Asked<F::Address>,
+    at: SeenAt<F::Address>,
     difference: Option<Difference<F::Address>>,
     told: &mut Told,
     writer: &mut Watched<W>,
@@ -245,12 +217,13 @@ fn tell_difference<F: Family, W: Write>(
 where
     F::Address: LineKey,
     ensures { Tells F.Address.family
-        (spec.differ_at moment (numbered_asked F.Address.number asked) (difference_list F.Address.number difference))
+        (spec.differ_at at.moment at.packet (numbered_asked F.Address.number at.asked) (difference_list F.Address.number difference))
         told.old told.new (output_of W.contents writer.old) (output_of W.contents writer.new) result }
 {
     match difference {
         Some(difference) => {
-            tell_finding::<F, W>(Finding::Differs(moment, asked, difference), told, writer)
+            let differs = Finding::Differs(at.moment, at.packet, at.asked, difference);
+            tell_finding::<F, W>(differs, told, writer)
         }
         None => Ok(()),
     }

@@ -51,7 +51,7 @@ pub use announced::{Announced, announced_variables, announced_variables_in};
 pub use asked::Asked;
 pub use basis::Basis;
 pub use check_fault::CheckFault;
-pub use check_terms::CheckTerms;
+pub use check_terms::{Additions, CheckTerms};
 pub use checked_capture::{check, check_in};
 pub use checked_family::CheckedFamily;
 pub use entry::{Entry, Unpaired};

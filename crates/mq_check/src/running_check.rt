@@ -44,7 +44,7 @@ where
         ensures link { result.link ≡ link }
         ensures terms { result.terms ≡ terms }
         ensures starts { checked_in result.link result.queries ≡ at_the_start result.link.config result.terms.within result.terms.strict }
-        ensures told { result.told ≡ record { held = []; cite = result.terms.cite; count = 0 } }
+        ensures told { result.told ≡ record { held = []; additions = result.terms.additions; count = 0 } }
     {
         link.config().is_faultless();
         let own = link.config().own();
@@ -53,7 +53,7 @@ where
             link,
             queries,
             terms,
-            told: Told::new(terms.cite),
+            told: Told::new(terms.additions),
         }
     }
 }

@@ -168,6 +168,7 @@ fn as_seen<K: WireKey>(seen: Terms<K>, wanted: Option<Terms<K>>) -> Option<Terms
             response: wanted.response,
             querier: with_suppress(is_suppressed(seen.querier), wanted.querier),
             to: wanted.to,
+            packet: wanted.packet,
         }),
         None => None,
     }

@@ -7,7 +7,7 @@ ghost use Rattle.mq_check.specs.Checking.{found_of_last};
 ghost use Rattle.mq_check.specs.Telling.{Tells};
 ghost use Rattle.mq_check.specs.Waiting as waits;
 
-use crate::judging::{tell_entry, tell_last};
+use crate::judging::tell_entry;
 use crate::told::Told;
 use crate::waiting::Waiting;
 use mq_count::{Moment, Span, Watched};
@@ -41,19 +41,23 @@ where
     Ok(())
 }
 
-/// Removes all pending entries at the end of a capture, and reports their findings.
+/// Removes all pending entries at the end of a capture, and reports their findings. A wanted query has none. `changed` is
+/// the last change of the role.
 pub(crate) fn tell_rest<F: Family, A: Allocator, W: Write>(
     waiting: &mut Waiting<F, A>,
+    within: Span,
+    changed: &Option<Moment>,
     told: &mut Told,
     writer: &mut Watched<W>,
 ) -> Result<(), LineFault>
 where
     F::Address: LineKey,
-    ensures { Tells F.Address.family (flat_map found_of_last waiting.old.entries) told.old told.new
+    requires changed_in_range { IfSome changed.now (λ moment. moment ≤ 2 ^ 53) }
+    ensures { Tells F.Address.family (flat_map (found_of_last within changed.now) waiting.old.entries) told.old told.new
         (output_of W.contents writer.old) (output_of W.contents writer.new) result }
 {
     while let Some(entry) = waiting.pop() {
-        tell_last::<F, W>(&entry, told, writer)?;
+        tell_entry::<F, W>(&entry.excused(), within, changed, told, writer)?;
     }
     Ok(())
 }

@@ -1,6 +1,6 @@
 //! Steps of a check: ticks of the link, and its datagrams.
 
-ghost use Rattle.std.specs.Prelude.{◌≡◌, ◌<◌, ◌≤◌, ◌^◌, Some};
+ghost use Rattle.std.specs.Prelude.{◌≡◌, ◌+◌, ◌<◌, ◌≤◌, ◌^◌, Some, min};
 ghost use Rattle.mq_link.specs.Tick.{next_of};
 ghost use Rattle.mq_text.specs.Printing.{output_of};
 ghost use Rattle.mq_check.specs.Basis as basis;
@@ -22,6 +22,13 @@ use mq_table::Timing;
 use mq_text::LineFault;
 use std::alloc::Allocator;
 use std::io::Write;
+
+/// Returns the last moment at which the partner of a query may be wanted that is seen up to the end of a capture.
+fn latest_partner(end: Stamp, within: u32) -> Stamp
+    ensures { result ≡ min (end + within) (2 ^ 53) }
+{
+    Stamp::of((end.ms() + u64::from(within)).min(1 << 53))
+}
 
 impl<F: CheckedFamily, A: Allocator> Check<F, A>
 where
@@ -101,6 +108,39 @@ where
             next = self.link.next_deadline();
         }
         Ok(())
+    }
+
+    /// Ticks the link up to and including a moment, and settles the entries that have expired then.
+    pub(crate) fn settle_through<W: Write>(
+        &mut self,
+        end: Stamp,
+        writer: &mut Watched<W>,
+    ) -> Result<(), LineFault>
+        ensures terms { self.new.terms ≡ self.old.terms }
+        ensures comes { Comes F.Address.family (spec.settled_through self.old.link.config self.old.terms.within end (checked_in self.old.link self.old.queries))
+            self.old.link self.new.link self.new.queries self.old.told self.new.told
+            (output_of W.contents writer.old) (output_of W.contents writer.new) result }
+    {
+        let now = end.moment();
+        self.tick_through(now, writer)?;
+        self.queries
+            .settle(self.terms.within, now, &mut self.told, writer)
+    }
+
+    /// Ticks the link after the end of a capture, as long as a query that it sends may be the partner of a seen one.
+    pub(crate) fn look_ahead<W: Write>(
+        &mut self,
+        end: Stamp,
+        writer: &mut Watched<W>,
+    ) -> Result<(), LineFault>
+        ensures terms { self.new.terms ≡ self.old.terms }
+        ensures comes { Comes F.Address.family (spec.looked_ahead self.old.link.config self.old.terms.within end (checked_in self.old.link self.old.queries))
+            self.old.link self.new.link self.new.queries self.old.told self.new.told
+            (output_of W.contents writer.old) (output_of W.contents writer.new) result }
+    {
+        let latest = latest_partner(end, self.terms.within);
+        self.queries.excuse_all();
+        self.tick_through(latest.moment(), writer)
     }
 
     /// Checks a packet, after the ticks up to its moment.

@@ -13,7 +13,7 @@ use mq_link::Config;
 use mq_table::Timing;
 use mq_wire::{OlderVersion, Query, QueryVersion, WireKey};
 
-/// The version, the fields and the destination of a query.
+/// The version, the fields and the destination of a query, and its packet.
 #[derive(Clone, Copy)]
 pub struct Terms<K: WireKey> {
     /// The version: 1 to 3 for IGMP, 1 or 2 for MLD.
@@ -24,6 +24,8 @@ pub struct Terms<K: WireKey> {
     pub querier: Option<QuerierTerms>,
     /// The destination of its packet.
     pub to: K,
+    /// The number of its packet, which no comparison reads. For a wanted query, it is that of the last packet before.
+    pub packet: u64,
 }
 
 /// The further fields of an IGMPv3 or MLDv2 query (RFC 3376 sections 4.1.5 to 4.1.7, RFC 3810 sections 5.1.7 to 5.1.9).
@@ -47,9 +49,9 @@ fn number_of(version: OlderVersion) -> u8
     }
 }
 
-/// Returns the terms of a query to an address.
-pub(crate) fn terms_of<K: LineKey>(to: K, query: &Query<'_, K>) -> Terms<K>
-    ensures { numbered_terms K.number result ≡ spec.terms_of K.family (K.number to) (numbered_query K.number query.now) }
+/// Returns the terms of a query to an address, with the number of a packet.
+pub(crate) fn terms_of<K: LineKey>(packet: u64, to: K, query: &Query<'_, K>) -> Terms<K>
+    ensures { numbered_terms K.number result ≡ spec.terms_of K.family packet (K.number to) (numbered_query K.number query.now) }
 {
     match &query.version {
         QueryVersion::Older(version) => Terms {
@@ -61,6 +63,7 @@ pub(crate) fn terms_of<K: LineKey>(to: K, query: &Query<'_, K>) -> Terms<K>
             },
             querier: None,
             to,
+            packet,
         },
         QueryVersion::Current(fields) => Terms {
             version: K::current_version(),
@@ -71,6 +74,7 @@ pub(crate) fn terms_of<K: LineKey>(to: K, query: &Query<'_, K>) -> Terms<K>
                 interval: fields.interval,
             }),
             to,
+            packet,
         },
     }
 }
@@ -95,6 +99,7 @@ where
             interval: interval_said(in_force.query_seconds()),
         }),
         to: F::general_destination(),
+        packet: 0,
     }
 }
 

@@ -3,13 +3,16 @@
 ghost use Rattle.std.specs.Prelude.{◌≡◌, ◌+◌, ◌-◌, ◌^◌, ◌||◌, [], ◌∷◌, ◌++◌, IfOk, is_err, min};
 ghost use Rattle.mq_count.specs.Streams.{inner_of, has_failed};
 ghost use Rattle.mq_text.specs.Printing.{Puts};
-ghost use Rattle.mq_check.specs.FindingLines.{finding_line, last_lines, packets_line, querier_line, totals_line};
+ghost use Rattle.mq_check.specs.FindingLines.{additions_text, finding_line, finding_text, last_lines, packets_line, querier_line, totals_line};
 ghost use Rattle.mq_check.specs.Numbered.{numbered_finding};
 ghost use Rattle.mq_check.specs.Checking.{counted_up};
 
 use crate::basis::Basis;
+use crate::check_terms::Additions;
 use crate::finding::Finding;
-use crate::finding_lines::{put_citation, put_finding, put_packets, put_querier_line, put_totals};
+use crate::finding_lines::{
+    put_citation, put_finding, put_packet, put_packets, put_querier_line, put_totals,
+};
 use crate::totals::Totals;
 use mq_count::Watched;
 use mq_lines::LineKey;
@@ -18,11 +21,11 @@ use mq_text::{LineFault, Text, flush, make_room};
 use std::io::Write;
 use std::marker::Model;
 
-/// The text of findings that isn't written yet, whether findings cite sections, and the number of reported findings.
+/// The text of findings that isn't written yet, the additions to their lines, and the number of reported findings.
 #[derive(Drop)]
 pub(crate) struct Told {
     buffer: Text,
-    cite: bool,
+    additions: Additions,
     count: u64,
 }
 
@@ -31,17 +34,17 @@ impl Model for Told {
 
     ghost Value = { ToldState };
 
-    ghost view = { λ t. record { held = t.buffer.items; cite = t.cite; count = t.count } };
+    ghost view = { λ t. record { held = t.buffer.items; additions = t.additions; count = t.count } };
 }
 
 impl Told {
     /// Returns a state without text or findings.
-    pub(crate) fn new(cite: bool) -> Told
-        ensures { result ≡ record { held = []; cite = cite; count = 0 } }
+    pub(crate) fn new(additions: Additions) -> Told
+        ensures { result ≡ record { held = []; additions = additions; count = 0 } }
     {
         Told {
             buffer: Text::new(),
-            cite,
+            additions,
             count: 0,
         }
     }
@@ -63,15 +66,55 @@ impl Told {
         F::Address: LineKey,
         ensures text { Puts
             (W.contents (inner_of writer.old)) (W.contents (inner_of writer.new))
-            self.old.held self.new.held (finding_line F.Address.family self.old.cite (numbered_finding F.Address.number finding)) result }
-        ensures cite { self.new.cite ≡ self.old.cite }
+            self.old.held self.new.held (finding_line F.Address.family self.old.additions (numbered_finding F.Address.number finding)) result }
+        ensures additions { self.new.additions ≡ self.old.additions }
         ensures count { IfOk result (λ _. self.new.count ≡ counted_up self.old.count) }
+        ensures failed { has_failed writer.new ≡ has_failed writer.old || is_err result }
+    {
+        self.put_text::<F, W>(finding, writer)?;
+        self.put_rest::<F, W>(finding, writer)?;
+        self.count = self.count.saturating_add(1);
+        Ok(())
+    }
+
+    /// Puts the text of a finding.
+    fn put_text<F: Family, W: Write>(
+        &mut self,
+        finding: Finding<F::Address>,
+        writer: &mut Watched<W>,
+    ) -> Result<(), LineFault>
+    where
+        F::Address: LineKey,
+        ensures text { Puts
+            (W.contents (inner_of writer.old)) (W.contents (inner_of writer.new))
+            self.old.held self.new.held (finding_text F.Address.family (numbered_finding F.Address.number finding)) result }
+        ensures additions { self.new.additions ≡ self.old.additions }
+        ensures count { self.new.count ≡ self.old.count }
         ensures failed { has_failed writer.new ≡ has_failed writer.old || is_err result }
     {
         make_room(&mut self.buffer, writer)?;
         put_finding::<F>(&mut self.buffer, finding);
-        put_citation(&mut self.buffer, self.cite, finding);
-        self.count = self.count.saturating_add(1);
+        Ok(())
+    }
+
+    /// Puts the additions to the line of a finding, and its end.
+    fn put_rest<F: Family, W: Write>(
+        &mut self,
+        finding: Finding<F::Address>,
+        writer: &mut Watched<W>,
+    ) -> Result<(), LineFault>
+    where
+        F::Address: LineKey,
+        ensures text { Puts
+            (W.contents (inner_of writer.old)) (W.contents (inner_of writer.new))
+            self.old.held self.new.held (additions_text F.Address.family self.old.additions (numbered_finding F.Address.number finding)) result }
+        ensures additions { self.new.additions ≡ self.old.additions }
+        ensures count { self.new.count ≡ self.old.count }
+        ensures failed { has_failed writer.new ≡ has_failed writer.old || is_err result }
+    {
+        make_room(&mut self.buffer, writer)?;
+        put_packet(&mut self.buffer, self.additions.packets, finding);
+        put_citation(&mut self.buffer, self.additions.cite, finding);
         Ok(())
     }
 
@@ -148,7 +191,7 @@ impl Told {
         ensures text { Puts
             (W.contents (inner_of writer.old)) (W.contents (inner_of writer.new))
             self.old.held self.new.held [] result }
-        ensures cite { self.new.cite ≡ self.old.cite }
+        ensures additions { self.new.additions ≡ self.old.additions }
         ensures count { self.new.count ≡ self.old.count }
         ensures failed { has_failed writer.new ≡ has_failed writer.old || is_err result }
     {

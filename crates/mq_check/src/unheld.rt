@@ -111,5 +111,6 @@ where
             interval: interval_said(in_force.query_seconds()),
         }),
         to: query.group,
+        packet: 0,
     }
 }

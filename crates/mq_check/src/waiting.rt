@@ -1,6 +1,7 @@
 //! Pending entries in ascending order of their moments.
 
-ghost use Rattle.std.specs.Prelude.{◌≡◌, ◌<◌, ◌≤◌, ◌+◌, ◌^◌, ◌==◌, [], ◌∷◌, IfOk, IfNone, IfSome, is_ok, is_some, nat_lt};
+ghost use Rattle.std.specs.Prelude.{◌≡◌, ◌<◌, ◌≤◌, ◌+◌, ◌^◌, ◌==◌, [], ◌∷◌, IfOk, IfNone, IfSome, is_ok, is_some, map as list_map, nat_lt};
+ghost use Rattle.std.specs.VecDeque.{deque_capacity};
 ghost use Rattle.std.specs.List.{list_any};
 ghost use Rattle.mq_arena.specs.Vectors.{Takes};
 ghost use Rattle.mq_check.specs.Entries as spec;
@@ -117,6 +118,17 @@ fn is_group_wanted<F: Family>(moment: Moment, group: F::Address, entry: &Entry<F
             is_same::<F>(Asked::Group(group), *asked) && is_at(moment, *other)
         }
         _ => false,
+    }
+}
+
+/// Marks that each wanted query may be left out.
+fn excuse_each<F: Family, A: Allocator>(entries: &mut VecDeque<Entry<F::Address>, A>)
+    ensures entries { list_map (numbered_entry F.Address.number) entries.new.items
+        ≡ list_map spec.excused (list_map (numbered_entry F.Address.number) entries.old.items) }
+    ensures capacity { deque_capacity entries.new ≡ deque_capacity entries.old }
+{
+    for place in 0..entries.len() {
+        entries[place] = entries[place].excused();
     }
 }
 
@@ -244,6 +256,13 @@ impl<F: Family, A: Allocator> Waiting<F, A> {
         ensures { self.new ≡ waits.settled within now self.old }
     {
         while let Some(_entry) = self.pop_over(within, now) {}
+    }
+
+    /// Marks at the end of a capture that each wanted query may be left out.
+    pub(crate) fn excuse(&mut self)
+        ensures { self.new ≡ waits.all_excused self.old }
+    {
+        excuse_each::<F, A>(&mut self.entries);
     }
 
     /// Removes the first entry.

@@ -145,17 +145,25 @@ where
         self.checking.settle(within, now, told, writer)
     }
 
-    /// Removes all pending entries at the end of a capture, and reports their findings.
+    /// Handles the end of the capture, after which the partners of wanted queries may come.
+    pub(crate) fn excuse_all(&mut self)
+        ensures { self.new ≡ record self.old { checking = spec.with_all_excused self.old.checking } }
+    {
+        self.checking.excuse_all();
+    }
+
+    /// Removes all pending entries at the end of a capture, and reports their findings. A wanted query has none.
     pub(crate) fn tell_rest<W: Write>(
         &mut self,
+        within: u32,
         told: &mut Told,
         writer: &mut Watched<W>,
     ) -> Result<(), LineFault>
         ensures own { self.new.own ≡ self.old.own }
-        ensures tells { Tells F.Address.family (flat_map spec.found_of_last self.old.checking.waiting.entries) told.old told.new
+        ensures tells { Tells F.Address.family (flat_map (spec.found_of_last within self.old.checking.changed) self.old.checking.waiting.entries) told.old told.new
             (output_of W.contents writer.old) (output_of W.contents writer.new) result }
     {
-        self.checking.tell_rest(told, writer)
+        self.checking.tell_rest(within, told, writer)
     }
 
     /// Handles the return of the role, by a tick or a datagram.
@@ -215,21 +223,24 @@ where
     )
         ensures { self.new ≡ record self.old {
           checking =
-              spec.query_came within link.now.config link.now.state stamp (F.Address.number to) (numbered_query F.Address.number query.now) self.old.checking;
+              spec.query_came within link.now.config link.now.state stamp self.old.basis.packets (F.Address.number to) (numbered_query F.Address.number query.now) self.old.checking;
         } }
     {
-        self.checking.query_seen(within, link, stamp, to, query);
+        let packet = self.basis.packets;
+        self.checking
+            .query_seen(within, link, stamp, packet, to, query);
     }
 
     /// Handles a query that the link sends.
     fn want(&mut self, to: F::Address, query: &Query<'_, F::Address>)
         ensures { self.new ≡ record self.old {
           checking =
-              spec.one_wanted F.FAMILY self.old.moment self.old.is_returning (F.Address.number to) (numbered_query F.Address.number query.now) self.old.checking;
+              spec.one_wanted F.FAMILY self.old.moment self.old.basis.packets self.old.is_returning (F.Address.number to) (numbered_query F.Address.number query.now) self.old.checking;
         } }
     {
+        let packet = self.basis.packets;
         self.checking
-            .query_wanted(self.moment, self.is_returning, to, query);
+            .query_wanted(self.moment, packet, self.is_returning, to, query);
     }
 }
 

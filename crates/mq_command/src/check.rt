@@ -13,6 +13,7 @@ pub(crate) fn request_in<'a>(words: &ArgMatches<'a>) -> Option<Request<'a>> {
         settings: settings_in(words),
         within: words.get_one::<u32>("within"),
         cite: words.get_flag("cite"),
+        packets: words.get_flag("packets"),
         strict: words.get_flag("strict"),
         until: words.get_one::<u64>("until"),
         file: words.get_str("FILE"),
@@ -107,6 +108,7 @@ pub(crate) fn command<'a>(alloc: Global) -> Result<Command<'a>, AllocError> {
         .arg(querier(alloc))?
         .arg(within(alloc))?
         .arg(cite(alloc))?
+        .arg(packets(alloc))?
         .arg(strict(alloc))?;
     with_limits(alloc, with_variables(alloc, command)?)?
         .arg(ssm(alloc))?
@@ -136,6 +138,13 @@ fn cite<'a>(alloc: Global) -> Arg<'a> {
         .long("cite")
         .action(ArgAction::SetTrue)
         .help("Print after each line the section of the standard")
+}
+
+fn packets<'a>(alloc: Global) -> Arg<'a> {
+    Arg::new(alloc, "packets")
+        .long("packets")
+        .action(ArgAction::SetTrue)
+        .help("Print after each line the number of the packet")
 }
 
 fn strict<'a>(alloc: Global) -> Arg<'a> {

@@ -72,6 +72,8 @@ pub enum Request<'a> {
         within: Option<u32>,
         /// Prints the section of the standard after each line.
         cite: bool,
+        /// Prints the number of the packet after each line.
+        packets: bool,
         /// Accepts only this project's own readings of the standard.
         strict: bool,
         /// The time until which the capture lasts at least, in milliseconds after the first packet, if given.

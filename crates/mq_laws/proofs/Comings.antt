@@ -68,17 +68,17 @@ told_of within moment changed entries = flat_map (findings_of within changed) (t
 abbrev pub left_of : (within moment : ℕ) → List (Entry ℕ) → List (Entry ℕ)
 left_of within moment entries = drop (prefix_len (is_over within moment) entries) entries
 
-over_told : (within moment : ℕ) (changed : Option ℕ) (e : Entry ℕ) (es : List (Entry ℕ)) → is_over within moment e ≡ true
+pub over_told : (within moment : ℕ) (changed : Option ℕ) (e : Entry ℕ) (es : List (Entry ℕ)) → is_over within moment e ≡ true
     → told_of within moment changed (e ∷ es) ≡ findings_of within changed e ++ told_of within moment changed es
 over_told within moment changed e es is = let more : 1 + prefix_len (is_over within moment) es ≡ suc (prefix_len (is_over within moment) es) = omega arith in rw (is, more) refl
 
-over_left : (within moment : ℕ) (e : Entry ℕ) (es : List (Entry ℕ)) → is_over within moment e ≡ true → left_of within moment (e ∷ es) ≡ left_of within moment es
+pub over_left : (within moment : ℕ) (e : Entry ℕ) (es : List (Entry ℕ)) → is_over within moment e ≡ true → left_of within moment (e ∷ es) ≡ left_of within moment es
 over_left within moment e es is = let more : 1 + prefix_len (is_over within moment) es ≡ suc (prefix_len (is_over within moment) es) = omega arith in rw (is, more) refl
 
-ahead_told : (within moment : ℕ) (changed : Option ℕ) (e : Entry ℕ) (es : List (Entry ℕ)) → is_over within moment e ≡ false → told_of within moment changed (e ∷ es) ≡ []
+pub ahead_told : (within moment : ℕ) (changed : Option ℕ) (e : Entry ℕ) (es : List (Entry ℕ)) → is_over within moment e ≡ false → told_of within moment changed (e ∷ es) ≡ []
 ahead_told within moment changed e es is = rw is refl
 
-ahead_left : (within moment : ℕ) (e : Entry ℕ) (es : List (Entry ℕ)) → is_over within moment e ≡ false → left_of within moment (e ∷ es) ≡ e ∷ es
+pub ahead_left : (within moment : ℕ) (e : Entry ℕ) (es : List (Entry ℕ)) → is_over within moment e ≡ false → left_of within moment (e ∷ es) ≡ e ∷ es
 ahead_left within moment e es is = rw is refl
 
 -- What waits behind a moment that came; no less is missing than was told, and what is still missing.
@@ -100,7 +100,7 @@ ahead-holds within moment (Wanted m a t o false ∷ es) [] holds ahead = absurd 
 ahead-holds within moment (Wanted m a t o false ∷ es) (x ∷ xs) holds ahead = (rw (kept_ask m a t o x holds.0) ahead.0, ahead-holds within moment es xs holds.1 ahead.1)
 ahead-holds within moment (Seen m a t None q ∷ es) xs holds ahead = ahead-holds within moment es xs holds ahead.1
 ahead-holds within moment (Seen m a t (Some w) q ∷ es) xs holds ahead = ahead-holds within moment es xs holds.1 ahead.1
-ahead-holds within moment (Interval m a w ∷ es) xs holds ahead = absurd holds
+ahead-holds within moment (Interval m n a w ∷ es) xs holds ahead = absurd holds
 ahead-holds within moment (Silence m a w ∷ es) xs holds ahead = absurd holds
 ahead-holds within moment (Packet m number fault ∷ es) xs holds ahead = absurd holds
 
@@ -219,13 +219,13 @@ no_seen_over within low moment m asked terms alone es free wanted seen from over
 
 -- what is found of those that are over
 found_of_pair : (within : ℕ) (changed : Option ℕ) (m : ℕ) (asked : Asked ℕ) (terms wanted : Terms ℕ) (alone : Unpaired ℕ) → terms_differ terms wanted ≡ [] → findings_of within changed (Seen m asked terms (Some wanted) alone) ≡ []
-found_of_pair within changed m asked terms wanted alone alike = ap (list_map (Differs m asked)) alike
+found_of_pair within changed m asked terms wanted alone alike = ap (list_map (Differs m terms.packet asked)) alike
 
 found_of_found : (within : ℕ) (changed : Option ℕ) (m : ℕ) (asked : Asked ℕ) (terms : Terms ℕ) (is_optional : Bool) → findings_of within changed (Wanted m asked terms is_optional true) ≡ []
 found_of_found within changed m asked terms is_optional = rw (or_right is_optional true refl) refl
 
 found_of_missed : (within : ℕ) (changed : Option ℕ) (m : ℕ) (asked : Asked ℕ) (terms : Terms ℕ) (is_optional : Bool) (x : Ask) → x ≡ ask m asked terms → is_optional ≡ false
-    → findings_of within changed (Wanted m asked terms is_optional false) ≡ Missing x.moment x.asked ∷ []
+    → findings_of within changed (Wanted m asked terms is_optional false) ≡ Missing x.moment x.terms.packet x.asked ∷ []
 found_of_missed within changed m asked terms is_optional x is must = rw (must, is) refl
 
 -- one that is over is no longer due
@@ -272,7 +272,7 @@ comes within low moment changed (Wanted m asked terms is_optional false ∷ es) 
 comes within low moment changed (Wanted m asked terms is_optional false ∷ es) (LeftOut x ∷ free) wanted seen later_wanted later_seen w =
     let e = Wanted m asked terms is_optional false in
     either_comes within low moment changed e es (LeftOut x ∷ free) wanted seen w (λ over.
-    one_comes within moment changed e es (LeftOut x ∷ free) free wanted seen (Missing x.moment x.asked ∷ []) over
+    one_comes within moment changed e es (LeftOut x ∷ free) free wanted seen (Missing x.moment x.terms.packet x.asked ∷ []) over
     (found_of_missed within changed m asked terms is_optional x w.holds.0.0 w.holds.0.1) refl (λ b. missed_due within moment m asked terms x free b w.holds.0.0 over) refl
     (comes within m moment changed es free wanted seen later_wanted later_seen (missed_out within low moment m asked terms is_optional es x free wanted seen w)))
 comes within low moment changed (Seen m asked terms None alone ∷ es) free wanted seen later_wanted later_seen w =
@@ -283,6 +283,6 @@ comes within low moment changed (Seen m asked terms (Some partner) alone ∷ es)
     either_comes within low moment changed e es free wanted seen w (λ over.
     one_comes within moment changed e es free free wanted seen [] over (found_of_pair within changed m asked terms partner alone w.holds.0) refl (λ b. refl) refl
     (comes within m moment changed es free wanted seen later_wanted later_seen (plain_out within low moment e es free wanted seen w.holds.1 refl w)))
-comes within low moment changed (Interval m after wanted' ∷ es) free wanted seen later_wanted later_seen w = absurd w.holds
+comes within low moment changed (Interval m packet after wanted' ∷ es) free wanted seen later_wanted later_seen w = absurd w.holds
 comes within low moment changed (Silence m after wanted' ∷ es) free wanted seen later_wanted later_seen w = absurd w.holds
 comes within low moment changed (Packet m number fault ∷ es) free wanted seen later_wanted later_seen w = absurd w.holds

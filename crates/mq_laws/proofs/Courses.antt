@@ -70,7 +70,7 @@ missed_behind : (within end : ℕ) (x : Expected) (xs : List Expected) → AreMi
 missed_behind within end (Sent w) xs missed = missed
 missed_behind within end (LeftOut w) xs missed = missed.1
 
-wants_free : (now : ℕ) (terms : Terms ℕ) (asked : List (Asked ℕ)) (c : CheckingValue) → (fold (with_wanted now terms) c asked).waiting.is_full ≡ false → c.waiting.is_full ≡ false
+pub wants_free : (now : ℕ) (terms : Terms ℕ) (asked : List (Asked ℕ)) (c : CheckingValue) → (fold (with_wanted now terms) c asked).waiting.is_full ≡ false → c.waiting.is_full ≡ false
 wants_free now terms [] c free = free
 wants_free now terms (a ∷ more) c free = (wanted_part now terms c a (wants_free now terms more (with_wanted now terms c a) free)).was
 
@@ -140,7 +140,7 @@ sees_all within now terms unheld (a ∷ more) c free wanted rest room st =
     }
 
 -- where there is room at the end, there was at the beginning
-all_free : (within : ℕ) (timing : Timing) (now : ℕ) (events : List CheckEvent) (c : CheckingValue) → (check_by_all within timing now events c).waiting.is_full ≡ false → c.waiting.is_full ≡ false
+pub all_free : (within : ℕ) (timing : Timing) (now : ℕ) (events : List CheckEvent) (c : CheckingValue) → (check_by_all within timing now events c).waiting.is_full ≡ false → c.waiting.is_full ≡ false
 all_free within timing now [] c free = free
 all_free within timing now (Comes moment ∷ es) c free = sym (settled_full within moment c.waiting) ∙ all_free within timing moment es (settled within moment c) free
 all_free within timing now (Wants terms asked ∷ es) c free = wants_free now terms asked c (all_free within timing now es (fold (with_wanted now terms) c asked) free)

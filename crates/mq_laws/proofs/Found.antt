@@ -1,6 +1,6 @@
 -- All that is found of a check whose queries pair up: those that were left out are missing.
 use Rattle.std.proofs.Common.{◌≡◌, ℕ, Bool, ◌+◌, ◌<◌, true, false, List, [], ◌∷◌, ◌++◌, refl, ap, sym, ◌∙◌, arith, append_assoc, append-nil}
-use Rattle.std.specs.Prelude.{None, Some, ⊤, flat_map, map as list_map}
+use Rattle.std.specs.Prelude.{None, Some, ⊤}
 use Rattle.std.specs.List.{AllByRecursion}
 use mathlib.Core.Logic.{inl}
 use Rattle.mq_table.specs.declared.timing.Timing.{Timing}
@@ -9,23 +9,24 @@ use Rattle.mq_check.specs.declared.entry.Entry.TheVariants.{Wanted, Seen, Interv
 use Rattle.mq_check.specs.declared.finding.Finding.{Finding}
 use Rattle.mq_check.specs.declared.finding.Finding.TheVariants.{Missing, Differs}
 use Rattle.mq_check.specs.declared.finding.Finding.TheVariants as finding
-use Rattle.mq_check.specs.Checking.{CheckingValue, checking_at_start, settled, told_at_end, found_of_last, silence_found}
+use Rattle.mq_check.specs.Checking.{CheckingValue, checking_at_start, settled, silence_found}
 use Rattle.mq_check.specs.General.{silence_up_to}
 use Rattle.mq_laws.specs.Pairing.{Ask, Expected, Sent, LeftOut, missing_of}
-use Rattle.mq_laws.specs.Events.{CheckEvent, told_by_all, checked_by, found_by, HasRoom}
-use Rattle.mq_laws.specs.OnTime.{AreInOrder}
+use Rattle.mq_laws.specs.Events.{CheckEvent, told_by_all, at_the_end, checked_ahead, checked_by, found_by, found_from, HasRoom}
+use Rattle.mq_laws.specs.OnTime.{AreAhead, AreInOrder}
 use Rattle.mq_laws.specs.AsWanted.{AreMissed, IsAsWanted}
-use Rattle.mq_laws.proofs.Held.{Holds, NoneOver, ascending-to}
+use Rattle.mq_laws.proofs.Held.{Holds, NoneOver, ascending-to, free_seen}
 use Rattle.mq_laws.proofs.Comings.{Come, comes, told_of, left_of}
-use Rattle.mq_laws.proofs.Rooms.{told_now, settled_free}
-use Rattle.mq_laws.proofs.Courses.{Ended, course}
+use Rattle.mq_laws.proofs.Rooms.{told_now, settled_free, settled_full}
+use Rattle.mq_laws.proofs.AfterTheEnd.{AreQuiet, excused_entries, excused_full, held_quiet, none_free, none_last, ticks_find_nothing}
+use Rattle.mq_laws.proofs.Courses.{Ended, all_free, course}
 
 -- a finding of what was over before a moment
 abbrev IsBefore : (within end : ℕ) → Finding ℕ → Type 0
-IsBefore within end (Missing moment asked) = moment + within < end
-IsBefore within end (finding.Extra moment asked is_querier) = ⊤
-IsBefore within end (finding.Differs moment asked difference) = ⊤
-IsBefore within end (finding.Interval moment after wanted) = ⊤
+IsBefore within end (Missing moment packet asked) = moment + within < end
+IsBefore within end (finding.Extra moment packet asked is_querier) = ⊤
+IsBefore within end (finding.Differs moment packet asked difference) = ⊤
+IsBefore within end (finding.Interval moment packet after wanted) = ⊤
 IsBefore within end (finding.Silence moment after wanted) = ⊤
 IsBefore within end (finding.Packet moment number fault) = ⊤
 
@@ -50,36 +51,35 @@ none_left within end (Wanted m a t o false ∷ es) (LeftOut w ∷ xs) holds ahea
     absurd (omega (arith, all.0, ahead.0))
 none_left within end (Seen m a t None q ∷ es) xs holds ahead all = none_left within end es xs holds ahead.1 all
 none_left within end (Seen m a t (Some w) q ∷ es) xs holds ahead all = none_left within end es xs holds.1 ahead.1 all
-none_left within end (Interval m a w ∷ es) xs holds ahead all = absurd holds
+none_left within end (Interval m n a w ∷ es) xs holds ahead all = absurd holds
 none_left within end (Silence m a w ∷ es) xs holds ahead all = absurd holds
 none_left within end (Packet m number fault ∷ es) xs holds ahead all = absurd holds
 
--- nothing is found of what still waits at the end
-none_last : (es : List (Entry ℕ)) (xs : List Expected) → Holds es xs → flat_map found_of_last es ≡ []
-none_last [] xs holds = refl
-none_last (Wanted m a t o true ∷ es) xs holds = none_last es xs holds
-none_last (Wanted m a t o false ∷ es) [] holds = absurd holds
-none_last (Wanted m a t o false ∷ es) (x ∷ xs) holds = none_last es xs holds.1
-none_last (Seen m a t None q ∷ es) xs holds = none_last es xs holds
-none_last (Seen m a t (Some w) q ∷ es) xs holds = (λ i. list_map (Differs m a) (holds.0 i) ++ none_last es xs holds.1 i)
-none_last (Interval m a w ∷ es) xs holds = absurd holds
-none_last (Silence m a w ∷ es) xs holds = absurd holds
-none_last (Packet m number fault ∷ es) xs holds = absurd holds
+-- there was room before the end
+room_before : (within : ℕ) (timing : Timing) (end : ℕ) (ahead : List CheckEvent) (c : CheckingValue) → (checked_ahead within timing end ahead c).waiting.is_full ≡ false → c.waiting.is_full ≡ false
+room_before within timing end ahead c room =
+    sym (settled_full within end c.waiting) ∙ sym (excused_full (settled within end c).waiting) ∙ all_free within timing end ahead (at_the_end within end c) room
 
--- what is found at the end
-at_end : (within : ℕ) (timing : Timing) (end : ℕ) (c : CheckingValue) (free : List Expected) → c.waiting.is_full ≡ false → silence_up_to within timing end c.phase ≡ None
-    → (come : Come within end c.changed c.waiting.entries free [] []) → told_at_end within timing end c ≡ told_of within end c.changed c.waiting.entries
-unfolding told_at_end
-at_end within timing end c free room silence come =
-    let last : flat_map found_of_last (settled within end c).waiting.entries ≡ [] = ap (flat_map found_of_last) (settled_free within end c.waiting room) ∙ none_last (left_of within end c.waiting.entries) come.left come.stands.holds in
-    (λ i. (told_now within end c room i ++ last i) ++ silence_found timing end (silence i)) ∙ append-nil (told_of within end c.changed c.waiting.entries ++ []) ∙ append-nil (told_of within end c.changed c.waiting.entries)
+-- what is found from the end on
+from_end : (within : ℕ) (timing : Timing) (end : ℕ) (ahead : List CheckEvent) (c : CheckingValue) (free : List Expected) → AreAhead within end ahead → (checked_ahead within timing end ahead c).waiting.is_full ≡ false
+    → silence_up_to within timing end c.phase ≡ None → (come : Come within end c.changed c.waiting.entries free [] []) → found_from within timing end ahead c ≡ told_of within end c.changed c.waiting.entries
+from_end within timing end ahead c free after room silence come =
+    let free_room = room_before within timing end ahead c room in
+    let alone = none_free within come.left (free_seen (left_of within end c.waiting.entries)) come.stands.one_side come.stands.pairs in
+    let quiet : AreQuiet within (end + within) (at_the_end within end c).waiting.entries =
+    rw (excused_entries (settled within end c).waiting, settled_free within end c.waiting free_room) (held_quiet within (end + within) (left_of within end c.waiting.entries) come.left come.stands.holds alone) in
+    let nothing = ticks_find_nothing within (end + within) timing end ahead (at_the_end within end c) (omega arith) after.order after.of_ticks quiet room in
+    let left = checked_ahead within timing end ahead c in
+    (λ i. told_now within end c free_room i ++ nothing.told i ++ (none_last within (end + within) left.changed left.waiting.entries nothing.quiet i ++ silence_found timing end (silence i)))
+    ∙ append-nil (told_of within end c.changed c.waiting.entries ++ []) ∙ append-nil (told_of within end c.changed c.waiting.entries)
 
-pub found_is : (within : ℕ) (timing : Timing) (strict : Bool) (end : ℕ) (expected : List Expected) (events : List CheckEvent)
-    → AreInOrder 0 events end → IsAsWanted within timing end expected events → HasRoom within timing strict events → found_by within timing strict end events ≡ missing_of expected
-found_is within timing strict end expected events order is room =
+pub found_is : (within : ℕ) (timing : Timing) (strict : Bool) (end : ℕ) (expected : List Expected) (events ahead : List CheckEvent)
+    → AreInOrder 0 events end → AreAhead within end ahead → IsAsWanted within timing end expected events → HasRoom within timing strict end events ahead → found_by within timing strict end events ahead ≡ missing_of expected
+found_is within timing strict end expected events ahead order after is room =
     let start = checking_at_start within timing strict in
     let c = checked_by within timing strict events in
-    let ended : Ended within timing end 0 events start (missing_of expected) = course within timing end 0 events start [] expected is.wanted is.missed order is.on_time room (record {
+    let with_room : c.waiting.is_full ≡ false = room_before within timing end ahead c room in
+    let ended : Ended within timing end 0 events start (missing_of expected) = course within timing end 0 events start [] expected is.wanted is.missed order is.on_time with_room (record {
       holds = tt;
       ascending = omega arith;
       none_over = tt;
@@ -99,5 +99,5 @@ found_is within timing strict end expected events order is room =
     let none : missing_of (come.left ++ []) ≡ [] =
     ap missing_of (append-nil come.left) ∙ none_left within end (left_of within end c.waiting.entries) come.left come.stands.holds come.stands.none_over
     (rw (append-nil come.left) at (before_behind within end (told_before ++ told_last) (missing_of (come.left ++ [])) (rw all at (all_before within end expected is.missed)))) in
-    ap (λ (l : List (Finding ℕ)). told_before ++ l) (at_end within timing end c ended.left room ended.silence come)
+    ap (λ (l : List (Finding ℕ)). told_before ++ l) (from_end within timing end ahead c ended.left after room ended.silence come)
     ∙ sym (all ∙ ap (λ (l : List (Finding ℕ)). (told_before ++ told_last) ++ l) none ∙ append-nil (told_before ++ told_last))

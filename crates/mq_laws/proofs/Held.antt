@@ -27,7 +27,7 @@ Holds (Wanted moment asked terms is_optional false ∷ es) [] = ⊥
 Holds (Wanted moment asked terms is_optional false ∷ es) (x ∷ xs) = IsKept moment asked terms is_optional x × Holds es xs
 Holds (Seen moment asked terms None is_querier ∷ es) xs = Holds es xs
 Holds (Seen moment asked terms (Some wanted) is_querier ∷ es) xs = (terms_differ terms wanted ≡ []) × Holds es xs
-Holds (Interval moment after wanted ∷ es) xs = ⊥
+Holds (Interval moment packet after wanted ∷ es) xs = ⊥
 Holds (Silence moment after wanted ∷ es) xs = ⊥
 Holds (Packet moment number fault ∷ es) xs = ⊥
 
@@ -37,7 +37,7 @@ free_seen [] = []
 free_seen (Wanted moment asked terms is_optional is_found ∷ es) = free_seen es
 free_seen (Seen moment asked terms None is_querier ∷ es) = ask moment asked terms ∷ free_seen es
 free_seen (Seen moment asked terms (Some wanted) is_querier ∷ es) = free_seen es
-free_seen (Interval moment after wanted ∷ es) = free_seen es
+free_seen (Interval moment packet after wanted ∷ es) = free_seen es
 free_seen (Silence moment after wanted ∷ es) = free_seen es
 free_seen (Packet moment number fault ∷ es) = free_seen es
 
@@ -105,7 +105,7 @@ ascending-put low (d ∷ es) now e at is = (is.0, ascending-put (moment_of d) es
 joined_moment : (other : Terms ℕ) (e : Entry ℕ) → moment_of (joined other e) ≡ moment_of e
 joined_moment other (Wanted moment asked terms is_optional is_found) = refl
 joined_moment other (Seen moment asked terms partner is_querier) = refl
-joined_moment other (Interval moment after wanted) = refl
+joined_moment other (Interval moment packet after wanted) = refl
 joined_moment other (Silence moment after wanted) = refl
 joined_moment other (Packet moment number fault) = refl
 

@@ -21,6 +21,7 @@ pub mod Steps
 pub mod Comings
 pub mod Rooms
 pub mod Courses
+pub mod AfterTheEnd
 pub mod Found
 pub mod Moved
 pub mod Followed

@@ -142,7 +142,7 @@ missing_of-sent (a ∷ asks) = missing_of-sent asks
 
 missing_of-left_out : (taken behind : List Ask) → missing_of (all_left_out taken ++ all_sent behind) ≡ all_missing taken
 missing_of-left_out [] behind = missing_of-sent behind
-missing_of-left_out (a ∷ taken) behind = ap (λ (l : List (Finding ℕ)). Missing a.moment a.asked ∷ l) (missing_of-left_out taken behind)
+missing_of-left_out (a ∷ taken) behind = ap (λ (l : List (Finding ℕ)). Missing a.moment a.terms.packet a.asked ∷ l) (missing_of-left_out taken behind)
 
 missing_of-behind : (before : List Ask) (xs : List Expected) → missing_of (all_sent before ++ xs) ≡ missing_of xs
 missing_of-behind [] xs = refl

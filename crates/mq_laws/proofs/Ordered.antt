@@ -1,14 +1,14 @@
 -- What happens in the check of a capture comes in the order of moments.
 use Rattle.std.proofs.Common.{◌≡◌, ℕ, zero, suc, ◌+◌, ◌<◌, ◌≤◌, Bool, true, false, not, ◌&&◌, cond, List, [], ◌∷◌, ◌++◌, refl, arith}
-use Rattle.std.specs.Prelude.{Option, None, Some, nat_lt, unwrap_or}
-use Rattle.std.proofs.lemmas.Bool.{ltb-true, ltb-false}
+use Rattle.std.specs.Prelude.{◌^◌, Option, None, Some, min, nat_le, nat_lt, unwrap_or}
+use Rattle.std.specs.List.{AllByRecursion}
+use Rattle.std.proofs.lemmas.Bool.{leb-true, leb-false, ltb-true, ltb-false}
 use Rattle.mq_pcap.specs.declared.form.Form.{Form}
 use Rattle.mq_pcap.specs.declared.link_type.LinkType.{LinkType}
 use Rattle.mq_pcap.specs.Capture.{Captured}
 use Rattle.mq_pcap.specs.Frame.{carried_in}
 use Rattle.mq_wire.specs.declared.query.Query.{Query}
 use Rattle.mq_wire.specs.Family.{Family}
-use Rattle.mq_table.specs.declared.timing.Timing.{Timing}
 use Rattle.mq_sched.specs.Election.{is_querier}
 use Rattle.mq_link.specs.Configuration.{Configuration, IsFaultless}
 use Rattle.mq_link.specs.Receive.{Envelope, receipt_of}
@@ -22,9 +22,9 @@ use Rattle.mq_replay.specs.Report.{Datagram, datagram_of, all_sent}
 use Rattle.mq_check.specs.declared.headers.HeaderFault.{HeaderFault}
 use Rattle.mq_check.specs.Check.{destination_in, faults_in}
 use Rattle.mq_check.specs.Queries.{asked_in, is_general, terms_of, query_sent, query_seen}
-use Rattle.mq_laws.specs.Captures.{Passage, happening_behind, wanted_for, wanted_of, wanted_by, role_by_tick, role_by_datagram, tick_passage, ticks_passage, ticks_through, event_of, fault_events, datagram_passage, frame_passage, packet_passage, packets_passage, last_of, end_of, events_of}
+use Rattle.mq_laws.specs.Captures.{Passage, happening_behind, wanted_for, wanted_of, wanted_by, role_by_tick, role_by_datagram, tick_passage, ticks_passage, ticks_through, event_of, fault_events, datagram_passage, frame_passage, packet_passage, packets_passage, last_of, end_of, events_ahead, events_of}
 use Rattle.mq_laws.specs.Events.{CheckEvent, Comes, Wants, Sees, SeesGeneral, LosesRole, HasRoleAgain, SeesFault}
-use Rattle.mq_laws.specs.OnTime.{AreInOrder}
+use Rattle.mq_laws.specs.OnTime.{AreAhead, AreInOrder, IsOfTick}
 use Rattle.mq_laws.proofs.Followed.{none_passes, one_passes}
 
 -- what is known of links
@@ -61,19 +61,19 @@ order-append now middle (HasRoleAgain ∷ es) ys end first second = order-append
 order-append now middle (SeesFault number fault ∷ es) ys end first second = order-append now middle es ys end first second
 
 -- what happens at one moment
-order-wanted_for : (now : ℕ) (family : Family) (is_returning : Bool) (to : ℕ) (query : Option (Query ℕ)) → AreInOrder now (wanted_for family is_returning to query) now
-order-wanted_for now family is_returning to None = omega arith
-order-wanted_for now family is_returning to (Some query) = by_test (is_general query && not is_returning)
+order-wanted_for : (now packets : ℕ) (family : Family) (is_returning : Bool) (to : ℕ) (query : Option (Query ℕ)) → AreInOrder now (wanted_for family packets is_returning to query) now
+order-wanted_for now packets family is_returning to None = omega arith
+order-wanted_for now packets family is_returning to (Some query) = by_test (is_general query && not is_returning)
   where
-    by_test : (b : Bool) → AreInOrder now (cond b [] (Wants (terms_of family to query) (asked_in query) ∷ [])) now
+    by_test : (b : Bool) → AreInOrder now (cond b [] (Wants (terms_of family packets to query) (asked_in query) ∷ [])) now
     by_test true = omega arith
     by_test false = omega arith
 
-order-wanted : (now : ℕ) (config : Configuration) (is_returning : Bool) (messages : List Outgoing) → AreInOrder now (wanted_of config is_returning messages) now
-order-wanted now config is_returning [] = omega arith
-order-wanted now config is_returning (message ∷ messages) =
-    order-append now now (wanted_for config.family is_returning message.to (query_sent config.family config.own message)) (wanted_of config is_returning messages) now
-    (order-wanted_for now config.family is_returning message.to (query_sent config.family config.own message)) (order-wanted now config is_returning messages)
+order-wanted : (now packets : ℕ) (config : Configuration) (is_returning : Bool) (messages : List Outgoing) → AreInOrder now (wanted_of config packets is_returning messages) now
+order-wanted now packets config is_returning [] = omega arith
+order-wanted now packets config is_returning (message ∷ messages) =
+    order-append now now (wanted_for config.family packets is_returning message.to (query_sent config.family config.own message)) (wanted_of config packets is_returning messages) now
+    (order-wanted_for now packets config.family is_returning message.to (query_sent config.family config.own message)) (order-wanted now packets config is_returning messages)
 
 order-tick : (now : ℕ) (was is : Bool) → AreInOrder now (role_by_tick was is) now
 order-tick now true is = omega arith
@@ -96,41 +96,41 @@ ordered-behind : (config : Configuration) (now middle moment : ℕ) (p q : Passa
 ordered-behind config now middle moment p q first second = record { order = order-append now middle p.events q.events moment first second.order; formed = second.formed; later = second.later }
 
 -- a tick
-ordered-tick : KnownOfLinks → (config : Configuration) (now moment : ℕ) (link : LinkState) → IsFaultless config → IsWellFormed config link → now ≤ moment → IsOrdered config now moment (tick_passage config moment link)
-ordered-tick known config now moment link faultless formed before =
+ordered-tick : KnownOfLinks → (config : Configuration) (now moment packets : ℕ) (link : LinkState) → IsFaultless config → IsWellFormed config link → now ≤ moment → IsOrdered config now moment (tick_passage config moment packets link)
+ordered-tick known config now moment packets link faultless formed before =
     let step = tick_of config moment link in
     record {
       order = (
         before,
-        order-append moment moment (wanted_by config link step) (role_by_tick (is_querier link.election.role) (is_querier step.state.election.role)) moment
-            (order-wanted moment config (not (is_querier link.election.role)) (outgoing_of config step)) (order-tick moment (is_querier link.election.role) (is_querier step.state.election.role)),
+        order-append moment moment (wanted_by config packets link step) (role_by_tick (is_querier link.election.role) (is_querier step.state.election.role)) moment
+            (order-wanted moment packets config (not (is_querier link.election.role)) (outgoing_of config step)) (order-tick moment (is_querier link.election.role) (is_querier step.state.election.role)),
       );
       formed = counted_formed config (all_sent (outgoing_of config step)) step (known.ticked config moment link faultless formed);
       later = let after = known.later_tick config moment link faultless formed in omega (arith, after);
     }
 
 -- all ticks up to a moment
-ordered-ticks : KnownOfLinks → (most : ℕ) (config : Configuration) (now moment : ℕ) (link : LinkState) → IsFaultless config → IsWellFormed config link → now ≤ moment → now ≤ next_of link → moment + 1 ≤ most + next_of link
-    → IsOrdered config now moment (ticks_passage most config (moment + 1) link)
+ordered-ticks : KnownOfLinks → (most : ℕ) (config : Configuration) (now moment packets : ℕ) (link : LinkState) → IsFaultless config → IsWellFormed config link → now ≤ moment → now ≤ next_of link → moment + 1 ≤ most + next_of link
+    → IsOrdered config now moment (ticks_passage most config (moment + 1) packets link)
 unfolding ticks_passage
-ordered-ticks known zero config now moment link faultless formed before next enough = record { order = before; formed = formed; later = omega arith }
-ordered-ticks known (suc most) config now moment link faultless formed before next enough =
-    elim (nat_lt (next_of link) (moment + 1)) as (λ b. nat_lt (next_of link) (moment + 1) ≡ b → IsOrdered config now moment (ticks_passage (suc most) config (moment + 1) link)) [
+ordered-ticks known zero config now moment packets link faultless formed before next enough = record { order = before; formed = formed; later = omega arith }
+ordered-ticks known (suc most) config now moment packets link faultless formed before next enough =
+    elim (nat_lt (next_of link) (moment + 1)) as (λ b. nat_lt (next_of link) (moment + 1) ≡ b → IsOrdered config now moment (ticks_passage (suc most) config (moment + 1) packets link)) [
       | true ↦ λ due.
           let at : next_of link < moment + 1 = ltb-true (next_of link) (moment + 1) due in
-          let first = tick_passage config (next_of link) link in
-          let one = ordered-tick known config now (next_of link) link faultless formed next in
+          let first = tick_passage config (next_of link) packets link in
+          let one = ordered-tick known config now (next_of link) packets link faultless formed next in
           let after = one.later in
-          rw (one_passes most config (moment + 1) link at)
+          rw (one_passes most config (moment + 1) packets link at)
           (ordered-behind config now (next_of link) moment first _ one.order
-          (ordered-ticks known most config (next_of link) moment first.link faultless one.formed (omega arith) (omega arith) (omega arith)))
+          (ordered-ticks known most config (next_of link) moment packets first.link faultless one.formed (omega arith) (omega arith) (omega arith)))
       | false ↦ λ reached.
           let beyond : moment + 1 ≤ next_of link = ltb-false (next_of link) (moment + 1) reached in
-          rw (none_passes (suc most) config (moment + 1) link beyond) (record { order = before; formed = formed; later = omega arith })
+          rw (none_passes (suc most) config (moment + 1) packets link beyond) (record { order = before; formed = formed; later = omega arith })
     ] refl
 
-ordered-through : KnownOfLinks → (config : Configuration) (now moment : ℕ) (link : LinkState) → IsFaultless config → IsWellFormed config link → now ≤ moment → now ≤ next_of link → IsOrdered config now moment (ticks_through config moment link)
-ordered-through known config now moment link faultless formed before next = ordered-ticks known (moment + 1) config now moment link faultless formed before next (omega arith)
+ordered-through : KnownOfLinks → (config : Configuration) (now moment packets : ℕ) (link : LinkState) → IsFaultless config → IsWellFormed config link → now ≤ moment → now ≤ next_of link → IsOrdered config now moment (ticks_through config moment packets link)
+ordered-through known config now moment packets link faultless formed before next = ordered-ticks known (moment + 1) config now moment packets link faultless formed before next (omega arith)
 
 -- faults in the headers of a packet
 order-faults : (now number : ℕ) (faults : List HeaderFault) → AreInOrder now (fault_events number faults) now
@@ -138,49 +138,49 @@ order-faults now number [] = omega arith
 order-faults now number (fault ∷ faults) = order-faults now number faults
 
 -- a query of the querier
-order-event : (now : ℕ) (config : Configuration) (link : LinkState) (to : ℕ) (query : Query ℕ) → AreInOrder now (event_of config link to query ∷ []) now
-order-event now config link to query = elim (is_general query) as (λ b. is_general query ≡ b → AreInOrder now (event_of config link to query ∷ []) now) [
+order-event : (now : ℕ) (config : Configuration) (link : LinkState) (packets to : ℕ) (query : Query ℕ) → AreInOrder now (event_of config link packets to query ∷ []) now
+order-event now config link packets to query = elim (is_general query) as (λ b. is_general query ≡ b → AreInOrder now (event_of config link packets to query ∷ []) now) [
   | true ↦ λ is. rw is (omega arith)
   | false ↦ λ is. rw is (omega arith)
 ] refl
 
 -- a datagram, behind all ticks up to its moment
-ordered-datagram : KnownOfLinks → (config : Configuration) (moment number to : ℕ) (datagram : Datagram) (query : Option (Query ℕ)) (faults : List HeaderFault) (link : LinkState) → IsFaultless config → IsWellFormed config link → moment < next_of link
-    → IsOrdered config moment moment (datagram_passage config moment to datagram query (fault_events number faults) link)
-ordered-datagram known config moment number to datagram (Some query) faults link faultless formed later =
+ordered-datagram : KnownOfLinks → (config : Configuration) (moment number to : ℕ) (datagram : Datagram) (query : Option (Query ℕ)) (faults : List HeaderFault) (packets : ℕ) (link : LinkState) → IsFaultless config → IsWellFormed config link → moment < next_of link
+    → IsOrdered config moment moment (datagram_passage config moment to datagram query (fault_events number faults) packets link)
+ordered-datagram known config moment number to datagram (Some query) faults packets link faultless formed later =
     record {
       order = (
         omega arith,
-        order-append moment moment (fault_events number faults) (event_of config link to query ∷ []) moment (order-faults moment number faults) (order-event moment config link to query),
+        order-append moment moment (fault_events number faults) (event_of config link packets to query ∷ []) moment (order-faults moment number faults) (order-event moment config link packets to query),
       );
       formed = formed;
       later = later;
     }
-ordered-datagram known config moment number to datagram None faults link faultless formed later =
+ordered-datagram known config moment number to datagram None faults packets link faultless formed later =
     let step = (receipt_of config datagram.envelope datagram.body moment link).step in
     record {
       order = (
         omega arith,
-        order-append moment moment (fault_events number faults) (wanted_by config link step ++ role_by_datagram (is_querier link.election.role) (is_querier step.state.election.role)) moment (order-faults moment number faults)
-            (order-append moment moment (wanted_by config link step) (role_by_datagram (is_querier link.election.role) (is_querier step.state.election.role)) moment
-            (order-wanted moment config (not (is_querier link.election.role)) (outgoing_of config step)) (order-datagram moment (is_querier link.election.role) (is_querier step.state.election.role))),
+        order-append moment moment (fault_events number faults) (wanted_by config packets link step ++ role_by_datagram (is_querier link.election.role) (is_querier step.state.election.role)) moment (order-faults moment number faults)
+            (order-append moment moment (wanted_by config packets link step) (role_by_datagram (is_querier link.election.role) (is_querier step.state.election.role)) moment
+            (order-wanted moment packets config (not (is_querier link.election.role)) (outgoing_of config step)) (order-datagram moment (is_querier link.election.role) (is_querier step.state.election.role))),
       );
       formed = counted_formed config (all_sent (outgoing_of config step)) step (known.received config datagram.envelope datagram.body moment link faultless formed);
       later = let after = known.later_datagram config datagram.envelope datagram.body moment link faultless formed in omega (arith, after);
     }
 
-ordered-frame : KnownOfLinks → (config : Configuration) (link_type : LinkType) (moment number : ℕ) (frame : List ℕ) (datagram : Option Datagram) (link : LinkState) → IsFaultless config → IsWellFormed config link → moment < next_of link
-    → IsOrdered config moment moment (frame_passage config link_type moment number frame datagram link)
-ordered-frame known config link_type moment number frame None link faultless formed later = record { order = omega arith; formed = formed; later = later }
-ordered-frame known config link_type moment number frame (Some datagram) link faultless formed later =
-    ordered-datagram known config moment number (destination_in config.family link_type frame datagram.envelope) datagram (query_seen config datagram) (faults_in config link_type frame datagram) link faultless formed later
+ordered-frame : KnownOfLinks → (config : Configuration) (link_type : LinkType) (moment number : ℕ) (frame : List ℕ) (datagram : Option Datagram) (packets : ℕ) (link : LinkState) → IsFaultless config → IsWellFormed config link → moment < next_of link
+    → IsOrdered config moment moment (frame_passage config link_type moment number frame datagram packets link)
+ordered-frame known config link_type moment number frame None packets link faultless formed later = record { order = omega arith; formed = formed; later = later }
+ordered-frame known config link_type moment number frame (Some datagram) packets link faultless formed later =
+    ordered-datagram known config moment number (destination_in config.family link_type frame datagram.envelope) datagram (query_seen config datagram) (faults_in config link_type frame datagram) packets link faultless formed later
 
-ordered-packet : KnownOfLinks → (config : Configuration) (link_type : LinkType) (now moment number : ℕ) (frame : List ℕ) (link : LinkState) → IsFaultless config → IsWellFormed config link → now ≤ moment → now ≤ next_of link
-    → IsOrdered config now moment (packet_passage config link_type moment number frame link)
-ordered-packet known config link_type now moment number frame link faultless formed before next =
-    let ticks = ordered-through known config now moment link faultless formed before next in
-    ordered-behind config now moment moment (ticks_through config moment link) _ ticks.order
-    (ordered-frame known config link_type moment number frame (datagram_of config.family (carried_in link_type frame)) (ticks_through config moment link).link faultless ticks.formed ticks.later)
+ordered-packet : KnownOfLinks → (config : Configuration) (link_type : LinkType) (now moment number : ℕ) (frame : List ℕ) (packets : ℕ) (link : LinkState) → IsFaultless config → IsWellFormed config link → now ≤ moment → now ≤ next_of link
+    → IsOrdered config now moment (packet_passage config link_type moment number frame packets link)
+ordered-packet known config link_type now moment number frame packets link faultless formed before next =
+    let ticks = ordered-through known config now moment packets link faultless formed before next in
+    ordered-behind config now moment moment (ticks_through config moment packets link) _ ticks.order
+    (ordered-frame known config link_type moment number frame (datagram_of config.family (carried_in link_type frame)) _ (ticks_through config moment packets link).link faultless ticks.formed ticks.later)
 
 -- packets, one after the other
 pub record AreOrdered (config : Configuration) (now moment : ℕ) (p : Passage) : Type 0 where
@@ -188,22 +188,112 @@ pub record AreOrdered (config : Configuration) (now moment : ℕ) (p : Passage) 
   pub formed : IsWellFormed config p.link
   pub next : moment ≤ next_of p.link
 
-ordered-packets : KnownOfLinks → (config : Configuration) (link_type : LinkType) (first : Option ℕ) (before number : ℕ) (packets : List Captured) (link : LinkState) → IsFaultless config → IsWellFormed config link → before ≤ next_of link
-    → AreOrdered config before (last_of first before packets) (packets_passage config link_type first before number packets link)
+ordered-packets : KnownOfLinks → (config : Configuration) (link_type : LinkType) (first : Option ℕ) (before number : ℕ) (packets : List Captured) (earlier : ℕ) (link : LinkState) → IsFaultless config → IsWellFormed config link → before ≤ next_of link
+    → AreOrdered config before (last_of first before packets) (packets_passage config link_type first before number packets earlier link)
 unfolding packets_passage
-ordered-packets known config link_type first before number [] link faultless formed next = record { order = omega arith; formed = formed; next = next }
-ordered-packets known config link_type first before number (packet ∷ packets) link faultless formed next =
+ordered-packets known config link_type first before number [] earlier link faultless formed next = record { order = omega arith; formed = formed; next = next }
+ordered-packets known config link_type first before number (packet ∷ packets) earlier link faultless formed next =
     let moment = moment_of first before packet.stamp in
-    let this = packet_passage config link_type moment number packet.bytes link in
-    let one = ordered-packet known config link_type before moment number packet.bytes link faultless formed (omega arith) next in
+    let this = packet_passage config link_type moment number packet.bytes earlier link in
+    let one = ordered-packet known config link_type before moment number packet.bytes earlier link faultless formed (omega arith) next in
     let after = one.later in
-    let more = ordered-packets known config link_type (Some (unwrap_or first packet.stamp)) moment (number + 1) packets this.link faultless one.formed (omega arith) in
+    let more = ordered-packets known config link_type (Some (unwrap_or first packet.stamp)) moment (number + 1) packets this.packets this.link faultless one.formed (omega arith) in
     record { order = order-append before moment this.events _ _ one.order more.order; formed = more.formed; next = more.next }
+
+-- a link at the end of a capture, behind all ticks up to then
+at_end : KnownOfLinks → (config : Configuration) (until : Option ℕ) (form : Form) (packets : List Captured) → IsFaultless config
+    → (let p = packets_passage config form.link None 0 1 packets 0 (link_at config 0) in
+    IsOrdered config (last_of None 0 packets) (end_of until packets) (ticks_through config (end_of until packets) p.packets p.link))
+at_end known config until form packets faultless =
+    let last = last_of None 0 packets in
+    let all = ordered-packets known config form.link None 0 1 packets 0 (link_at config 0) faultless (known.start config 0 faultless) (omega arith) in
+    let p = packets_passage config form.link None 0 1 packets 0 (link_at config 0) in
+    ordered-through known config last (end_of until packets) p.packets p.link faultless all.formed (omega arith) all.next
+
+-- the events of ticks
+of_ticks-append : (xs ys : List CheckEvent) → AllByRecursion IsOfTick xs → AllByRecursion IsOfTick ys → AllByRecursion IsOfTick (xs ++ ys)
+of_ticks-append [] ys first second = second
+of_ticks-append (x ∷ xs) ys first second = (first.0, of_ticks-append xs ys first.1 second)
+
+wanted-of_tick : (family : Family) (packets : ℕ) (is_returning : Bool) (to : ℕ) (query : Option (Query ℕ)) → AllByRecursion IsOfTick (wanted_for family packets is_returning to query)
+wanted-of_tick family packets is_returning to None = tt
+wanted-of_tick family packets is_returning to (Some query) = elim (is_general query && not is_returning) as (λ b. (is_general query && not is_returning) ≡ b → AllByRecursion IsOfTick (wanted_for family packets is_returning to (Some query))) [
+  | true ↦ λ is. rw is tt
+  | false ↦ λ is. rw is (tt, tt)
+] refl
+
+all_wanted-of_tick : (config : Configuration) (packets : ℕ) (is_returning : Bool) (messages : List Outgoing) → AllByRecursion IsOfTick (wanted_of config packets is_returning messages)
+all_wanted-of_tick config packets is_returning [] = tt
+all_wanted-of_tick config packets is_returning (message ∷ messages) =
+    of_ticks-append (wanted_for config.family packets is_returning message.to (query_sent config.family config.own message)) (wanted_of config packets is_returning messages)
+    (wanted-of_tick config.family packets is_returning message.to (query_sent config.family config.own message)) (all_wanted-of_tick config packets is_returning messages)
+
+role-of_tick : (was is : Bool) → AllByRecursion IsOfTick (role_by_tick was is)
+role-of_tick true is = tt
+role-of_tick false true = (tt, tt)
+role-of_tick false false = tt
+
+tick-of_tick : (config : Configuration) (moment packets : ℕ) (link : LinkState) → AllByRecursion IsOfTick (tick_passage config moment packets link).events
+tick-of_tick config moment packets link =
+    let step = tick_of config moment link in (
+      tt,
+      of_ticks-append (wanted_by config packets link step) (role_by_tick (is_querier link.election.role) (is_querier step.state.election.role))
+          (all_wanted-of_tick config packets (not (is_querier link.election.role)) (outgoing_of config step)) (role-of_tick (is_querier link.election.role) (is_querier step.state.election.role)),
+    )
+
+ticks-of_tick : (most : ℕ) (config : Configuration) (limit packets : ℕ) (link : LinkState) → AllByRecursion IsOfTick (ticks_passage most config limit packets link).events
+unfolding ticks_passage
+ticks-of_tick zero config limit packets link = tt
+ticks-of_tick (suc most) config limit packets link =
+    elim (nat_lt (next_of link) limit) as (λ b. nat_lt (next_of link) limit ≡ b → AllByRecursion IsOfTick (ticks_passage (suc most) config limit packets link).events) [
+      | true ↦ λ due.
+          let first = tick_passage config (next_of link) packets link in
+          rw (one_passes most config limit packets link (ltb-true (next_of link) limit due))
+          (of_ticks-append first.events _ (tick-of_tick config (next_of link) packets link) (ticks-of_tick most config limit packets first.link))
+      | false ↦ λ reached. rw (none_passes (suc most) config limit packets link (ltb-false (next_of link) limit reached)) tt
+    ] refl
+
+-- a later end
+order-until : (now : ℕ) (es : List CheckEvent) (end later : ℕ) → end ≤ later → AreInOrder now es end → AreInOrder now es later
+order-until now [] end later before order = omega (arith, order, before)
+order-until now (Comes moment ∷ es) end later before order = (order.0, order-until moment es end later before order.1)
+order-until now (Wants terms asked ∷ es) end later before order = order-until now es end later before order
+order-until now (Sees terms unheld asked ∷ es) end later before order = order-until now es end later before order
+order-until now (SeesGeneral terms wanted ∷ es) end later before order = order-until now es end later before order
+order-until now (LosesRole ∷ es) end later before order = order-until now es end later before order
+order-until now (HasRoleAgain ∷ es) end later before order = order-until now es end later before order
+order-until now (SeesFault number fault ∷ es) end later before order = order-until now es end later before order
+
+-- the ticks behind the end, where the end is in range and where it isn't
+order-ahead : KnownOfLinks → (config : Configuration) (within end limit packets : ℕ) (link : LinkState) → IsFaultless config → IsWellFormed config link → end < next_of link → limit ≤ end + within
+    → AreInOrder end (ticks_through config limit packets link).events (end + within)
+order-ahead known config within end limit packets link faultless formed next least =
+    elim (nat_le end limit) as (λ b. nat_le end limit ≡ b → AreInOrder end (ticks_through config limit packets link).events (end + within)) [
+      | true ↦ λ is.
+          let there = leb-true end limit is in
+          let all = ordered-through known config end limit packets link faultless formed there (omega (arith, next)) in
+          order-until end (ticks_through config limit packets link).events limit (end + within) least all.order
+      | false ↦ λ is.
+          let past = leb-false end limit is in
+          rw (none_passes (limit + 1) config (limit + 1) packets link (omega (arith, next, past))) (omega arith)
+    ] refl
+
+pub ahead_in_order : KnownOfLinks → (config : Configuration) (within : ℕ) (until : Option ℕ) (form : Form) (packets : List Captured) → IsFaultless config → AreAhead within (end_of until packets) (events_ahead config within until form packets)
+ahead_in_order known config within until form packets faultless =
+    let ended = at_end known config until form packets faultless in
+    let p = packets_passage config form.link None 0 1 packets 0 (link_at config 0) in
+    let end = end_of until packets in
+    let t = ticks_through config end p.packets p.link in
+    let limit = min (end + within) (2 ^ 53) in
+    record {
+      order = order-ahead known config within end limit t.packets t.link faultless ended.formed ended.later (omega arith);
+      of_ticks = ticks-of_tick (limit + 1) config (limit + 1) t.packets t.link;
+    }
 
 pub events_in_order : KnownOfLinks → (config : Configuration) (until : Option ℕ) (form : Form) (packets : List Captured) → IsFaultless config → AreInOrder 0 (events_of config until form packets) (end_of until packets)
 events_in_order known config until form packets faultless =
     let last = last_of None 0 packets in
-    let all = ordered-packets known config form.link None 0 1 packets (link_at config 0) faultless (known.start config 0 faultless) (omega arith) in
-    let p = packets_passage config form.link None 0 1 packets (link_at config 0) in
-    let ticks = ordered-through known config last (end_of until packets) p.link faultless all.formed (omega arith) all.next in
+    let all = ordered-packets known config form.link None 0 1 packets 0 (link_at config 0) faultless (known.start config 0 faultless) (omega arith) in
+    let p = packets_passage config form.link None 0 1 packets 0 (link_at config 0) in
+    let ticks = ordered-through known config last (end_of until packets) p.packets p.link faultless all.formed (omega arith) all.next in
     order-append 0 last p.events _ (end_of until packets) all.order ticks.order

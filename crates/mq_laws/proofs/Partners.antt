@@ -138,7 +138,7 @@ find_wanted within now asked other (Seen moment asked' terms None alone ∷ es) 
     either_behind within now asked other (Seen moment asked' terms None alone) es xs refl (λ ds ys h. h) (λ ds e. ap (λ (l : List Ask). ask moment asked' terms ∷ l) e) (find_wanted within now asked other es xs holds ahead.1)
 find_wanted within now asked other (Seen moment asked' terms (Some wanted) alone ∷ es) xs holds ahead =
     either_behind within now asked other (Seen moment asked' terms (Some wanted) alone) es xs refl (λ ds ys h. (holds.0, h)) (λ ds e. e) (find_wanted within now asked other es xs holds.1 ahead.1)
-find_wanted within now asked other (Interval moment after wanted ∷ es) xs holds ahead = absurd holds
+find_wanted within now asked other (Interval moment packet after wanted ∷ es) xs holds ahead = absurd holds
 find_wanted within now asked other (Silence moment after wanted ∷ es) xs holds ahead = absurd holds
 find_wanted within now asked other (Packet moment number fault ∷ es) xs holds ahead = absurd holds
 
@@ -247,6 +247,6 @@ find_seen low now asked other (Seen moment asked' terms None alone ∷ es) xs ho
     ] refl
 find_seen low now asked other (Seen moment asked' terms (Some wanted) alone ∷ es) xs holds is =
     seen_behind now asked other (Seen moment asked' terms (Some wanted) alone) es xs xs (and_right _ _ refl) (λ ds h. (holds.0, h)) (λ ds. refl) (find_seen moment now asked other es xs holds.1 is.1)
-find_seen low now asked other (Interval moment after wanted ∷ es) xs holds is = absurd holds
+find_seen low now asked other (Interval moment packet after wanted ∷ es) xs holds is = absurd holds
 find_seen low now asked other (Silence moment after wanted ∷ es) xs holds is = absurd holds
 find_seen low now asked other (Packet moment number fault ∷ es) xs holds is = absurd holds

@@ -119,9 +119,9 @@ unfolding role_lost
 lost_part within timing now c in_time = record { waiting = rw in_time refl; phase = refl; last = refl }
 
 -- where there is room at the end, there was at the beginning
-pub interval_free : (timing : Timing) (now : ℕ) (passed : Option ℕ) (w : WaitingValue) → (with_interval timing now passed w).is_full ≡ false → w.is_full ≡ false
-interval_free timing now None w free = free
-interval_free timing now (Some passed) w free = (entered _ w free).was
+pub interval_free : (timing : Timing) (now packet : ℕ) (passed : Option ℕ) (w : WaitingValue) → (with_interval timing now packet passed w).is_full ≡ false → w.is_full ≡ false
+interval_free timing now packet None w free = free
+interval_free timing now packet (Some passed) w free = (entered _ w free).was
 
 silence_free : (timing : Timing) (now : ℕ) (passed : Option ℕ) (w : WaitingValue) → (with_silence timing now passed w).is_full ≡ false → w.is_full ≡ false
 silence_free timing now None w free = free
@@ -129,7 +129,7 @@ silence_free timing now (Some passed) w free = (entered _ w free).was
 
 with_general_free : (within : ℕ) (timing : Timing) (now : ℕ) (terms wanted : Terms ℕ) (c : CheckingValue) → (with_general within timing now terms wanted c).waiting.is_full ≡ false → c.waiting.is_full ≡ false
 unfolding with_general with_partner
-with_general_free within timing now terms wanted c free = interval_free timing now (wrong_interval within timing now c.phase) c.waiting (entered _ _ free).was
+with_general_free within timing now terms wanted c free = interval_free timing now terms.packet (wrong_interval within timing now c.phase) c.waiting (entered _ _ free).was
 
 -- a general query, where the router is querier, and where it isn't
 pub compared_querier : (within : ℕ) (timing : Timing) (now : ℕ) (terms wanted : Terms ℕ) (c : CheckingValue) → is_querier_in c.phase ≡ true → general_compared within timing now terms wanted c ≡ with_general within timing now terms wanted c

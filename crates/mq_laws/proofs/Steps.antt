@@ -58,7 +58,7 @@ holds-append (Wanted m a t o false ∷ es) ds [] ys holds more = absurd holds
 holds-append (Wanted m a t o false ∷ es) ds (x ∷ xs) ys holds more = (holds.0, holds-append es ds xs ys holds.1 more)
 holds-append (Seen m a t None q ∷ es) ds xs ys holds more = holds-append es ds xs ys holds more
 holds-append (Seen m a t (Some w) q ∷ es) ds xs ys holds more = (holds.0, holds-append es ds xs ys holds.1 more)
-holds-append (Interval m a w ∷ es) ds xs ys holds more = absurd holds
+holds-append (Interval m n a w ∷ es) ds xs ys holds more = absurd holds
 holds-append (Silence m a w ∷ es) ds xs ys holds more = absurd holds
 holds-append (Packet m number fault ∷ es) ds xs ys holds more = absurd holds
 
@@ -72,7 +72,7 @@ free_seen-append [] ds = refl
 free_seen-append (Wanted m a t o f ∷ es) ds = free_seen-append es ds
 free_seen-append (Seen m a t None q ∷ es) ds = ap (λ (l : List Ask). ask m a t ∷ l) (free_seen-append es ds)
 free_seen-append (Seen m a t (Some w) q ∷ es) ds = free_seen-append es ds
-free_seen-append (Interval m a w ∷ es) ds = free_seen-append es ds
+free_seen-append (Interval m n a w ∷ es) ds = free_seen-append es ds
 free_seen-append (Silence m a w ∷ es) ds = free_seen-append es ds
 free_seen-append (Packet m number fault ∷ es) ds = free_seen-append es ds
 

@@ -53,4 +53,4 @@ TakesOut within end (ask ∷ asks) behind =
 
 -- the findings that each of these queries is missing
 abbrev pub all_missing : List Ask → List (Finding ℕ)
-all_missing asks = list_map (λ (ask : Ask). Missing ask.moment ask.asked) asks
+all_missing asks = list_map (λ (ask : Ask). Missing ask.moment ask.terms.packet ask.asked) asks

@@ -1,6 +1,6 @@
 -- The events in the check of a capture. A link with the querier's own address runs over it, and each query that it
 -- sends is expected. The queries from that address are seen.
-use Rattle.std.specs.Prelude.{ℕ, zero, suc, ◌+◌, ◌&&◌, max, not, nat_lt, Bool, true, false, if◌then◌else◌, List, [], ◌∷◌, ◌++◌, Option, None, Some, unwrap_or, flat_map, map as list_map}
+use Rattle.std.specs.Prelude.{ℕ, zero, suc, ◌+◌, ◌^◌, ◌&&◌, max, min, not, nat_lt, Bool, true, false, if◌then◌else◌, List, [], ◌∷◌, ◌++◌, Option, None, Some, unwrap_or, flat_map, map as list_map}
 use Rattle.mq_pcap.specs.declared.form.Form.{Form}
 use Rattle.mq_pcap.specs.declared.link_type.LinkType.{LinkType}
 use Rattle.mq_pcap.specs.Capture.{Captured}
@@ -18,35 +18,39 @@ use Rattle.mq_replay.specs.Listing.{moment_of}
 use Rattle.mq_replay.specs.Report.{Datagram, datagram_of, all_sent}
 use Rattle.mq_check.specs.declared.headers.HeaderFault.{HeaderFault}
 use Rattle.mq_check.specs.Check.{destination_in, faults_in}
+use Rattle.mq_check.specs.Checking.{counted_up}
 use Rattle.mq_check.specs.Queries.{asked_in, is_general, terms_of, general_terms, query_sent, query_seen}
 use Rattle.mq_check.specs.Unheld.{specific_terms, unheld}
 use Rattle.mq_laws.specs.Events.{CheckEvent, Comes, Wants, Sees, SeesGeneral, LosesRole, HasRoleAgain, SeesFault}
 
--- a link after a part of a capture, and the events of the check
+-- a link after a part of a capture, the number of packets so far, and the events of the check
 pub record Passage : Type 0 where
   pub link : LinkState
+  pub packets : ℕ
   pub events : List CheckEvent
 
-abbrev pub nothing_happens : LinkState → Passage
-nothing_happens link = record { link = link; events = [] }
+abbrev pub nothing_happens : (packets : ℕ) → LinkState → Passage
+nothing_happens packets link = record { link = link; packets = packets; events = [] }
 
 -- the passage after these events
 abbrev pub happening_behind : List CheckEvent → Passage → Passage
 happening_behind events p = record p { events = events ++ p.events }
 
--- The expectation by a query of the link. A general query is only expected if the router is querier again.
-abbrev pub wanted_for : Family → (is_returning : Bool) → (to : ℕ) → Option (Query ℕ) → List CheckEvent
-wanted_for family is_returning to None = []
-wanted_for family is_returning to (Some query) =
-    if is_general query && not is_returning then [] else Wants (terms_of family to query) (asked_in query) ∷ []
+-- The expectation by a query of the link, after this number of packets. A general query is only expected if the router
+-- is querier again.
+abbrev pub wanted_for : Family → (packets : ℕ) → (is_returning : Bool) → (to : ℕ) → Option (Query ℕ) → List CheckEvent
+wanted_for family packets is_returning to None = []
+wanted_for family packets is_returning to (Some query) =
+    if is_general query && not is_returning then [] else Wants (terms_of family packets to query) (asked_in query) ∷ []
 
-abbrev pub wanted_of : Configuration → (is_returning : Bool) → List Outgoing → List CheckEvent
-wanted_of config is_returning messages =
-    flat_map (λ (message : Outgoing). wanted_for config.family is_returning message.to (query_sent config.family config.own message)) messages
+abbrev pub wanted_of : Configuration → (packets : ℕ) → (is_returning : Bool) → List Outgoing → List CheckEvent
+wanted_of config packets is_returning messages =
+    flat_map (λ (message : Outgoing). wanted_for config.family packets is_returning message.to (query_sent config.family config.own message)) messages
 
 -- the expectations by the link's queries in a step
-abbrev pub wanted_by : Configuration → LinkState → Step → List CheckEvent
-wanted_by config link step = wanted_of config (not (is_querier link.election.role)) (outgoing_of config step)
+abbrev pub wanted_by : Configuration → (packets : ℕ) → LinkState → Step → List CheckEvent
+wanted_by config packets link step =
+    wanted_of config packets (not (is_querier link.election.role)) (outgoing_of config step)
 
 -- The change of the role. A tick can make the router querier again, and a datagram can also take the role from it.
 abbrev pub role_by_tick : (was_querier is_querier : Bool) → List CheckEvent
@@ -61,64 +65,67 @@ role_by_datagram false true = HasRoleAgain ∷ []
 role_by_datagram false false = []
 
 -- a tick at a moment
-abbrev pub tick_passage : Configuration → (moment : ℕ) → LinkState → Passage
-tick_passage config moment link =
+abbrev pub tick_passage : Configuration → (moment packets : ℕ) → LinkState → Passage
+tick_passage config moment packets link =
     let step = tick_of config moment link in
     record {
       link = answered (all_sent (outgoing_of config step)) step;
-      events = Comes moment ∷ wanted_by config link step ++ role_by_tick (is_querier link.election.role) (is_querier step.state.election.role);
+      packets = packets;
+      events = Comes moment ∷ wanted_by config packets link step ++ role_by_tick (is_querier link.election.role) (is_querier step.state.election.role);
     }
 
 -- ticks at the link's next moments, while these are before a limit; at most `most`
-unfoldable pub ticks_passage : (most : ℕ) → Configuration → (limit : ℕ) → LinkState → Passage
-ticks_passage zero config limit link = nothing_happens link
-ticks_passage (suc most) config limit link =
+unfoldable pub ticks_passage : (most : ℕ) → Configuration → (limit packets : ℕ) → LinkState → Passage
+ticks_passage zero config limit packets link = nothing_happens packets link
+ticks_passage (suc most) config limit packets link =
     elim (nat_lt (next_of link) limit) [
       | true ↦
-          let first = tick_passage config (next_of link) link in
-          happening_behind first.events (ticks_passage most config limit first.link)
-      | false ↦ nothing_happens link
+          let first = tick_passage config (next_of link) packets link in
+          happening_behind first.events (ticks_passage most config limit packets first.link)
+      | false ↦ nothing_happens packets link
     ]
 
 -- all ticks up to and including a moment
-abbrev pub ticks_through : Configuration → (moment : ℕ) → LinkState → Passage
-ticks_through config moment link = ticks_passage (moment + 1) config (moment + 1) link
+abbrev pub ticks_through : Configuration → (moment packets : ℕ) → LinkState → Passage
+ticks_through config moment packets link = ticks_passage (moment + 1) config (moment + 1) packets link
 
 -- faults in the headers of a packet with this number
 abbrev pub fault_events : (number : ℕ) → List HeaderFault → List CheckEvent
 fault_events number faults = list_map (SeesFault number) faults
 
 -- a query from the querier's address, or any other datagram, which the link receives
-abbrev pub event_of : Configuration → LinkState → (to : ℕ) → Query ℕ → CheckEvent
-event_of config link to query =
+abbrev pub event_of : Configuration → LinkState → (packets to : ℕ) → Query ℕ → CheckEvent
+event_of config link packets to query =
     if is_general query
-    then SeesGeneral (terms_of config.family to query) (general_terms config link.election.timing)
-    else Sees (terms_of config.family to query) (unheld config.family link.groups (specific_terms config link.election.timing query)) (asked_in query)
+    then SeesGeneral (terms_of config.family packets to query) (general_terms config link.election.timing)
+    else Sees (terms_of config.family packets to query) (unheld config.family link.groups (specific_terms config link.election.timing query)) (asked_in query)
 
-abbrev pub datagram_passage : Configuration → (moment to : ℕ) → Datagram → Option (Query ℕ) → (faults : List CheckEvent) → LinkState → Passage
-datagram_passage config moment to datagram (Some query) faults link =
-    record { link = link; events = Comes moment ∷ faults ++ event_of config link to query ∷ [] }
-datagram_passage config moment to datagram None faults link =
+abbrev pub datagram_passage : Configuration → (moment to : ℕ) → Datagram → Option (Query ℕ) → (faults : List CheckEvent) → (packets : ℕ) → LinkState → Passage
+datagram_passage config moment to datagram (Some query) faults packets link =
+    record { link = link; packets = packets; events = Comes moment ∷ faults ++ event_of config link packets to query ∷ [] }
+datagram_passage config moment to datagram None faults packets link =
     let step = (receipt_of config datagram.envelope datagram.body moment link).step in
     record {
       link = answered (all_sent (outgoing_of config step)) step;
+      packets = packets;
       events =
           Comes moment ∷ faults
-          ++ (wanted_by config link step ++ role_by_datagram (is_querier link.election.role) (is_querier step.state.election.role));
+          ++ (wanted_by config packets link step ++ role_by_datagram (is_querier link.election.role) (is_querier step.state.election.role));
     }
 
 -- a frame, if it carries a datagram; the faults of the headers of a query come first
-abbrev pub frame_passage : Configuration → LinkType → (moment number : ℕ) → (frame : List ℕ) → Option Datagram → LinkState → Passage
-frame_passage config link_type moment number frame None link = nothing_happens link
-frame_passage config link_type moment number frame (Some datagram) link =
+abbrev pub frame_passage : Configuration → LinkType → (moment number : ℕ) → (frame : List ℕ) → Option Datagram → (packets : ℕ) → LinkState → Passage
+frame_passage config link_type moment number frame None packets link = nothing_happens packets link
+frame_passage config link_type moment number frame (Some datagram) packets link =
     datagram_passage config moment (destination_in config.family link_type frame datagram.envelope) datagram (query_seen config datagram)
-    (fault_events number (faults_in config link_type frame datagram)) link
+    (fault_events number (faults_in config link_type frame datagram)) packets link
 
 -- a packet at its moment, after the events up to then
-abbrev pub packet_passage : Configuration → LinkType → (moment number : ℕ) → (frame : List ℕ) → LinkState → Passage
-packet_passage config link_type moment number frame link =
-    let before = ticks_through config moment link in
-    happening_behind before.events (frame_passage config link_type moment number frame (datagram_of config.family (carried_in link_type frame)) before.link)
+abbrev pub packet_passage : Configuration → LinkType → (moment number : ℕ) → (frame : List ℕ) → (packets : ℕ) → LinkState → Passage
+packet_passage config link_type moment number frame packets link =
+    let before = ticks_through config moment packets link in
+    happening_behind before.events
+    (frame_passage config link_type moment number frame (datagram_of config.family (carried_in link_type frame)) (counted_up before.packets) before.link)
 
 -- The moment of the last of some packets. Moments are counted from `first`, and `before` is the last one before these.
 abbrev pub last_of : (first : Option ℕ) (before : ℕ) → List Captured → ℕ
@@ -126,13 +133,14 @@ last_of first before [] = before
 last_of first before (packet ∷ packets) =
     last_of (Some (unwrap_or first packet.stamp)) (moment_of first before packet.stamp) packets
 
--- packets, one after the other: the number of the next
-unfoldable pub packets_passage : Configuration → LinkType → (first : Option ℕ) (before number : ℕ) → List Captured → LinkState → Passage
-packets_passage config link_type first before number [] link = nothing_happens link
-packets_passage config link_type first before number (packet ∷ packets) link =
+-- packets, one after the other: the number of the next, and the number of packets before
+unfoldable pub packets_passage : Configuration → LinkType → (first : Option ℕ) (before number : ℕ) → List Captured → (earlier : ℕ) → LinkState → Passage
+packets_passage config link_type first before number [] earlier link = nothing_happens earlier link
+packets_passage config link_type first before number (packet ∷ packets) earlier link =
     let moment = moment_of first before packet.stamp in
-    let this = packet_passage config link_type moment number packet.bytes link in
-    happening_behind this.events (packets_passage config link_type (Some (unwrap_or first packet.stamp)) moment (number + 1) packets this.link)
+    let this = packet_passage config link_type moment number packet.bytes earlier link in
+    happening_behind this.events
+    (packets_passage config link_type (Some (unwrap_or first packet.stamp)) moment (number + 1) packets this.packets this.link)
 
 -- the end of a capture: the moment of the last packet, or the requested one if it is later
 abbrev pub end_of : (until : Option ℕ) → List Captured → ℕ
@@ -141,5 +149,13 @@ end_of until packets = max (last_of None 0 packets) (unwrap_or until 0)
 -- All events in the check of a capture.
 abbrev pub events_of : Configuration → (until : Option ℕ) → Form → List Captured → List CheckEvent
 events_of config until form packets =
-    let all = packets_passage config form.link None 0 1 packets (link_at config 0) in
-    all.events ++ (ticks_through config (end_of until packets) all.link).events
+    let all = packets_passage config form.link None 0 1 packets 0 (link_at config 0) in
+    all.events ++ (ticks_through config (end_of until packets) all.packets all.link).events
+
+-- The events that are due just after the end, up to the tolerance.
+abbrev pub events_ahead : Configuration → (within : ℕ) → (until : Option ℕ) → Form → List Captured → List CheckEvent
+events_ahead config within until form packets =
+    let all = packets_passage config form.link None 0 1 packets 0 (link_at config 0) in
+    let end = end_of until packets in
+    let ticks = ticks_through config end all.packets all.link in
+    (ticks_through config (min (end + within) (2 ^ 53)) ticks.packets ticks.link).events

@@ -16,6 +16,7 @@ group_terms = record {
   response = Some 1000;
   querier = Some (record { suppress = false; robustness = 2; interval = 125 });
   to = 5;
+  packet = 3;
 }
 
 abbrev pub general_terms : Terms ℕ
@@ -24,6 +25,7 @@ general_terms = record {
   response = Some 10000;
   querier = Some (record { suppress = false; robustness = 2; interval = 125 });
   to = 1;
+  packet = 4;
 }
 
 abbrev pub example_events : List CheckEvent

@@ -5,7 +5,8 @@ use Rattle.mq_check.specs.declared.asked.Asked.{Asked}
 use Rattle.mq_check.specs.declared.finding.Finding.{Finding}
 use Rattle.mq_check.specs.declared.headers.HeaderFault.{HeaderFault}
 use Rattle.mq_check.specs.declared.terms.Terms.{Terms}
-use Rattle.mq_check.specs.Checking.{CheckingValue, checking_at_start, told, settled, with_wanted, specific_seen, general_seen, with_fault, role_lost, role_returned, told_at_end}
+use Rattle.mq_check.specs.General.{silence_up_to}
+use Rattle.mq_check.specs.Checking.{CheckingValue, checking_at_start, told, settled, with_wanted, specific_seen, general_seen, with_fault, role_lost, role_returned, told_at_end, with_all_excused}
 
 -- An event of a check. A moment comes, the link sends a query about these things, which is expected, or a query about
 -- these was seen. Then `unheld` has its expected fields for each of them that the link doesn't hold. A general query was
@@ -67,11 +68,26 @@ told_by_all within timing now (e ∷ es) c = told_by within e c ++ told_by_all w
 abbrev pub checked_by : (within : ℕ) → Timing → (strict : Bool) → List CheckEvent → CheckingValue
 checked_by within timing strict events = check_by_all within timing 0 events (checking_at_start within timing strict)
 
-abbrev pub found_by : (within : ℕ) → Timing → (strict : Bool) → (end : ℕ) → List CheckEvent → List (Finding ℕ)
-found_by within timing strict end events =
+-- The check at the end of a capture: expired entries are removed, and no pending query has to be sent. Then the check after
+-- the events that are due just after the end.
+abbrev pub at_the_end : (within end : ℕ) → CheckingValue → CheckingValue
+at_the_end within end c = with_all_excused (settled within end c)
+
+abbrev pub checked_ahead : (within : ℕ) → Timing → (end : ℕ) → (ahead : List CheckEvent) → CheckingValue → CheckingValue
+checked_ahead within timing end ahead c = check_by_all within timing end ahead (at_the_end within end c)
+
+-- the findings from the end on
+abbrev pub found_from : (within : ℕ) → Timing → (end : ℕ) → (ahead : List CheckEvent) → CheckingValue → List (Finding ℕ)
+found_from within timing end ahead c =
+    told within end c ++ told_by_all within timing end ahead (at_the_end within end c)
+    ++ told_at_end within timing end (silence_up_to within timing end c.phase) (checked_ahead within timing end ahead c)
+
+abbrev pub found_by : (within : ℕ) → Timing → (strict : Bool) → (end : ℕ) → (events ahead : List CheckEvent) → List (Finding ℕ)
+found_by within timing strict end events ahead =
     told_by_all within timing 0 events (checking_at_start within timing strict)
-    ++ told_at_end within timing end (checked_by within timing strict events)
+    ++ found_from within timing end ahead (checked_by within timing strict events)
 
 -- there was room for all pending entries
-abbrev pub HasRoom : (within : ℕ) → Timing → (strict : Bool) → List CheckEvent → Type 0
-HasRoom within timing strict events = (checked_by within timing strict events).waiting.is_full ≡ false
+abbrev pub HasRoom : (within : ℕ) → Timing → (strict : Bool) → (end : ℕ) → (events ahead : List CheckEvent) → Type 0
+HasRoom within timing strict end events ahead =
+    (checked_ahead within timing end ahead (checked_by within timing strict events)).waiting.is_full ≡ false

@@ -1,5 +1,6 @@
 -- The order of a check's events, and the times of general queries.
 use Rattle.std.specs.Prelude.{◌≡◌, ◌⊎◌, ℕ, ◌+◌, ◌<◌, ◌≤◌, Bool, true, false, List, [], ◌∷◌, Option, None, Some, ⊤}
+use Rattle.std.specs.List.{AllByRecursion}
 use Rattle.mq_table.specs.declared.timing.Timing.{Timing}
 use Rattle.mq_table.specs.Timing.{query_interval, startup_interval}
 use Rattle.mq_check.specs.declared.phase.Phase.{Phase}
@@ -20,6 +21,20 @@ AreInOrder now (SeesGeneral terms wanted ∷ es) end = AreInOrder now es end
 AreInOrder now (LosesRole ∷ es) end = AreInOrder now es end
 AreInOrder now (HasRoleAgain ∷ es) end = AreInOrder now es end
 AreInOrder now (SeesFault number fault ∷ es) end = AreInOrder now es end
+
+-- An event of a tick. After the end of a capture there are only these, in order, up to the tolerance after the end.
+abbrev pub IsOfTick : CheckEvent → Type 0
+IsOfTick (Comes moment) = ⊤
+IsOfTick (Wants terms asked) = ⊤
+IsOfTick (Sees terms unheld asked) = ⊥
+IsOfTick (SeesGeneral terms wanted) = ⊥
+IsOfTick LosesRole = ⊥
+IsOfTick HasRoleAgain = ⊤
+IsOfTick (SeesFault number fault) = ⊥
+
+pub record AreAhead (within end : ℕ) (ahead : List CheckEvent) : Type 0 where
+  pub order : AreInOrder end ahead (end + within)
+  pub of_ticks : AllByRecursion IsOfTick ahead
 
 -- The fields of a general query are compared with the expected ones while the router is querier. (A query that is seen
 -- before the router is querier again is compared with the query that it then sends.)

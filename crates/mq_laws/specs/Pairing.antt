@@ -58,7 +58,7 @@ PairUp within (LeftOut w ∷ ws) ss = AllLater (w.moment + within) ss × PairUp 
 abbrev pub missing_of : List Expected → List (Finding ℕ)
 missing_of [] = []
 missing_of (Sent ask ∷ xs) = missing_of xs
-missing_of (LeftOut ask ∷ xs) = Missing ask.moment ask.asked ∷ missing_of xs
+missing_of (LeftOut ask ∷ xs) = Missing ask.moment ask.terms.packet ask.asked ∷ missing_of xs
 
 -- A query was seen within the tolerance of its moment, with the expected fields.
 pub record IsMoved (within : ℕ) (wanted seen : Ask) : Type 0 where

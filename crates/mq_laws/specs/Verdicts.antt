@@ -4,11 +4,12 @@ use Rattle.mq_pcap.specs.declared.fault.PcapFault.{PcapFault}
 use Rattle.mq_pcap.specs.declared.form.Form.{Form}
 use Rattle.mq_pcap.specs.Capture.{Captured}
 use Rattle.mq_link.specs.Configuration.{Configuration}
+use Rattle.mq_check.specs.declared.check_terms.Additions.{Additions}
 use Rattle.mq_check.specs.declared.finding.Finding.{Finding}
 use Rattle.mq_check.specs.declared.totals.Totals.{Totals}
 use Rattle.mq_check.specs.Check.{Verdict, check_of}
 use Rattle.mq_check.specs.FindingLines.{finding_lines, last_lines}
-use Rattle.mq_laws.specs.Captures.{end_of, events_of}
+use Rattle.mq_laws.specs.Captures.{end_of, events_ahead, events_of}
 use Rattle.mq_laws.specs.Events.{CheckEvent, HasRoom, found_by}
 
 -- A check that came to its end, its request, and the capture.
@@ -16,22 +17,25 @@ pub record CheckedCapture : Type 0 where
   pub config : Configuration
   pub within : ℕ
   pub until : Option ℕ
-  pub cite : Bool
+  pub additions : Additions
   pub strict : Bool
   pub form : Form
   pub packets : List Captured
   pub end : Option PcapFault
   pub totals : Totals
 
--- the events of the check, up to its end
+-- the events of the check, up to its end, and those that are due just after it
 abbrev pub events_in : CheckedCapture → List CheckEvent
 events_in c = events_of c.config c.until c.form c.packets
+
+abbrev pub ahead_in : CheckedCapture → List CheckEvent
+ahead_in c = events_ahead c.config c.within c.until c.form c.packets
 
 abbrev pub end_in : CheckedCapture → ℕ
 end_in c = end_of c.until c.packets
 
 abbrev pub verdict_of : CheckedCapture → Verdict
-verdict_of c = check_of c.config c.within c.until c.cite c.strict (Ok c.form) c.packets c.end
+verdict_of c = check_of c.config c.within c.until c.additions c.strict (Ok c.form) c.packets c.end
 
 -- Its result is the totals. No fault and no gap ended it before, and there was room for all pending entries.
 abbrev pub CameToItsEnd : CheckedCapture → Type 0
@@ -39,13 +43,13 @@ CameToItsEnd c = (verdict_of c).answer ≡ Ok c.totals
 
 -- these are the findings, and the text says so
 pub record Tells (c : CheckedCapture) (found : List (Finding ℕ)) : Type 0 where
-  pub text : (verdict_of c).text ≡ finding_lines c.config.family c.cite found ++ last_lines c.totals
+  pub text : (verdict_of c).text ≡ finding_lines c.config.family c.additions found ++ last_lines c.totals
   pub counted : c.totals.findings ≡ min (length found) (2 ^ 64 - 1)
 
 -- the text has the findings by the events, and there was room for all pending entries
 pub record TellsWhatHappened (c : CheckedCapture) : Type 0 where
-  pub room : HasRoom c.within c.config.timing c.strict (events_in c)
-  pub tells : Tells c (found_by c.within c.config.timing c.strict (end_in c) (events_in c))
+  pub room : HasRoom c.within c.config.timing c.strict (end_in c) (events_in c) (ahead_in c)
+  pub tells : Tells c (found_by c.within c.config.timing c.strict (end_in c) (events_in c) (ahead_in c))
 
 -- the text says that there is no finding, and no more
 pub record IsClean (c : CheckedCapture) : Type 0 where

@@ -15,13 +15,13 @@ ghost use Rattle.mq_table.specs.Timing.{query_interval};
 ghost use Rattle.mq_check.specs.declared.phase.Phase.TheVariants.{Starting, Heard, Returned};
 ghost use Rattle.mq_check.specs.General.{silence_up_to, wrong_interval};
 ghost use Rattle.mq_link.specs.Configuration.{IsFaultless};
-ghost use Rattle.mq_laws.specs.OnTime.{AreInOrder, IsOnTime, IsWantedInterval};
+ghost use Rattle.mq_laws.specs.OnTime.{AreAhead, AreInOrder, IsOnTime, IsWantedInterval};
 ghost use Rattle.mq_laws.specs.AsWanted.{AreSeen, AreSeenWithin, IsAsWanted, TakesOut, all_missing};
 ghost use Rattle.mq_laws.specs.Events.{CheckEvent, HasRoom, found_by};
 ghost use Rattle.mq_laws.specs.WantedAndSeen.{wanted_in};
 ghost use Rattle.mq_laws.specs.CheckExamples.{example_events, example_expected, example_timing};
 ghost use Rattle.mq_laws.specs.Pairing.{Ask, Expected, missing_of};
-ghost use Rattle.mq_laws.specs.Verdicts.{CameToItsEnd, CheckedCapture, IsClean, Tells, TellsWhatHappened, end_in, events_in};
+ghost use Rattle.mq_laws.specs.Verdicts.{CameToItsEnd, CheckedCapture, IsClean, Tells, TellsWhatHappened, ahead_in, end_in, events_in};
 
 use crate::links::{
     datagrams_leave_nothing_due, links_keep_form_and_limits, ticks_are_quiet_until_the_next_moment,
@@ -29,15 +29,16 @@ use crate::links::{
 
 /// A lemma: the text of a check that comes to its end follows from its events, and from nothing else of the capture.
 /// The events are the queries that the link with the querier's address sends, those that were seen from there, faults in
-/// the headers of these, and the moments between.
+/// the headers of these, and the moments between. The link also says which queries are due just after the end.
 pub fn checks_tell_what_happened()
     ensures { (c : CheckedCapture) → CameToItsEnd c → TellsWhatHappened c }
 {}
 
 /// A lemma: the events of a capture's check come in the order of moments, up to the end. The link's next moment is
-/// never before the last event.
+/// never before the last event. After the end there are only ticks, up to the tolerance.
 pub fn what_happens_comes_in_order()
-    ensures { (c : CheckedCapture) → IsFaultless c.config → AreInOrder 0 (events_in c) (end_in c) }
+    ensures order { (c : CheckedCapture) → IsFaultless c.config → AreInOrder 0 (events_in c) (end_in c) }
+    ensures ahead { (c : CheckedCapture) → IsFaultless c.config → AreAhead c.within (end_in c) (ahead_in c) }
 {
     links_keep_form_and_limits();
     ticks_are_quiet_until_the_next_moment();
@@ -48,32 +49,36 @@ pub fn what_happens_comes_in_order()
 /// tolerance of its partner, with the same fields. Each finding is there once, in the order in which the queries are
 /// expected.
 pub fn what_was_left_out_is_missing()
-    ensures { (within : ℕ) (timing : Timing) (strict : Bool) (end : ℕ) (expected : List Expected) (events : List CheckEvent)
-        → AreInOrder 0 events end → IsAsWanted within timing end expected events → HasRoom within timing strict events
-        → found_by within timing strict end events ≡ missing_of expected }
+    ensures { (within : ℕ) (timing : Timing) (strict : Bool) (end : ℕ) (expected : List Expected) (events ahead : List CheckEvent)
+        → AreInOrder 0 events end → AreAhead within end ahead → IsAsWanted within timing end expected events
+        → HasRoom within timing strict end events ahead
+        → found_by within timing strict end events ahead ≡ missing_of expected }
 {}
 
 /// A lemma: nothing is found if the seen queries are the expected ones, at their moments.
 pub fn nothing_is_found()
-    ensures { (within : ℕ) (timing : Timing) (strict : Bool) (end : ℕ) (events : List CheckEvent)
-        → AreInOrder 0 events end → IsOnTime within timing end events → HasRoom within timing strict events
-        → AreSeen within (wanted_in 0 events) events → found_by within timing strict end events ≡ [] }
+    ensures { (within : ℕ) (timing : Timing) (strict : Bool) (end : ℕ) (events ahead : List CheckEvent)
+        → AreInOrder 0 events end → AreAhead within end ahead → IsOnTime within timing end events
+        → HasRoom within timing strict end events ahead
+        → AreSeen within (wanted_in 0 events) events → found_by within timing strict end events ahead ≡ [] }
 {}
 
 /// A lemma: if some of the expected queries are taken out, exactly these are missing.
 pub fn what_is_taken_out_is_missing()
-    ensures { (within : ℕ) (timing : Timing) (strict : Bool) (end : ℕ) (events : List CheckEvent) (before taken behind : List Ask)
-        → AreInOrder 0 events end → IsOnTime within timing end events → HasRoom within timing strict events
+    ensures { (within : ℕ) (timing : Timing) (strict : Bool) (end : ℕ) (events ahead : List CheckEvent) (before taken behind : List Ask)
+        → AreInOrder 0 events end → AreAhead within end ahead → IsOnTime within timing end events
+        → HasRoom within timing strict end events ahead
         → wanted_in 0 events ≡ before ++ taken ++ behind → TakesOut within end taken behind
-        → AreSeen within (before ++ behind) events → found_by within timing strict end events ≡ all_missing taken }
+        → AreSeen within (before ++ behind) events → found_by within timing strict end events ahead ≡ all_missing taken }
 {}
 
 /// A lemma: nothing is found if any of the expected queries are moved within the tolerance. Queries about one thing
 /// keep their order.
 pub fn nothing_is_found_of_moved_queries()
-    ensures { (within : ℕ) (timing : Timing) (strict : Bool) (end : ℕ) (events : List CheckEvent)
-        → AreInOrder 0 events end → IsOnTime within timing end events → HasRoom within timing strict events
-        → AreSeenWithin within (wanted_in 0 events) events → found_by within timing strict end events ≡ [] }
+    ensures { (within : ℕ) (timing : Timing) (strict : Bool) (end : ℕ) (events ahead : List CheckEvent)
+        → AreInOrder 0 events end → AreAhead within end ahead → IsOnTime within timing end events
+        → HasRoom within timing strict end events ahead
+        → AreSeenWithin within (wanted_in 0 events) events → found_by within timing strict end events ahead ≡ [] }
 {}
 
 /// A lemma: the check of a capture with these queries says that nothing is found, and no more.
@@ -114,5 +119,5 @@ pub fn general_queries_are_on_time_at_these_intervals()
 pub fn a_check_of_two_queries()
     ensures in_order { AreInOrder 0 example_events 262000 }
     ensures as_wanted { IsAsWanted 100 example_timing 262000 example_expected example_events }
-    ensures room { HasRoom 100 example_timing false example_events }
+    ensures room { HasRoom 100 example_timing false 262000 example_events [] }
 {}

@@ -8,7 +8,7 @@ use crate::page_fault::{PageFault, of_check};
 use crate::settings::{Settings, querier_of};
 use crate::telling::told;
 use crate::work_room::WorkRoom;
-use mq_check::{CheckTerms, CheckedFamily, check};
+use mq_check::{Additions, CheckTerms, CheckedFamily, check};
 use mq_count::Watched;
 use mq_lines::LineKey;
 use mq_pcap::Ready;
@@ -39,7 +39,10 @@ where
     let terms = CheckTerms {
         within: settings.within,
         until: settings.end(),
-        cite: settings.cite != 0,
+        additions: Additions {
+            packets: false,
+            cite: settings.cite != 0,
+        },
         strict: false,
     };
     let mut reader = Watched::new(capture);

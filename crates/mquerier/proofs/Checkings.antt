@@ -1,7 +1,7 @@
 -- What a check comes to once it is flushed, and as a request that is performed.
 use Rattle.std.proofs.Common.{◌≡◌, ◌≤◌, ◌^◌, ◌⊎◌, ◌∙◌, subst, sym, refl, arith, false, ℕ, Bool, Bor, List, Option, None, Some, Result, Ok, Err, inl, inr, ⊎_elim}
 use Rattle.std.proofs.lemmas.Bool.{ltb-false}
-use Rattle.std.specs.Prelude.{IfSome, unwrap_or}
+use Rattle.std.specs.Prelude.{IfSome}
 use Rattle.std.specs.Io.KnownBytes.{Keeps}
 use Rattle.std.proofs.KnownBytes.{Appends-kept}
 use Rattle.mq_check.specs.declared.check_fault.CheckFault.{CheckFault}
@@ -14,10 +14,11 @@ use Rattle.mq_command.specs.declared.replay.Settings.{Settings}
 use Rattle.mq_link.specs.Configuration.{Configuration}
 use Rattle.mq_text.specs.Printing.{OutputState}
 use Rattle.mq_wire.specs.Family.{Family}
+use Rattle.mquerier.specs.declared.checking.CheckOptions.{CheckOptions}
 use Rattle.mquerier.specs.declared.failure.Failure.{Failure}
 use Rattle.mquerier.specs.declared.failure.Failure.TheVariants.{NoAddresses, NotAnAddress, NotHex, UntilTooLarge, Configuration as Unconfigured, Capture, Gap, Waiting, Conversion, ConversionRead, Memory, Write}
 use Rattle.mquerier.specs.Changes.{Input, Output}
-use Rattle.mquerier.specs.CheckRuns.{IsBrokenCheck, IsCheckedAt, WritesVerdict, asked_terms}
+use Rattle.mquerier.specs.CheckRuns.{IsCheckedAt, WritesVerdict, asked_options}
 use Rattle.mquerier.specs.Replays.{SpellsAddress, asked_configuration, family_of, is_too_large}
 use Rattle.mquerier.specs.Failures.{status_of}
 use Rattle.mquerier.specs.Status.{Concludes, Performs, PerformsCheck, Told}
@@ -61,9 +62,9 @@ checked_for protocol querier address settings terms input output (Err Conversion
 checked_for protocol querier address settings terms input output (Err Memory) spelled works = (λ e. (address, spelled, works.0 e), λ e. (address, spelled, works.1 e))
 checked_for protocol querier address settings terms input output (Err Write) spelled works = (λ e. (address, spelled, works.0 e), λ e. (address, spelled, works.1 e))
 
-pub check_performed : (protocol : Protocol) (querier : Bor (List ℕ)) (settings : Settings) (within : Option ℕ) (cite strict : Bool) (until : Option ℕ) (file : Option (Bor (List ℕ))) (in_words : Bool) (input : Input) (output errors : Output) (status : ℕ)
-    → PerformsCheck protocol querier.now settings within until cite strict in_words input output errors status → Performs (Check protocol querier settings within cite strict until file) in_words input output errors status
-check_performed protocol querier settings within cite strict until file in_words input output errors status performs =
+pub check_performed : (protocol : Protocol) (querier : Bor (List ℕ)) (settings : Settings) (within : Option ℕ) (cite packets strict : Bool) (until : Option ℕ) (file : Option (Bor (List ℕ))) (in_words : Bool) (input : Input) (output errors : Output) (status : ℕ)
+    → PerformsCheck (asked_options protocol settings within until cite packets strict) querier.now in_words input output errors status → Performs (Check protocol querier settings within cite packets strict until file) in_words input output errors status
+check_performed protocol querier settings within cite packets strict until file in_words input output errors status performs =
     record {
       at_most_four = performs.at_most_four;
       done = performs.done;
@@ -110,33 +111,31 @@ unwritten_of Memory two = tt
 unwritten_of Write two = two
 
 -- a check that reached its end
-pub check_concluded : (protocol : Protocol) (querier : List ℕ) (settings : Settings) (within until : Option ℕ) (cite strict in_words : Bool) (terms : CheckTerms) (input : Input) (output errors : Output) (totals : Totals) (status : ℕ)
-    → terms ≡ asked_terms within until cite strict → WritesVerdict protocol querier settings terms input output totals → Concludes totals errors status
-    → PerformsCheck protocol querier settings within until cite strict in_words input output errors status
-check_concluded protocol querier settings within until cite strict in_words terms input output errors totals status is works concludes =
-    let wrote = subst (λ (t : CheckTerms). WritesVerdict protocol querier settings t input output totals) is works in
+pub check_concluded : (options : CheckOptions) (querier : List ℕ) (in_words : Bool) (input : Input) (output errors : Output) (totals : Totals) (status : ℕ)
+    → WritesVerdict options.protocol querier options.settings options.terms input output totals → Concludes totals errors status
+    → PerformsCheck options querier in_words input output errors status
+check_concluded options querier in_words input output errors totals status works concludes =
     record {
       at_most_four = ⊎_elim (λ (e : status ≡ 0). omega (arith, e)) (⊎_elim (λ (e : status ≡ 3). omega (arith, e)) (λ (e : status ≡ 4). omega (arith, e))) concludes.one_of;
-      done = λ zero. let it = concludes.done zero in (totals, it.0, it.1, (wrote, it.2));
+      done = λ zero. let it = concludes.done zero in (totals, it.0, it.1, (works, it.2));
       faulty = λ one. absurd (⊎_elim (λ (e : status ≡ 0). omega (arith, e, one)) (⊎_elim (λ (e : status ≡ 3). omega (arith, e, one)) (λ (e : status ≡ 4). omega (arith, e, one))) concludes.one_of);
       refused = λ two. not_two totals errors status concludes two;
-      found = λ three. let it = concludes.found three in (totals, it.0, it.1, (wrote, it.2));
-      unjudged = λ four. let it = concludes.unjudged four in (totals, it.0, it.1, wrote, it.2);
+      found = λ three. let it = concludes.found three in (totals, it.0, it.1, (works, it.2));
+      unjudged = λ four. let it = concludes.unjudged four in (totals, it.0, it.1, works, it.2);
     }
 
 -- a check that fails, and is told
-pub check_failed : (protocol : Protocol) (querier : List ℕ) (settings : Settings) (within until : Option ℕ) (cite strict in_words : Bool) (tolerance : ℕ) (input : Input) (output errors : Output) (failure : Failure) (status : ℕ)
-    → tolerance ≡ unwrap_or within 100
-    → WorksOnCheck protocol querier settings (record { within = tolerance; until = until; cite = cite; strict = strict }) input output (Err failure)
+pub check_failed : (options : CheckOptions) (querier : List ℕ) (in_words : Bool) (input : Input) (output errors : Output) (failure : Failure) (status : ℕ)
+    → WorksOnCheck options.protocol querier options.settings options.terms input output (Err failure)
     → (IsUnwritten {X = Totals} (Err failure) → input.new ≡ input.old)
     → (IsUnwritten {X = Totals} (Err failure) → output.new ≡ output.old)
     → status ≡ status_of failure → Told in_words errors failure
-    → PerformsCheck protocol querier settings within until cite strict in_words input output errors status
-check_failed protocol querier settings within until cite strict in_words tolerance input output errors failure status same works unread unwritten is told =
+    → PerformsCheck options querier in_words input output errors status
+check_failed options querier in_words input output errors failure status works unread unwritten is told =
     record {
       at_most_four = ⊎_elim (λ (one : status_of failure ≡ 1). omega (arith, is, one)) (λ (two : status_of failure ≡ 2). omega (arith, is, two)) (status_is failure);
       done = λ zero. absurd (⊎_elim (λ (one : status_of failure ≡ 1). omega (arith, is, one, zero)) (λ (two : status_of failure ≡ 2). omega (arith, is, two, zero)) (status_is failure));
-      faulty = λ one. (failure, subst (λ (k : ℕ). IsBrokenCheck protocol querier settings (record { within = k; until = until; cite = cite; strict = strict }) input output failure) same (works.1 (sym is ∙ one)), told);
+      faulty = λ one. (failure, works.1 (sym is ∙ one), told);
       refused = λ two. (unread (unwritten_of failure (sym is ∙ two)), unwritten (unwritten_of failure (sym is ∙ two)), failure, works.0 (sym is ∙ two), told);
       found = λ three. absurd (⊎_elim (λ (one : status_of failure ≡ 1). omega (arith, is, one, three)) (λ (two : status_of failure ≡ 2). omega (arith, is, two, three)) (status_is failure));
       unjudged = λ four. absurd (⊎_elim (λ (one : status_of failure ≡ 1). omega (arith, is, one, four)) (λ (two : status_of failure ≡ 2). omega (arith, is, two, four)) (status_is failure));

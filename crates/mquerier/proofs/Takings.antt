@@ -10,9 +10,9 @@ use Rattle.mq_command.specs.declared.replay.Settings.{Settings}
 use Rattle.mq_pcap.specs.Filling.{InputState}
 use Rattle.mq_text.specs.Printing.{OutputState}
 use Rattle.mq_wire.specs.Family.{Family}
+use Rattle.mquerier.specs.declared.checking.CheckOptions.{CheckOptions}
 use Rattle.mquerier.specs.declared.failure.Failure.{Failure}
 use Rattle.mquerier.specs.declared.failure.Failure.TheVariants.{Memory, Write}
-use Rattle.mquerier.specs.declared.taking.Taking.{Taking}
 use Rattle.mquerier.specs.Changes.{BreaksOff, Input, Output, Writes}
 use Rattle.mquerier.specs.CheckRuns.{IsCheckDoneAt}
 use Rattle.mquerier.specs.Failures.{no_querier_line, status_of}
@@ -23,21 +23,21 @@ use Rattle.mquerier.specs.Working.{ChecksAt}
 use Rattle.mquerier.proofs.Checkings.{status_is}
 
 -- the check was done, and the line was not written
-pub found_unwritten : (family : Family) (taking : Taking) (found : Announced ℕ) (settings : Settings) (input : Input) (output : Output) (mid : OutputState) (text : List ℕ) (totals : Totals) (failure : Failure) → settings ≡ with_variables taking.settings found
-    → text ≡ taken_line family taking.settings found → ChecksAt family found.querier settings taking.terms input (record { old = output.old; new = mid }) (Ok totals)
-    → (failure ≡ Write) × BreaksOff (record { old = mid; new = output.new }) text → ChecksFound family taking found input output (Err failure)
-found_unwritten family taking found settings input output mid text totals failure is is_line works why =
-    let done = subst (λ (s : Settings). IsCheckDoneAt family found.querier s taking.terms input (record { old = output.old; new = mid }) totals) is works in
+pub found_unwritten : (family : Family) (options : CheckOptions) (found : Announced ℕ) (settings : Settings) (input : Input) (output : Output) (mid : OutputState) (text : List ℕ) (totals : Totals) (failure : Failure) → settings ≡ with_variables options.settings found
+    → text ≡ taken_line family options.settings found → ChecksAt family found.querier settings options.terms input (record { old = output.old; new = mid }) (Ok totals)
+    → (failure ≡ Write) × BreaksOff (record { old = mid; new = output.new }) text → ChecksFound family options found input output (Err failure)
+found_unwritten family options found settings input output mid text totals failure is is_line works why =
+    let done = subst (λ (s : Settings). IsCheckDoneAt family found.querier s options.terms input (record { old = output.old; new = mid }) totals) is works in
     let broke = subst (λ (t : List ℕ). BreaksOff (record { old = mid; new = output.new }) t) is_line why.1 in
     let one = ap status_of why.0 in
     (λ two. absurd (omega (arith, one, two)), λ _. inr (why.0, mid, totals, done, broke))
 
 -- both were done
-pub found_done : (family : Family) (taking : Taking) (found : Announced ℕ) (settings : Settings) (input : Input) (output : Output) (mid : OutputState) (text : List ℕ) (totals : Totals) → settings ≡ with_variables taking.settings found
-    → text ≡ taken_line family taking.settings found → ChecksAt family found.querier settings taking.terms input (record { old = output.old; new = mid }) (Ok totals)
-    → Writes (record { old = mid; new = output.new }) text → ChecksFound family taking found input output (Ok totals)
-found_done family taking found settings input output mid text totals is is_line works wrote =
-    let done = subst (λ (s : Settings). IsCheckDoneAt family found.querier s taking.terms input (record { old = output.old; new = mid }) totals) is works in
+pub found_done : (family : Family) (options : CheckOptions) (found : Announced ℕ) (settings : Settings) (input : Input) (output : Output) (mid : OutputState) (text : List ℕ) (totals : Totals) → settings ≡ with_variables options.settings found
+    → text ≡ taken_line family options.settings found → ChecksAt family found.querier settings options.terms input (record { old = output.old; new = mid }) (Ok totals)
+    → Writes (record { old = mid; new = output.new }) text → ChecksFound family options found input output (Ok totals)
+found_done family options found settings input output mid text totals is is_line works wrote =
+    let done = subst (λ (s : Settings). IsCheckDoneAt family found.querier s options.terms input (record { old = output.old; new = mid }) totals) is works in
     (mid, done, subst (λ (t : List ℕ). Writes (record { old = mid; new = output.new }) t) is_line wrote)
 
 -- the status of a failure is neither 0, 3 nor 4
@@ -48,9 +48,9 @@ never failure status is at = absurd (⊎_elim
     (status_is failure))
 
 -- a check of the querier that was found failed, and that was told
-failed_by : (family : Family) (taking : Taking) (found : Announced ℕ) (in_words : Bool) (input : Input) (output errors : Output) (failure : Failure) (status : ℕ)
-    → ChecksFound family taking found input output (Err failure) → status ≡ status_of failure → Told in_words errors failure → PerformsFound family taking found in_words input output errors status
-failed_by family taking found in_words input output errors failure status checks is told = record {
+failed_by : (family : Family) (options : CheckOptions) (found : Announced ℕ) (in_words : Bool) (input : Input) (output errors : Output) (failure : Failure) (status : ℕ)
+    → ChecksFound family options found input output (Err failure) → status ≡ status_of failure → Told in_words errors failure → PerformsFound family options found in_words input output errors status
+failed_by family options found in_words input output errors failure status checks is told = record {
   at_most_four = ⊎_elim (λ (one : status_of failure ≡ 1). omega (arith, is, one)) (λ (two : status_of failure ≡ 2). omega (arith, is, two)) (status_is failure);
   done = λ e. never failure status is (inl e);
   faulty = λ one. (failure, checks.1 (sym is ∙ one), told);
@@ -71,23 +71,23 @@ abbrev failure_in : Result (Option Totals) Failure → Failure
 failure_in (Ok x) = Memory
 failure_in (Err e) = e
 
-pub taking_failed : (taking : Taking) (in_words : Bool) (first input : Input) (output errors : Output) (failure : Failure) (status : ℕ)
-    → ChecksTaking (family_of taking.protocol) taking first input output (Err failure) → status ≡ status_of failure → Told in_words errors failure
-    → PerformsTaking taking in_words first input output errors status
-taking_failed taking in_words first input output errors failure status checks is told =
+pub taking_failed : (options : CheckOptions) (in_words : Bool) (first input : Input) (output errors : Output) (failure : Failure) (status : ℕ)
+    → ChecksTaking (family_of options.protocol) options first input output (Err failure) → status ≡ status_of failure → Told in_words errors failure
+    → PerformsTaking options in_words first input output errors status
+taking_failed options in_words first input output errors failure status checks is told =
     record { found = checks.found; announces = checks.announces; performs = by_found checks.found checks.checks }
   where
-    by_found : (found : Result (Option (Announced ℕ)) CheckFault) → ChecksBy (family_of taking.protocol) taking input output found (Err failure)
-        → PerformsBy (family_of taking.protocol) taking in_words input output errors status found
-    by_found (Ok (Some found)) checks = failed_by (family_of taking.protocol) taking found in_words input output errors failure status checks is told
+    by_found : (found : Result (Option (Announced ℕ)) CheckFault) → ChecksBy (family_of options.protocol) options input output found (Err failure)
+        → PerformsBy (family_of options.protocol) options in_words input output errors status found
+    by_found (Ok (Some found)) checks = failed_by (family_of options.protocol) options found in_words input output errors failure status checks is told
     by_found (Ok None) checks = absurd (cc checks.0)
     by_found (Err fault) checks =
         let same = ap failure_in checks.0 in (is ∙ ap status_of same ∙ is_one fault, checks.1, subst (λ (g : Failure). Told in_words errors g) same told)
 
 -- a check of the querier that was found reached its end
-done_by : (family : Family) (taking : Taking) (found : Announced ℕ) (in_words : Bool) (input : Input) (output errors : Output) (totals : Totals) (status : ℕ)
-    → IsFoundDone family taking found input output totals → Concludes totals errors status → PerformsFound family taking found in_words input output errors status
-done_by family taking found in_words input output errors totals status done concludes = record {
+done_by : (family : Family) (options : CheckOptions) (found : Announced ℕ) (in_words : Bool) (input : Input) (output errors : Output) (totals : Totals) (status : ℕ)
+    → IsFoundDone family options found input output totals → Concludes totals errors status → PerformsFound family options found in_words input output errors status
+done_by family options found in_words input output errors totals status done concludes = record {
   at_most_four = ⊎_elim (λ (e : status ≡ 0). omega (arith, e)) (⊎_elim (λ (e : status ≡ 3). omega (arith, e)) (λ (e : status ≡ 4). omega (arith, e))) concludes.one_of;
   done = λ zero. let it = concludes.done zero in (totals, it.0, it.1, done, it.2);
   faulty = λ one. absurd (⊎_elim (λ (e : status ≡ 0). omega (arith, e, one)) (⊎_elim (λ (e : status ≡ 3). omega (arith, e, one)) (λ (e : status ≡ 4). omega (arith, e, one))) concludes.one_of);
@@ -96,26 +96,26 @@ done_by family taking found in_words input output errors totals status done conc
   unjudged = λ four. let it = concludes.unjudged four in (totals, it.0, it.1, done, it.2);
 }
 
-pub taking_done : (taking : Taking) (in_words : Bool) (first input : Input) (output errors : Output) (totals : Totals) (status : ℕ)
-    → ChecksTaking (family_of taking.protocol) taking first input output (Ok (Some totals)) → Concludes totals errors status
-    → PerformsTaking taking in_words first input output errors status
-taking_done taking in_words first input output errors totals status checks concludes =
+pub taking_done : (options : CheckOptions) (in_words : Bool) (first input : Input) (output errors : Output) (totals : Totals) (status : ℕ)
+    → ChecksTaking (family_of options.protocol) options first input output (Ok (Some totals)) → Concludes totals errors status
+    → PerformsTaking options in_words first input output errors status
+taking_done options in_words first input output errors totals status checks concludes =
     record { found = checks.found; announces = checks.announces; performs = by_found checks.found checks.checks }
   where
-    by_found : (found : Result (Option (Announced ℕ)) CheckFault) → ChecksBy (family_of taking.protocol) taking input output found (Ok (Some totals))
-        → PerformsBy (family_of taking.protocol) taking in_words input output errors status found
-    by_found (Ok (Some found)) checks = done_by (family_of taking.protocol) taking found in_words input output errors totals status checks concludes
+    by_found : (found : Result (Option (Announced ℕ)) CheckFault) → ChecksBy (family_of options.protocol) options input output found (Ok (Some totals))
+        → PerformsBy (family_of options.protocol) options in_words input output errors status found
+    by_found (Ok (Some found)) checks = done_by (family_of options.protocol) options found in_words input output errors totals status checks concludes
     by_found (Ok None) checks = absurd (cc checks.0)
     by_found (Err fault) checks = absurd (cc checks.0)
 
-pub taking_nothing : (taking : Taking) (in_words : Bool) (first input : Input) (output errors : Output)
-    → ChecksTaking (family_of taking.protocol) taking first input output (Ok None) → IsTold errors no_querier_line
-    → PerformsTaking taking in_words first input output errors 4
-taking_nothing taking in_words first input output errors checks told =
+pub taking_nothing : (options : CheckOptions) (in_words : Bool) (first input : Input) (output errors : Output)
+    → ChecksTaking (family_of options.protocol) options first input output (Ok None) → IsTold errors no_querier_line
+    → PerformsTaking options in_words first input output errors 4
+taking_nothing options in_words first input output errors checks told =
     record { found = checks.found; announces = checks.announces; performs = by_found checks.found checks.checks }
   where
-    by_found : (found : Result (Option (Announced ℕ)) CheckFault) → ChecksBy (family_of taking.protocol) taking input output found (Ok None)
-        → PerformsBy (family_of taking.protocol) taking in_words input output errors 4 found
+    by_found : (found : Result (Option (Announced ℕ)) CheckFault) → ChecksBy (family_of options.protocol) options input output found (Ok None)
+        → PerformsBy (family_of options.protocol) options in_words input output errors 4 found
     by_found (Ok (Some found)) checks = absurd checks
     by_found (Ok None) checks = (refl, checks.1, told)
     by_found (Err fault) checks = absurd (cc checks.0)
@@ -125,9 +125,9 @@ pub as_found : {K : Type 0} (family : Family) (number : K → ℕ) (old new : In
     → Announces family old new (Ok (numbered_announced_if number o)) → Announces family old new (Ok (numbered_announced_if number o'))
 as_found {K} family number old new o o' same announces = subst (λ (x : Option (Announced K)). Announces family old new (Ok (numbered_announced_if number x))) same announces
 
-pub as_family : (family : Family) (taking : Taking) (first input : Input) (output : Output) (r : Result (Option Totals) Failure) → family_of taking.protocol ≡ family
-    → ChecksTaking family taking first input output r → ChecksTaking (family_of taking.protocol) taking first input output r
-as_family family taking first input output r same checks = subst (λ (f : Family). ChecksTaking f taking first input output r) (sym same) checks
+pub as_family : (family : Family) (options : CheckOptions) (first input : Input) (output : Output) (r : Result (Option Totals) Failure) → family_of options.protocol ≡ family
+    → ChecksTaking family options first input output r → ChecksTaking (family_of options.protocol) options first input output r
+as_family family options first input output r same checks = subst (λ (f : Family). ChecksTaking f options first input output r) (sym same) checks
 
-pub as_result : (family : Family) (taking : Taking) (first input : Input) (output : Output) (o o' : Option Totals) → o ≡ o' → ChecksTaking family taking first input output (Ok o) → ChecksTaking family taking first input output (Ok o')
-as_result family taking first input output o o' same checks = subst (λ (x : Option Totals). ChecksTaking family taking first input output (Ok x)) same checks
+pub as_result : (family : Family) (options : CheckOptions) (first input : Input) (output : Output) (o o' : Option Totals) → o ≡ o' → ChecksTaking family options first input output (Ok o) → ChecksTaking family options first input output (Ok o')
+as_result family options first input output o o' same checks = subst (λ (x : Option Totals). ChecksTaking family options first input output (Ok x)) same checks

@@ -8,15 +8,20 @@ use Rattle.mq_check.specs.CheckedCaptures.{Checks}
 use Rattle.mq_command.specs.declared.Protocol.{Protocol}
 use Rattle.mq_command.specs.declared.replay.Settings.{Settings}
 use Rattle.mq_wire.specs.Family.{Family}
+use Rattle.mquerier.specs.declared.checking.CheckOptions.{CheckOptions}
 use Rattle.mquerier.specs.declared.failure.Failure.{Failure}
 use Rattle.mquerier.specs.declared.failure.Failure.TheVariants.{Capture, Gap, Waiting, Memory, Write}
 use Rattle.mquerier.specs.Changes.{Input, Output}
 use Rattle.mquerier.specs.Replays.{SpellsAddress, IsAcceptedAt, asked_configuration, family_of}
 
--- the requested tolerance, end, citations and readings; the default tolerance is 100 milliseconds
-abbrev pub asked_terms : (within until : Option ℕ) → (cite strict : Bool) → CheckTerms
-asked_terms within until cite strict =
-    record { within = unwrap_or within 100; until = until; cite = cite; strict = strict }
+-- the requested tolerance, end, additions to lines and readings; the default tolerance is 100 milliseconds
+abbrev pub asked_terms : (within until : Option ℕ) → (cite packets strict : Bool) → CheckTerms
+asked_terms within until cite packets strict =
+    record { within = unwrap_or within 100; until = until; additions = record { packets = packets; cite = cite }; strict = strict }
+
+abbrev pub asked_options : Protocol → Settings → (within until : Option ℕ) → (cite packets strict : Bool) → CheckOptions
+asked_options protocol settings within until cite packets strict =
+    record { protocol = protocol; settings = settings; terms = asked_terms within until cite packets strict }
 
 -- the capture was checked as requested, with this result
 abbrev pub IsCheckedAt : Family → (querier : ℕ) → Settings → CheckTerms → Input → Output → Result Totals CheckFault → Type 0

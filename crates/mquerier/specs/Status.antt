@@ -24,12 +24,13 @@ use Rattle.mq_replay.specs.declared.replay_fault.ReplayFault.{ReplayFault}
 use Rattle.mq_replay.specs.Listing.{Shows}
 use Rattle.mq_wire.specs.Family as family
 use Rattle.mq_wire.specs.PseudoHeader.{pseudo_header}
+use Rattle.mquerier.specs.declared.checking.CheckOptions.{CheckOptions}
 use Rattle.mquerier.specs.declared.failure.Failure.{Failure}
 use Rattle.mquerier.specs.declared.failure.Failure.TheVariants.{NoAddresses, NotAnAddress, NotHex, Memory, Write}
 use Rattle.mquerier.specs.Breaking.{IsBrokenOff, IsConversionBroken}
 use Rattle.mquerier.specs.Changes.{Input, Output, Writes, BreaksOff}
 use Rattle.mquerier.specs.Choosing.{choice_of}
-use Rattle.mquerier.specs.CheckRuns.{IsBrokenCheck, WritesVerdict, asked_terms}
+use Rattle.mquerier.specs.CheckRuns.{IsBrokenCheck, WritesVerdict, asked_options, asked_terms}
 use Rattle.mquerier.specs.Failures.{counts_lines, failure_line, unjudged_line, version_line}
 use Rattle.mquerier.specs.HexLine.{IsHexLine}
 use Rattle.mquerier.specs.Replays.{SpellsAddress, IsRefusedAt, IsDoneAt, IsBrokenAt, family_of}
@@ -75,7 +76,7 @@ IsRefused (Message protocol hex from to) failure =
 IsRefused (Convert interface vlan once file) failure = ⊥
 IsRefused (Show file) failure = ⊥
 IsRefused (Replay protocol own settings until changes file) failure = IsRefusedReplay protocol own.now settings until failure
-IsRefused (Check protocol querier settings within cite strict until file) failure =
+IsRefused (Check protocol querier settings within cite packets strict until file) failure =
     IsRefusedReplay protocol querier.now settings until failure
 
 -- a given text is parsed as this IPv6 address
@@ -123,9 +124,9 @@ IsDone (Show file) input output flag =
     (flag ≡ true) × (output.new.failed ≡ output.old.failed) × (count : ℕ) × WritesListing input output (Ok count)
 IsDone (Replay protocol own settings until changes file) input output flag =
     WritesReport protocol own.now settings (record { until = until; changes = changes }) input output flag
-IsDone (Check protocol querier settings within cite strict until file) input output flag =
+IsDone (Check protocol querier settings within cite packets strict until file) input output flag =
     (flag ≡ true) × (totals : Totals)
-    × WritesVerdict protocol querier.now settings (asked_terms within until cite strict) input output totals
+    × WritesVerdict protocol querier.now settings (asked_terms within until cite packets strict) input output totals
 
 -- The line of a message was not written. Either an allocation failed before any of it, or the output failed after a
 -- prefix.
@@ -150,8 +151,8 @@ IsBroken (Convert interface vlan once file) input output failure =
 IsBroken (Show file) input output failure = IsBrokenOff (WritesListing input output) input output failure
 IsBroken (Replay protocol own settings until changes file) input output failure =
     IsBrokenReplay protocol own.now settings (record { until = until; changes = changes }) input output failure
-IsBroken (Check protocol querier settings within cite strict until file) input output failure =
-    IsBrokenCheck protocol querier.now settings (asked_terms within until cite strict) input output failure
+IsBroken (Check protocol querier settings within cite packets strict until file) input output failure =
+    IsBrokenCheck protocol querier.now settings (asked_terms within until cite packets strict) input output failure
 
 -- a message's fault was written without a line on standard error, or the work ended early and its reason was reported
 abbrev pub IsFaulty : Request → (in_words : Bool) → Input → (output errors : Output) → Type 0
@@ -165,7 +166,7 @@ IsOfMessage (Message protocol hex from to) = Unit {0}
 IsOfMessage (Convert interface vlan once file) = ⊥
 IsOfMessage (Show file) = ⊥
 IsOfMessage (Replay protocol own settings until changes file) = ⊥
-IsOfMessage (Check protocol querier settings within cite strict until file) = ⊥
+IsOfMessage (Check protocol querier settings within cite packets strict until file) = ⊥
 
 -- a request for a conversion
 abbrev pub IsConversion : Request → Type 0
@@ -173,7 +174,7 @@ IsConversion (Message protocol hex from to) = ⊥
 IsConversion (Convert interface vlan once file) = Unit {0}
 IsConversion (Show file) = ⊥
 IsConversion (Replay protocol own settings until changes file) = ⊥
-IsConversion (Check protocol querier settings within cite strict until file) = ⊥
+IsConversion (Check protocol querier settings within cite packets strict until file) = ⊥
 
 -- a request for a check
 abbrev pub IsCheck : Request → Type 0
@@ -181,12 +182,12 @@ IsCheck (Message protocol hex from to) = ⊥
 IsCheck (Convert interface vlan once file) = ⊥
 IsCheck (Show file) = ⊥
 IsCheck (Replay protocol own settings until changes file) = ⊥
-IsCheck (Check protocol querier settings within cite strict until file) = Unit {0}
+IsCheck (Check protocol querier settings within cite packets strict until file) = Unit {0}
 
 -- A check reached its end with these totals, and standard error is unchanged.
-abbrev pub HasChecked : Protocol → (querier : List ℕ) → Settings → (within until : Option ℕ) → (cite strict : Bool) → Input → (output errors : Output) → Totals → Type 0
-HasChecked protocol querier settings within until cite strict input output errors totals =
-    WritesVerdict protocol querier settings (asked_terms within until cite strict) input output totals × (errors.new ≡ errors.old)
+abbrev pub HasChecked : CheckOptions → (querier : List ℕ) → Input → (output errors : Output) → Totals → Type 0
+HasChecked options querier input output errors totals =
+    WritesVerdict options.protocol querier options.settings options.terms input output totals × (errors.new ≡ errors.old)
 
 -- The counts of a conversion were reported on standard error, if one isn't 0. They are those of repeated packets, of
 -- packets that the file records as dropped, and of packets whose link type isn't read.
@@ -218,14 +219,14 @@ IsDoneTelling (Convert interface vlan once file) input output errors =
 IsDoneTelling (Show file) input output errors = IsDone (Show file) input output true × (errors.new ≡ errors.old)
 IsDoneTelling (Replay protocol own settings until changes file) input output errors =
     IsDone (Replay protocol own settings until changes file) input output true × (errors.new ≡ errors.old)
-IsDoneTelling (Check protocol querier settings within cite strict until file) input output errors =
-    (totals : Totals) × (totals.findings ≡ 0) × IsJudged totals × HasChecked protocol querier.now settings within until cite strict input output errors totals
+IsDoneTelling (Check protocol querier settings within cite packets strict until file) input output errors =
+    (totals : Totals) × (totals.findings ≡ 0) × IsJudged totals × HasChecked (asked_options protocol settings within until cite packets strict) querier.now input output errors totals
 
 -- A check reached its end without anything to judge, and the reason was reported.
-abbrev pub HasJudgedNothing : Protocol → (querier : List ℕ) → Settings → (within until : Option ℕ) → (cite strict : Bool) → Input → (output errors : Output) → Type 0
-HasJudgedNothing protocol querier settings within until cite strict input output errors =
+abbrev pub HasJudgedNothing : CheckOptions → (querier : List ℕ) → Input → (output errors : Output) → Type 0
+HasJudgedNothing options querier input output errors =
     (totals : Totals) × (why : Unjudged) × (unjudged_by totals ≡ Some why)
-    × WritesVerdict protocol querier settings (asked_terms within until cite strict) input output totals
+    × WritesVerdict options.protocol querier options.settings options.terms input output totals
     × IsTold errors (unjudged_line why)
 
 -- A check has findings.
@@ -234,9 +235,9 @@ IsFinding (Message protocol hex from to) input output errors = ⊥
 IsFinding (Convert interface vlan once file) input output errors = ⊥
 IsFinding (Show file) input output errors = ⊥
 IsFinding (Replay protocol own settings until changes file) input output errors = ⊥
-IsFinding (Check protocol querier settings within cite strict until file) input output errors =
+IsFinding (Check protocol querier settings within cite packets strict until file) input output errors =
     (totals : Totals) × (1 ≤ totals.findings) × IsJudged totals
-    × HasChecked protocol querier.now settings within until cite strict input output errors totals
+    × HasChecked (asked_options protocol settings within until cite packets strict) querier.now input output errors totals
 
 -- A check had nothing to judge.
 abbrev pub IsUnjudged : Request → Input → (output errors : Output) → Type 0
@@ -244,8 +245,8 @@ IsUnjudged (Message protocol hex from to) input output errors = ⊥
 IsUnjudged (Convert interface vlan once file) input output errors = ⊥
 IsUnjudged (Show file) input output errors = ⊥
 IsUnjudged (Replay protocol own settings until changes file) input output errors = ⊥
-IsUnjudged (Check protocol querier settings within cite strict until file) input output errors =
-    HasJudgedNothing protocol querier.now settings within until cite strict input output errors
+IsUnjudged (Check protocol querier settings within cite packets strict until file) input output errors =
+    HasJudgedNothing (asked_options protocol settings within until cite packets strict) querier.now input output errors
 
 -- The request was performed with this status.
 pub record Performs (request : Request) (in_words : Bool) (input : Input) (output errors : Output) (status : ℕ) : Type 0 where
@@ -269,17 +270,17 @@ pub record PerformsConversion (choice : Choice) (in_words : Bool) (input : Input
 
 -- A check reached its end, with or without findings, or without anything to judge. Or it was refused or ended early,
 -- with a reported reason.
-pub record PerformsCheck (protocol : Protocol) (querier : List ℕ) (settings : Settings) (within until : Option ℕ) (cite strict in_words : Bool) (input : Input) (output errors : Output) (status : ℕ) : Type 0 where
+pub record PerformsCheck (options : CheckOptions) (querier : List ℕ) (in_words : Bool) (input : Input) (output errors : Output) (status : ℕ) : Type 0 where
   pub at_most_four : status ≤ 4
   pub done : status ≡ 0 → (totals : Totals) × (totals.findings ≡ 0) × IsJudged totals
-      × HasChecked protocol querier settings within until cite strict input output errors totals
+      × HasChecked options querier input output errors totals
   pub faulty : status ≡ 1 → (failure : Failure)
-      × IsBrokenCheck protocol querier settings (asked_terms within until cite strict) input output failure × Told in_words errors failure
+      × IsBrokenCheck options.protocol querier options.settings options.terms input output failure × Told in_words errors failure
   pub refused : status ≡ 2 → (input.new ≡ input.old) × (output.new ≡ output.old)
-      × (failure : Failure) × IsRefusedReplay protocol querier settings until failure × Told in_words errors failure
+      × (failure : Failure) × IsRefusedReplay options.protocol querier options.settings options.terms.until failure × Told in_words errors failure
   pub found : status ≡ 3 → (totals : Totals) × (1 ≤ totals.findings) × IsJudged totals
-      × HasChecked protocol querier settings within until cite strict input output errors totals
-  pub unjudged : status ≡ 4 → HasJudgedNothing protocol querier settings within until cite strict input output errors
+      × HasChecked options querier input output errors totals
+  pub unjudged : status ≡ 4 → HasJudgedNothing options querier input output errors
 
 -- a text of at least one line was written on standard error
 abbrev pub TellsLines : (errors : Output) → Type 0

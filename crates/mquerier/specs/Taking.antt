@@ -17,27 +17,27 @@ use Rattle.mq_command.specs.declared.replay.Settings.{Settings}
 use Rattle.mq_lines.specs.Text.{address_text}
 use Rattle.mq_text.specs.Printing.{OutputState}
 use Rattle.mq_wire.specs.Family.{Family}
+use Rattle.mquerier.specs.declared.checking.CheckOptions.{CheckOptions}
 use Rattle.mquerier.specs.declared.failure.Failure.{Failure}
 use Rattle.mquerier.specs.declared.failure.Failure.TheVariants.{Capture, Memory, Write}
-use Rattle.mquerier.specs.declared.taking.Taking.{Taking}
 use Rattle.mquerier.specs.Changes.{BreaksOff, Input, Output, Writes}
-use Rattle.mquerier.specs.CheckRuns.{IsCheckBrokenAt, IsCheckDoneAt, asked_terms}
+use Rattle.mquerier.specs.CheckRuns.{IsCheckBrokenAt, IsCheckDoneAt, asked_options}
 use Rattle.mquerier.specs.Failures.{no_querier_line, status_of, unjudged_line}
 use Rattle.mquerier.specs.Replays.{IsRefusedAt, family_of}
 use Rattle.mquerier.specs.Status.{IsJudged, IsTold, Told}
 
 -- the request for a check whose querier is the word `auto`
-abbrev pub taking_in : Request → Option Taking
+abbrev pub taking_in : Request → Option CheckOptions
 taking_in (Message protocol hex from to) = None
 taking_in (Convert interface vlan once file) = None
 taking_in (Show file) = None
 taking_in (Replay protocol own settings until changes file) = None
-taking_in (Check protocol querier settings within cite strict until file) =
+taking_in (Check protocol querier settings within cite packets strict until file) =
     if bytes_eq querier.now (codes "auto")
-    then Some (record { protocol = protocol; settings = settings; terms = asked_terms within until cite strict })
+    then Some (asked_options protocol settings within until cite packets strict)
     else None
 
-abbrev pub taking_of : Result Request Error → Option Taking
+abbrev pub taking_of : Result Request Error → Option CheckOptions
 taking_of (Ok request) = taking_in request
 taking_of (Err error) = None
 
@@ -65,31 +65,31 @@ taken_line family s found =
     ++ taken_text (codes " lmqi ") s.last_member_interval found.last_member_interval ++ codes "\n"
 
 -- The check of this querier reached its end. Then the line of what comes from the capture was written.
-abbrev pub IsFoundDone : Family → Taking → Announced ℕ → Input → Output → Totals → Type 0
-IsFoundDone family taking found input output totals =
+abbrev pub IsFoundDone : Family → CheckOptions → Announced ℕ → Input → Output → Totals → Type 0
+IsFoundDone family options found input output totals =
     (mid : OutputState)
-    × IsCheckDoneAt family found.querier (with_variables taking.settings found) taking.terms input (record { old = output.old; new = mid }) totals
-    × Writes (record { old = mid; new = output.new }) (taken_line family taking.settings found)
+    × IsCheckDoneAt family found.querier (with_variables options.settings found) options.terms input (record { old = output.old; new = mid }) totals
+    × Writes (record { old = mid; new = output.new }) (taken_line family options.settings found)
 
 -- the check ended early, or the output failed at that line
-abbrev pub IsFoundBroken : Family → Taking → Announced ℕ → Input → Output → Failure → Type 0
-IsFoundBroken family taking found input output failure =
-    IsCheckBrokenAt family found.querier (with_variables taking.settings found) taking.terms input output failure
+abbrev pub IsFoundBroken : Family → CheckOptions → Announced ℕ → Input → Output → Failure → Type 0
+IsFoundBroken family options found input output failure =
+    IsCheckBrokenAt family found.querier (with_variables options.settings found) options.terms input output failure
     ⊎ ((failure ≡ Write) × (mid : OutputState) × (totals : Totals)
-    × IsCheckDoneAt family found.querier (with_variables taking.settings found) taking.terms input (record { old = output.old; new = mid }) totals
-    × BreaksOff (record { old = mid; new = output.new }) (taken_line family taking.settings found))
+    × IsCheckDoneAt family found.querier (with_variables options.settings found) options.terms input (record { old = output.old; new = mid }) totals
+    × BreaksOff (record { old = mid; new = output.new }) (taken_line family options.settings found))
 
 -- nothing was read again, and nothing was written
 abbrev pub IsUntouched : Input → Output → Type 0
 IsUntouched input output = (input.new ≡ input.old) × (output.new ≡ output.old)
 
 -- the result of the check of a querier that announces these variables
-abbrev pub ChecksFound : Family → Taking → Announced ℕ → Input → Output → Result Totals Failure → Type 0
-ChecksFound family taking found input output (Ok totals) = IsFoundDone family taking found input output totals
-ChecksFound family taking found input output (Err failure) =
+abbrev pub ChecksFound : Family → CheckOptions → Announced ℕ → Input → Output → Result Totals Failure → Type 0
+ChecksFound family options found input output (Ok totals) = IsFoundDone family options found input output totals
+ChecksFound family options found input output (Err failure) =
     (status_of failure ≡ 2 → IsUntouched input output
-    × IsRefusedAt family found.querier (with_variables taking.settings found) taking.terms.until failure)
-    × (status_of failure ≡ 1 → IsFoundBroken family taking found input output failure)
+    × IsRefusedAt family found.querier (with_variables options.settings found) options.terms.until failure)
+    × (status_of failure ≡ 1 → IsFoundBroken family options found input output failure)
 
 -- the failure of the first reading: a fault of the capture, or else refused memory
 abbrev pub first_failure : CheckFault → Failure
@@ -97,47 +97,47 @@ first_failure (answer.Pcap f) = Capture f
 first_failure fault = Memory
 
 -- the result by what the first reading of the capture found
-abbrev pub ChecksBy : Family → Taking → Input → Output → Result (Option (Announced ℕ)) CheckFault → Result (Option Totals) Failure → Type 0
-ChecksBy family taking input output (Ok (Some found)) (Ok (Some totals)) =
-    ChecksFound family taking found input output (Ok totals)
-ChecksBy family taking input output (Ok (Some found)) (Ok None) = ⊥
-ChecksBy family taking input output (Ok (Some found)) (Err failure) =
-    ChecksFound family taking found input output (Err failure)
-ChecksBy family taking input output (Ok None) r = (r ≡ Ok None) × IsUntouched input output
-ChecksBy family taking input output (Err fault) r = (r ≡ Err (first_failure fault)) × IsUntouched input output
+abbrev pub ChecksBy : Family → CheckOptions → Input → Output → Result (Option (Announced ℕ)) CheckFault → Result (Option Totals) Failure → Type 0
+ChecksBy family options input output (Ok (Some found)) (Ok (Some totals)) =
+    ChecksFound family options found input output (Ok totals)
+ChecksBy family options input output (Ok (Some found)) (Ok None) = ⊥
+ChecksBy family options input output (Ok (Some found)) (Err failure) =
+    ChecksFound family options found input output (Err failure)
+ChecksBy family options input output (Ok None) r = (r ≡ Ok None) × IsUntouched input output
+ChecksBy family options input output (Err fault) r = (r ≡ Err (first_failure fault)) × IsUntouched input output
 
-pub record ChecksTaking (family : Family) (taking : Taking) (first input : Input) (output : Output) (r : Result (Option Totals) Failure) : Type 0 where
+pub record ChecksTaking (family : Family) (options : CheckOptions) (first input : Input) (output : Output) (r : Result (Option Totals) Failure) : Type 0 where
   pub found : Result (Option (Announced ℕ)) CheckFault
   pub announces : Announces family first.old first.new found
-  pub checks : ChecksBy family taking input output found r
+  pub checks : ChecksBy family options input output found r
 
 -- A check of this querier reached its end, with or without findings, or without anything to judge. Or it was refused or
 -- ended early, with a reported reason.
-pub record PerformsFound (family : Family) (taking : Taking) (found : Announced ℕ) (in_words : Bool) (input : Input) (output errors : Output) (status : ℕ) : Type 0 where
+pub record PerformsFound (family : Family) (options : CheckOptions) (found : Announced ℕ) (in_words : Bool) (input : Input) (output errors : Output) (status : ℕ) : Type 0 where
   pub at_most_four : status ≤ 4
   pub done : status ≡ 0 → (totals : Totals) × (totals.findings ≡ 0) × IsJudged totals
-      × IsFoundDone family taking found input output totals × (errors.new ≡ errors.old)
+      × IsFoundDone family options found input output totals × (errors.new ≡ errors.old)
   pub faulty : status ≡ 1 → (failure : Failure)
-      × IsFoundBroken family taking found input output failure × Told in_words errors failure
+      × IsFoundBroken family options found input output failure × Told in_words errors failure
   pub refused : status ≡ 2 → IsUntouched input output × (failure : Failure)
-      × IsRefusedAt family found.querier (with_variables taking.settings found) taking.terms.until failure × Told in_words errors failure
+      × IsRefusedAt family found.querier (with_variables options.settings found) options.terms.until failure × Told in_words errors failure
   pub differs : status ≡ 3 → (totals : Totals) × (1 ≤ totals.findings) × IsJudged totals
-      × IsFoundDone family taking found input output totals × (errors.new ≡ errors.old)
+      × IsFoundDone family options found input output totals × (errors.new ≡ errors.old)
   pub unjudged : status ≡ 4 → (totals : Totals) × (why : Unjudged) × (unjudged_by totals ≡ Some why)
-      × IsFoundDone family taking found input output totals × IsTold errors (unjudged_line why)
+      × IsFoundDone family options found input output totals × IsTold errors (unjudged_line why)
 
 -- the outcome by what the first reading of the capture found
-abbrev pub PerformsBy : Family → Taking → (in_words : Bool) → Input → (output errors : Output) → (status : ℕ) → Result (Option (Announced ℕ)) CheckFault → Type 0
-PerformsBy family taking in_words input output errors status (Ok (Some found)) =
-    PerformsFound family taking found in_words input output errors status
-PerformsBy family taking in_words input output errors status (Ok None) =
+abbrev pub PerformsBy : Family → CheckOptions → (in_words : Bool) → Input → (output errors : Output) → (status : ℕ) → Result (Option (Announced ℕ)) CheckFault → Type 0
+PerformsBy family options in_words input output errors status (Ok (Some found)) =
+    PerformsFound family options found in_words input output errors status
+PerformsBy family options in_words input output errors status (Ok None) =
     (status ≡ 4) × IsUntouched input output × IsTold errors no_querier_line
-PerformsBy family taking in_words input output errors status (Err fault) =
+PerformsBy family options in_words input output errors status (Err fault) =
     (status ≡ 1) × IsUntouched input output × Told in_words errors (first_failure fault)
 
 -- A check of the querier that the capture names was performed with this status. The capture was read once for what is
 -- announced, and then again for the check.
-pub record PerformsTaking (taking : Taking) (in_words : Bool) (first input : Input) (output errors : Output) (status : ℕ) : Type 0 where
+pub record PerformsTaking (options : CheckOptions) (in_words : Bool) (first input : Input) (output errors : Output) (status : ℕ) : Type 0 where
   pub found : Result (Option (Announced ℕ)) CheckFault
-  pub announces : Announces (family_of taking.protocol) first.old first.new found
-  pub performs : PerformsBy (family_of taking.protocol) taking in_words input output errors status found
+  pub announces : Announces (family_of options.protocol) first.old first.new found
+  pub performs : PerformsBy (family_of options.protocol) options in_words input output errors status found

@@ -17,36 +17,45 @@ use mq_text::{read_v4, read_v6};
 use std::alloc::Global;
 use std::io::{Read, Write};
 
-/// Checks the querier with this address and these settings in the input capture. Nothing is read or written until the
-/// request is accepted and all memory is allocated.
+/// The options of a check, without its querier.
+#[derive(Clone, Copy)]
+pub struct CheckOptions {
+    /// The querier's protocol.
+    pub protocol: Protocol,
+    /// The given variables and limits.
+    pub settings: Settings,
+    /// The terms of the check.
+    pub terms: CheckTerms,
+}
+
+/// Checks the querier with this address in the input capture. Nothing is read or written until the request is accepted
+/// and all memory is allocated.
 pub(crate) fn check_capture<S: Supply, R: Read, W: Write>(
     alloc: Global,
-    protocol: Protocol,
+    options: &CheckOptions,
     querier: &str,
-    settings: &Settings,
-    terms: CheckTerms,
     supply: &S,
     input: &mut Watched<R>,
     output: &mut Watched<W>,
 ) -> Result<Totals, Failure>
-    ensures works { WorksOnCheck protocol querier.now settings.now terms
+    ensures works { WorksOnCheck options.now.protocol querier.now options.now.settings options.now.terms
         (input_by R.remaining input.old input.new)
         (output_by W.contents output.old output.new)
         result }
     ensures unread { IsUnwritten result → input.new ≡ input.old }
     ensures unwritten { IsUnwritten result → output.new ≡ output.old }
 {
-    match protocol {
+    match options.protocol {
         Protocol::Igmp => match read_v4(querier) {
             Some(address) => {
-                check_at::<Igmp, S, R, W>(alloc, address, settings, terms, supply, input, output)
+                check_at::<Igmp, S, R, W>(alloc, options, address, supply, input, output)
             }
             None => Err(Failure::NotAnAddress),
         },
         Protocol::Mld => match read_v6(querier) {
-            Some(address) => check_at::<Mld, S, R, W>(
-                alloc, address, settings, terms, supply, input, output,
-            ),
+            Some(address) => {
+                check_at::<Mld, S, R, W>(alloc, options, address, supply, input, output)
+            }
             None => Err(Failure::NotAnAddress),
         },
     }
@@ -55,25 +64,24 @@ pub(crate) fn check_capture<S: Supply, R: Read, W: Write>(
 /// Checks the querier of the family `F` with the address `querier`.
 pub(crate) fn check_at<F: CheckedFamily, S: Supply, R: Read, W: Write>(
     alloc: Global,
+    options: &CheckOptions,
     querier: F::Address,
-    settings: &Settings,
-    terms: CheckTerms,
     supply: &S,
     input: &mut Watched<R>,
     output: &mut Watched<W>,
 ) -> Result<Totals, Failure>
 where
     F::Address: LineKey,
-    ensures works { ChecksAt F.FAMILY (F.Address.number querier) settings.now terms
+    ensures works { ChecksAt F.FAMILY (F.Address.number querier) options.now.settings options.now.terms
         (input_by R.remaining input.old input.new)
         (output_by W.contents output.old output.new)
         result }
     ensures unread { IsUnwritten result → input.new ≡ input.old }
     ensures unwritten { IsUnwritten result → output.new ≡ output.old }
 {
-    let _end = moment_asked(terms.until)?;
-    let config = configured::<F>(querier, settings)?;
-    match check(alloc, config, terms, supply, input, output) {
+    let _end = moment_asked(options.terms.until)?;
+    let config = configured::<F>(querier, &options.settings)?;
+    match check(alloc, config, options.terms, supply, input, output) {
         Ok(totals) => {
             flush(output)?;
             Ok(totals)

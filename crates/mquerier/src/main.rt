@@ -10,6 +10,7 @@
 #![tactic(auto)]
 
 mod checking;
+mod console;
 mod converting;
 mod counts;
 mod failure;
@@ -23,7 +24,9 @@ mod unopened;
 mod unread;
 mod work;
 
+pub use checking::CheckOptions;
 use clap::Error;
+pub use console::Console;
 use failure::FAULTY;
 use foreign::tell_kind;
 use mq_command::{Request, request_of};
@@ -35,7 +38,7 @@ use std::fs::File;
 use std::io::{BufReader, ErrorKind, IsTerminal, Read, Write};
 use std::process::ExitCode;
 use std::{env, io};
-pub use taking::{Taking, perform_taking, taking_of};
+pub use taking::{perform_taking, taking_of};
 pub use unopened::{refuse_file, refuse_stream};
 
 /// The number of bytes that are read at once.
@@ -61,45 +64,48 @@ fn run_on_host(rt: &HostRuntime) -> io::Result<u8> {
     for word in env::args(rt)? {
         words.push(word)?;
     }
-    // A person reads the meaning of a failure's number; a script gets one line for each failure.
-    let in_words = rt.stderr().is_terminal();
-    let mut output = Watched::new(rt.stdout());
-    let mut errors = Watched::new(rt.stderr());
+    let mut console = Console {
+        output: Watched::new(rt.stdout()),
+        errors: Watched::new(rt.stderr()),
+        in_words: rt.stderr().is_terminal(),
+    };
     let asked = request_of(alloc, &words);
     let taking = taking_of(&asked);
     let Some(name) = named_file(&asked) else {
         if taking.is_some() {
-            return Ok(refuse_stream(&mut errors));
+            return Ok(refuse_stream(&mut console.errors));
         }
         let reader = BufReader::with_capacity(alloc, INPUT, Beginning::new(rt.stdin()))?;
-        return Ok(run_on(alloc, asked, in_words, reader, &mut output, &mut errors));
+        return Ok(run_on(alloc, asked, reader, &mut console));
     };
-    let reader = match File::open(rt, name) {
-        Ok(file) => BufReader::with_capacity(alloc, INPUT, Beginning::new(file))?,
-        Err(error) => {
-            let reason = format!(in alloc; "{error}")?;
-            return Ok(refuse_file(name, &reason, &mut errors));
-        }
+    let reader = match opened(rt, name, &mut console.errors)? {
+        Ok(reader) => reader,
+        Err(status) => return Ok(status),
     };
-    let Some(taking) = taking else {
-        return Ok(run_on(alloc, asked, in_words, reader, &mut output, &mut errors));
+    let Some(options) = taking else {
+        return Ok(run_on(alloc, asked, reader, &mut console));
     };
+    match opened(rt, name, &mut console.errors)? {
+        Ok(again) => Ok(run_twice(alloc, &options, reader, again, &mut console)),
+        Err(status) => Ok(status),
+    }
+}
+
+/// Returns a reader of the file. If the file can't be opened, it reports the reason and returns the status.
+fn opened<E: Write>(
+    rt: &HostRuntime,
+    name: &str,
+    errors: &mut Watched<E>,
+) -> io::Result<Result<BufReader<Beginning<File>>, u8>> {
+    let alloc = rt.alloc();
     match File::open(rt, name) {
         Ok(file) => {
-            let again = BufReader::with_capacity(alloc, INPUT, Beginning::new(file))?;
-            Ok(run_twice(
-                alloc,
-                &taking,
-                in_words,
-                reader,
-                again,
-                &mut output,
-                &mut errors,
-            ))
+            let reader = BufReader::with_capacity(alloc, INPUT, Beginning::new(file))?;
+            Ok(Ok(reader))
         }
         Err(error) => {
             let reason = format!(in alloc; "{error}")?;
-            Ok(refuse_file(name, &reason, &mut errors))
+            Ok(Err(refuse_file(name, &reason, errors)))
         }
     }
 }
@@ -107,64 +113,48 @@ fn run_on_host(rt: &HostRuntime) -> io::Result<u8> {
 /// Runs a check of the querier that the capture names. `reader` and `again` read the same file.
 fn run_twice<R: Read + Drop, W: Write, E: Write>(
     alloc: Global,
-    taking: &Taking,
-    in_words: bool,
+    options: &CheckOptions,
     reader: BufReader<Beginning<R>>,
     again: BufReader<Beginning<R>>,
-    output: &mut Watched<W>,
-    errors: &mut Watched<E>,
+    console: &mut Console<W, E>,
 ) -> u8 {
-    let first = Source::new(reader);
-    let mut beginning = Watched::new(&first);
-    let status = run_again(
-        alloc,
-        taking,
-        in_words,
-        &mut beginning,
-        again,
-        output,
-        errors,
-    );
-    if in_words && status == FAULTY {
-        tell_kind(first.first(), false, errors);
+    let source = Source::new(reader);
+    let mut first = Watched::new(&source);
+    let status = run_again(alloc, options, &mut first, again, console);
+    if console.in_words && status == FAULTY {
+        tell_kind(source.first(), false, &mut console.errors);
     }
     status
+}
+
+/// Runs the check after the first reader of the file.
+fn run_again<Q: Read, R: Read + Drop, W: Write, E: Write>(
+    alloc: Global,
+    options: &CheckOptions,
+    first: &mut Watched<Q>,
+    again: BufReader<Beginning<R>>,
+    console: &mut Console<W, E>,
+) -> u8 {
+    let source = Source::new(again);
+    let mut input = Watched::new(&source);
+    perform_taking(alloc, options, first, &source, &mut input, console)
 }
 
 /// Runs on this input. If a file is of another kind, it also tells a person how to read it.
 fn run_on<R: Read + Drop, W: Write, E: Write>(
     alloc: Global,
     asked: Result<Request<'_>, Error>,
-    in_words: bool,
     reader: BufReader<Beginning<R>>,
-    output: &mut Watched<W>,
-    errors: &mut Watched<E>,
+    console: &mut Console<W, E>,
 ) -> u8 {
     let converts = matches!(&asked, Ok(Request::Convert { .. }));
     let source = Source::new(reader);
     let mut input = Watched::new(&source);
-    let status = run(alloc, asked, in_words, &source, &mut input, output, errors);
-    if in_words && status == FAULTY {
-        tell_kind(source.first(), converts, errors);
+    let status = run(alloc, asked, &source, &mut input, console);
+    if console.in_words && status == FAULTY {
+        tell_kind(source.first(), converts, &mut console.errors);
     }
     status
-}
-
-/// Runs a check of the querier that the capture names, after the first reader of the file.
-fn run_again<Q: Read, R: Read + Drop, W: Write, E: Write>(
-    alloc: Global,
-    taking: &Taking,
-    in_words: bool,
-    first: &mut Watched<Q>,
-    again: BufReader<Beginning<R>>,
-    output: &mut Watched<W>,
-    errors: &mut Watched<E>,
-) -> u8 {
-    let source = Source::new(again);
-    let mut input = Watched::new(&source);
-    perform_taking(
-        alloc, taking, in_words, first, &source, &mut input, output, errors,
-    )
 }
 
 /// Returns the file that the request names in place of standard input.

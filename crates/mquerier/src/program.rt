@@ -9,15 +9,16 @@ ghost use Rattle.mquerier.specs.Choosing.{choice_of as asked_choice};
 ghost use Rattle.mquerier.specs.Failures.{status_of, unjudged_line, version_line};
 ghost use Rattle.mquerier.specs.Status.{Concludes, IsCheck, IsConversion, IsOfMessage, IsTold, IsWordless, PrintsVersion, TellsLines, TellsCounts, Told, Performs, PerformsCheck, PerformsConversion, Runs};
 
-use crate::checking::check_capture;
+use crate::checking::{CheckOptions, check_capture};
+use crate::console::Console;
 use crate::converting::convert_capture;
 use crate::counts::counts_lines_of;
 use crate::failure::{DONE, FAULTY, FOUND, Failure, REFUSED, UNJUDGED, line_of, status_of_failure};
 use crate::work::{flush, work};
 use clap::Error;
 use clap::error::ErrorKind;
-use mq_check::{CheckTerms, Totals, Unjudged};
-use mq_command::{Interface, Protocol, Request, Settings, VERSION};
+use mq_check::{Additions, CheckTerms, Totals, Unjudged};
+use mq_command::{Interface, Request, VERSION};
 use mq_convert::{Choice, ConvertCounts, Which, name_of};
 use mq_count::Watched;
 use mq_pcap::Supply;
@@ -27,33 +28,32 @@ use std::io::{Read, Write};
 
 /// Performs the request that `request_of` read from the words.
 ///
-/// Without a request the input stays unread. The text of `clap` then goes to `errors`, as one line or several, with
-/// status 2. If the version is requested, its line goes to the output.
+/// Without a request the input stays unread. The text of `clap` then goes to standard error, as one line or several,
+/// with status 2. If the version is requested, its line goes to the output.
 pub fn run<S: Supply, R: Read, W: Write, E: Write>(
     alloc: Global,
     asked: Result<Request<'_>, Error>,
-    in_words: bool,
     supply: &S,
     input: &mut Watched<R>,
-    output: &mut Watched<W>,
-    errors: &mut Watched<E>,
+    console: &mut Console<W, E>,
 ) -> u8
-    ensures runs { Runs asked.entry VERSION.now in_words
+    ensures runs { Runs asked.entry VERSION.now console.old.in_words
         (input_by R.remaining input.old input.new)
-        (output_by W.contents output.old output.new)
-        (output_by E.contents errors.old errors.new)
+        (output_by W.contents console.old.output console.new.output)
+        (output_by E.contents console.old.errors console.new.errors)
         result }
-    // With status 2 nothing is read or written to the output, and `errors` has the reason.
-    ensures refused { result ≡ 2 → output.new ≡ output.old }
+    // With status 2 nothing is read or written to the output, and standard error has the reason.
+    ensures refused { result ≡ 2 → console.new.output ≡ console.old.output }
     ensures unread { result ≡ 2 → input.new ≡ input.old }
-    ensures told { result ≡ 2 → TellsLines (output_by E.contents errors.old errors.new) }
+    ensures told { result ≡ 2 → TellsLines (output_by E.contents console.old.errors console.new.errors) }
+    ensures in_words { console.new.in_words ≡ console.old.in_words }
 {
     match asked {
-        Ok(request) => perform(alloc, &request, in_words, supply, input, output, errors),
+        Ok(request) => perform(alloc, &request, supply, input, console),
         Err(error) => match error.kind() {
-            ErrorKind::OutOfMemory => told(Failure::Memory, in_words, errors),
-            ErrorKind::DisplayVersion => print_version(in_words, output, errors),
-            _ => refused(alloc, &error, in_words, errors),
+            ErrorKind::OutOfMemory => told(Failure::Memory, console.in_words, &mut console.errors),
+            ErrorKind::DisplayVersion => print_version(console),
+            _ => refused(alloc, &error, console.in_words, &mut console.errors),
         },
     }
 }
@@ -70,20 +70,17 @@ fn refused<E: Write>(alloc: Global, error: &Error, in_words: bool, errors: &mut 
 }
 
 /// Prints the line of the version, and returns the status.
-fn print_version<W: Write, E: Write>(
-    in_words: bool,
-    output: &mut Watched<W>,
-    errors: &mut Watched<E>,
-) -> u8
+fn print_version<W: Write, E: Write>(console: &mut Console<W, E>) -> u8
     ensures at_most_one { result ≤ 1 }
-    ensures prints { PrintsVersion VERSION.now in_words
-        (output_by W.contents output.old output.new)
-        (output_by E.contents errors.old errors.new)
+    ensures prints { PrintsVersion VERSION.now console.old.in_words
+        (output_by W.contents console.old.output console.new.output)
+        (output_by E.contents console.old.errors console.new.errors)
         result }
+    ensures in_words { console.new.in_words ≡ console.old.in_words }
 {
-    match print_whole(version_line_of().as_slice(), output) {
+    match print_whole(version_line_of().as_slice(), &mut console.output) {
         Ok(()) => DONE,
-        Err(failure) => told(failure, in_words, errors),
+        Err(failure) => told(failure, console.in_words, &mut console.errors),
     }
 }
 
@@ -130,26 +127,24 @@ fn print_line<W: Write>(text: &str, writer: &mut Watched<W>) -> Result<(), LineF
 /// - 3: a check has findings.
 /// - 4: a check had nothing to judge.
 ///
-/// A message doesn't read the input. A write to `errors` that fails changes no status. `in_words` is set if a person
-/// reads `errors`: then a second line explains the number of a failure.
+/// A message doesn't read the input. A write to standard error that fails changes no status.
 pub fn perform<S: Supply, R: Read, W: Write, E: Write>(
     alloc: Global,
     request: &Request<'_>,
-    in_words: bool,
     supply: &S,
     input: &mut Watched<R>,
-    output: &mut Watched<W>,
-    errors: &mut Watched<E>,
+    console: &mut Console<W, E>,
 ) -> u8
-    ensures performs { Performs request.now in_words
+    ensures performs { Performs request.now console.old.in_words
         (input_by R.remaining input.old input.new)
-        (output_by W.contents output.old output.new)
-        (output_by E.contents errors.old errors.new)
+        (output_by W.contents console.old.output console.new.output)
+        (output_by E.contents console.old.errors console.new.errors)
         result }
     // With status 2 the input and the output stay unchanged, and a message never reads the input.
-    ensures refused { result ≡ 2 → output.new ≡ output.old }
+    ensures refused { result ≡ 2 → console.new.output ≡ console.old.output }
     ensures unasked { result ≡ 2 → input.new ≡ input.old }
     ensures unread { IsOfMessage request.now → input.new ≡ input.old }
+    ensures in_words { console.new.in_words ≡ console.old.in_words }
 {
     match request {
         Request::Convert {
@@ -159,7 +154,7 @@ pub fn perform<S: Supply, R: Read, W: Write, E: Write>(
             ..
         } => {
             let choice = choice_of(*interface, *vlan, *once);
-            perform_conversion(alloc, choice, in_words, supply, input, output, errors)
+            perform_conversion(alloc, choice, supply, input, console)
         }
         Request::Check {
             protocol,
@@ -167,14 +162,19 @@ pub fn perform<S: Supply, R: Read, W: Write, E: Write>(
             settings,
             within,
             cite,
+            packets,
             strict,
             until,
             ..
-        } => perform_check(
-            alloc, *protocol, querier, settings, *within, *until, *cite, *strict, in_words, supply,
-            input, output, errors,
-        ),
-        _ => perform_work(alloc, request, in_words, supply, input, output, errors),
+        } => {
+            let options = CheckOptions {
+                protocol: *protocol,
+                settings: *settings,
+                terms: terms_of(*within, *until, *cite, *packets, *strict),
+            };
+            perform_check(alloc, &options, querier, supply, input, console)
+        }
+        _ => perform_work(alloc, request, supply, input, console),
     }
 }
 
@@ -182,27 +182,26 @@ pub fn perform<S: Supply, R: Read, W: Write, E: Write>(
 fn perform_work<S: Supply, R: Read, W: Write, E: Write>(
     alloc: Global,
     request: &Request<'_>,
-    in_words: bool,
     supply: &S,
     input: &mut Watched<R>,
-    output: &mut Watched<W>,
-    errors: &mut Watched<E>,
+    console: &mut Console<W, E>,
 ) -> u8
     requires converts_nothing { IsConversion request.now → ⊥ }
     requires checks_nothing { IsCheck request.now → ⊥ }
-    ensures performs { Performs request.now in_words
+    ensures performs { Performs request.now console.old.in_words
         (input_by R.remaining input.old input.new)
-        (output_by W.contents output.old output.new)
-        (output_by E.contents errors.old errors.new)
+        (output_by W.contents console.old.output console.new.output)
+        (output_by E.contents console.old.errors console.new.errors)
         result }
-    ensures refused { result ≡ 2 → output.new ≡ output.old }
+    ensures refused { result ≡ 2 → console.new.output ≡ console.old.output }
     ensures unasked { result ≡ 2 → input.new ≡ input.old }
     ensures unread { IsOfMessage request.now → input.new ≡ input.old }
+    ensures in_words { console.new.in_words ≡ console.old.in_words }
 {
-    match work(alloc, request, supply, input, output) {
+    match work(alloc, request, supply, input, &mut console.output) {
         Ok(true) => DONE,
         Ok(false) => FAULTY,
-        Err(failure) => told(failure, in_words, errors),
+        Err(failure) => told(failure, console.in_words, &mut console.errors),
     }
 }
 
@@ -226,24 +225,23 @@ fn choice_of(interface: Option<Interface<'_>>, vlan: Option<u64>, once: bool) ->
 fn perform_conversion<S: Supply, R: Read, W: Write, E: Write>(
     alloc: Global,
     choice: Choice,
-    in_words: bool,
     supply: &S,
     input: &mut Watched<R>,
-    output: &mut Watched<W>,
-    errors: &mut Watched<E>,
+    console: &mut Console<W, E>,
 ) -> u8
-    ensures { PerformsConversion choice in_words
+    ensures performs { PerformsConversion choice console.old.in_words
         (input_by R.remaining input.old input.new)
-        (output_by W.contents output.old output.new)
-        (output_by E.contents errors.old errors.new)
+        (output_by W.contents console.old.output console.new.output)
+        (output_by E.contents console.old.errors console.new.errors)
         result }
+    ensures in_words { console.new.in_words ≡ console.old.in_words }
 {
-    match convert_capture(alloc, choice, supply, input, output) {
+    match convert_capture(alloc, choice, supply, input, &mut console.output) {
         Ok(counts) => {
-            tell_counts(&counts, errors);
+            tell_counts(&counts, &mut console.errors);
             DONE
         }
-        Err(failure) => told(failure, in_words, errors),
+        Err(failure) => told(failure, console.in_words, &mut console.errors),
     }
 }
 
@@ -255,14 +253,15 @@ pub(crate) fn terms_of(
     within: Option<u32>,
     until: Option<u64>,
     cite: bool,
+    packets: bool,
     strict: bool,
 ) -> CheckTerms
-    ensures { result ≡ asked_terms within until cite strict }
+    ensures { result ≡ asked_terms within until cite packets strict }
 {
     CheckTerms {
         within: within.unwrap_or(WITHIN),
         until,
-        cite,
+        additions: Additions { packets, cite },
         strict,
     }
 }
@@ -270,33 +269,24 @@ pub(crate) fn terms_of(
 /// Performs a check.
 fn perform_check<S: Supply, R: Read, W: Write, E: Write>(
     alloc: Global,
-    protocol: Protocol,
+    options: &CheckOptions,
     querier: &str,
-    settings: &Settings,
-    within: Option<u32>,
-    until: Option<u64>,
-    cite: bool,
-    strict: bool,
-    in_words: bool,
     supply: &S,
     input: &mut Watched<R>,
-    output: &mut Watched<W>,
-    errors: &mut Watched<E>,
+    console: &mut Console<W, E>,
 ) -> u8
-    ensures performs { PerformsCheck protocol querier.now settings.now within until cite strict in_words
+    ensures performs { PerformsCheck options.now querier.now console.old.in_words
         (input_by R.remaining input.old input.new)
-        (output_by W.contents output.old output.new)
-        (output_by E.contents errors.old errors.new)
+        (output_by W.contents console.old.output console.new.output)
+        (output_by E.contents console.old.errors console.new.errors)
         result }
-    ensures refused { result ≡ 2 → output.new ≡ output.old }
+    ensures refused { result ≡ 2 → console.new.output ≡ console.old.output }
     ensures unasked { result ≡ 2 → input.new ≡ input.old }
+    ensures in_words { console.new.in_words ≡ console.old.in_words }
 {
-    let terms = terms_of(within, until, cite, strict);
-    match check_capture(
-        alloc, protocol, querier, settings, terms, supply, input, output,
-    ) {
-        Ok(totals) => status_of_totals(&totals, errors),
-        Err(failure) => told(failure, in_words, errors),
+    match check_capture(alloc, options, querier, supply, input, &mut console.output) {
+        Ok(totals) => status_of_totals(&totals, &mut console.errors),
+        Err(failure) => told(failure, console.in_words, &mut console.errors),
     }
 }
 

@@ -17,37 +17,47 @@ use mq_text::{read_v4, read_v6};
 use std::alloc::Global;
 use std::io::{Read, Write};
 
-/// Replays the input capture to a querier with this address and these settings. Nothing is read or written until the
-/// request is accepted and all memory is allocated.
+/// The options of a replay, without the querier's own address.
+#[derive(Clone, Copy)]
+pub(crate) struct ReplayOptions {
+    /// The querier's protocol.
+    pub(crate) protocol: Protocol,
+    /// The given variables and limits.
+    pub(crate) settings: Settings,
+    /// The time until which it runs at least, in milliseconds after the first packet, if given.
+    pub(crate) until: Option<u64>,
+    /// Prints lines for changed groups.
+    pub(crate) changes: bool,
+}
+
+/// Replays the input capture to a querier with this address. Nothing is read or written until the request is accepted
+/// and all memory is allocated.
 pub(crate) fn replay_capture<S: Supply, R: Read, W: Write>(
     alloc: Global,
-    protocol: Protocol,
+    options: &ReplayOptions,
     own: &str,
-    settings: &Settings,
-    until: Option<u64>,
-    changes: bool,
     supply: &S,
     input: &mut Watched<R>,
     output: &mut Watched<W>,
 ) -> Result<bool, Failure>
-    ensures works { WorksOnReplay protocol own.now settings.now (record { until = until; changes = changes })
+    ensures works { WorksOnReplay options.now.protocol own.now options.now.settings (record { until = options.now.until; changes = options.now.changes })
         (input_by R.remaining input.old input.new)
         (output_by W.contents output.old output.new)
         result }
     ensures unread { IsUnwritten result → input.new ≡ input.old }
     ensures unwritten { IsUnwritten result → output.new ≡ output.old }
 {
-    match protocol {
+    match options.protocol {
         Protocol::Igmp => match read_v4(own) {
-            Some(address) => replay_at::<Igmp, S, R, W>(
-                alloc, address, settings, until, changes, supply, input, output,
-            ),
+            Some(address) => {
+                replay_at::<Igmp, S, R, W>(alloc, options, address, supply, input, output)
+            }
             None => Err(Failure::NotAnAddress),
         },
         Protocol::Mld => match read_v6(own) {
-            Some(address) => replay_at::<Mld, S, R, W>(
-                alloc, address, settings, until, changes, supply, input, output,
-            ),
+            Some(address) => {
+                replay_at::<Mld, S, R, W>(alloc, options, address, supply, input, output)
+            }
             None => Err(Failure::NotAnAddress),
         },
     }
@@ -56,28 +66,26 @@ pub(crate) fn replay_capture<S: Supply, R: Read, W: Write>(
 /// Replays the capture to a querier of the family `F` with the address `own`.
 fn replay_at<F: CapturedFamily, S: Supply, R: Read, W: Write>(
     alloc: Global,
+    options: &ReplayOptions,
     own: F::Address,
-    settings: &Settings,
-    until: Option<u64>,
-    changes: bool,
     supply: &S,
     input: &mut Watched<R>,
     output: &mut Watched<W>,
 ) -> Result<bool, Failure>
 where
     F::Address: LineKey,
-    ensures works { WorksAt F.FAMILY (F.Address.number own) settings.now (record { until = until; changes = changes })
+    ensures works { WorksAt F.FAMILY (F.Address.number own) options.now.settings (record { until = options.now.until; changes = options.now.changes })
         (input_by R.remaining input.old input.new)
         (output_by W.contents output.old output.new)
         result }
     ensures unread { IsUnwritten result → input.new ≡ input.old }
     ensures unwritten { IsUnwritten result → output.new ≡ output.old }
 {
-    let end = moment_asked(until)?;
-    let config = configured::<F>(own, settings)?;
+    let end = moment_asked(options.until)?;
+    let config = configured::<F>(own, &options.settings)?;
     let asked = Asked {
         until: end,
-        changes,
+        changes: options.changes,
     };
     match replay(alloc, config, asked, supply, input, output) {
         Ok(_counts) => {

@@ -6,13 +6,14 @@ ghost use Rattle.mquerier.specs.Changes.{input_by, output_by};
 ghost use Rattle.mquerier.specs.Replays.{family_of};
 ghost use Rattle.mquerier.specs.Taking as spec;
 
-use crate::checking::check_at;
+use crate::checking::{CheckOptions, check_at};
+use crate::console::Console;
 use crate::failure::{Failure, UNJUDGED};
 use crate::program::{print_whole, status_of_totals, terms_of, told};
 use crate::taken_line::taken_line_of;
 use crate::unopened::tell_no_querier;
 use clap::Error;
-use mq_check::{Announced, CheckFault, CheckTerms, CheckedFamily, Totals, announced_variables};
+use mq_check::{Announced, CheckFault, CheckedFamily, Totals, announced_variables};
 use mq_command::{Protocol, Request, Settings};
 use mq_count::Watched;
 use mq_lines::LineKey;
@@ -22,19 +23,8 @@ use mq_wire::WireKey;
 use std::alloc::Global;
 use std::io::{Read, Write};
 
-/// The request for a check of the querier that the capture names.
-#[derive(Clone, Copy)]
-pub struct Taking {
-    /// The querier's protocol.
-    pub protocol: Protocol,
-    /// The settings that are given.
-    pub settings: Settings,
-    /// The terms of the check.
-    pub terms: CheckTerms,
-}
-
-/// Returns the request for a check whose querier is `auto`, if this is one.
-pub fn taking_of(asked: &Result<Request<'_>, Error>) -> Option<Taking>
+/// Returns the options of a check whose querier is `auto`, if the request is one.
+pub fn taking_of(asked: &Result<Request<'_>, Error>) -> Option<CheckOptions>
     ensures { result ≡ spec.taking_of asked.now }
 {
     match asked {
@@ -45,14 +35,15 @@ pub fn taking_of(asked: &Result<Request<'_>, Error>) -> Option<Taking>
                 settings,
                 within,
                 cite,
+                packets,
                 strict,
                 until,
                 ..
             },
-        ) if *querier == "auto" => Some(Taking {
+        ) if *querier == "auto" => Some(CheckOptions {
             protocol: *protocol,
             settings: *settings,
-            terms: terms_of(*within, *until, *cite, *strict),
+            terms: terms_of(*within, *until, *cite, *packets, *strict),
         }),
         _ => None,
     }
@@ -65,52 +56,51 @@ pub fn taking_of(asked: &Result<Request<'_>, Error>) -> Option<Taking>
 /// capture. Without a general query of the family nothing is judged.
 pub fn perform_taking<S: Supply, Q: Read, R: Read, W: Write, E: Write>(
     alloc: Global,
-    taking: &Taking,
-    in_words: bool,
+    options: &CheckOptions,
     first: &mut Watched<Q>,
     supply: &S,
     input: &mut Watched<R>,
-    output: &mut Watched<W>,
-    errors: &mut Watched<E>,
+    console: &mut Console<W, E>,
 ) -> u8
-    ensures { spec.PerformsTaking taking.now in_words
+    ensures performs { spec.PerformsTaking options.now console.old.in_words
         (input_by Q.remaining first.old first.new)
         (input_by R.remaining input.old input.new)
-        (output_by W.contents output.old output.new)
-        (output_by E.contents errors.old errors.new)
+        (output_by W.contents console.old.output console.new.output)
+        (output_by E.contents console.old.errors console.new.errors)
         result }
+    ensures in_words { console.new.in_words ≡ console.old.in_words }
 {
-    match check_named(alloc, taking, first, supply, input, output) {
-        Ok(Some(totals)) => status_of_totals(&totals, errors),
+    match check_named(alloc, options, first, supply, input, &mut console.output) {
+        Ok(Some(totals)) => status_of_totals(&totals, &mut console.errors),
         Ok(None) => {
-            tell_no_querier(errors);
+            tell_no_querier(&mut console.errors);
             UNJUDGED
         }
-        Err(failure) => told(failure, in_words, errors),
+        Err(failure) => told(failure, console.in_words, &mut console.errors),
     }
 }
 
 /// Checks the querier that the capture names. Returns None if there is no general query.
 fn check_named<S: Supply, Q: Read, R: Read, W: Write>(
     alloc: Global,
-    taking: &Taking,
+    options: &CheckOptions,
     first: &mut Watched<Q>,
     supply: &S,
     input: &mut Watched<R>,
     output: &mut Watched<W>,
 ) -> Result<Option<Totals>, Failure>
-    ensures { spec.ChecksTaking (family_of taking.now.protocol) taking.now
+    ensures { spec.ChecksTaking (family_of options.now.protocol) options.now
         (input_by Q.remaining first.old first.new)
         (input_by R.remaining input.old input.new)
         (output_by W.contents output.old output.new)
         result }
 {
-    match taking.protocol {
+    match options.protocol {
         Protocol::Igmp => {
-            check_taking::<Igmp, S, Q, R, W>(alloc, taking, first, supply, input, output)
+            check_taking::<Igmp, S, Q, R, W>(alloc, options, first, supply, input, output)
         }
         Protocol::Mld => {
-            check_taking::<Mld, S, Q, R, W>(alloc, taking, first, supply, input, output)
+            check_taking::<Mld, S, Q, R, W>(alloc, options, first, supply, input, output)
         }
     }
 }
@@ -118,7 +108,7 @@ fn check_named<S: Supply, Q: Read, R: Read, W: Write>(
 /// Checks the querier of the family `F` that the capture names. Returns None if there is no general query.
 fn check_taking<F: CheckedFamily, S: Supply, Q: Read, R: Read, W: Write>(
     alloc: Global,
-    taking: &Taking,
+    options: &CheckOptions,
     first: &mut Watched<Q>,
     supply: &S,
     input: &mut Watched<R>,
@@ -126,7 +116,7 @@ fn check_taking<F: CheckedFamily, S: Supply, Q: Read, R: Read, W: Write>(
 ) -> Result<Option<Totals>, Failure>
 where
     F::Address: LineKey,
-    ensures { spec.ChecksTaking F.FAMILY taking.now
+    ensures { spec.ChecksTaking F.FAMILY options.now
         (input_by Q.remaining first.old first.new)
         (input_by R.remaining input.old input.new)
         (output_by W.contents output.old output.new)
@@ -134,7 +124,7 @@ where
 {
     match announced_variables::<F, Global, Q>(alloc, first) {
         Ok(Some(found)) => {
-            let totals = check_found::<F, S, R, W>(alloc, taking, &found, supply, input, output)?;
+            let totals = check_found::<F, S, R, W>(alloc, options, &found, supply, input, output)?;
             Ok(Some(totals))
         }
         Ok(None) => Ok(None),
@@ -155,7 +145,7 @@ fn first_failure(fault: CheckFault) -> Failure
 /// Checks the querier that announces these variables, and prints the line of what comes from the capture.
 fn check_found<F: CheckedFamily, S: Supply, R: Read, W: Write>(
     alloc: Global,
-    taking: &Taking,
+    given: &CheckOptions,
     found: &Announced<F::Address>,
     supply: &S,
     input: &mut Watched<R>,
@@ -163,22 +153,17 @@ fn check_found<F: CheckedFamily, S: Supply, R: Read, W: Write>(
 ) -> Result<Totals, Failure>
 where
     F::Address: LineKey,
-    ensures { spec.ChecksFound F.FAMILY taking.now (numbered_announced F.Address.number found.now)
+    ensures { spec.ChecksFound F.FAMILY given.now (numbered_announced F.Address.number found.now)
         (input_by R.remaining input.old input.new)
         (output_by W.contents output.old output.new)
         result }
 {
-    let settings = with_variables(&taking.settings, found);
-    let totals = check_at::<F, S, R, W>(
-        alloc,
-        found.querier,
-        &settings,
-        taking.terms,
-        supply,
-        input,
-        output,
-    )?;
-    let line = taken_line_of(&taking.settings, found);
+    let options = CheckOptions {
+        settings: with_variables(&given.settings, found),
+        ..*given
+    };
+    let totals = check_at::<F, S, R, W>(alloc, &options, found.querier, supply, input, output)?;
+    let line = taken_line_of(&given.settings, found);
     print_whole(line.as_slice(), output)?;
     Ok(totals)
 }

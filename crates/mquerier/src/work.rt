@@ -11,7 +11,7 @@ ghost use Rattle.mquerier.specs.Status.{IsCheck, IsConversion, IsNoAddress, IsOf
 ghost use Rattle.mquerier.specs.Working.{IsRefusal, IsUndecoded, IsUnwritten, Works, WorksOnListing, WorksOnMessage};
 
 use crate::failure::Failure;
-use crate::replaying::replay_capture;
+use crate::replaying::{ReplayOptions, replay_capture};
 use hex::FromHexError;
 use mq_command::{Protocol, Request};
 use mq_count::Watched;
@@ -59,9 +59,15 @@ pub fn work<S: Supply, R: Read, W: Write>(
             until,
             changes,
             ..
-        } => replay_capture(
-            alloc, *protocol, own, settings, *until, *changes, supply, input, output,
-        ),
+        } => {
+            let options = ReplayOptions {
+                protocol: *protocol,
+                settings: *settings,
+                until: *until,
+                changes: *changes,
+            };
+            replay_capture(alloc, &options, own, supply, input, output)
+        }
     }
 }
 

@@ -7,9 +7,6 @@ use Rattle.mq_check.proofs.settling.settle.Goals as goal
 pub loop-entry-init : goal.loop-entry-init
 loop-entry-init g c = record { found = ([], refl, none_told _ _ _ _); rest = refl }
 
-pub tell_entry-requires-clause-in_range : goal.tell_entry-requires-clause-in_range
-tell_entry-requires-clause-in_range g c = omega (arith, c.in-Some.ensures.some.is_over, c.requires.in_range)
-
 pub loop-entry-preserved : goal.loop-entry-preserved
 loop-entry-preserved g c =
     let now = c.loop-entry.invariant in

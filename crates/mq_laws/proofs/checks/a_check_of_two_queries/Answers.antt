@@ -5,7 +5,7 @@ use Rattle.mq_check.specs.declared.asked.Asked.TheVariants.{AllGroups, Group, So
 use Rattle.mq_check.specs.Checking.{role_lost, role_returned, with_general, with_seen, with_wanted}
 use Rattle.mq_check.specs.Queries.{is_same}
 use Rattle.mq_check.specs.Schedules.{schedules_seen, schedules_wanted}
-use Rattle.mq_check.specs.Waiting.{settled, with_entry, with_partner}
+use Rattle.mq_check.specs.Waiting.{all_excused, settled, with_entry, with_partner}
 use Rattle.mq_laws.specs.WantedAndSeen.{all_seen_in}
 use Rattle.mq_laws.specs.CheckExamples.{example_events, example_expected}
 use Rattle.mq_laws.specs.Pairing.{PairUp, seen_about, wanted_about}
@@ -34,5 +34,5 @@ returns-clause-as_wanted c = record {
 }
 
 pub returns-clause-room : goal.returns-clause-room
-unfolding settled with_entry with_partner with_general with_seen with_wanted schedules_seen schedules_wanted role_lost role_returned
+unfolding all_excused settled with_entry with_partner with_general with_seen with_wanted schedules_seen schedules_wanted role_lost role_returned
 returns-clause-room c = refl

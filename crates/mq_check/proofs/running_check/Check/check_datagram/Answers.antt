@@ -37,6 +37,7 @@ returns-clause-comes g c =
       same_config = refl;
       checked = seen_comes c.args.self.now.link.config c.config-3.result.now c.args.self.now.link.config c.args.packet.now.link c.args.self.now.terms.within c.args.packet.now.moment c.moment-now.result c.args.packet.now.number _ c.args.packet.now.frame.now _ _ g.F.Family.FAMILY c.args.self.now.link c.args.self.now.queries c.see_headers.new.queries c.see.new.self
           c.in-Some.ensures c.config-3.ensures c.moment-now.ensures.same (headers_left _ _ _ _ _ _ _ _ _ _ _ (c.config-2.ensures ∙ sym c.config-3.ensures) settles looks)
+          (ap (λ (w : WantingValue). w.basis) c.see_headers.ensures ∙ c.in_ok-settle.ensures.basis)
           (ap (λ (w : WantingValue). w.basis) c.see.ensures ∙ ap (λ (w : WantingValue). w.basis) c.see_headers.ensures ∙ c.in_ok-settle.ensures.basis) (ap (λ (w : WantingValue). w.checking) c.see.ensures) refl c.destination-to.ensures family;
       tells = tells_as _ _ _ _ _ _ _ _ (ap (λ (m : ℕ). told c.args.self.now.terms.within m c.args.self.now.queries.checking) c.moment-now.ensures.same) c.in_ok-settle.ensures.tells;
     }

@@ -1,4 +1,4 @@
-use Rattle.std.proofs.Common.{Result, Ok, Err, ap, refl, sym, ◌∙◌}
+use Rattle.std.proofs.Common.{Ok, Err, ap, refl, sym, ◌∙◌}
 use Rattle.std.proofs.lemmas.Result.{err_from_is_err_and}
 use Rattle.mq_text.specs.declared.printing.LineFault.{LineFault}
 use Rattle.mq_check.specs.Checking.{CheckingValue}
@@ -36,7 +36,7 @@ returns-in_err-write_before_wait g c =
     rw (p.1, p.2) (record {
       no_gap = sym c.follows_gap.ensures ∙ c.if-follows_gap.false;
       same_terms = c.in_ok-check_packet.ensures.terms;
-      comes = comes_broken _ _ _ _ _ _ _ _ _ _ (comes_then (Unit {0}) LineFault _ _ _ _ _ _ _ c.write_before_wait.new.self _ _ _ _ (Err c.in_err-write_before_wait.field-0.0) c.in_ok-check_packet.ensures.comes written.text written.cite written.count written.failed);
+      comes = comes_broken _ _ _ _ _ _ _ _ _ _ (comes_then (Unit {0}) LineFault _ _ _ _ _ _ _ c.write_before_wait.new.self _ _ _ _ (Err c.in_err-write_before_wait.field-0.0) c.in_ok-check_packet.ensures.comes written.text written.additions written.count written.failed);
     })
 
 pub returns : goal.returns
@@ -46,7 +46,7 @@ returns g c =
       record {
         no_gap = sym c.follows_gap.ensures ∙ c.if-follows_gap.false;
         same_terms = c.in_ok-check_packet.ensures.terms;
-        comes = comes_well _ _ _ _ _ _ _ _ _ (comes_then (Unit {0}) LineFault _ _ _ _ _ _ _ c.write_before_wait.new.self _ _ _ _ (Ok c.in_ok-write_before_wait.field-0) c.in_ok-check_packet.ensures.comes written.text written.cite written.count written.failed);
+        comes = comes_well _ _ _ _ _ _ _ _ _ (comes_then (Unit {0}) LineFault _ _ _ _ _ _ _ c.write_before_wait.new.self _ _ _ _ (Ok c.in_ok-write_before_wait.field-0) c.in_ok-check_packet.ensures.comes written.text written.additions written.count written.failed);
       },
       sym state ∙ c.if-is_full.false,
     )

@@ -1,7 +1,7 @@
 use Rattle.std.proofs.Common.{◌≡◌, ℕ, ◌-◌, ◌<◌, ◌≤◌, ◌^◌, ◌++◌, ◌∷◌, [], List, length, get_or, sym, ap, subst, arith}
 use Rattle.std.specs.Prelude.{slice_set}
 use Rattle.std.proofs.lemmas.List.{get_or_read, length-set, length_push}
-use Rattle.mq_check.specs.Trails.{AreNumbers, AreLinked, IsClosed}
+use Rattle.mq_check.specs.Trails.{AreNumbers, AreLinked}
 use Rattle.mq_check.proofs.LinkedSlots.{linked_pushed, numbers_pushed, numbers_set, numbers_lower}
 use Rattle.mq_check.proofs.trails.Trails.push.Goals as goal
 

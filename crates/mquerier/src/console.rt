@@ -1,0 +1,15 @@
+//! The streams that a run writes.
+
+use mq_count::Watched;
+
+/// The streams that a run writes: its output, and standard error for messages.
+#[derive(Drop)]
+pub struct Console<W, E> {
+    /// The output.
+    pub output: Watched<W>,
+    /// Standard error.
+    pub errors: Watched<E>,
+    /// Set if a person reads standard error. Then a second line explains the number of a failure. A script gets one line
+    /// for each failure.
+    pub in_words: bool,
+}
