@@ -8,7 +8,7 @@ import sys
 from repository import TOP
 
 # The limits of a run: seconds, and kilobytes of address space.
-SECONDS, ROOM = 20, 65536
+SECONDS, ROOM = 20, 73728
 
 
 def run(program, words, data):
