@@ -1,7 +1,6 @@
 -- The data of the worked examples: a query for the group 5 of a querier with the default variables. It is wanted and
 -- seen in either order, and expired entries are removed before the second. Or it is only seen, and the link doesn't hold
--- the group. Or it is wanted and seen several times. Its
--- packet is always the seventh.
+-- the group. Or it is wanted and seen several times. Its packet is always the seventh.
 use Rattle.std.specs.Prelude.{ℕ, Bool, true, false, None, Some}
 use Rattle.mq_table.specs.declared.timing.Timing.{Timing}
 use Rattle.mq_check.specs.declared.asked.Asked.TheVariants.{Group}

@@ -137,7 +137,7 @@ packet_in (Interval moment packet after wanted) = packet
 packet_in (Silence moment after wanted) = 0
 packet_in (Packet moment number fault) = 0
 
--- the number of a packet if it is requested and isn't 0
+-- the number of a packet, and whether it is printed: if it is requested and isn't 0
 unfoldable pub number_text : (number : ℕ) → List ℕ
 number_text number = codes " packet " ++ decimal number
 
