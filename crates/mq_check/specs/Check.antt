@@ -29,7 +29,8 @@ use Rattle.mq_check.specs.declared.headers.Headers.{Headers}
 use Rattle.mq_check.specs.declared.totals.Totals.{Totals}
 use Rattle.mq_check.specs.Basis.{basis_at_start, named, with_frame, with_other_querier}
 use Rattle.mq_check.specs.Basis as basis
-use Rattle.mq_check.specs.Checking.{CheckingValue, checking_at_start, told, settled, faults_seen, with_all_excused, with_messages, role_changed, role_after_tick, query_came, told_at_end}
+use Rattle.mq_check.specs.Blocked.{blocked_in}
+use Rattle.mq_check.specs.Checking.{CheckingValue, checking_at_start, told, settled, faults_seen, with_all_excused, with_messages, role_changed, role_after_tick, query_came, all_blocked, told_at_end}
 use Rattle.mq_check.specs.FindingLines.{finding_lines, last_lines}
 use Rattle.mq_check.specs.General.{silence_up_to}
 use Rattle.mq_check.specs.Headers.{faults_if, faults_of, has_reserved_bits, headers4_in, is_broken_query, is_own_query}
@@ -63,8 +64,8 @@ abbrev pub behind : List (Finding ℕ) → Outcome → Outcome
 behind found o = record o { found = found ++ o.found }
 
 -- the check after its expired entries were removed
-abbrev pub settled_at : (within moment : ℕ) → Checked → Checked
-settled_at within moment r = record r { checking = settled within moment r.checking }
+abbrev pub settled_at : (moment : ℕ) → Checked → Checked
+settled_at moment r = record r { checking = settled moment r.checking }
 
 -- The treatment of queries after those of one step of the link became wanted. The basis has the number of packets so far,
 -- which is the number of the last packet.
@@ -95,7 +96,7 @@ ticked_within (suc most) config within limit r =
     elim (nat_lt moment limit) [
       | true ↦
           behind (told within moment r.checking)
-          (ticked_within most config within limit (ticked config within moment (settled_at within moment r)))
+          (ticked_within most config within limit (ticked config within moment (settled_at moment r)))
       | false ↦ quiet r
     ]
 
@@ -108,15 +109,15 @@ abbrev pub settled_through : Configuration → (within moment : ℕ) → Checked
 settled_through config within moment r =
     let done = ticked_through config within moment r in
     record {
-      checked = settled_at within moment done.checked;
+      checked = settled_at moment done.checked;
       found = done.found ++ told within moment done.checked.checking;
     }
 
 -- The ticks up to the tolerance after the end of a capture, at most to 2^53. A query that the link sends then may be the
--- partner of a seen one. A pending wanted query may be left out, since its partner may come after the end.
+-- partner of a seen one. A pending wanted query may be left out if its partner may come after the end.
 abbrev pub looked_ahead : Configuration → (within moment : ℕ) → Checked → Outcome
 looked_ahead config within moment r =
-    ticked_through config within (min (moment + within) (2 ^ 53)) (record r { checking = with_all_excused r.checking })
+    ticked_through config within (min (moment + within) (2 ^ 53)) (record r { checking = with_all_excused within moment r.checking })
 
 -- the IP packet of a frame, after an Ethernet header and at most one tag
 abbrev pub packet_in : LinkType → (frame : List ℕ) → List ℕ
@@ -146,6 +147,11 @@ faults_in config link frame datagram =
     faults_if (is_own_query config datagram) (is_broken_query config datagram)
     (faults_of (headers_in config.family link frame datagram.envelope) (has_reserved_bits config.family datagram.body))
 
+-- the check after the sources were noted that a datagram of a host blocks
+abbrev pub noting_blocked : Configuration → (moment : ℕ) → Datagram → Checked → Checked
+noting_blocked config moment datagram r =
+    record r { checking = all_blocked moment (blocked_in config.family datagram) r.checking }
+
 -- the check after the link received a datagram, by which the role may change
 unfoldable pub received : Configuration → (within moment : ℕ) → Datagram → Checked → Checked
 received config within moment datagram r =
@@ -154,7 +160,7 @@ received config within moment datagram r =
       link = answered (all_sent (outgoing_of config step)) step;
       checking =
           role_changed within config.timing moment (is_querier r.link.election.role) (is_querier step.state.election.role)
-          (wanted_by config moment step r);
+          (wanted_by config moment step (noting_blocked config moment datagram r));
       basis =
           with_other_querier config.family step.state.election.role
           (basis.role_changed moment (is_querier r.link.election.role) (is_querier step.state.election.role) r.basis);
@@ -179,7 +185,7 @@ abbrev pub with_datagram : Configuration → LinkType → (within moment number 
 with_datagram config link within moment number frame None r = quiet r
 with_datagram config link within moment number frame (Some datagram) r =
     let to = destination_in config.family link frame datagram.envelope in
-    let before = with_faults moment number (faults_in config link frame datagram) (settled_at within moment r) in
+    let before = with_faults moment number (faults_in config link frame datagram) (settled_at moment r) in
     record {
       checked = seen_or_received config within moment to datagram (query_seen config datagram) before;
       found = told within moment r.checking;

@@ -1,6 +1,7 @@
 -- A check's treatment of queries, in order. A wanted query and a seen one are partners if they have the same subject
--- and lie at most the tolerance apart. Each has at most one partner, and the earlier query is paired first.
-use Rattle.std.specs.Prelude.{ℕ, ◌+◌, ◌-◌, ◌^◌, ◌&&◌, min, nat_lt, not, Bool, true, false, if◌then◌else◌, List, [], ◌∷◌, ◌++◌, Option, None, Some, is_some, flat_map, fold}
+-- and lie at most the tolerance apart. Each has at most one partner, and the earlier query is paired first. A seen query
+-- without such a partner may have an earlier one, if it comes when the next query of a schedule is due.
+use Rattle.std.specs.Prelude.{ℕ, ◌+◌, ◌-◌, ◌^◌, ◌&&◌, min, nat_lt, nat_le, not, Bool, true, false, if◌then◌else◌, List, [], ◌∷◌, ◌++◌, Option, None, Some, is_some, flat_map, fold}
 use Rattle.mq_wire.specs.declared.query.Query.{Query}
 use Rattle.mq_wire.specs.Family.{Family}
 use Rattle.mq_table.specs.declared.timing.Timing.{Timing}
@@ -18,15 +19,15 @@ use Rattle.mq_check.specs.declared.phase.Phase.{Phase}
 use Rattle.mq_check.specs.declared.phase.Phase.TheVariants.{Starting, Heard, Returned, NotQuerier}
 use Rattle.mq_check.specs.declared.terms.Terms.{Terms}
 use Rattle.mq_check.specs.declared.waiting.Side.TheVariants.{OfWanted, OfSeen}
-use Rattle.mq_check.specs.Entries.{first_terms, may_be_left_out, excused, findings_of}
+use Rattle.mq_check.specs.Entries.{moment_of, first_terms, may_be_left_out, excused_if, findings_of}
 use Rattle.mq_check.specs.General.{phase_at_start, wrong_interval, phase_behind, silence_up_to, phase_again}
 use Rattle.mq_check.specs.Unheld.{specific_terms, unheld}
-use Rattle.mq_check.specs.Schedules.{SchedulesValue, schedules_at_start, schedules_seen, schedules_wanted, recent, allowed_by}
+use Rattle.mq_check.specs.Schedules.{SchedulesValue, schedules_at_start, schedules_seen, schedules_wanted, schedules_blocked, recent, allowed_by, as_seen, before_in, is_next}
 use Rattle.mq_link.specs.Configuration.{Configuration}
 use Rattle.mq_link.specs.Sent.{Outgoing}
 use Rattle.mq_link.specs.State.{LinkState}
 use Rattle.mq_check.specs.Queries.{asked_in, is_general, terms_of, general_terms, query_sent}
-use Rattle.mq_check.specs.Waiting.{WaitingValue, nothing, with_entry, with_partner, is_free}
+use Rattle.mq_check.specs.Waiting.{WaitingValue, nothing, with_entry, with_partner, is_free, has_free}
 use Rattle.mq_check.specs.Waiting as waits
 
 -- The pending entries, the last change of the role, the phase of general queries, and the counts of seen queries.
@@ -65,10 +66,10 @@ checking_at_start within timing strict = record {
 -- The findings of the entries that have expired at a moment, and the check after their removal. If an entry had no
 -- room, nothing more is found.
 abbrev pub told : (within now : ℕ) → CheckingValue → List (Finding ℕ)
-told within now c = waits.told within now c.changed c.waiting
+told within now c = waits.told c.schedules.repeats.keep within now c.changed c.waiting
 
-abbrev pub settled : (within now : ℕ) → CheckingValue → CheckingValue
-settled within now c = record c { waiting = waits.settled within now c.waiting }
+abbrev pub settled : (now : ℕ) → CheckingValue → CheckingValue
+settled now c = record c { waiting = waits.settled c.schedules.repeats.keep now c.waiting }
 
 -- a count, which stays at the greatest number of 64 bits
 abbrev pub counted_up : ℕ → ℕ
@@ -83,7 +84,7 @@ is_querier_in NotQuerier = false
 
 -- a query on this subject was wanted before
 abbrev pub is_known : Asked ℕ → CheckingValue → Bool
-is_known asked c = is_some (first_terms (is_free OfWanted asked) c.known.entries)
+is_known asked c = has_free OfWanted asked c.known
 
 abbrev pub may_be_unknown : (moment : ℕ) → Asked ℕ → CheckingValue → Bool
 may_be_unknown moment asked c = nat_lt moment c.known_from && not (is_known asked c)
@@ -93,13 +94,19 @@ abbrev pub with_known : (moment : ℕ) → Terms ℕ → Asked ℕ → CheckingV
 with_known moment terms asked c =
     if may_be_unknown moment asked c then with_entry (Wanted moment asked terms true false) c.known else c.known
 
--- The check after a query became wanted. Its partner is the first seen query on the subject that has none.
+-- the first moment within the tolerance before another
+abbrev pub near : (moment : ℕ) → CheckingValue → ℕ
+near moment c = moment - c.schedules.repeats.within
+
+-- The check after a query became wanted. Its partner is the first seen query on the subject within the tolerance that
+-- has none.
 unfoldable pub with_wanted : (moment : ℕ) → Terms ℕ → CheckingValue → Asked ℕ → CheckingValue
 with_wanted moment terms c asked =
     let is_optional = may_be_left_out moment asked terms c.waiting.entries in
-    let is_found = is_some (first_terms (is_free OfSeen asked) c.waiting.entries) in
+    let from = near moment c in
+    let is_found = is_some (first_terms (is_free OfSeen asked from) c.waiting.entries) in
     record c {
-      waiting = with_entry (Wanted moment asked terms is_optional is_found) (with_partner OfSeen asked terms c.waiting);
+      waiting = with_entry (Wanted moment asked terms is_optional is_found) (with_partner OfSeen asked from terms c.waiting);
       known = with_known moment terms asked c;
       schedules = schedules_wanted moment terms asked (recent moment c.schedules);
     }
@@ -126,14 +133,39 @@ abbrev pub alone_in : (moment : ℕ) → Terms ℕ → (unheld : Option (Terms �
 alone_in moment terms unheld asked c =
     alone_after moment terms unheld asked (record c { schedules = recent moment c.schedules })
 
--- The check after a query was seen. Its partner is the first wanted query on the subject that has none.
+-- The partner of a seen query is the first wanted query on the subject within the tolerance that has none. If there is
+-- none within the tolerance and the query goes on with a schedule, its partner is the first one before. Then S is as
+-- seen: it depends on timers at that moment.
+abbrev pub near_partner : (moment : ℕ) → Asked ℕ → CheckingValue → Option (Terms ℕ)
+near_partner moment asked c = first_terms (is_free OfWanted asked (near moment c)) c.waiting.entries
+
+abbrev pub goes_on : (moment : ℕ) → Asked ℕ → SchedulesValue → Bool
+goes_on moment asked s = is_next s.repeats moment (before_in asked s)
+
+abbrev pub is_late : (moment : ℕ) → Asked ℕ → CheckingValue → Bool
+is_late moment asked c = not (is_some (near_partner moment asked c)) && goes_on moment asked (recent moment c.schedules)
+
+abbrev pub partner_if : (is_late : Bool) → (moment : ℕ) → Terms ℕ → Asked ℕ → CheckingValue → Option (Terms ℕ)
+partner_if false moment terms asked c = near_partner moment asked c
+partner_if true moment terms asked c = as_seen terms (first_terms (is_free OfWanted asked 0) c.waiting.entries)
+
+abbrev pub paired_if : (is_late : Bool) → (moment : ℕ) → Terms ℕ → Asked ℕ → CheckingValue → WaitingValue
+paired_if false moment terms asked c = with_partner OfWanted asked (near moment c) terms c.waiting
+paired_if true moment terms asked c = with_partner OfWanted asked 0 terms c.waiting
+
+abbrev pub partner_of : (moment : ℕ) → Terms ℕ → Asked ℕ → CheckingValue → Option (Terms ℕ)
+partner_of moment terms asked c = partner_if (is_late moment asked c) moment terms asked c
+
+abbrev pub paired : (moment : ℕ) → Terms ℕ → Asked ℕ → CheckingValue → WaitingValue
+paired moment terms asked c = paired_if (is_late moment asked c) moment terms asked c
+
+-- the check after a query was seen
 unfoldable pub with_seen : (moment : ℕ) → Terms ℕ → (unheld : Option (Terms ℕ)) → CheckingValue → Asked ℕ → CheckingValue
 with_seen moment terms unheld c asked =
-    let partner = first_terms (is_free OfWanted asked) c.waiting.entries in
+    let partner = partner_of moment terms asked c in
     record c {
       waiting =
-          with_entry (Seen moment asked terms partner (alone_in moment terms unheld asked c))
-          (with_partner OfWanted asked terms c.waiting);
+          with_entry (Seen moment asked terms partner (alone_in moment terms unheld asked c)) (paired moment terms asked c);
       schedules = schedules_seen moment terms asked (is_some partner) (recent moment c.schedules);
     }
 
@@ -155,7 +187,7 @@ with_general within configured moment terms wanted c =
     let judged =
     with_interval configured moment terms.packet (wrong_interval within configured moment c.phase) c.waiting in
     record c {
-      waiting = with_entry (Seen moment AllGroups terms (Some wanted) (Extra true)) (with_partner OfWanted AllGroups terms judged);
+      waiting = with_entry (Seen moment AllGroups terms (Some wanted) (Extra true)) (with_partner OfWanted AllGroups (near moment c) terms judged);
       phase = phase_behind within configured moment c.phase;
     }
 
@@ -243,21 +275,31 @@ role_after_tick within moment true is_querier c = c
 role_after_tick within moment false true c = role_returned within moment c
 role_after_tick within moment false false c = c
 
--- the check at the end of a capture, after which the partners of wanted queries may come
-abbrev pub with_all_excused : CheckingValue → CheckingValue
-with_all_excused c = record c { waiting = waits.all_excused c.waiting }
+-- the check after a host blocked these subjects
+abbrev pub one_blocked : (moment : ℕ) → CheckingValue → Asked ℕ → CheckingValue
+one_blocked moment c asked = record c { schedules = schedules_blocked moment asked (recent moment c.schedules) }
 
--- The findings of an entry that is pending after the end of a capture, if the role changed last at `changed`. A wanted
--- query isn't reported.
-abbrev pub found_of_last : (within : ℕ) → (changed : Option ℕ) → Entry ℕ → List (Finding ℕ)
-found_of_last within changed entry = findings_of within changed (excused entry)
+abbrev pub all_blocked : (moment : ℕ) → List (Asked ℕ) → CheckingValue → CheckingValue
+all_blocked moment asked c = fold (one_blocked moment) c asked
+
+-- the check at the end of a capture, after which the partners of wanted queries may come
+abbrev pub with_all_excused : (within end : ℕ) → CheckingValue → CheckingValue
+with_all_excused within end c =
+    let schedules = recent end c.schedules in
+    record c { waiting = waits.all_excused within end schedules.sent c.waiting; schedules = schedules }
+
+-- The findings of an entry that is pending after the end of a capture, if the role changed last at `changed`. A query
+-- that is wanted at most the tolerance before the end, or later, isn't reported.
+abbrev pub found_of_last : (within end : ℕ) → (changed : Option ℕ) → Entry ℕ → List (Finding ℕ)
+found_of_last within end changed entry =
+    findings_of within changed (excused_if (nat_le end (moment_of entry + within)) entry)
 
 abbrev pub silence_found : (configured : Timing) → (moment : ℕ) → Option ℕ → List (Finding ℕ)
 silence_found configured moment None = []
 silence_found configured moment (Some passed) =
     finding.Silence moment passed (query_interval configured) ∷ []
 
--- the last findings: those of the pending entries, and a silence up to the end that is too long
+-- the last findings at the end: those of the pending entries, and a silence up to the end that is too long
 abbrev pub told_at_end : (within : ℕ) → (configured : Timing) → (moment : ℕ) → (silence : Option ℕ) → CheckingValue → List (Finding ℕ)
 told_at_end within configured moment silence c =
-    flat_map (found_of_last within c.changed) c.waiting.entries ++ silence_found configured moment silence
+    flat_map (found_of_last within moment c.changed) c.waiting.entries ++ silence_found configured moment silence

@@ -175,6 +175,10 @@ excused (Interval moment packet after wanted) = Interval moment packet after wan
 excused (Silence moment after wanted) = Silence moment after wanted
 excused (Packet moment number fault) = Packet moment number fault
 
+abbrev pub excused_if : Bool → Entry ℕ → Entry ℕ
+excused_if true entry = excused entry
+excused_if false entry = entry
+
 -- the findings of an expired entry, if the role changed last at `changed`
 abbrev pub findings_of : (within : ℕ) → (changed : Option ℕ) → Entry ℕ → List (Finding ℕ)
 findings_of within changed (Wanted moment asked terms is_optional is_found) =

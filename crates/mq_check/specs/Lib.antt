@@ -1,5 +1,6 @@
 pub mod Announced
 pub mod Basis
+pub mod Blocked
 pub mod Check
 pub mod CheckedCaptures
 pub mod Checking

@@ -8,27 +8,27 @@ use Rattle.mq_check.specs.declared.waiting.Side.{Side}
 use Rattle.mq_check.specs.Entries.{moment_of, terms_in, joined, first_terms, first_joined, first_entry, findings_of}
 use Rattle.mq_check.specs.Waiting.{WaitingValue, is_free, told, settled}
 
--- no entry of the side has this subject and no partner
-pub record IsNoneFree (side : Side) (asked : Asked ℕ) (entries : List (Entry ℕ)) : Type 0 where
-  pub terms : first_terms (is_free side asked) entries ≡ None
-  pub entry : first_entry (is_free side asked) entries ≡ None
-  pub joined : (other : Terms ℕ) → first_joined (is_free side asked) other entries ≡ entries
+-- no entry of the side has this subject, no partner, and a moment from `from` on
+pub record IsNoneFree (side : Side) (asked : Asked ℕ) (from : ℕ) (entries : List (Entry ℕ)) : Type 0 where
+  pub terms : first_terms (is_free side asked from) entries ≡ None
+  pub entry : first_entry (is_free side asked from) entries ≡ None
+  pub joined : (other : Terms ℕ) → first_joined (is_free side asked from) other entries ≡ entries
 
 -- the first such entry is at this place
-pub record IsFirstFree (side : Side) (asked : Asked ℕ) (entries : List (Entry ℕ)) (place : ℕ) : Type 0 where
+pub record IsFirstFree (side : Side) (asked : Asked ℕ) (from : ℕ) (entries : List (Entry ℕ)) (place : ℕ) : Type 0 where
   pub within : place < length entries
-  pub terms : HoldsAt (λ entry. first_terms (is_free side asked) entries ≡ terms_in entry) entries place
-  pub entry : HoldsAt (λ entry. first_entry (is_free side asked) entries ≡ Some entry) entries place
-  pub joined : (other : Terms ℕ) → HoldsAt (λ entry. first_joined (is_free side asked) other entries ≡ slice_set entries place (joined other entry)) entries place
+  pub terms : HoldsAt (λ entry. first_terms (is_free side asked from) entries ≡ terms_in entry) entries place
+  pub entry : HoldsAt (λ entry. first_entry (is_free side asked from) entries ≡ Some entry) entries place
+  pub joined : (other : Terms ℕ) → HoldsAt (λ entry. first_joined (is_free side asked from) other entries ≡ slice_set entries place (joined other entry)) entries place
 
 -- no entry has expired at `now`
-pub record IsNoneOver (within now : ℕ) (w : WaitingValue) : Type 0 where
-  pub told : (changed : Option ℕ) → told within now changed w ≡ []
-  pub settled : settled within now w ≡ w
+pub record IsNoneOver (keep now : ℕ) (w : WaitingValue) : Type 0 where
+  pub told : (within : ℕ) (changed : Option ℕ) → told keep within now changed w ≡ []
+  pub settled : settled keep now w ≡ w
 
 -- the first entry, which has expired at `now`, was removed
-pub record IsFirstOver (within now : ℕ) (old new : WaitingValue) (entry : Entry ℕ) : Type 0 where
-  pub is_over : moment_of entry + within < now
-  pub told : (changed : Option ℕ) → told within now changed old ≡ findings_of within changed entry ++ told within now changed new
-  pub settled : settled within now old ≡ settled within now new
+pub record IsFirstOver (keep now : ℕ) (old new : WaitingValue) (entry : Entry ℕ) : Type 0 where
+  pub is_over : moment_of entry + keep < now
+  pub told : (within : ℕ) (changed : Option ℕ) → told keep within now changed old ≡ findings_of within changed entry ++ told keep within now changed new
+  pub settled : settled keep now old ≡ settled keep now new
   pub fewer : length new.entries + 1 ≡ length old.entries

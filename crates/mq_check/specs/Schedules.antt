@@ -1,19 +1,19 @@
 -- Schedules that a querier may keep. A query for a group or a source is sent again after a Last Member Query Interval. If
 -- a new query becomes wanted in between, the link starts a new schedule in place of the earlier one. The standards' words
--- allow a querier to keep both (RFC 3376 sections 6.4.2, 6.6.3.1 and 6.6.3.2, RFC 3810 sections 7.4.2, 7.6.3.1 and
--- 7.6.3.2).
-use Rattle.std.specs.Prelude.{ℕ, ◌+◌, ◌-◌, ◌^◌, ◌&&◌, ◌||◌, nat_lt, nat_le, not, Bool, true, false, if◌then◌else◌, Option, None, Some}
+-- allow a querier to keep both, to count the interval from the query that it sent last, and to send a query at once if a
+-- host blocks a source again (RFC 3376 sections 6.4.2, 6.6.3.1 and 6.6.3.2, RFC 3810 sections 7.4.2, 7.6.3.1 and 7.6.3.2).
+use Rattle.std.specs.Prelude.{ℕ, ◌+◌, ◌-◌, ◌^◌, ◌&&◌, ◌||◌, min, nat_lt, nat_le, not, Bool, true, false, if◌then◌else◌, Option, None, Some}
 use Rattle.mq_table.specs.declared.timing.Timing.{Timing}
 use Rattle.mq_table.specs.Timing.{last_member_count}
 use Rattle.mq_check.specs.declared.asked.Asked.{Asked}
 use Rattle.mq_check.specs.declared.entry.Entry.{Entry}
-use Rattle.mq_check.specs.declared.entry.Entry.TheVariants.{Wanted, Seen}
+use Rattle.mq_check.specs.declared.entry.Entry.TheVariants.{Wanted, Seen, Interval, Silence, Packet}
 use Rattle.mq_check.specs.declared.entry.Unpaired.TheVariants.{Scheduled}
 use Rattle.mq_check.specs.declared.schedules.Repeats.{Repeats}
 use Rattle.mq_check.specs.declared.terms.Terms.{Terms}
 use Rattle.mq_check.specs.declared.terms.QuerierTerms.{QuerierTerms}
 use Rattle.mq_check.specs.declared.waiting.Side.TheVariants.{OfWanted, OfSeen}
-use Rattle.mq_check.specs.Entries.{moment_of, left_in, terms_in, first_entry, is_suppressed}
+use Rattle.mq_check.specs.Entries.{moment_of, left_in, terms_in, first_terms, first_entry, is_suppressed}
 use Rattle.mq_check.specs.Waiting.{WaitingValue, nothing, is_free, with_entry, with_partner, settled}
 
 -- The retransmission of queries, and the queries of schedules. `sent` has the seen queries after which one more may come,
@@ -27,9 +27,19 @@ abbrev pub more_in : Timing → (strict : Bool) → ℕ
 more_in timing true = 0
 more_in timing false = last_member_count timing - 1
 
+-- The time after which an entry expires, at most 2^32 - 1. A query that goes on with a schedule may be the partner of a
+-- query that was wanted up to an interval and the tolerance before.
+abbrev pub keep_in : (within : ℕ) → Timing → (strict : Bool) → ℕ
+keep_in within timing true = within
+keep_in within timing false = min (within + timing.last_member_interval) (2 ^ 32 - 1)
+
 abbrev pub repeats_in : (within : ℕ) → Timing → (strict : Bool) → Repeats
-repeats_in within timing strict =
-    record { within = within; interval = timing.last_member_interval; more = more_in timing strict }
+repeats_in within timing strict = record {
+  within = within;
+  interval = timing.last_member_interval;
+  more = more_in timing strict;
+  keep = keep_in within timing strict;
+}
 
 abbrev pub schedules_at_start : (within : ℕ) → Timing → (strict : Bool) → SchedulesValue
 schedules_at_start within timing strict = record { repeats = repeats_in within timing strict; sent = nothing }
@@ -58,10 +68,10 @@ recent moment s =
 
 -- the query of an earlier schedule on the subject that waits for its next one, and the last wanted query
 abbrev pub before_in : Asked ℕ → SchedulesValue → Option (Entry ℕ)
-before_in asked s = first_entry (is_free OfSeen asked) s.sent.entries
+before_in asked s = first_entry (is_free OfSeen asked 0) s.sent.entries
 
 abbrev pub last_in : Asked ℕ → SchedulesValue → Option (Entry ℕ)
-last_in asked s = first_entry (is_free OfWanted asked) s.sent.entries
+last_in asked s = first_entry (is_free OfWanted asked 0) s.sent.entries
 
 -- the next query is seen after this one
 abbrev pub is_next : Repeats → (moment : ℕ) → Option (Entry ℕ) → Bool
@@ -93,13 +103,44 @@ of_earlier repeats moment seen (Some before) (Some last) =
     then as_seen seen (terms_in last)
     else None
 
-abbrev pub allowed_by : (moment : ℕ) → (seen : Terms ℕ) → Asked ℕ → SchedulesValue → Option (Terms ℕ)
-allowed_by moment seen asked s = of_earlier s.repeats moment seen (before_in asked s) (last_in asked s)
+-- A host blocked the subject while it was pending, and the query is seen within the tolerance of that. The last entry of
+-- the subject is then one that may not be left out.
+abbrev pub is_blocked : Entry ℕ → Bool
+is_blocked (Wanted moment asked terms is_optional is_found) = not is_optional
+is_blocked (Seen moment asked terms partner alone) = false
+is_blocked (Interval moment packet after wanted) = false
+is_blocked (Silence moment after wanted) = false
+is_blocked (Packet moment number fault) = false
 
--- The schedules after a query was seen. It goes on with a schedule, or starts one if it has a partner.
+abbrev pub is_asked_again : Repeats → (moment : ℕ) → (last : Option (Entry ℕ)) → Bool
+is_asked_again repeats moment None = false
+is_asked_again repeats moment (Some last) = is_blocked last && is_due repeats (moment_of last) (due_after repeats moment)
+
+-- the wanted fields of such a query
+abbrev pub of_blocked : Repeats → (moment : ℕ) → (seen : Terms ℕ) → (last : Option (Entry ℕ)) → Option (Terms ℕ)
+of_blocked repeats moment seen None = None
+of_blocked repeats moment seen (Some last) =
+    if is_asked_again repeats moment (Some last) then as_seen seen (terms_in last) else None
+
+abbrev pub first_of : (a b : Option (Terms ℕ)) → Option (Terms ℕ)
+first_of (Some terms) b = Some terms
+first_of None b = b
+
+abbrev pub allowed_by : (moment : ℕ) → (seen : Terms ℕ) → Asked ℕ → SchedulesValue → Option (Terms ℕ)
+allowed_by moment seen asked s = first_of
+    (of_earlier s.repeats moment seen (before_in asked s) (last_in asked s))
+    (of_blocked s.repeats moment seen (last_in asked s))
+
+-- The schedules after a query was seen. It goes on with a schedule, or starts one if it has a partner or was asked again
+-- for a blocked source.
 abbrev pub without_before : (is_next : Bool) → Terms ℕ → Asked ℕ → WaitingValue → WaitingValue
-without_before true terms asked w = with_partner OfSeen asked terms w
+without_before true terms asked w = with_partner OfSeen asked 0 terms w
 without_before false terms asked w = w
+
+-- a blocked source is asked again once
+abbrev pub without_blocked : (is_again : Bool) → Terms ℕ → Asked ℕ → WaitingValue → WaitingValue
+without_blocked true terms asked w = with_partner OfWanted asked 0 terms w
+without_blocked false terms asked w = w
 
 abbrev pub with_scheduled : (left due : ℕ) → (is_scheduled : Bool) → Terms ℕ → Asked ℕ → WaitingValue → WaitingValue
 with_scheduled left due is_scheduled terms asked w =
@@ -109,10 +150,11 @@ unfoldable pub schedules_seen : (moment : ℕ) → Terms ℕ → Asked ℕ → (
 schedules_seen moment terms asked has_partner s =
     let before = before_in asked s in
     let follows = is_next s.repeats moment before in
+    let is_again = not (follows || has_partner) && is_asked_again s.repeats moment (last_in asked s) in
     record s {
       sent =
-          with_scheduled (left_after s.repeats moment before) (due_after s.repeats moment) (follows || has_partner) terms asked
-          (without_before follows terms asked s.sent);
+          with_scheduled (left_after s.repeats moment before) (due_after s.repeats moment) (follows || has_partner || is_again) terms asked
+          (without_blocked is_again terms asked (without_before follows terms asked s.sent));
     }
 
 -- the schedules after a query became wanted
@@ -121,5 +163,21 @@ schedules_wanted moment terms asked s =
     record s {
       sent =
           with_entry (Wanted (due_after s.repeats moment) asked terms true false)
-          (with_partner OfWanted asked terms s.sent);
+          (with_partner OfWanted asked 0 terms s.sent);
     }
+
+-- The schedules after a host blocked a source. If a query for it was wanted in the last interval, the source is pending.
+abbrev pub marked_blocked : (moment : ℕ) → Asked ℕ → (last : Option (Terms ℕ)) → SchedulesValue → SchedulesValue
+marked_blocked moment asked None s = s
+marked_blocked moment asked (Some terms) s =
+    record s {
+      sent =
+          with_entry (Wanted (due_after s.repeats moment) asked terms false false)
+          (with_partner OfWanted asked 0 terms s.sent);
+    }
+
+unfoldable pub schedules_blocked : (moment : ℕ) → Asked ℕ → SchedulesValue → SchedulesValue
+schedules_blocked moment asked s =
+    if nat_lt 0 s.repeats.more
+    then marked_blocked moment asked (first_terms (is_free OfWanted asked 0) s.sent.entries) s
+    else s

@@ -1,15 +1,14 @@
--- Pending entries, whose partners may still come, and their findings. A wanted query and a seen one are partners if
--- they have the same subject and lie at most the tolerance apart. Each has at most one partner, and the earlier query
--- is paired first.
-use Rattle.std.specs.Prelude.{ℕ, nat_lt, Bool, true, false, if◌then◌else◌, List, [], ◌∷◌, ◌++◌, length, drop, map as list_map, Option, take_while, flat_map}
+-- Pending entries, whose partners may still come, and their findings.
+use Rattle.std.specs.Prelude.{ℕ, ◌+◌, ◌&&◌, ◌||◌, nat_lt, nat_le, Bool, true, false, if◌then◌else◌, List, [], ◌∷◌, ◌++◌, length, drop, map as list_map, Option, is_some, take_while, flat_map}
 use Rattle.std.specs.List.{prefix_len}
 use Rattle.mq_check.specs.declared.asked.Asked.{Asked}
 use Rattle.mq_check.specs.declared.entry.Entry.{Entry}
+use Rattle.mq_check.specs.declared.entry.Entry.TheVariants.{Wanted, Seen, Interval, Silence, Packet}
 use Rattle.mq_check.specs.declared.finding.Finding.{Finding}
 use Rattle.mq_check.specs.declared.terms.Terms.{Terms}
 use Rattle.mq_check.specs.declared.waiting.Side.{Side}
 use Rattle.mq_check.specs.declared.waiting.Side.TheVariants.{OfWanted, OfSeen}
-use Rattle.mq_check.specs.Entries.{is_over, is_free_wanted, is_free_seen, first_joined, excused, findings_of}
+use Rattle.mq_check.specs.Entries.{moment_of, is_over, is_free_wanted, is_free_seen, first_terms, first_joined, excused_if, findings_of}
 
 -- the most pending entries
 abbrev pub room : ℕ
@@ -30,25 +29,42 @@ with_entry entry w =
     then record w { entries = w.entries ++ entry ∷ [] }
     else record w { is_full = true }
 
--- an entry of this side with this subject that has no partner
-abbrev pub is_free : Side → Asked ℕ → Entry ℕ → Bool
-is_free OfWanted asked entry = is_free_wanted asked entry
-is_free OfSeen asked entry = is_free_seen asked entry
+-- an entry of this side with this subject that has no partner, and whose moment isn't before `from`
+abbrev pub is_free : Side → Asked ℕ → (from : ℕ) → Entry ℕ → Bool
+is_free OfWanted asked from entry = is_free_wanted asked entry && nat_le from (moment_of entry)
+is_free OfSeen asked from entry = is_free_seen asked entry && nat_le from (moment_of entry)
 
 -- the list after the first of these entries has found a partner with these terms
-unfoldable pub with_partner : Side → Asked ℕ → Terms ℕ → WaitingValue → WaitingValue
-with_partner side asked other w = record w { entries = first_joined (is_free side asked) other w.entries }
+unfoldable pub with_partner : Side → Asked ℕ → (from : ℕ) → Terms ℕ → WaitingValue → WaitingValue
+with_partner side asked from other w = record w { entries = first_joined (is_free side asked from) other w.entries }
+
+-- an entry of this side with this subject has no partner
+abbrev pub has_free : Side → Asked ℕ → WaitingValue → Bool
+has_free side asked w = is_some (first_terms (is_free side asked 0) w.entries)
+
+-- The partner of a wanted query may come after the end of a capture: the end is at most the tolerance after its moment,
+-- or the next query of a schedule on its subject is due then. `sent` has the queries of schedules.
+abbrev pub may_still_come : (within end : ℕ) → (sent : WaitingValue) → Entry ℕ → Bool
+may_still_come within end sent (Wanted moment asked terms is_optional is_found) =
+    nat_le end (moment + within) || has_free OfSeen asked sent
+may_still_come within end sent (Seen moment asked terms partner alone) = false
+may_still_come within end sent (Interval moment packet after wanted) = false
+may_still_come within end sent (Silence moment after wanted) = false
+may_still_come within end sent (Packet moment number fault) = false
 
 -- the list at the end of a capture
-unfoldable pub all_excused : WaitingValue → WaitingValue
-all_excused w = record w { entries = list_map excused w.entries }
+abbrev pub excused_at : (within end : ℕ) → (sent : WaitingValue) → Entry ℕ → Entry ℕ
+excused_at within end sent entry = excused_if (may_still_come within end sent entry) entry
 
--- The findings of the entries that have expired at a moment, and the list after their removal. If an entry had no room,
--- nothing more is found.
-unfoldable pub told : (within now : ℕ) → (changed : Option ℕ) → WaitingValue → List (Finding ℕ)
-told within now changed w =
-    if w.is_full then [] else flat_map (findings_of within changed) (take_while (is_over within now) w.entries)
+unfoldable pub all_excused : (within end : ℕ) → (sent : WaitingValue) → WaitingValue → WaitingValue
+all_excused within end sent w = record w { entries = list_map (excused_at within end sent) w.entries }
 
-unfoldable pub settled : (within now : ℕ) → WaitingValue → WaitingValue
-settled within now w =
-    if w.is_full then w else record w { entries = drop (prefix_len (is_over within now) w.entries) w.entries }
+-- The findings of the entries that have expired at a moment, and the list after their removal. An entry expires after
+-- the time `keep`. If an entry had no room, nothing more is found.
+unfoldable pub told : (keep within now : ℕ) → (changed : Option ℕ) → WaitingValue → List (Finding ℕ)
+told keep within now changed w =
+    if w.is_full then [] else flat_map (findings_of within changed) (take_while (is_over keep now) w.entries)
+
+unfoldable pub settled : (keep now : ℕ) → WaitingValue → WaitingValue
+settled keep now w =
+    if w.is_full then w else record w { entries = drop (prefix_len (is_over keep now) w.entries) w.entries }
