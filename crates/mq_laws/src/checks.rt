@@ -20,7 +20,7 @@ ghost use Rattle.mq_laws.specs.AsWanted.{AreSeen, AreSeenWithin, IsAsWanted, Tak
 ghost use Rattle.mq_laws.specs.Events.{CheckEvent, HasRoom, found_by};
 ghost use Rattle.mq_laws.specs.WantedAndSeen.{wanted_in};
 ghost use Rattle.mq_laws.specs.CheckExamples.{example_events, example_expected, example_timing};
-ghost use Rattle.mq_laws.specs.Pairing.{Ask, Expected, missing_of};
+ghost use Rattle.mq_laws.specs.Pairing.{Ask, Expected, kept_for, missing_of};
 ghost use Rattle.mq_laws.specs.Verdicts.{CameToItsEnd, CheckedCapture, IsClean, Tells, TellsWhatHappened, ahead_in, end_in, events_in};
 
 use crate::links::{
@@ -50,7 +50,7 @@ pub fn what_happens_comes_in_order()
 /// expected.
 pub fn what_was_left_out_is_missing()
     ensures { (within : ℕ) (timing : Timing) (strict : Bool) (end : ℕ) (expected : List Expected) (events ahead : List CheckEvent)
-        → AreInOrder 0 events end → AreAhead within end ahead → IsAsWanted within timing end expected events
+        → AreInOrder 0 events end → AreAhead within end ahead → IsAsWanted within timing strict end expected events
         → HasRoom within timing strict end events ahead
         → found_by within timing strict end events ahead ≡ missing_of expected }
 {}
@@ -68,7 +68,7 @@ pub fn what_is_taken_out_is_missing()
     ensures { (within : ℕ) (timing : Timing) (strict : Bool) (end : ℕ) (events ahead : List CheckEvent) (before taken behind : List Ask)
         → AreInOrder 0 events end → AreAhead within end ahead → IsOnTime within timing end events
         → HasRoom within timing strict end events ahead
-        → wanted_in 0 events ≡ before ++ taken ++ behind → TakesOut within end taken behind
+        → wanted_in 0 events ≡ before ++ taken ++ behind → TakesOut (kept_for within timing strict) end taken behind
         → AreSeen within (before ++ behind) events → found_by within timing strict end events ahead ≡ all_missing taken }
 {}
 
@@ -93,7 +93,7 @@ pub fn clean_captures_are_told_so()
 /// A lemma: the check says what was left out, and no more.
 pub fn what_was_left_out_is_told()
     ensures { (c : CheckedCapture) (expected : List Expected)
-        → IsFaultless c.config → CameToItsEnd c → IsAsWanted c.within c.config.timing (end_in c) expected (events_in c)
+        → IsFaultless c.config → CameToItsEnd c → IsAsWanted c.within c.config.timing c.strict (end_in c) expected (events_in c)
         → Tells c (missing_of expected) }
 {
     what_happens_comes_in_order();
@@ -118,6 +118,6 @@ pub fn general_queries_are_on_time_at_these_intervals()
 /// one was left out. Then the role was lost, and the router was querier again.
 pub fn a_check_of_two_queries()
     ensures in_order { AreInOrder 0 example_events 262000 }
-    ensures as_wanted { IsAsWanted 100 example_timing 262000 example_expected example_events }
+    ensures as_wanted { IsAsWanted 100 example_timing false 262000 example_expected example_events }
     ensures room { HasRoom 100 example_timing false 262000 example_events [] }
 {}
