@@ -1,5 +1,5 @@
 -- What waits behind each part of a check in which there is room for all that has to wait.
-use Rattle.std.proofs.Common.{◌≡◌, ℕ, ◌^◌, ◌&&◌, not, Bool, true, false, List, [], ◌∷◌, ◌++◌, length, refl, ap, sym, ◌∙◌}
+use Rattle.std.proofs.Common.{◌≡◌, ℕ, ◌^◌, Bool, true, false, List, [], ◌∷◌, ◌++◌, length, refl, ap, sym, ◌∙◌}
 use Rattle.std.specs.Prelude.{Option, None, Some, nat_le, nat_lt, is_some}
 use Rattle.std.proofs.lemmas.Bool.{and_left}
 use Rattle.mq_table.specs.declared.timing.Timing.{Timing}
@@ -11,11 +11,11 @@ use Rattle.mq_check.specs.declared.entry.Unpaired.TheVariants.{Extra}
 use Rattle.mq_check.specs.declared.phase.Phase.TheVariants.{NotQuerier}
 use Rattle.mq_check.specs.declared.terms.Terms.{Terms}
 use Rattle.mq_check.specs.declared.waiting.Side.TheVariants.{OfWanted, OfSeen}
-use Rattle.mq_check.specs.Checking.{CheckingValue, all_blocked, alone_in, goes_on, is_late, is_querier_in, near, near_partner, one_blocked, paired, paired_if, partner_if, partner_of, with_wanted, with_seen, with_general, general_compared, role_lost, role_returned, with_interval, with_silence}
+use Rattle.mq_check.specs.Checking.{CheckingValue, all_blocked, alone_in, is_late, is_querier_in, near, one_blocked, paired, partner_of, with_wanted, with_seen, with_general, general_compared, role_lost, role_returned, with_interval, with_silence}
 use Rattle.mq_check.specs.Checking as checking
 use Rattle.mq_check.specs.Entries.{first_terms, first_joined, is_free_seen, is_free_wanted, may_be_left_out}
 use Rattle.mq_check.specs.General.{phase_again, wrong_interval, phase_behind, silence_up_to}
-use Rattle.mq_check.specs.Schedules.{SchedulesValue, as_seen, marked_blocked, recent, schedules_blocked, schedules_seen, schedules_wanted}
+use Rattle.mq_check.specs.Schedules.{SchedulesValue, marked_blocked, recent, schedules_blocked, schedules_seen, schedules_wanted}
 use Rattle.mq_check.specs.Waiting.{WaitingValue, room, is_free, with_entry, with_partner, told, settled}
 use Rattle.mq_laws.specs.AsWanted.{HasToBeSent}
 use Rattle.mq_laws.proofs.Comings.{told_of, left_of}
@@ -117,35 +117,35 @@ required now (Source group source) terms entries must = and_left _ _ must
 partner_is : (now : ℕ) (terms : Terms ℕ) (asked : Asked ℕ) (c : CheckingValue) → SameFrom (is_free_wanted asked) (near now c) c.waiting.entries
     → partner_of now terms asked c ≡ first_terms (is_free_wanted asked) c.waiting.entries
 partner_is now terms asked c same =
-    let all = same_all (is_free_wanted asked) c.waiting.entries in
-    elim (first_terms (is_free_wanted asked) c.waiting.entries) as (λ o. first_terms (is_free_wanted asked) c.waiting.entries ≡ o → partner_of now terms asked c ≡ first_terms (is_free_wanted asked) c.waiting.entries) [
+    let es = c.waiting.entries in
+    let all = same_all (is_free_wanted asked) es in
+    elim (first_terms (is_free_wanted asked) es) as (λ o. first_terms (is_free_wanted asked) es ≡ o → partner_of now terms asked c ≡ first_terms (is_free_wanted asked) es) [
       | None ↦ λ none.
-          let near_is : near_partner now asked c ≡ None = same.terms ∙ none in
-          let late : is_late now asked c ≡ goes_on now asked (recent now c.schedules) = λ i. not (is_some (near_is i)) && goes_on now asked (recent now c.schedules) in
-          ap (λ b. partner_if b now terms asked c) late ∙ either_none (goes_on now asked (recent now c.schedules)) near_is (all.terms ∙ none) ∙ sym none
+          let near_is : first_terms (is_free OfWanted asked (near now c)) es ≡ None = same.terms ∙ none in
+          let all_is : first_terms (is_free OfWanted asked 0) es ≡ None = all.terms ∙ none in
+          elim (is_late now asked c) as (λ b. is_late now asked c ≡ b → partner_of now terms asked c ≡ first_terms (is_free_wanted asked) es) [
+            | true ↦ λ late. rw (late, all_is, none) refl
+            | false ↦ λ early. rw (early, near_is, none) refl
+          ] refl
       | Some t ↦ λ some.
-          let near_is : near_partner now asked c ≡ Some t = same.terms ∙ some in
-          let late : is_late now asked c ≡ false = λ i. not (is_some (near_is i)) && goes_on now asked (recent now c.schedules) in
-          ap (λ b. partner_if b now terms asked c) late ∙ same.terms
+          let near_is : first_terms (is_free OfWanted asked (near now c)) es ≡ Some t = same.terms ∙ some in
+          rw (near_is, some) near_is
     ] refl
-  where
-    either_none : (b : Bool) → near_partner now asked c ≡ None → first_terms (is_free OfWanted asked 0) c.waiting.entries ≡ None → partner_if b now terms asked c ≡ None
-    either_none true near_is all_is = ap (as_seen terms) all_is
-    either_none false near_is all_is = near_is
 
 paired_is : (now : ℕ) (terms : Terms ℕ) (asked : Asked ℕ) (c : CheckingValue) → SameFrom (is_free_wanted asked) (near now c) c.waiting.entries
     → (paired now terms asked c).entries ≡ first_joined (is_free_wanted asked) terms c.waiting.entries
 unfolding with_partner
-paired_is now terms asked c same = by_late (is_late now asked c)
-  where
-    by_late : (b : Bool) → (paired_if b now terms asked c).entries ≡ first_joined (is_free_wanted asked) terms c.waiting.entries
-    by_late true = (same_all (is_free_wanted asked) c.waiting.entries).joined terms
-    by_late false = same.joined terms
+paired_is now terms asked c same = elim (is_late now asked c) as (λ b. is_late now asked c ≡ b → (paired now terms asked c).entries ≡ first_joined (is_free_wanted asked) terms c.waiting.entries) [
+  | true ↦ λ late. rw late ((same_all (is_free_wanted asked) c.waiting.entries).joined terms)
+  | false ↦ λ early. rw early (same.joined terms)
+] refl
 
-paired_full : (b : Bool) (now : ℕ) (terms : Terms ℕ) (asked : Asked ℕ) (c : CheckingValue) → (paired_if b now terms asked c).is_full ≡ c.waiting.is_full
+paired_full : (now : ℕ) (terms : Terms ℕ) (asked : Asked ℕ) (c : CheckingValue) → (paired now terms asked c).is_full ≡ c.waiting.is_full
 unfolding with_partner
-paired_full true now terms asked c = refl
-paired_full false now terms asked c = refl
+paired_full now terms asked c = elim (is_late now asked c) as (λ b. is_late now asked c ≡ b → (paired now terms asked c).is_full ≡ c.waiting.is_full) [
+  | true ↦ λ late. rw late refl
+  | false ↦ λ early. rw early refl
+] refl
 
 -- something was seen
 pub record SeenPart (now : ℕ) (terms : Terms ℕ) (unheld : Option (Terms ℕ)) (c : CheckingValue) (asked : Asked ℕ) : Type 0 where
@@ -162,7 +162,7 @@ seen_part now terms unheld c asked free =
     let e = Seen now asked terms (partner_of now terms asked c) (alone_in now terms unheld asked c) in
     let put = entered e (paired now terms asked c) free in
     record {
-      was = sym (paired_full (is_late now asked c) now terms asked c) ∙ put.was;
+      was = sym (paired_full now terms asked c) ∙ put.was;
       phase = refl;
       last = refl;
       repeats = seen_repeats now terms asked (is_some (partner_of now terms asked c)) (recent now c.schedules) ∙ recent_repeats now c.schedules;
