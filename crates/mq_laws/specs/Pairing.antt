@@ -44,8 +44,8 @@ pub record Answers (within : ℕ) (wanted seen : Ask) : Type 0 where
   pub alike : terms_differ seen.terms wanted.terms ≡ []
 
 -- The time for which a check keeps a query without a partner. In a strict check it is the tolerance, so the laws of strict
--- checks name no other time. In other checks it is longer, by at most a Last Member Query Interval: a query that goes on
--- with a schedule may be the partner of one from an interval before.
+-- checks name no other time. In other checks it is longer, by at most a Last Member Query Interval. There a query that goes
+-- on with a schedule may be the partner of a query from an interval before.
 abbrev pub kept_for : (within : ℕ) → Timing → (strict : Bool) → ℕ
 kept_for within timing strict = keep_in within timing strict
 
