@@ -1,7 +1,8 @@
 -- Schedules that a querier may keep. A query for a group or a source is sent again after a Last Member Query Interval. If
 -- a new query becomes wanted in between, the link starts a new schedule in place of the earlier one. The standards' words
--- allow a querier to keep both, to count the interval from the query that it sent last, and to send a query at once if a
--- host blocks a source again (RFC 3376 sections 6.4.2, 6.6.3.1 and 6.6.3.2, RFC 3810 sections 7.4.2, 7.6.3.1 and 7.6.3.2).
+-- allow a querier to keep both. It may count the interval from the query that it sent last. If a host blocks a source
+-- again, it may send a query at once. RFC 3376 sections 6.4.2, 6.6.3.1 and 6.6.3.2, RFC 3810 sections 7.4.2, 7.6.3.1 and
+-- 7.6.3.2.
 use Rattle.std.specs.Prelude.{ℕ, ◌+◌, ◌-◌, ◌^◌, ◌&&◌, ◌||◌, max, min, nat_lt, nat_le, not, Bool, true, false, if◌then◌else◌, Option, None, Some}
 use Rattle.mq_table.specs.declared.timing.Timing.{Timing}
 use Rattle.mq_table.specs.Timing.{last_member_count}
@@ -103,8 +104,8 @@ of_earlier repeats moment seen (Some before) (Some last) =
     then as_seen seen (terms_in last)
     else None
 
--- A host blocked the subject while it was pending, and the query is seen within the tolerance of that. The last entry of
--- the subject is then one that may not be left out.
+-- A host blocked the subject while it was pending, and the query is seen within the tolerance of that. An entry that may
+-- not be left out marks the subject as blocked.
 abbrev pub is_blocked : Entry ℕ → Bool
 is_blocked (Wanted moment asked terms is_optional is_found) = not is_optional
 is_blocked (Seen moment asked terms partner alone) = false
@@ -137,7 +138,7 @@ abbrev pub without_before : (is_next : Bool) → Terms ℕ → Asked ℕ → Wai
 without_before true terms asked w = with_partner OfSeen asked 0 terms w
 without_before false terms asked w = w
 
--- a blocked source is asked again once
+-- the schedules after a query for a blocked source, of which only the first is asked again
 abbrev pub without_blocked : (is_again : Bool) → Terms ℕ → Asked ℕ → WaitingValue → WaitingValue
 without_blocked true terms asked w = with_partner OfWanted asked 0 terms w
 without_blocked false terms asked w = w

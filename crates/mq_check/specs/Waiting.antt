@@ -45,8 +45,8 @@ with_partner side asked from other w = record w { entries = first_joined (is_fre
 abbrev pub has_free : Side → Asked ℕ → (from : ℕ) → WaitingValue → Bool
 has_free side asked from w = is_some (first_terms (is_free side asked from) w.entries)
 
--- The partner of a wanted query may come after the end of a capture: the end is at most the tolerance after its moment,
--- or the next query of a schedule on its subject is due then. `sent` has the queries of schedules.
+-- The partner of a wanted query may come after the end of a capture. The end is at most the tolerance after its moment,
+-- or the next query of a schedule on its subject is still due. `sent` has the queries of schedules.
 abbrev pub may_still_come : (within end : ℕ) → (sent : WaitingValue) → Entry ℕ → Bool
 may_still_come within end sent (Wanted moment asked terms is_optional is_found) =
     nat_le end (moment + within) || has_free OfSeen asked 0 sent

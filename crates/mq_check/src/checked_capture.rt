@@ -97,13 +97,9 @@ where
     let Ok(link) = Link::new_in(memory, config, first_moment()) else {
         return Err(CheckFault::Memory);
     };
-    let Ok(checking) = Checking::<F, A>::new(
-        memory,
-        terms.within,
-        timing,
-        last_member,
-        terms.strict,
-    ) else {
+    let strict = terms.strict;
+    let Ok(checking) = Checking::<F, A>::new(memory, terms.within, timing, last_member, strict)
+    else {
         return Err(CheckFault::Memory);
     };
     let mut check = Check::new(link, checking, terms);

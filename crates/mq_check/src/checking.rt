@@ -330,8 +330,8 @@ impl<F: Family, A: Allocator> Checking<F, A> {
         !self.waiting.has_free(Side::OfWanted, asked, from) && self.schedules.goes_on(moment, asked)
     }
 
-    /// Pairs a seen query with the first wanted query on the subject that has no partner: one from `from` on, or one before
-    /// if the seen query goes on with a schedule. Returns the terms of the wanted query.
+    /// Pairs a seen query with the first wanted query on the subject that has no partner, and returns its terms. The wanted
+    /// query may be before `from` only if the seen one goes on with a schedule.
     fn pair(
         &mut self,
         moment: Moment,

@@ -15,7 +15,7 @@ use Rattle.mq_check.specs.Checking.{CheckingValue, all_blocked, alone_in, is_lat
 use Rattle.mq_check.specs.Checking as checking
 use Rattle.mq_check.specs.Entries.{first_terms, first_joined, is_free_seen, is_free_wanted, may_be_left_out}
 use Rattle.mq_check.specs.General.{phase_again, wrong_interval, phase_behind, silence_up_to}
-use Rattle.mq_check.specs.Schedules.{SchedulesValue, marked_blocked, recent, schedules_blocked, schedules_seen, schedules_wanted}
+use Rattle.mq_check.specs.Schedules.{SchedulesValue, last_in, marked_blocked, recent, schedules_blocked, schedules_seen, schedules_wanted, terms_of}
 use Rattle.mq_check.specs.Waiting.{WaitingValue, room, is_free, with_entry, with_partner, told, settled}
 use Rattle.mq_laws.specs.AsWanted.{HasToBeSent}
 use Rattle.mq_laws.proofs.Comings.{told_of, left_of}
@@ -81,7 +81,7 @@ marked_repeats moment asked (Some terms) s = refl
 blocked_repeats : (moment : ℕ) (asked : Asked ℕ) (s : SchedulesValue) → (schedules_blocked moment asked s).repeats ≡ s.repeats
 unfolding schedules_blocked
 blocked_repeats moment asked s = elim (nat_lt 0 s.repeats.more) as (λ b. nat_lt 0 s.repeats.more ≡ b → (schedules_blocked moment asked s).repeats ≡ s.repeats) [
-  | true ↦ λ is. rw is (marked_repeats moment asked (first_terms (is_free OfWanted asked 0) s.sent.entries) s)
+  | true ↦ λ is. rw is (marked_repeats moment asked (terms_of (last_in asked s)) s)
   | false ↦ λ is. rw is refl
 ] refl
 
