@@ -1,5 +1,5 @@
--- What waits at the end of a capture, where each wanted query may be left out.
-use Rattle.std.proofs.Common.{◌≡◌, ℕ, zero, suc, ◌+◌, ◌<◌, Bool, List, [], ◌∷◌, ◌++◌, length, take, drop, set, get_or, refl, ap, sym, ◌∙◌, append-nil, add-one, arith}
+-- What waits at the end of a capture, where wanted queries may be left out.
+use Rattle.std.proofs.Common.{◌≡◌, ℕ, zero, suc, ◌+◌, ◌<◌, Bool, true, false, List, [], ◌∷◌, ◌++◌, length, take, drop, set, get_or, refl, ap, sym, ◌∙◌, append-nil, add-one, arith}
 use Rattle.std.specs.Prelude.{map as list_map}
 use Rattle.std.proofs.Math.ListN.{get_or-map as mapped_at}
 use Rattle.std.proofs.Math.Seq.{drop-length, take-length}
@@ -9,47 +9,47 @@ use Rattle.mq_check.specs.declared.entry.Entry.{Entry}
 use Rattle.mq_check.specs.declared.entry.Entry.TheVariants.{Wanted, Seen, Interval, Silence, Packet}
 use Rattle.mq_check.specs.declared.waiting.Side.{Side}
 use Rattle.mq_check.specs.declared.waiting.Side.TheVariants.{OfWanted, OfSeen}
-use Rattle.mq_check.specs.Entries.{excused}
+use Rattle.mq_check.specs.Entries.{excused, excused_if}
 use Rattle.mq_check.specs.Slots.{wanted_slot, wanted_moment, entry_at, AreMarked, AreBounded}
 use Rattle.mq_check.specs.Trails.{TrailsValue}
-use Rattle.mq_check.specs.Waiting.{WaitingValue, all_excused, is_free}
+use Rattle.mq_check.specs.Waiting.{WaitingValue, all_excused, excused_at, is_open, may_still_come}
 use Rattle.mq_check.proofs.Waits.{made_at}
 
 -- one more entry
-excused_set : (es : List (Entry ℕ)) (place : ℕ) (entry : Entry ℕ) → place < length es → entry ≡ get_or (list_map excused (take place es) ++ drop place es) place entry
-    → set (list_map excused (take place es) ++ drop place es) place (excused entry) ≡ list_map excused (take (suc place) es) ++ drop (suc place) es
-excused_set [] place entry within is = absurd (omega (arith, within))
-excused_set (x ∷ es) zero entry within is = ap (λ (e : Entry ℕ). excused e ∷ es) is
-excused_set (x ∷ es) (suc place) entry within is = ap (λ (rest : List (Entry ℕ)). excused x ∷ rest) (excused_set es place entry (omega (arith, within)) is)
+excused_set : (e : Entry ℕ → Entry ℕ) (es : List (Entry ℕ)) (place : ℕ) (entry : Entry ℕ) → place < length es → entry ≡ get_or (list_map e (take place es) ++ drop place es) place entry
+    → set (list_map e (take place es) ++ drop place es) place (e entry) ≡ list_map e (take (suc place) es) ++ drop (suc place) es
+excused_set e [] place entry within is = absurd (omega (arith, within))
+excused_set e (x ∷ es) zero entry within is = ap (λ (y : Entry ℕ). e y ∷ es) is
+excused_set e (x ∷ es) (suc place) entry within is = ap (λ (rest : List (Entry ℕ)). e x ∷ rest) (excused_set e es place entry (omega (arith, within)) is)
 
-pub one_excused : {X : Type 0} (f : X → Entry ℕ) (old items more : List X) (place : ℕ) (entry new : X) → list_map f items ≡ list_map excused (take place (list_map f old)) ++ drop place (list_map f old)
-    → place < length old → entry ≡ get_or items place entry → more ≡ set items place new → f new ≡ excused (f entry)
-    → list_map f more ≡ list_map excused (take (place + 1) (list_map f old)) ++ drop (place + 1) (list_map f old)
-one_excused f old items more place entry new so_far within is changed excuses =
+pub one_excused : {X : Type 0} (e : Entry ℕ → Entry ℕ) (f : X → Entry ℕ) (old items more : List X) (place : ℕ) (entry new : X) → list_map f items ≡ list_map e (take place (list_map f old)) ++ drop place (list_map f old)
+    → place < length old → entry ≡ get_or items place entry → more ≡ set items place new → f new ≡ e (f entry)
+    → list_map f more ≡ list_map e (take (place + 1) (list_map f old)) ++ drop (place + 1) (list_map f old)
+one_excused e f old items more place entry new so_far within is changed excuses =
     let es = list_map f old in
     let there : place < length es = omega (arith, within, mapped_long old f) in
-    let next : list_map f more ≡ list_map excused (take (suc place) es) ++ drop (suc place) es =
+    let next : list_map f more ≡ list_map e (take (suc place) es) ++ drop (suc place) es =
     ap (list_map f) changed ∙ map-set f items place new ∙ (λ i. set (so_far i) place (excuses i))
-    ∙ excused_set es place (f entry) there (made_at f items _ place entry so_far is) in
+    ∙ excused_set e es place (f entry) there (made_at f items _ place entry so_far is) in
     rw add-one next
 
-pub all_were_excused : {X : Type 0} (f : X → Entry ℕ) (old items : List X) (place : ℕ) → list_map f items ≡ list_map excused (take place (list_map f old)) ++ drop place (list_map f old)
-    → place ≡ length old → list_map f items ≡ list_map excused (list_map f old)
-all_were_excused f old items place so_far all =
+pub all_were_excused : {X : Type 0} (e : Entry ℕ → Entry ℕ) (f : X → Entry ℕ) (old items : List X) (place : ℕ) → list_map f items ≡ list_map e (take place (list_map f old)) ++ drop place (list_map f old)
+    → place ≡ length old → list_map f items ≡ list_map e (list_map f old)
+all_were_excused e f old items place so_far all =
     let es = list_map f old in
     let last : place ≡ length es = omega (arith, all, mapped_long old f) in
-    so_far ∙ ap (λ (n : ℕ). list_map excused (take n es) ++ drop n es) last
-    ∙ (λ i. list_map excused (take-length es i) ++ drop-length es i) ∙ append-nil (list_map excused es)
+    so_far ∙ ap (λ (n : ℕ). list_map e (take n es) ++ drop n es) last
+    ∙ (λ i. list_map e (take-length es i) ++ drop-length es i) ∙ append-nil (list_map e es)
 
-pub excused_view : {X : Type 0} (f : X → Entry ℕ) (items more : List X) (is_full : Bool) (w : WaitingValue) → record { entries = list_map f items; is_full = is_full } ≡ w
-    → list_map f more ≡ list_map excused (list_map f items) → record { entries = list_map f more; is_full = is_full } ≡ all_excused w
+pub excused_view : {X : Type 0} (within end : ℕ) (sent : WaitingValue) (f : X → Entry ℕ) (items more : List X) (is_full : Bool) (w : WaitingValue) → record { entries = list_map f items; is_full = is_full } ≡ w
+    → list_map f more ≡ list_map (excused_at within end sent) (list_map f items) → record { entries = list_map f more; is_full = is_full } ≡ all_excused within end sent w
 unfolding all_excused
-excused_view f items more is_full w made are =
-    let here : record { entries = list_map f more; is_full = is_full } ≡ all_excused (record { entries = list_map f items; is_full = is_full }) = λ i. record { entries = are i; is_full = is_full } in
-    here ∙ ap all_excused made
+excused_view within end sent f items more is_full w made are =
+    let here : record { entries = list_map f more; is_full = is_full } ≡ all_excused within end sent (record { entries = list_map f items; is_full = is_full }) = λ i. record { entries = are i; is_full = is_full } in
+    here ∙ ap (all_excused within end sent) made
 
 -- it is found as before
-free_still : (side : Side) (asked : Asked ℕ) (entry : Entry ℕ) → is_free side asked (excused entry) ≡ is_free side asked entry
+free_still : (side : Side) (asked : Asked ℕ) (entry : Entry ℕ) → is_open side asked (excused entry) ≡ is_open side asked entry
 free_still OfWanted asked (Wanted moment asked' terms is_optional is_found) = refl
 free_still OfWanted asked (Seen moment asked' terms partner alone) = refl
 free_still OfWanted asked (Interval moment packet after wanted) = refl
@@ -60,6 +60,10 @@ free_still OfSeen asked (Seen moment asked' terms partner alone) = refl
 free_still OfSeen asked (Interval moment packet after wanted) = refl
 free_still OfSeen asked (Silence moment after wanted) = refl
 free_still OfSeen asked (Packet moment number fault) = refl
+
+open_if : (b : Bool) (side : Side) (asked : Asked ℕ) (entry : Entry ℕ) → is_open side asked (excused_if b entry) ≡ is_open side asked entry
+open_if true side asked entry = free_still side asked entry
+open_if false side asked entry = refl
 
 slot_still : (width : ℕ) (entry : Entry ℕ) → wanted_slot width (excused entry) ≡ wanted_slot width entry
 slot_still width (Wanted moment asked terms is_optional is_found) = refl
@@ -75,28 +79,36 @@ moment_still (Interval moment packet after wanted) = refl
 moment_still (Silence moment after wanted) = refl
 moment_still (Packet moment number fault) = refl
 
-entry_still : (es : List (Entry ℕ)) (place : ℕ) → entry_at (list_map excused es) place ≡ excused (entry_at es place)
-entry_still es place = mapped_at excused es place (Interval 0 0 0 0)
+slot_if : (b : Bool) (width : ℕ) (entry : Entry ℕ) → wanted_slot width (excused_if b entry) ≡ wanted_slot width entry
+slot_if true width entry = slot_still width entry
+slot_if false width entry = refl
 
-pub marked_still : (width : ℕ) (es : List (Entry ℕ)) (t : TrailsValue) → AreMarked width es t → AreMarked width (list_map excused es) t
-marked_still width es t marked =
-    let long = mapped_long es excused in
-    let before : (place : ℕ) (side : Side) (asked : Asked ℕ) → is_free side asked (entry_at (list_map excused es) place) ≡ is_free side asked (entry_at es place) =
-    λ place side asked. ap (is_free side asked) (entry_still es place) ∙ free_still side asked (entry_at es place) in
+moment_if : (b : Bool) (entry : Entry ℕ) → wanted_moment (excused_if b entry) ≡ wanted_moment entry
+moment_if true entry = moment_still entry
+moment_if false entry = refl
+
+entry_still : (within end : ℕ) (sent : WaitingValue) (es : List (Entry ℕ)) (place : ℕ) → entry_at (list_map (excused_at within end sent) es) place ≡ excused_at within end sent (entry_at es place)
+entry_still within end sent es place = mapped_at (excused_at within end sent) es place (Interval 0 0 0 0)
+
+pub marked_still : (width within end : ℕ) (sent : WaitingValue) (es : List (Entry ℕ)) (t : TrailsValue) → AreMarked width es t → AreMarked width (list_map (excused_at within end sent) es) t
+marked_still width within end sent es t marked =
+    let long = mapped_long es (excused_at within end sent) in
+    let before : (place : ℕ) (side : Side) (asked : Asked ℕ) → is_open side asked (entry_at (list_map (excused_at within end sent) es) place) ≡ is_open side asked (entry_at es place) =
+    λ place side asked. ap (is_open side asked) (entry_still within end sent es place) ∙ open_if (may_still_come within end sent (entry_at es place)) side asked (entry_at es place) in
     record {
       long = marked.long ∙ sym long;
-      slot = λ place side asked within free. marked.slot place side asked (omega (arith, within, long)) (sym (before place side asked) ∙ free);
-      reached = λ place side asked within free. marked.reached place side asked (omega (arith, within, long)) (sym (before place side asked) ∙ free);
+      slot = λ place side asked inside free. marked.slot place side asked (omega (arith, inside, long)) (sym (before place side asked) ∙ free);
+      reached = λ place side asked inside free. marked.reached place side asked (omega (arith, inside, long)) (sym (before place side asked) ∙ free);
     }
 
-pub bounded_still : (width : ℕ) (es : List (Entry ℕ)) (latest : List ℕ) → AreBounded width es latest → AreBounded width (list_map excused es) latest
-bounded_still width es latest bounded =
-    let long = mapped_long es excused in
+pub bounded_still : (width within end : ℕ) (sent : WaitingValue) (es : List (Entry ℕ)) (latest : List ℕ) → AreBounded width es latest → AreBounded width (list_map (excused_at within end sent) es) latest
+bounded_still width within end sent es latest bounded =
+    let long = mapped_long es (excused_at within end sent) in
     record {
-      by = λ place within.
-          let entry = entry_still es place in
-          let slot = ap (wanted_slot width) entry ∙ slot_still width (entry_at es place) in
-          let moment = ap wanted_moment entry ∙ moment_still (entry_at es place) in
+      by = λ place inside.
+          let entry = entry_still within end sent es place in
+          let slot = ap (wanted_slot width) entry ∙ slot_if (may_still_come within end sent (entry_at es place)) width (entry_at es place) in
+          let moment = ap wanted_moment entry ∙ moment_if (may_still_come within end sent (entry_at es place)) (entry_at es place) in
           let read = ap (λ (s : ℕ). get_or latest s 0) slot in
-          omega (arith, bounded.by place (omega (arith, within, long)), moment, read);
+          omega (arith, bounded.by place (omega (arith, inside, long)), moment, read);
     }

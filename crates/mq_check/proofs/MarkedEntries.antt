@@ -17,7 +17,7 @@ use Rattle.mq_check.specs.Entries.{joined, is_group_wanted}
 use Rattle.mq_check.specs.Queries.{is_same}
 use Rattle.mq_check.specs.Slots.{slot_of, slot_in, wanted_slot, wanted_moment, entry_at, AreMarked, AreBounded}
 use Rattle.mq_check.specs.Trails.{TrailsValue, Reaches}
-use Rattle.mq_check.specs.Waiting.{is_free}
+use Rattle.mq_check.specs.Waiting.{is_free, is_open}
 use Rattle.mq_check.proofs.Waits.{IsPassed, none_passed, one_passed}
 
 -- what asks about the same is the same
@@ -49,7 +49,7 @@ both_last true b is = is
 both_last false b is = cc
 
 -- an entry without a partner is in the slot of what it asks about
-pub free_slot : (width : ℕ) (side : Side) (asked : Asked ℕ) (entry : Entry ℕ) → is_free side asked entry ≡ true → slot_in width entry ≡ slot_of width side asked
+pub free_slot : (width : ℕ) (side : Side) (asked : Asked ℕ) (entry : Entry ℕ) → is_open side asked entry ≡ true → slot_in width entry ≡ slot_of width side asked
 free_slot width OfWanted asked (Wanted moment asked' terms is_optional true) free = let found = both_second (is_same asked asked') true free in cc
 free_slot width OfWanted asked (Wanted moment asked' terms is_optional false) free = ap (slot_of width OfWanted) (sym (same_asked asked asked' (both_first _ _ free)))
 free_slot width OfWanted asked (Seen moment asked' terms partner is_querier) free = cc
@@ -68,7 +68,7 @@ and_false true = refl
 and_false false = refl
 
 -- one that has found its partner is free for nothing
-joined_free : (side : Side) (asked : Asked ℕ) (other : Terms ℕ) (entry : Entry ℕ) → is_free side asked (joined other entry) ≡ false
+joined_free : (side : Side) (asked : Asked ℕ) (other : Terms ℕ) (entry : Entry ℕ) → is_open side asked (joined other entry) ≡ false
 joined_free OfWanted asked other (Wanted moment asked' terms is_optional is_found) = and_false (is_same asked asked')
 joined_free OfWanted asked other (Seen moment asked' terms partner is_querier) = refl
 joined_free OfWanted asked other (Interval moment packet after wanted) = refl
@@ -100,17 +100,17 @@ marked_pushed width entries entry old new marked slots here others =
         | inl inside ↦
             let inside_too : place < length old.slots = omega (arith, inside, marked.long) in
             ap (λ (s : List ℕ). get_or s place 0) slots ∙ get_or_append_left old.slots (slot_in width entry ∷ []) 0 place inside_too
-            ∙ marked.slot place side asked inside (ap (is_free side asked) (sym (before place inside)) ∙ free)
+            ∙ marked.slot place side asked inside (ap (is_open side asked) (sym (before place inside)) ∙ free)
         | inr beyond ↦
             let end : place ≡ length entries = omega (arith, length_push entries entry, within, beyond) in
             let there : length old.slots ≡ place = omega (arith, end, marked.long) in
             ap (λ (s : List ℕ). get_or s place 0) slots ∙ get_or_push old.slots (slot_in width entry) 0 place there
-            ∙ free_slot width side asked entry (ap (is_free side asked) (sym (ap (entry_at put) end ∙ last)) ∙ free)
+            ∙ free_slot width side asked entry (ap (is_open side asked) (sym (ap (entry_at put) end ∙ last)) ∙ free)
       ];
       reached = λ place side asked within free. elim (cases_lt place (length entries)) [
         | inl inside ↦
             let inside_too : place < length old.slots = omega (arith, inside, marked.long) in
-            others place inside_too (marked.reached place side asked inside (ap (is_free side asked) (sym (before place inside)) ∙ free))
+            others place inside_too (marked.reached place side asked inside (ap (is_open side asked) (sym (before place inside)) ∙ free))
         | inr beyond ↦
             let there : length old.slots ≡ place = omega (arith, length_push entries entry, within, beyond, marked.long) in
             subst (Reaches new) there here
@@ -122,9 +122,9 @@ pub marked_joined : (width : ℕ) (entries : List (Entry ℕ)) (at : ℕ) (other
     → ((k : ℕ) → k < length old.slots → (k ≡ at → ⊥) → Reaches old k → Reaches new k) → AreMarked width (set entries at (joined other entry)) new
 marked_joined width entries at other entry old new marked there slots others =
     let long = length-set entries at (joined other entry) in
-    let not_at : (place : ℕ) (side : Side) (asked : Asked ℕ) → is_free side asked (entry_at (set entries at (joined other entry)) place) ≡ true → place ≡ at → ⊥ = λ place side asked free same.
-    let is : is_free side asked (joined other entry) ≡ true =
-    ap (is_free side asked) (sym (ap (entry_at (set entries at (joined other entry))) same ∙ get_or-set_same entries at (joined other entry) (Interval 0 0 0 0) there)) ∙ free in
+    let not_at : (place : ℕ) (side : Side) (asked : Asked ℕ) → is_open side asked (entry_at (set entries at (joined other entry)) place) ≡ true → place ≡ at → ⊥ = λ place side asked free same.
+    let is : is_open side asked (joined other entry) ≡ true =
+    ap (is_open side asked) (sym (ap (entry_at (set entries at (joined other entry))) same ∙ get_or-set_same entries at (joined other entry) (Interval 0 0 0 0) there)) ∙ free in
     let isnt = joined_free side asked other entry in
     cc in
     record {
@@ -132,11 +132,11 @@ marked_joined width entries at other entry old new marked there slots others =
       slot = λ place side asked within free.
           let inside : place < length entries = omega (arith, within, long) in
           ap (λ (s : List ℕ). get_or s place 0) slots
-          ∙ marked.slot place side asked inside (ap (is_free side asked) (sym (get_or-set_other entries at place (joined other entry) (Interval 0 0 0 0) (not_at place side asked free))) ∙ free);
+          ∙ marked.slot place side asked inside (ap (is_open side asked) (sym (get_or-set_other entries at place (joined other entry) (Interval 0 0 0 0) (not_at place side asked free))) ∙ free);
       reached = λ place side asked within free.
           let inside : place < length entries = omega (arith, within, long) in
           others place (omega (arith, inside, marked.long)) (not_at place side asked free)
-          (marked.reached place side asked inside (ap (is_free side asked) (sym (get_or-set_other entries at place (joined other entry) (Interval 0 0 0 0) (not_at place side asked free))) ∙ free));
+          (marked.reached place side asked inside (ap (is_open side asked) (sym (get_or-set_other entries at place (joined other entry) (Interval 0 0 0 0) (not_at place side asked free))) ∙ free));
     }
 
 -- the first entry is gone
@@ -149,53 +149,53 @@ marked_popped width entries rest old new marked popped some slots others =
       long = omega (arith, ap length slots, ap length popped, length-drop {A = ℕ} 1 old.slots, length-drop {A = Entry ℕ} 1 entries, marked.long);
       slot = λ place side asked within free.
           ap (λ (s : List ℕ). get_or s place 0) slots ∙ get_or_after_one old.slots place 0
-          ∙ marked.slot (1 + place) side asked (one_more place within) (ap (is_free side asked) (sym (behind place)) ∙ free);
+          ∙ marked.slot (1 + place) side asked (one_more place within) (ap (is_open side asked) (sym (behind place)) ∙ free);
       reached = λ place side asked within free.
           let later : 1 + place ≡ place + 1 = omega arith in
           let inside : place + 1 < length old.slots = omega (arith, one_more place within, marked.long) in
-          others place inside (subst (Reaches old) later (marked.reached (1 + place) side asked (one_more place within) (ap (is_free side asked) (sym (behind place)) ∙ free)));
+          others place inside (subst (Reaches old) later (marked.reached (1 + place) side asked (one_more place within) (ap (is_open side asked) (sym (behind place)) ∙ free)));
     }
 
 -- none of the entries before a place is free for this
-pub record AreNoneBefore (side : Side) (asked : Asked ℕ) (entries : List (Entry ℕ)) (place : ℕ) : Type 0 where
-  pub none : (k : ℕ) → k < place → k < length entries → is_free side asked (entry_at entries k) ≡ false
+pub record AreNoneBefore (side : Side) (asked : Asked ℕ) (from : ℕ) (entries : List (Entry ℕ)) (place : ℕ) : Type 0 where
+  pub none : (k : ℕ) → k < place → k < length entries → is_free side asked from (entry_at entries k) ≡ false
 
-pub none_at_start : (width : ℕ) (side : Side) (asked : Asked ℕ) (entries : List (Entry ℕ)) (t : TrailsValue) (slot place : ℕ) → AreMarked width entries t → slot ≡ slot_of width side asked
-    → place ≡ get_or t.starts slot 0 - t.base → AreNoneBefore side asked entries place
-none_at_start width side asked entries t slot place marked is start = record {
-  none = λ k before within. elim (cases_Bool (is_free side asked (entry_at entries k))) [
+pub none_at_start : (width : ℕ) (side : Side) (asked : Asked ℕ) (from : ℕ) (entries : List (Entry ℕ)) (t : TrailsValue) (slot place : ℕ) → AreMarked width entries t → slot ≡ slot_of width side asked
+    → place ≡ get_or t.starts slot 0 - t.base → AreNoneBefore side asked from entries place
+none_at_start width side asked from entries t slot place marked is start = record {
+  none = λ k before within. elim (cases_Bool (is_free side asked from (entry_at entries k))) [
     | inl free ↦
-        let here : get_or t.slots k 0 ≡ slot = marked.slot k side asked within free ∙ sym is in
-        absurd (omega (arith, (marked.reached k side asked within free).starts, ap (λ (s : ℕ). get_or t.starts s 0) here, start, before))
+        let here : get_or t.slots k 0 ≡ slot = marked.slot k side asked within (both_first _ _ free) ∙ sym is in
+        absurd (omega (arith, (marked.reached k side asked within (both_first _ _ free)).starts, ap (λ (s : ℕ). get_or t.starts s 0) here, start, before))
     | inr not_free ↦ not_free
   ];
 }
 
-pub none_further : (width : ℕ) (side : Side) (asked : Asked ℕ) (entries : List (Entry ℕ)) (t : TrailsValue) (slot place next : ℕ) (entry : Entry ℕ) → AreMarked width entries t → slot ≡ slot_of width side asked
-    → place < length entries → entry ≡ get_or entries place entry → is_free side asked entry ≡ false
-    → ((k : ℕ) → place < k → k < next → k < length t.slots → get_or t.slots k 0 ≡ slot → ⊥) → AreNoneBefore side asked entries place → AreNoneBefore side asked entries next
-none_further width side asked entries t slot place next entry marked is there read not_free passed before = record {
+pub none_further : (width : ℕ) (side : Side) (asked : Asked ℕ) (from : ℕ) (entries : List (Entry ℕ)) (t : TrailsValue) (slot place next : ℕ) (entry : Entry ℕ) → AreMarked width entries t → slot ≡ slot_of width side asked
+    → place < length entries → entry ≡ get_or entries place entry → is_free side asked from entry ≡ false
+    → ((k : ℕ) → place < k → k < next → k < length t.slots → get_or t.slots k 0 ≡ slot → ⊥) → AreNoneBefore side asked from entries place → AreNoneBefore side asked from entries next
+none_further width side asked from entries t slot place next entry marked is there read not_free passed before = record {
   none = λ k below within. elim (cases_lt k place) [
     | inl earlier ↦ before.none k earlier within
     | inr later ↦ elim (cases_eq k place) [
-      | inl same ↦ ap (λ (p : ℕ). is_free side asked (entry_at entries p)) same ∙ ap (is_free side asked) (sym (get_or_read entries place entry there read (Interval 0 0 0 0))) ∙ not_free
-      | inr other ↦ elim (cases_Bool (is_free side asked (entry_at entries k))) [
-        | inl free ↦ absurd (passed k (omega (arith, later, other)) below (omega (arith, within, marked.long)) (marked.slot k side asked within free ∙ sym is))
+      | inl same ↦ ap (λ (p : ℕ). is_free side asked from (entry_at entries p)) same ∙ ap (is_free side asked from) (sym (get_or_read entries place entry there read (Interval 0 0 0 0))) ∙ not_free
+      | inr other ↦ elim (cases_Bool (is_free side asked from (entry_at entries k))) [
+        | inl free ↦ absurd (passed k (omega (arith, later, other)) below (omega (arith, within, marked.long)) (marked.slot k side asked within (both_first _ _ free) ∙ sym is))
         | inr not_free_too ↦ not_free_too
       ]
     ]
   ];
 }
 
-pub passed_up_to : (side : Side) (asked : Asked ℕ) (entries : List (Entry ℕ)) (place : ℕ) → AreNoneBefore side asked entries place → place ≤ length entries → IsPassed side asked entries place
-passed_up_to side asked entries zero before within = none_passed side asked entries
-passed_up_to side asked entries (suc n) before within =
+pub passed_up_to : (side : Side) (asked : Asked ℕ) (from : ℕ) (entries : List (Entry ℕ)) (place : ℕ) → AreNoneBefore side asked from entries place → place ≤ length entries → IsPassed side asked from entries place
+passed_up_to side asked from entries zero before within = none_passed side asked from entries
+passed_up_to side asked from entries (suc n) before within =
     let there : n < length entries = omega (arith, within) in
     let more : n < suc n = omega arith in
-    let earlier : AreNoneBefore side asked entries n = record { none = λ k below inside. before.none k (omega (arith, below)) inside } in
-    let step = one_passed side asked entries n (entry_at entries n) there (get_or_default entries n (Interval 0 0 0 0) (entry_at entries n) there) (before.none n more there)
-    (passed_up_to side asked entries n earlier (omega (arith, within))) in
-    subst (IsPassed side asked entries) (add-one n) step
+    let earlier : AreNoneBefore side asked from entries n = record { none = λ k below inside. before.none k (omega (arith, below)) inside } in
+    let step = one_passed side asked from entries n (entry_at entries n) there (get_or_default entries n (Interval 0 0 0 0) (entry_at entries n) there) (before.none n more there)
+    (passed_up_to side asked from entries n earlier (omega (arith, within))) in
+    subst (IsPassed side asked from entries) (add-one n) step
 
 -- no query is wanted later than at the moment that is kept for its slot
 pub bounded_none : (width : ℕ) (latest : List ℕ) → AreBounded width [] latest

@@ -34,13 +34,13 @@ pub up_to_place : {X : Type 0} (xs : List X) (place : ℕ) (x : X) → place < l
 up_to_place xs place x within is = take-suc xs place x within ∙ ap (λ (y : _). take place xs ++ y ∷ []) (sym is)
 
 -- none of the entries before a place is free
-pub record IsPassed (side : Side) (asked : Asked ℕ) (entries : List (Entry ℕ)) (place : ℕ) : Type 0 where
-  pub terms : first_terms (is_free side asked) entries ≡ first_terms (is_free side asked) (drop place entries)
-  pub entry : first_entry (is_free side asked) entries ≡ first_entry (is_free side asked) (drop place entries)
-  pub joined : (other : Terms ℕ) → first_joined (is_free side asked) other entries ≡ take place entries ++ first_joined (is_free side asked) other (drop place entries)
+pub record IsPassed (side : Side) (asked : Asked ℕ) (from : ℕ) (entries : List (Entry ℕ)) (place : ℕ) : Type 0 where
+  pub terms : first_terms (is_free side asked from) entries ≡ first_terms (is_free side asked from) (drop place entries)
+  pub entry : first_entry (is_free side asked from) entries ≡ first_entry (is_free side asked from) (drop place entries)
+  pub joined : (other : Terms ℕ) → first_joined (is_free side asked from) other entries ≡ take place entries ++ first_joined (is_free side asked from) other (drop place entries)
 
-pub none_passed : (side : Side) (asked : Asked ℕ) (entries : List (Entry ℕ)) → IsPassed side asked entries 0
-none_passed side asked entries = record { terms = refl; entry = refl; joined = λ other. refl }
+pub none_passed : (side : Side) (asked : Asked ℕ) (from : ℕ) (entries : List (Entry ℕ)) → IsPassed side asked from entries 0
+none_passed side asked from entries = record { terms = refl; entry = refl; joined = λ other. refl }
 
 -- what is found at an entry that isn't free, and at one that is
 skipped_terms : (test : Entry ℕ → Bool) (entry : Entry ℕ) (rest : List (Entry ℕ)) → test entry ≡ false → first_terms test (entry ∷ rest) ≡ first_terms test rest
@@ -61,13 +61,13 @@ found_terms test entry rest is = rw is refl
 found_joined : (test : Entry ℕ → Bool) (other : Terms ℕ) (entry : Entry ℕ) (rest : List (Entry ℕ)) → test entry ≡ true → first_joined test other (entry ∷ rest) ≡ joined other entry ∷ rest
 found_joined test other entry rest is = rw is refl
 
-pub one_passed : (side : Side) (asked : Asked ℕ) (entries : List (Entry ℕ)) (place : ℕ) (entry : Entry ℕ) → place < length entries → entry ≡ get_or entries place entry
-    → is_free side asked entry ≡ false → IsPassed side asked entries place → IsPassed side asked entries (place + 1)
-one_passed side asked entries place entry within is not_free passed =
-    let test = is_free side asked in
+pub one_passed : (side : Side) (asked : Asked ℕ) (from : ℕ) (entries : List (Entry ℕ)) (place : ℕ) (entry : Entry ℕ) → place < length entries → entry ≡ get_or entries place entry
+    → is_free side asked from entry ≡ false → IsPassed side asked from entries place → IsPassed side asked from entries (place + 1)
+one_passed side asked from entries place entry within is not_free passed =
+    let test = is_free side asked from in
     let rest = drop (suc place) entries in
     let split = from_place entries place entry within is in
-    let next : IsPassed side asked entries (suc place) = record {
+    let next : IsPassed side asked from entries (suc place) = record {
       terms = passed.terms ∙ ap (first_terms test) split ∙ skipped_terms test entry rest not_free;
       entry = passed.entry ∙ ap (first_entry test) split ∙ skipped_entry test entry rest not_free;
       joined = λ other.
@@ -78,10 +78,10 @@ one_passed side asked entries place entry within is not_free passed =
     } in
     rw add-one next
 
-pub free_at : (side : Side) (asked : Asked ℕ) (entries : List (Entry ℕ)) (place : ℕ) (entry : Entry ℕ) → place < length entries → entry ≡ get_or entries place entry
-    → is_free side asked entry ≡ true → IsPassed side asked entries place → IsFirstFree side asked entries place
-free_at side asked entries place entry within is free passed =
-    let test = is_free side asked in
+pub free_at : (side : Side) (asked : Asked ℕ) (from : ℕ) (entries : List (Entry ℕ)) (place : ℕ) (entry : Entry ℕ) → place < length entries → entry ≡ get_or entries place entry
+    → is_free side asked from entry ≡ true → IsPassed side asked from entries place → IsFirstFree side asked from entries place
+free_at side asked from entries place entry within is free passed =
+    let test = is_free side asked from in
     let rest = drop (suc place) entries in
     let split = from_place entries place entry within is in
     record {
@@ -95,9 +95,9 @@ free_at side asked entries place entry within is free passed =
           ∙ ap (λ (e : Entry ℕ). set entries place (joined other e)) (get_or_read entries place entry within is d);
     }
 
-pub none_free : (side : Side) (asked : Asked ℕ) (entries : List (Entry ℕ)) (place : ℕ) → place ≡ length entries → IsPassed side asked entries place → IsNoneFree side asked entries
-none_free side asked entries place all passed =
-    let test = is_free side asked in
+pub none_free : (side : Side) (asked : Asked ℕ) (from : ℕ) (entries : List (Entry ℕ)) (place : ℕ) → place ≡ length entries → IsPassed side asked from entries place → IsNoneFree side asked from entries
+none_free side asked from entries place all passed =
+    let test = is_free side asked from in
     let rest : drop place entries ≡ [] = ap (λ (n : ℕ). drop n entries) all ∙ drop-length entries in
     record {
       terms = passed.terms ∙ ap (first_terms test) rest;
@@ -134,45 +134,45 @@ pub any_of_none : (p : Entry ℕ → Bool) (entries : List (Entry ℕ)) (place :
 any_of_none p entries place all passed = passed ∙ ap (λ (n : ℕ). list_any p (drop n entries)) all ∙ ap (list_any p) (drop-length entries)
 
 -- nothing is told where there was no room for something, where nothing waits, or where the first entry isn't over
-pub none_of_full : (within now : ℕ) (w : WaitingValue) → w.is_full ≡ true → IsNoneOver within now w
+pub none_of_full : (keep now : ℕ) (w : WaitingValue) → w.is_full ≡ true → IsNoneOver keep now w
 unfolding told settled
-none_of_full within now w full = record { told = λ changed. rw full refl; settled = rw full refl }
+none_of_full keep now w full = record { told = λ within changed. rw full refl; settled = rw full refl }
 
-pub none_of_none : (within now : ℕ) (w : WaitingValue) → w.is_full ≡ false → w.entries ≡ [] → IsNoneOver within now w
+pub none_of_none : (keep now : ℕ) (w : WaitingValue) → w.is_full ≡ false → w.entries ≡ [] → IsNoneOver keep now w
 unfolding told settled
-none_of_none within now w free none =
-    record { told = λ changed. rw (free, none) refl; settled = rw free (λ i. record { entries = (ap (λ (es : List (Entry ℕ)). drop (prefix_len (is_over within now) es) es) none ∙ sym none) i; is_full = false }) }
+none_of_none keep now w free none =
+    record { told = λ within changed. rw (free, none) refl; settled = rw free (λ i. record { entries = (ap (λ (es : List (Entry ℕ)). drop (prefix_len (is_over keep now) es) es) none ∙ sym none) i; is_full = false }) }
 
-not_over_told : (within now : ℕ) (changed : Option ℕ) (entry : Entry ℕ) (rest : List (Entry ℕ)) → is_over within now entry ≡ false → flat_map (findings_of within changed) (take_while (is_over within now) (entry ∷ rest)) ≡ []
-not_over_told within now changed entry rest is = rw is refl
+not_over_told : (keep within now : ℕ) (changed : Option ℕ) (entry : Entry ℕ) (rest : List (Entry ℕ)) → is_over keep now entry ≡ false → flat_map (findings_of within changed) (take_while (is_over keep now) (entry ∷ rest)) ≡ []
+not_over_told keep within now changed entry rest is = rw is refl
 
-not_over_settled : (within now : ℕ) (entry : Entry ℕ) (rest : List (Entry ℕ)) → is_over within now entry ≡ false → drop (prefix_len (is_over within now) (entry ∷ rest)) (entry ∷ rest) ≡ entry ∷ rest
-not_over_settled within now entry rest is = rw is refl
+not_over_settled : (keep now : ℕ) (entry : Entry ℕ) (rest : List (Entry ℕ)) → is_over keep now entry ≡ false → drop (prefix_len (is_over keep now) (entry ∷ rest)) (entry ∷ rest) ≡ entry ∷ rest
+not_over_settled keep now entry rest is = rw is refl
 
-pub none_of_first : (within now : ℕ) (w : WaitingValue) (entry : Entry ℕ) (rest : List (Entry ℕ)) → w.is_full ≡ false → w.entries ≡ entry ∷ rest → is_over within now entry ≡ false → IsNoneOver within now w
+pub none_of_first : (keep now : ℕ) (w : WaitingValue) (entry : Entry ℕ) (rest : List (Entry ℕ)) → w.is_full ≡ false → w.entries ≡ entry ∷ rest → is_over keep now entry ≡ false → IsNoneOver keep now w
 unfolding told settled
-none_of_first within now w entry rest free split is =
+none_of_first keep now w entry rest free split is =
     record {
-      told = λ changed. rw (free, split) (not_over_told within now changed entry rest is);
-      settled = rw free (λ i. record { entries = (ap (λ (es : List (Entry ℕ)). drop (prefix_len (is_over within now) es) es) split ∙ not_over_settled within now entry rest is ∙ sym split) i; is_full = false });
+      told = λ within changed. rw (free, split) (not_over_told keep within now changed entry rest is);
+      settled = rw free (λ i. record { entries = (ap (λ (es : List (Entry ℕ)). drop (prefix_len (is_over keep now) es) es) split ∙ not_over_settled keep now entry rest is ∙ sym split) i; is_full = false });
     }
 
-over_told : (within now : ℕ) (changed : Option ℕ) (entry : Entry ℕ) (rest : List (Entry ℕ)) → is_over within now entry ≡ true
-    → flat_map (findings_of within changed) (take_while (is_over within now) (entry ∷ rest)) ≡ findings_of within changed entry ++ flat_map (findings_of within changed) (take_while (is_over within now) rest)
-over_told within now changed entry rest is = let more : 1 + prefix_len (is_over within now) rest ≡ suc (prefix_len (is_over within now) rest) = omega arith in rw (is, more) refl
+over_told : (keep within now : ℕ) (changed : Option ℕ) (entry : Entry ℕ) (rest : List (Entry ℕ)) → is_over keep now entry ≡ true
+    → flat_map (findings_of within changed) (take_while (is_over keep now) (entry ∷ rest)) ≡ findings_of within changed entry ++ flat_map (findings_of within changed) (take_while (is_over keep now) rest)
+over_told keep within now changed entry rest is = let more : 1 + prefix_len (is_over keep now) rest ≡ suc (prefix_len (is_over keep now) rest) = omega arith in rw (is, more) refl
 
-over_settled : (within now : ℕ) (entry : Entry ℕ) (rest : List (Entry ℕ)) → is_over within now entry ≡ true
-    → drop (prefix_len (is_over within now) (entry ∷ rest)) (entry ∷ rest) ≡ drop (prefix_len (is_over within now) rest) rest
-over_settled within now entry rest is = let more : 1 + prefix_len (is_over within now) rest ≡ suc (prefix_len (is_over within now) rest) = omega arith in rw (is, more) refl
+over_settled : (keep now : ℕ) (entry : Entry ℕ) (rest : List (Entry ℕ)) → is_over keep now entry ≡ true
+    → drop (prefix_len (is_over keep now) (entry ∷ rest)) (entry ∷ rest) ≡ drop (prefix_len (is_over keep now) rest) rest
+over_settled keep now entry rest is = let more : 1 + prefix_len (is_over keep now) rest ≡ suc (prefix_len (is_over keep now) rest) = omega arith in rw (is, more) refl
 
-pub first_over : (within now : ℕ) (old new : WaitingValue) (entry : Entry ℕ) → old.is_full ≡ false → new.is_full ≡ false → old.entries ≡ entry ∷ new.entries → is_over within now entry ≡ true → IsFirstOver within now old new entry
+pub first_over : (keep now : ℕ) (old new : WaitingValue) (entry : Entry ℕ) → old.is_full ≡ false → new.is_full ≡ false → old.entries ≡ entry ∷ new.entries → is_over keep now entry ≡ true → IsFirstOver keep now old new entry
 unfolding told settled
-first_over within now old new entry free still split is =
+first_over keep now old new entry free still split is =
     record {
       is_over = ltb-true _ _ is;
-      told = λ changed. rw (free, still, split) (over_told within now changed entry new.entries is);
+      told = λ within changed. rw (free, still, split) (over_told keep within now changed entry new.entries is);
       settled = rw (free, still) (λ i. record {
-        entries = (ap (λ (es : List (Entry ℕ)). drop (prefix_len (is_over within now) es) es) split ∙ over_settled within now entry new.entries is) i;
+        entries = (ap (λ (es : List (Entry ℕ)). drop (prefix_len (is_over keep now) es) es) split ∙ over_settled keep now entry new.entries is) i;
         is_full = false;
       });
       fewer = let more = ap length split in omega (arith, more);
@@ -199,15 +199,15 @@ no_room_left f items is_full entry w many made =
     here ∙ ap (with_entry entry) made
 
 -- no entry has found its partner, or the one at a place has
-pub partner_of_none : (side : Side) (asked : Asked ℕ) (other : Terms ℕ) (w : WaitingValue) → IsNoneFree side asked w.entries → w ≡ with_partner side asked other w
+pub partner_of_none : (side : Side) (asked : Asked ℕ) (from : ℕ) (other : Terms ℕ) (w : WaitingValue) → IsNoneFree side asked from w.entries → w ≡ with_partner side asked from other w
 unfolding with_partner
-partner_of_none side asked other w none = λ i. record { entries = sym (none.joined other) i; is_full = w.is_full }
+partner_of_none side asked from other w none = λ i. record { entries = sym (none.joined other) i; is_full = w.is_full }
 
-pub partner_joined : {X : Type 0} (f : X → Entry ℕ) (items : List X) (is_full : Bool) (w : WaitingValue) (place : ℕ) (found changed : X) (side : Side) (asked : Asked ℕ) (other : Terms ℕ)
-    → IsFirstFree side asked w.entries place → record { entries = list_map f items; is_full = is_full } ≡ w → found ≡ get_or items place found → f changed ≡ joined other (f found)
-    → record { entries = list_map f (set items place changed); is_full = is_full } ≡ with_partner side asked other w
+pub partner_joined : {X : Type 0} (f : X → Entry ℕ) (items : List X) (is_full : Bool) (w : WaitingValue) (place : ℕ) (found changed : X) (side : Side) (asked : Asked ℕ) (from : ℕ) (other : Terms ℕ)
+    → IsFirstFree side asked from w.entries place → record { entries = list_map f items; is_full = is_full } ≡ w → found ≡ get_or items place found → f changed ≡ joined other (f found)
+    → record { entries = list_map f (set items place changed); is_full = is_full } ≡ with_partner side asked from other w
 unfolding with_partner
-partner_joined f items is_full w place found changed side asked other first made is changes =
+partner_joined f items is_full w place found changed side asked from other first made is changes =
     let entries = ap (λ (v : WaitingValue). v.entries) made in
     λ i. record {
       entries = (map-set f items place changed
@@ -222,11 +222,11 @@ pub none_made : {X : Type 0} (f : X → Entry ℕ) (items : List X) (entries : L
 none_made f [] entries made none = sym made
 none_made f (x ∷ xs) entries made none = absurd (omega arith)
 
-pub popped : {X : Type 0} (f : X → Entry ℕ) (items more : List X) (is_full : Bool) (w : WaitingValue) (within now : ℕ) (first : X) (r : Option X) → is_full ≡ false → record { entries = list_map f items; is_full = is_full } ≡ w
-    → first ≡ get_or items 0 first → is_over within now (f first) ≡ true → items ≡ option_to_list r ++ more
-    → IfSome r (λ x. IsFirstOver within now w (record { entries = list_map f more; is_full = is_full }) (f x))
-popped f items more is_full w within now first None free made is over split = tt
-popped f items more is_full w within now first (Some x) free made is over split =
+pub popped : {X : Type 0} (f : X → Entry ℕ) (items more : List X) (is_full : Bool) (w : WaitingValue) (keep now : ℕ) (first : X) (r : Option X) → is_full ≡ false → record { entries = list_map f items; is_full = is_full } ≡ w
+    → first ≡ get_or items 0 first → is_over keep now (f first) ≡ true → items ≡ option_to_list r ++ more
+    → IfSome r (λ x. IsFirstOver keep now w (record { entries = list_map f more; is_full = is_full }) (f x))
+popped f items more is_full w keep now first None free made is over split = tt
+popped f items more is_full w keep now first (Some x) free made is over split =
     let same : first ≡ x = is ∙ ap (λ (xs : List _). get_or xs 0 first) split in
-    first_over within now w (record { entries = list_map f more; is_full = is_full }) (f x) (sym (ap (λ (v : WaitingValue). v.is_full) made) ∙ free) free
-    (sym (ap (λ (v : WaitingValue). v.entries) made) ∙ ap (list_map f) split) (ap (λ (y : _). is_over within now (f y)) (sym same) ∙ over)
+    first_over keep now w (record { entries = list_map f more; is_full = is_full }) (f x) (sym (ap (λ (v : WaitingValue). v.is_full) made) ∙ free) free
+    (sym (ap (λ (v : WaitingValue). v.entries) made) ∙ ap (list_map f) split) (ap (λ (y : _). is_over keep now (f y)) (sym same) ∙ over)

@@ -84,7 +84,7 @@ is_querier_in NotQuerier = false
 
 -- a query on this subject was wanted before
 abbrev pub is_known : Asked ℕ → CheckingValue → Bool
-is_known asked c = has_free OfWanted asked c.known
+is_known asked c = has_free OfWanted asked 0 c.known
 
 abbrev pub may_be_unknown : (moment : ℕ) → Asked ℕ → CheckingValue → Bool
 may_be_unknown moment asked c = nat_lt moment c.known_from && not (is_known asked c)
@@ -136,28 +136,28 @@ alone_in moment terms unheld asked c =
 -- The partner of a seen query is the first wanted query on the subject within the tolerance that has none. If there is
 -- none within the tolerance and the query goes on with a schedule, its partner is the first one before. Then S is as
 -- seen: it depends on timers at that moment.
-abbrev pub near_partner : (moment : ℕ) → Asked ℕ → CheckingValue → Option (Terms ℕ)
-near_partner moment asked c = first_terms (is_free OfWanted asked (near moment c)) c.waiting.entries
-
 abbrev pub goes_on : (moment : ℕ) → Asked ℕ → SchedulesValue → Bool
 goes_on moment asked s = is_next s.repeats moment (before_in asked s)
 
+abbrev pub is_late_in : (from moment : ℕ) → Asked ℕ → WaitingValue → SchedulesValue → Bool
+is_late_in from moment asked w s = not (has_free OfWanted asked from w) && goes_on moment asked s
+
 abbrev pub is_late : (moment : ℕ) → Asked ℕ → CheckingValue → Bool
-is_late moment asked c = not (is_some (near_partner moment asked c)) && goes_on moment asked (recent moment c.schedules)
+is_late moment asked c = is_late_in (near moment c) moment asked c.waiting (recent moment c.schedules)
 
-abbrev pub partner_if : (is_late : Bool) → (moment : ℕ) → Terms ℕ → Asked ℕ → CheckingValue → Option (Terms ℕ)
-partner_if false moment terms asked c = near_partner moment asked c
-partner_if true moment terms asked c = as_seen terms (first_terms (is_free OfWanted asked 0) c.waiting.entries)
+abbrev pub partner_if : (is_late : Bool) → (from : ℕ) → Terms ℕ → Asked ℕ → WaitingValue → Option (Terms ℕ)
+partner_if false from terms asked w = first_terms (is_free OfWanted asked from) w.entries
+partner_if true from terms asked w = as_seen terms (first_terms (is_free OfWanted asked 0) w.entries)
 
-abbrev pub paired_if : (is_late : Bool) → (moment : ℕ) → Terms ℕ → Asked ℕ → CheckingValue → WaitingValue
-paired_if false moment terms asked c = with_partner OfWanted asked (near moment c) terms c.waiting
-paired_if true moment terms asked c = with_partner OfWanted asked 0 terms c.waiting
+abbrev pub paired_if : (is_late : Bool) → (from : ℕ) → Terms ℕ → Asked ℕ → WaitingValue → WaitingValue
+paired_if false from terms asked w = with_partner OfWanted asked from terms w
+paired_if true from terms asked w = with_partner OfWanted asked 0 terms w
 
 abbrev pub partner_of : (moment : ℕ) → Terms ℕ → Asked ℕ → CheckingValue → Option (Terms ℕ)
-partner_of moment terms asked c = partner_if (is_late moment asked c) moment terms asked c
+partner_of moment terms asked c = partner_if (is_late moment asked c) (near moment c) terms asked c.waiting
 
 abbrev pub paired : (moment : ℕ) → Terms ℕ → Asked ℕ → CheckingValue → WaitingValue
-paired moment terms asked c = paired_if (is_late moment asked c) moment terms asked c
+paired moment terms asked c = paired_if (is_late moment asked c) (near moment c) terms asked c.waiting
 
 -- the check after a query was seen
 unfoldable pub with_seen : (moment : ℕ) → Terms ℕ → (unheld : Option (Terms ℕ)) → CheckingValue → Asked ℕ → CheckingValue

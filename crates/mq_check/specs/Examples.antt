@@ -22,12 +22,12 @@ a_query = record {
 -- the check after the query was wanted at a moment and seen at a later one
 abbrev pub wanted_first : (wanted seen : ℕ) → CheckingValue
 wanted_first wanted seen =
-    with_seen seen a_query None (settled 100 seen (with_wanted wanted a_query (checking_at_start 100 timing true) (Group 5))) (Group 5)
+    with_seen seen a_query None (settled seen (with_wanted wanted a_query (checking_at_start 100 timing true) (Group 5))) (Group 5)
 
 -- the check after the query was seen at a moment and wanted at a later one
 abbrev pub seen_first : (seen wanted : ℕ) → CheckingValue
 seen_first seen wanted =
-    with_wanted wanted a_query (settled 100 wanted (with_seen seen a_query None (checking_at_start 100 timing true) (Group 5))) (Group 5)
+    with_wanted wanted a_query (settled wanted (with_seen seen a_query None (checking_at_start 100 timing true) (Group 5))) (Group 5)
 
 -- The check after the query was seen at a moment, if the link doesn't hold the group.
 abbrev pub seen_unheld : (strict : Bool) → (seen : ℕ) → CheckingValue
@@ -37,25 +37,25 @@ seen_unheld strict seen = with_seen seen a_query (Some a_query) (checking_at_sta
 abbrev pub seen_again : (wanted seen : ℕ) → CheckingValue
 seen_again wanted seen =
     with_seen seen a_query (Some a_query)
-    (settled 100 seen (with_wanted wanted a_query (checking_at_start 100 timing false) (Group 5))) (Group 5)
+    (settled seen (with_wanted wanted a_query (checking_at_start 100 timing false) (Group 5))) (Group 5)
 
 -- the check after the query was wanted and seen at a moment
 abbrev pub met : (moment : ℕ) → CheckingValue → CheckingValue
 met moment c =
-    let wanted = with_wanted moment a_query (settled 100 moment c) (Group 5) in
+    let wanted = with_wanted moment a_query (settled moment c) (Group 5) in
     with_seen moment a_query None wanted (Group 5)
 
 -- The check after the query was wanted at 1000 and again at 1400, and seen at both moments and at a third one.
 abbrev pub both_schedules : (strict : Bool) → (seen : ℕ) → CheckingValue
 both_schedules strict seen =
-    with_seen seen a_query None (settled 100 seen (met 1400 (met 1000 (checking_at_start 100 timing strict)))) (Group 5)
+    with_seen seen a_query None (settled seen (met 1400 (met 1000 (checking_at_start 100 timing strict)))) (Group 5)
 
 -- The check after both schedules, and one more query.
 abbrev pub third_query : CheckingValue
-third_query = with_seen 3000 a_query None (settled 100 3000 (met 2400 (both_schedules false 2000))) (Group 5)
+third_query = with_seen 3000 a_query None (settled 3000 (met 2400 (both_schedules false 2000))) (Group 5)
 
 -- the check after general queries as wanted, at two moments
 abbrev pub two_general : (first second : ℕ) → CheckingValue
 two_general first second =
     with_general 100 timing second a_query a_query
-    (settled 100 second (with_general 100 timing first a_query a_query (checking_at_start 100 timing true)))
+    (settled second (with_general 100 timing first a_query a_query (checking_at_start 100 timing true)))

@@ -2,7 +2,7 @@
 -- a new query becomes wanted in between, the link starts a new schedule in place of the earlier one. The standards' words
 -- allow a querier to keep both, to count the interval from the query that it sent last, and to send a query at once if a
 -- host blocks a source again (RFC 3376 sections 6.4.2, 6.6.3.1 and 6.6.3.2, RFC 3810 sections 7.4.2, 7.6.3.1 and 7.6.3.2).
-use Rattle.std.specs.Prelude.{ℕ, ◌+◌, ◌-◌, ◌^◌, ◌&&◌, ◌||◌, min, nat_lt, nat_le, not, Bool, true, false, if◌then◌else◌, Option, None, Some}
+use Rattle.std.specs.Prelude.{ℕ, ◌+◌, ◌-◌, ◌^◌, ◌&&◌, ◌||◌, max, min, nat_lt, nat_le, not, Bool, true, false, if◌then◌else◌, Option, None, Some}
 use Rattle.mq_table.specs.declared.timing.Timing.{Timing}
 use Rattle.mq_table.specs.Timing.{last_member_count}
 use Rattle.mq_check.specs.declared.asked.Asked.{Asked}
@@ -27,11 +27,11 @@ abbrev pub more_in : Timing → (strict : Bool) → ℕ
 more_in timing true = 0
 more_in timing false = last_member_count timing - 1
 
--- The time after which an entry expires, at most 2^32 - 1. A query that goes on with a schedule may be the partner of a
--- query that was wanted up to an interval and the tolerance before.
+-- The time after which an entry expires: at most 2^32 - 1, but never shorter than the tolerance. A query that goes on with
+-- a schedule may be the partner of a query that was wanted up to an interval and the tolerance before.
 abbrev pub keep_in : (within : ℕ) → Timing → (strict : Bool) → ℕ
 keep_in within timing true = within
-keep_in within timing false = min (within + timing.last_member_interval) (2 ^ 32 - 1)
+keep_in within timing false = max within (min (within + timing.last_member_interval) (2 ^ 32 - 1))
 
 abbrev pub repeats_in : (within : ℕ) → Timing → (strict : Bool) → Repeats
 repeats_in within timing strict = record {

@@ -10,7 +10,7 @@ use Rattle.mq_check.specs.declared.terms.Terms.{Terms}
 use Rattle.mq_check.specs.declared.waiting.Side.{Side}
 use Rattle.mq_check.specs.declared.waiting.Side.TheVariants.{OfWanted, OfSeen}
 use Rattle.mq_check.specs.Trails.{TrailsValue, Reaches}
-use Rattle.mq_check.specs.Waiting.{is_free}
+use Rattle.mq_check.specs.Waiting.{is_open}
 
 -- a number into which bytes are mixed, in order
 abbrev pub mixed : (n : ℕ) → (bytes : List ℕ) → ℕ
@@ -56,8 +56,8 @@ entry_at entries place = slice_index_or entries place (Interval 0 0 0 0)
 -- each entry without a partner is in its slot, and a search of the slot reaches it
 pub record AreMarked (width : ℕ) (entries : List (Entry ℕ)) (t : TrailsValue) : Type 0 where
   pub long : length t.slots ≡ length entries
-  pub slot : (place : ℕ) (side : Side) (asked : Asked ℕ) → place < length entries → is_free side asked (entry_at entries place) ≡ true → slice_index t.slots place ≡ slot_of width side asked
-  pub reached : (place : ℕ) (side : Side) (asked : Asked ℕ) → place < length entries → is_free side asked (entry_at entries place) ≡ true → Reaches t place
+  pub slot : (place : ℕ) (side : Side) (asked : Asked ℕ) → place < length entries → is_open side asked (entry_at entries place) ≡ true → slice_index t.slots place ≡ slot_of width side asked
+  pub reached : (place : ℕ) (side : Side) (asked : Asked ℕ) → place < length entries → is_open side asked (entry_at entries place) ≡ true → Reaches t place
 
 -- the slot and the moment of a wanted query
 abbrev pub wanted_slot : (width : ℕ) → Entry ℕ → ℕ

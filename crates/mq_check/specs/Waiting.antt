@@ -29,24 +29,27 @@ with_entry entry w =
     then record w { entries = w.entries ++ entry ∷ [] }
     else record w { is_full = true }
 
--- an entry of this side with this subject that has no partner, and whose moment isn't before `from`
+-- an entry of this side with this subject that has no partner, and one whose moment isn't before `from` either
+abbrev pub is_open : Side → Asked ℕ → Entry ℕ → Bool
+is_open OfWanted asked entry = is_free_wanted asked entry
+is_open OfSeen asked entry = is_free_seen asked entry
+
 abbrev pub is_free : Side → Asked ℕ → (from : ℕ) → Entry ℕ → Bool
-is_free OfWanted asked from entry = is_free_wanted asked entry && nat_le from (moment_of entry)
-is_free OfSeen asked from entry = is_free_seen asked entry && nat_le from (moment_of entry)
+is_free side asked from entry = is_open side asked entry && nat_le from (moment_of entry)
 
 -- the list after the first of these entries has found a partner with these terms
 unfoldable pub with_partner : Side → Asked ℕ → (from : ℕ) → Terms ℕ → WaitingValue → WaitingValue
 with_partner side asked from other w = record w { entries = first_joined (is_free side asked from) other w.entries }
 
--- an entry of this side with this subject has no partner
-abbrev pub has_free : Side → Asked ℕ → WaitingValue → Bool
-has_free side asked w = is_some (first_terms (is_free side asked 0) w.entries)
+-- such an entry is in the list
+abbrev pub has_free : Side → Asked ℕ → (from : ℕ) → WaitingValue → Bool
+has_free side asked from w = is_some (first_terms (is_free side asked from) w.entries)
 
 -- The partner of a wanted query may come after the end of a capture: the end is at most the tolerance after its moment,
 -- or the next query of a schedule on its subject is due then. `sent` has the queries of schedules.
 abbrev pub may_still_come : (within end : ℕ) → (sent : WaitingValue) → Entry ℕ → Bool
 may_still_come within end sent (Wanted moment asked terms is_optional is_found) =
-    nat_le end (moment + within) || has_free OfSeen asked sent
+    nat_le end (moment + within) || has_free OfSeen asked 0 sent
 may_still_come within end sent (Seen moment asked terms partner alone) = false
 may_still_come within end sent (Interval moment packet after wanted) = false
 may_still_come within end sent (Silence moment after wanted) = false

@@ -93,10 +93,12 @@ where
         return Err(CheckFault::Memory);
     };
     let timing = config.timing();
+    let last_member = config.last_member_interval();
     let Ok(link) = Link::new_in(memory, config, first_moment()) else {
         return Err(CheckFault::Memory);
     };
-    let Ok(checking) = Checking::<F, A>::new(memory, terms.within, timing, terms.strict) else {
+    let checking = Checking::<F, A>::new(memory, terms.within, timing, last_member, terms.strict);
+    let Ok(checking) = checking else {
         return Err(CheckFault::Memory);
     };
     let mut check = Check::new(link, checking, terms);

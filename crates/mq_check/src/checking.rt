@@ -24,8 +24,9 @@ use crate::entry::{Entry, Unpaired};
 use crate::general::query_interval;
 use crate::headers::{HeaderFault, Headers};
 use crate::phase::Phase;
-use crate::schedules::Schedules;
+use crate::schedules::{Schedules, as_seen};
 use crate::settling::{settle, tell_rest};
+use crate::since::Since;
 use crate::stamp::Stamp;
 use crate::terms::{Terms, general_terms, terms_of};
 use crate::told::Told;
@@ -167,19 +168,22 @@ fn put_silence<F: Family, A: Allocator>(
 }
 
 impl<F: Family, A: Allocator> Checking<F, A> {
-    /// Returns the check at the start of a capture, with all memory allocated from `memory`.
+    /// Returns the check at the start of a capture, with all memory allocated from `memory`. `last_member` is the Last Member
+    /// Query Interval in milliseconds.
     pub(crate) fn new<M: VectorSource<A>>(
         memory: &mut M,
         within: u32,
         configured: Timing,
+        last_member: u32,
         strict: bool,
     ) -> Result<Checking<F, A>, AllocError>
+        requires interval { last_member ≡ configured.last_member_interval }
         ensures starts { IfOk result (λ c. c ≡ spec.checking_at_start within configured strict) }
         ensures memory { Takes (bytes_of_checking F.Address.row) (M.less_than memory.old) (M.less_than memory.new) (is_ok result) }
     {
         let waiting = Waiting::new(memory)?;
         let known = Waiting::new(memory)?;
-        let schedules = Schedules::new(memory, within, configured, strict)?;
+        let schedules = Schedules::new(memory, within, configured, last_member, strict)?;
         Ok(Checking {
             waiting,
             changed: None,
@@ -214,14 +218,27 @@ impl<F: Family, A: Allocator> Checking<F, A> {
         self.specific
     }
 
-    /// Adds a wanted query, and pairs it with the first seen query on the subject that has no partner.
+    /// Returns the earliest moment within the tolerance before another.
+    fn near(&self, moment: Moment) -> Since
+        requires in_range { moment ≤ 2 ^ 53 }
+        ensures { result ≡ spec.near moment self.now }
+    {
+        Since::near(self.schedules.within(), moment)
+    }
+
+    /// Adds a wanted query, and pairs it with the first seen query on the subject within the tolerance that has no partner.
     fn want(&mut self, moment: Moment, terms: Terms<F::Address>, asked: Asked<F::Address>)
+        requires in_range { moment ≤ 2 ^ 53 }
         ensures { self.new ≡ spec.with_wanted moment (numbered_terms F.Address.number terms) self.old (numbered_asked F.Address.number asked) }
     {
+        let from = self.near(moment);
         self.know(moment, terms, asked);
         self.schedule(moment, terms, asked);
         let is_optional = self.may_be_left_out(moment, asked, &terms);
-        let is_found = self.waiting.join(Side::OfSeen, asked, terms).is_some();
+        let is_found = self
+            .waiting
+            .join(Side::OfSeen, asked, &from, terms)
+            .is_some();
         self.waiting
             .put(Entry::Wanted(moment, asked, terms, is_optional, is_found));
     }
@@ -251,11 +268,19 @@ impl<F: Family, A: Allocator> Checking<F, A> {
         self.schedules.forget(moment);
     }
 
+    /// Handles a source that a host blocks.
+    pub(crate) fn block(&mut self, moment: Moment, asked: Asked<F::Address>)
+        ensures { self.new ≡ spec.one_blocked moment self.old (numbered_asked F.Address.number asked) }
+    {
+        self.forget(moment);
+        self.schedules.block(moment, asked);
+    }
+
     /// Returns whether a querier may hold a subject that the link doesn't hold.
     fn may_be_unknown(&self, moment: Moment, asked: Asked<F::Address>) -> bool
         ensures { result ≡ spec.may_be_unknown moment (numbered_asked F.Address.number asked) self.now }
     {
-        is_before(moment, self.known_from) && !self.known.has_free(Side::OfWanted, asked)
+        is_before(moment, self.known_from) && !self.known.has_any(Side::OfWanted, asked)
     }
 
     /// Returns whether a wanted query may be left out.
@@ -275,8 +300,8 @@ impl<F: Family, A: Allocator> Checking<F, A> {
         }
     }
 
-    /// Adds a seen query, and pairs it with the first wanted query on the subject that has no partner. `unheld` has the
-    /// terms of such a query if the link doesn't hold the subject.
+    /// Adds a seen query, and pairs it with a wanted query on the subject that has no partner. `unheld` has the terms of such
+    /// a query if the link doesn't hold the subject.
     fn see(
         &mut self,
         moment: Moment,
@@ -284,15 +309,50 @@ impl<F: Family, A: Allocator> Checking<F, A> {
         unheld: Option<Terms<F::Address>>,
         asked: Asked<F::Address>,
     )
+        requires in_range { moment ≤ 2 ^ 53 }
         ensures { self.new ≡ spec.with_seen moment (numbered_terms F.Address.number terms) (numbered_terms_if F.Address.number unheld) self.old (numbered_asked F.Address.number asked) }
     {
+        let from = self.near(moment);
         self.forget(moment);
         let alone = self.alone(moment, terms, unheld, asked);
-        let partner = self.waiting.join(Side::OfWanted, asked, terms);
+        let partner = self.pair(moment, &from, terms, asked);
         let has_partner = partner.is_some();
         self.schedules.see(moment, terms, asked, has_partner);
         self.waiting
             .put(Entry::Seen(moment, asked, terms, partner, alone));
+    }
+
+    /// Returns whether the partner of a seen query may be before `from`: no wanted query from then on may be it, and the seen
+    /// query goes on with a schedule.
+    fn is_late(&self, moment: Moment, from: &Since, asked: Asked<F::Address>) -> bool
+        ensures { result ≡ spec.is_late_in from.now moment (numbered_asked F.Address.number asked) self.now.waiting self.now.schedules }
+    {
+        !self.waiting.has_free(Side::OfWanted, asked, from) && self.schedules.goes_on(moment, asked)
+    }
+
+    /// Pairs a seen query with the first wanted query on the subject that has no partner: one from `from` on, or one before
+    /// if the seen query goes on with a schedule. Returns the terms of the wanted query.
+    fn pair(
+        &mut self,
+        moment: Moment,
+        from: &Since,
+        terms: Terms<F::Address>,
+        asked: Asked<F::Address>,
+    ) -> Option<Terms<F::Address>>
+        ensures partner { numbered_terms_if F.Address.number result
+            ≡ spec.partner_if (spec.is_late_in from.now moment (numbered_asked F.Address.number asked) self.old.waiting self.old.schedules)
+            from.now (numbered_terms F.Address.number terms) (numbered_asked F.Address.number asked) self.old.waiting }
+        ensures paired { self.new ≡ record self.old {
+          waiting =
+              spec.paired_if (spec.is_late_in from.now moment (numbered_asked F.Address.number asked) self.old.waiting self.old.schedules)
+              from.now (numbered_terms F.Address.number terms) (numbered_asked F.Address.number asked) self.old.waiting;
+        } }
+    {
+        if !self.is_late(moment, from, asked) {
+            return self.waiting.join(Side::OfWanted, asked, from, terms);
+        }
+        let earlier = self.waiting.join_any(Side::OfWanted, asked, terms);
+        as_seen(terms, earlier)
     }
 
     /// Returns the verdict on a seen query if it finds no partner.
@@ -314,6 +374,7 @@ impl<F: Family, A: Allocator> Checking<F, A> {
 
     /// Adds a wanted query for each subject of a query.
     fn want_all(&mut self, moment: Moment, terms: Terms<F::Address>, query: &Query<'_, F::Address>)
+        requires in_range { moment ≤ 2 ^ 53 }
         ensures { self.new ≡ fold (spec.with_wanted moment (numbered_terms F.Address.number terms)) self.old (queries.asked_in (numbered_query F.Address.number query.now)) }
     {
         let sources = sources_of(&query.version);
@@ -332,6 +393,7 @@ impl<F: Family, A: Allocator> Checking<F, A> {
         group: F::Address,
         sources: Sources<'_, F::Address>,
     )
+        requires in_range { moment ≤ 2 ^ 53 }
         ensures { self.new ≡ fold (spec.with_wanted moment (numbered_terms F.Address.number terms)) self.old (list_map (Source (F.Address.number group)) sources.entry) }
     {
         for source in sources {
@@ -348,6 +410,7 @@ impl<F: Family, A: Allocator> Checking<F, A> {
         wanted: Terms<F::Address>,
         query: &Query<'_, F::Address>,
     )
+        requires in_range { moment ≤ 2 ^ 53 }
         ensures { self.new ≡ fold (spec.one_seen moment (numbered_terms F.Address.number terms) (unheld.unheld F.FAMILY link.now.state.groups (numbered_terms F.Address.number wanted)))
             self.old (queries.asked_in (numbered_query F.Address.number query.now)) }
     {
@@ -371,6 +434,7 @@ impl<F: Family, A: Allocator> Checking<F, A> {
         group: F::Address,
         sources: Sources<'_, F::Address>,
     )
+        requires in_range { moment ≤ 2 ^ 53 }
         ensures { self.new ≡ fold (spec.one_seen moment (numbered_terms F.Address.number terms) (unheld.unheld F.FAMILY link.now.state.groups (numbered_terms F.Address.number wanted)))
             self.old (list_map (Source (F.Address.number group)) sources.entry) }
     {
@@ -395,7 +459,9 @@ impl<F: Family, A: Allocator> Checking<F, A> {
         let passed = self.phase.wrong_interval(within, configured, stamp.ms());
         put_interval(&mut self.waiting, configured, stamp, terms.packet, passed);
         self.phase = self.phase.behind(within, configured, stamp.ms());
-        self.waiting.join(Side::OfWanted, Asked::AllGroups, terms);
+        let from = self.near(stamp.moment());
+        self.waiting
+            .join(Side::OfWanted, Asked::AllGroups, &from, terms);
         self.waiting.put(Entry::Seen(
             stamp.moment(),
             Asked::AllGroups,
@@ -448,6 +514,7 @@ impl<F: Family, A: Allocator> Checking<F, A> {
         wanted: Terms<F::Address>,
         query: &Query<'_, F::Address>,
     )
+        requires in_range { moment ≤ 2 ^ 53 }
         ensures { self.new ≡ spec.specific_seen moment (numbered_terms F.Address.number terms) (unheld.unheld F.FAMILY link.now.state.groups (numbered_terms F.Address.number wanted))
             (queries.asked_in (numbered_query F.Address.number query.now)) self.old }
     {
@@ -569,6 +636,7 @@ where
         to: F::Address,
         query: &Query<'_, F::Address>,
     )
+        requires in_range { moment ≤ 2 ^ 53 }
         ensures { self.new ≡ spec.one_wanted F.FAMILY moment packet is_returning (F.Address.number to) (numbered_query F.Address.number query.now) self.old }
     {
         if is_general::<F>(query) && !is_returning {
@@ -578,25 +646,31 @@ where
     }
 
     /// Handles the end of the capture, after which the partners of wanted queries may come.
-    pub(crate) fn excuse_all(&mut self)
-        ensures { self.new ≡ spec.with_all_excused self.old }
+    pub(crate) fn excuse_all(&mut self, within: u32, end: Moment)
+        requires in_range { end ≤ 2 ^ 53 }
+        ensures { self.new ≡ spec.with_all_excused within end self.old }
     {
-        self.waiting.excuse();
+        self.schedules.forget(end);
+        self.waiting
+            .excuse(Span::from_ms(within), end, self.schedules.sent());
     }
 
-    /// Removes all pending entries at the end of a capture, and reports their findings. A wanted query has none.
+    /// Removes all pending entries at the end of a capture, and reports their findings.
     pub(crate) fn tell_rest<W: Write>(
         &mut self,
         within: u32,
+        end: Moment,
         told: &mut Told,
         writer: &mut Watched<W>,
     ) -> Result<(), LineFault>
-        ensures { Tells F.Address.family (flat_map (spec.found_of_last within self.old.changed) self.old.waiting.entries) told.old told.new
+        requires in_range { end ≤ 2 ^ 53 }
+        ensures { Tells F.Address.family (flat_map (spec.found_of_last within end self.old.changed) self.old.waiting.entries) told.old told.new
             (output_of W.contents writer.old) (output_of W.contents writer.new) result }
     {
         tell_rest::<F, A, W>(
             &mut self.waiting,
             Span::from_ms(within),
+            end,
             &self.changed,
             told,
             writer,
@@ -612,12 +686,13 @@ where
         writer: &mut Watched<W>,
     ) -> Result<(), LineFault>
         requires in_range { now ≤ 2 ^ 53 }
-        ensures settled { IfOk result (λ _. self.new ≡ spec.settled within now self.old) }
+        ensures settled { IfOk result (λ _. self.new ≡ spec.settled now self.old) }
         ensures tells { Tells F.Address.family (spec.told within now self.old) told.old told.new
             (output_of W.contents writer.old) (output_of W.contents writer.new) result }
     {
         settle::<F, A, W>(
             &mut self.waiting,
+            self.schedules.keep(),
             Span::from_ms(within),
             &self.changed,
             now,

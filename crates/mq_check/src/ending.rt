@@ -117,7 +117,7 @@ where
         let general_queries = self.queries.checking().general();
         let other_queries = self.queries.checking().specific();
         self.queries
-            .tell_rest(self.terms.within, &mut self.told, writer)?;
+            .tell_rest(self.terms.within, end.moment(), &mut self.told, writer)?;
         tell_silence::<F, W>(configured, end, passed, &mut self.told, writer)?;
         let totals = Totals {
             general: general_queries,

@@ -3,6 +3,7 @@
 ghost use Rattle.std.specs.Prelude.{◌≡◌};
 ghost use Rattle.mq_check.specs.Entries as spec;
 ghost use Rattle.mq_check.specs.Numbered.{numbered_entry, numbered_terms, numbered_terms_if};
+ghost use Rattle.mq_check.specs.Schedules as schedules;
 
 use crate::asked::Asked;
 use crate::headers::HeaderFault;
@@ -70,6 +71,16 @@ impl<K: WireKey> Entry<K> {
         }
     }
 
+    /// Returns whether a host blocked its subject while it was pending, if it is the last entry of wanted queries.
+    pub(crate) fn is_blocked(&self) -> bool
+        ensures { result ≡ schedules.is_blocked (numbered_entry K.number self.now) }
+    {
+        match self {
+            Entry::Wanted(_, _, _, is_optional, _) => !is_optional,
+            _ => false,
+        }
+    }
+
     /// Returns the entry at the end of a capture, after which the partner of a wanted query may come.
     pub(crate) fn excused(self) -> Entry<K>
         ensures { numbered_entry K.number result ≡ spec.excused (numbered_entry K.number self) }
@@ -80,6 +91,13 @@ impl<K: WireKey> Entry<K> {
             }
             other => other,
         }
+    }
+
+    /// Returns the entry at the end of a capture, if its partner may come after the end.
+    pub(crate) fn excused_if(self, may_come: bool) -> Entry<K>
+        ensures { numbered_entry K.number result ≡ spec.excused_if may_come (numbered_entry K.number self) }
+    {
+        if may_come { self.excused() } else { self }
     }
 
     /// Returns the entry with a partner that has these terms.

@@ -16,6 +16,7 @@
 mod announced;
 mod asked;
 mod basis;
+mod blocked;
 mod check_fault;
 mod check_terms;
 mod checked_capture;
@@ -35,6 +36,7 @@ mod running_check;
 mod schedules;
 mod seen_queries;
 mod settling;
+mod since;
 mod slots;
 mod stamp;
 mod stepping;

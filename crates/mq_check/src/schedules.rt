@@ -1,8 +1,9 @@
 //! Schedules that a querier may keep beside those of the link.
 
-ghost use Rattle.std.specs.Prelude.{◌≡◌, ◌≤◌, ◌^◌, ◌||◌, IfOk, is_ok};
+ghost use Rattle.std.specs.Prelude.{◌≡◌, ◌≤◌, ◌^◌, ◌&&◌, ◌||◌, not, IfOk, is_ok};
 ghost use Rattle.mq_arena.specs.Vectors.{Takes};
 ghost use Rattle.mq_check.specs.Numbered.{numbered_asked, numbered_entry_if, numbered_terms, numbered_terms_if};
+ghost use Rattle.mq_check.specs.Checking as checks;
 ghost use Rattle.mq_check.specs.Schedules as spec;
 ghost use Rattle.mq_check.specs.Sizes.{bytes_of_waiting};
 ghost use Rattle.mq_check.specs.Entries as entries;
@@ -20,12 +21,14 @@ use mq_wire::WireKey;
 use std::alloc::{AllocError, Allocator};
 use std::marker::Model;
 
-/// The retransmission of queries: the tolerance, the Last Member Query Interval, and how many queries follow the first one.
+/// The retransmission of queries: the tolerance, the Last Member Query Interval, how many queries follow the first one, and
+/// the time after which an entry expires.
 #[derive(Clone, Copy)]
 pub struct Repeats {
     pub(crate) within: Span,
     pub(crate) interval: Span,
     pub(crate) more: u32,
+    pub(crate) keep: Span,
 }
 
 /// The seen queries after which one more may come, and for each subject the last wanted one. `new` allocates all memory.
@@ -56,14 +59,29 @@ fn more_in(timing: Timing, strict: bool) -> u32
     }
 }
 
+/// Returns the time after which an entry expires.
+fn keep_in(within: u32, timing: Timing, last_member: u32, strict: bool) -> Span
+    requires interval { last_member ≡ timing.last_member_interval }
+    ensures { result ≡ spec.keep_in within timing strict }
+{
+    let keep = if strict {
+        within
+    } else {
+        within.saturating_add(last_member)
+    };
+    Span::from_ms(keep)
+}
+
 /// Returns the retransmission under this timing.
-fn repeats_in(within: u32, timing: Timing, strict: bool) -> Repeats
+fn repeats_in(within: u32, timing: Timing, last_member: u32, strict: bool) -> Repeats
+    requires interval { last_member ≡ timing.last_member_interval }
     ensures { result ≡ spec.repeats_in within timing strict }
 {
     Repeats {
         within: Span::from_ms(within),
         interval: timing.last_member_interval(),
         more: more_in(timing, strict),
+        keep: keep_in(within, timing, last_member, strict),
     }
 }
 
@@ -126,11 +144,12 @@ fn left_after<K: WireKey>(repeats: &Repeats, moment: Moment, before: &Option<Ent
     }
 }
 
-/// Returns whether a query belongs to a schedule: it follows another one, or has a partner.
-fn is_either(follows: bool, has_partner: bool) -> bool
-    ensures { result ≡ follows || has_partner }
+/// Returns whether a query belongs to a schedule: it follows another one, has a partner, or is asked again for a blocked
+/// source.
+fn is_any_of(follows: bool, has_partner: bool, is_again: bool) -> bool
+    ensures { result ≡ follows || has_partner || is_again }
 {
-    follows || has_partner
+    follows || has_partner || is_again
 }
 
 /// Returns whether the S flag is set.
@@ -158,7 +177,7 @@ fn with_suppress(suppress: bool, wanted: Option<QuerierTerms>) -> Option<Querier
 }
 
 /// Returns the terms of a wanted query, with the S flag of a seen one.
-fn as_seen<K: WireKey>(seen: Terms<K>, wanted: Option<Terms<K>>) -> Option<Terms<K>>
+pub(crate) fn as_seen<K: WireKey>(seen: Terms<K>, wanted: Option<Terms<K>>) -> Option<Terms<K>>
     ensures { numbered_terms_if K.number result
         ≡ spec.as_seen (numbered_terms K.number seen) (numbered_terms_if K.number wanted) }
 {
@@ -201,22 +220,93 @@ fn of_earlier<K: WireKey>(
     }
 }
 
+/// Returns whether a host blocked the subject while it was pending, and a query is seen within the tolerance of that.
+fn is_asked_again<K: WireKey>(repeats: &Repeats, moment: Moment, last: &Option<Entry<K>>) -> bool
+    ensures { result ≡ spec.is_asked_again repeats.now moment (numbered_entry_if K.number last.now) }
+{
+    match last {
+        Some(last) => last.is_blocked()
+            && is_due(repeats, last.moment(), due_after(repeats, moment)),
+        None => false,
+    }
+}
+
+/// Returns the wanted terms of a seen query that is asked again for a blocked source.
+fn of_blocked<K: WireKey>(
+    repeats: &Repeats,
+    moment: Moment,
+    seen: Terms<K>,
+    last: Option<Entry<K>>,
+) -> Option<Terms<K>>
+    ensures { numbered_terms_if K.number result
+        ≡ spec.of_blocked repeats.now moment (numbered_terms K.number seen) (numbered_entry_if K.number last) }
+{
+    if !is_asked_again(repeats, moment, &last) {
+        return None;
+    }
+    match last {
+        Some(last) => as_seen(seen, last.terms()),
+        None => None,
+    }
+}
+
+/// Returns whether a query that neither follows another one nor has a partner is asked again for a blocked source.
+fn is_only_again(follows: bool, has_partner: bool, is_blocked: bool) -> bool
+    ensures { result ≡ not (follows || has_partner) && is_blocked }
+{
+    !(follows || has_partner) && is_blocked
+}
+
+/// Returns the first of two terms.
+fn first_of<K: WireKey>(a: Option<Terms<K>>, b: Option<Terms<K>>) -> Option<Terms<K>>
+    ensures { numbered_terms_if K.number result ≡ spec.first_of (numbered_terms_if K.number a) (numbered_terms_if K.number b) }
+{
+    match a {
+        Some(terms) => Some(terms),
+        None => b,
+    }
+}
+
 impl<F: Family, A: Allocator> Schedules<F, A> {
-    /// Returns the schedules at the start of a capture, with all memory allocated from `memory`.
+    /// Returns the schedules at the start of a capture, with all memory allocated from `memory`. `last_member` is the Last
+    /// Member Query Interval in milliseconds.
     pub(crate) fn new<M: VectorSource<A>>(
         memory: &mut M,
         within: u32,
         timing: Timing,
+        last_member: u32,
         strict: bool,
     ) -> Result<Schedules<F, A>, AllocError>
+        requires interval { last_member ≡ timing.last_member_interval }
         ensures starts { IfOk result (λ s. s ≡ spec.schedules_at_start within timing strict) }
         ensures memory { Takes (bytes_of_waiting F.Address.row) (M.less_than memory.old) (M.less_than memory.new) (is_ok result) }
     {
         let sent = Waiting::new(memory)?;
         Ok(Schedules {
-            repeats: repeats_in(within, timing, strict),
+            repeats: repeats_in(within, timing, last_member, strict),
             sent,
         })
+    }
+
+    /// Returns the time after which an entry of a check expires.
+    pub(crate) fn keep(&self) -> Span
+        ensures { result ≡ self.now.repeats.keep }
+    {
+        self.repeats.keep
+    }
+
+    /// Returns the tolerance.
+    pub(crate) fn within(&self) -> Span
+        ensures { result ≡ self.now.repeats.within }
+    {
+        self.repeats.within
+    }
+
+    /// Returns the queries of schedules.
+    pub(crate) fn sent(&self) -> &Waiting<F, A>
+        ensures { result.now ≡ self.now.sent }
+    {
+        &self.sent
     }
 
     /// Removes the queries after which none may come any more.
@@ -229,7 +319,15 @@ impl<F: Family, A: Allocator> Schedules<F, A> {
         self.sent.forget(self.repeats.within, moment);
     }
 
-    /// Returns the wanted terms of a seen query that belongs to an earlier schedule.
+    /// Returns whether a query is seen when the next query of a schedule is due.
+    pub(crate) fn goes_on(&self, moment: Moment, asked: Asked<F::Address>) -> bool
+        ensures { result ≡ checks.goes_on moment (numbered_asked F.Address.number asked) self.now }
+    {
+        let before = self.sent.first(Side::OfSeen, asked);
+        is_next(&self.repeats, moment, &before)
+    }
+
+    /// Returns the wanted terms of a seen query that belongs to an earlier schedule, or is asked again for a blocked source.
     pub(crate) fn allowed(
         &self,
         moment: Moment,
@@ -241,10 +339,12 @@ impl<F: Family, A: Allocator> Schedules<F, A> {
     {
         let before = self.sent.first(Side::OfSeen, asked);
         let last = self.sent.first(Side::OfWanted, asked);
-        of_earlier(&self.repeats, moment, seen, before, last)
+        let earlier = of_earlier(&self.repeats, moment, seen, before, last);
+        first_of(earlier, of_blocked(&self.repeats, moment, seen, last))
     }
 
-    /// Handles a query that is seen. It goes on with a schedule, or starts one if it has a partner.
+    /// Handles a query that is seen. It goes on with a schedule, or starts one if it has a partner or was asked again for a
+    /// blocked source.
     pub(crate) fn see(
         &mut self,
         moment: Moment,
@@ -255,11 +355,15 @@ impl<F: Family, A: Allocator> Schedules<F, A> {
         ensures { self.new ≡ spec.schedules_seen moment (numbered_terms F.Address.number terms) (numbered_asked F.Address.number asked) has_partner self.old }
     {
         let before = self.sent.first(Side::OfSeen, asked);
+        let last = self.sent.first(Side::OfWanted, asked);
         let follows = is_next(&self.repeats, moment, &before);
         let left = left_after(&self.repeats, moment, &before);
         let due = due_after(&self.repeats, moment);
-        let is_scheduled = is_either(follows, has_partner);
+        let is_blocked = is_asked_again(&self.repeats, moment, &last);
+        let is_again = is_only_again(follows, has_partner, is_blocked);
+        let is_scheduled = is_any_of(follows, has_partner, is_again);
         self.take_before(follows, terms, asked);
+        self.take_blocked(is_again, terms, asked);
         self.put_scheduled(left, due, is_scheduled, terms, asked);
     }
 
@@ -268,7 +372,16 @@ impl<F: Family, A: Allocator> Schedules<F, A> {
         ensures { self.new ≡ record self.old { sent = spec.without_before follows (numbered_terms F.Address.number terms) (numbered_asked F.Address.number asked) self.old.sent } }
     {
         if follows {
-            self.sent.join(Side::OfSeen, asked, terms);
+            self.sent.join_any(Side::OfSeen, asked, terms);
+        }
+    }
+
+    /// Marks a blocked source that is asked again.
+    fn take_blocked(&mut self, is_again: bool, terms: Terms<F::Address>, asked: Asked<F::Address>)
+        ensures { self.new ≡ record self.old { sent = spec.without_blocked is_again (numbered_terms F.Address.number terms) (numbered_asked F.Address.number asked) self.old.sent } }
+    {
+        if is_again {
+            self.sent.join_any(Side::OfWanted, asked, terms);
         }
     }
 
@@ -299,7 +412,33 @@ impl<F: Family, A: Allocator> Schedules<F, A> {
         ensures { self.new ≡ spec.schedules_wanted moment (numbered_terms F.Address.number terms) (numbered_asked F.Address.number asked) self.old }
     {
         let due = due_after(&self.repeats, moment);
-        self.sent.join(Side::OfWanted, asked, terms);
+        self.sent.join_any(Side::OfWanted, asked, terms);
         self.sent.put(Entry::Wanted(due, asked, terms, true, false));
+    }
+
+    /// Handles a source that a host blocks. It is pending if a query for it was wanted in the last interval.
+    pub(crate) fn block(&mut self, moment: Moment, asked: Asked<F::Address>)
+        ensures { self.new ≡ spec.schedules_blocked moment (numbered_asked F.Address.number asked) self.old }
+    {
+        if self.repeats.more == 0 {
+            return;
+        }
+        let Some(last) = self.sent.first(Side::OfWanted, asked) else {
+            return;
+        };
+        let Some(terms) = last.terms() else {
+            return;
+        };
+        self.mark_blocked(moment, asked, terms);
+    }
+
+    /// Marks that a pending source was blocked at a moment.
+    fn mark_blocked(&mut self, moment: Moment, asked: Asked<F::Address>, terms: Terms<F::Address>)
+        ensures { self.new ≡ spec.marked_blocked moment (numbered_asked F.Address.number asked) (Some (numbered_terms F.Address.number terms)) self.old }
+    {
+        let due = due_after(&self.repeats, moment);
+        self.sent.join_any(Side::OfWanted, asked, terms);
+        self.sent
+            .put(Entry::Wanted(due, asked, terms, false, false));
     }
 }

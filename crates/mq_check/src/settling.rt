@@ -8,6 +8,7 @@ ghost use Rattle.mq_check.specs.Telling.{Tells};
 ghost use Rattle.mq_check.specs.Waiting as waits;
 
 use crate::judging::tell_entry;
+use crate::since::is_near;
 use crate::told::Told;
 use crate::waiting::Waiting;
 use mq_count::{Moment, Span, Watched};
@@ -17,10 +18,11 @@ use mq_text::LineFault;
 use std::alloc::Allocator;
 use std::io::Write;
 
-/// Removes the entries that have expired at a moment, and reports their findings. `changed` is the last change of the
-/// role.
+/// Removes the entries that have expired at a moment, and reports their findings. An entry expires after the time `keep`.
+/// `changed` is the last change of the role.
 pub(crate) fn settle<F: Family, A: Allocator, W: Write>(
     waiting: &mut Waiting<F, A>,
+    keep: Span,
     within: Span,
     changed: &Option<Moment>,
     now: Moment,
@@ -31,33 +33,36 @@ where
     F::Address: LineKey,
     requires in_range { now ≤ 2 ^ 53 }
     requires changed_in_range { IfSome changed.now (λ moment. moment ≤ 2 ^ 53) }
-    ensures settled { IfOk result (λ _. waiting.new ≡ waits.settled within now waiting.old) }
-    ensures tells { Tells F.Address.family (waits.told within now changed.now waiting.old) told.old told.new
+    ensures settled { IfOk result (λ _. waiting.new ≡ waits.settled keep now waiting.old) }
+    ensures tells { Tells F.Address.family (waits.told keep within now changed.now waiting.old) told.old told.new
         (output_of W.contents writer.old) (output_of W.contents writer.new) result }
 {
-    while let Some(entry) = waiting.pop_over(within, now) {
+    while let Some(entry) = waiting.pop_over(keep, now) {
         tell_entry::<F, W>(&entry, within, changed, told, writer)?;
     }
     Ok(())
 }
 
-/// Removes all pending entries at the end of a capture, and reports their findings. A wanted query has none. `changed` is
-/// the last change of the role.
+/// Removes all pending entries at the end of a capture, and reports their findings. A wanted query has none if it is
+/// wanted at most the tolerance before the end, or after it. `changed` is the last change of the role.
 pub(crate) fn tell_rest<F: Family, A: Allocator, W: Write>(
     waiting: &mut Waiting<F, A>,
     within: Span,
+    end: Moment,
     changed: &Option<Moment>,
     told: &mut Told,
     writer: &mut Watched<W>,
 ) -> Result<(), LineFault>
 where
     F::Address: LineKey,
+    requires end_in_range { end ≤ 2 ^ 53 }
     requires changed_in_range { IfSome changed.now (λ moment. moment ≤ 2 ^ 53) }
-    ensures { Tells F.Address.family (flat_map (found_of_last within changed.now) waiting.old.entries) told.old told.new
+    ensures { Tells F.Address.family (flat_map (found_of_last within end changed.now) waiting.old.entries) told.old told.new
         (output_of W.contents writer.old) (output_of W.contents writer.new) result }
 {
     while let Some(entry) = waiting.pop() {
-        tell_entry::<F, W>(&entry.excused(), within, changed, told, writer)?;
+        let may_come = is_near(within, entry.moment(), end);
+        tell_entry::<F, W>(&entry.excused_if(may_come), within, changed, told, writer)?;
     }
     Ok(())
 }

@@ -69,6 +69,7 @@ where
         let configured = self.link.config().timing();
         let was_querier = self.link.is_querier();
         let now = stamp.moment();
+        self.queries.block_all(now, datagram);
         self.queries.begin(now, !was_querier);
         self.link
             .receive(&datagram.envelope, datagram.body, now, &mut self.queries);
@@ -139,7 +140,7 @@ where
             (output_of W.contents writer.old) (output_of W.contents writer.new) result }
     {
         let latest = latest_partner(end, self.terms.within);
-        self.queries.excuse_all();
+        self.queries.excuse_all(self.terms.within, end.moment());
         self.tick_through(latest.moment(), writer)
     }
 

@@ -12,6 +12,7 @@ ghost use Rattle.mq_check.specs.Waiting as waits;
 
 use crate::asked::{Asked, is_same};
 use crate::entry::Entry;
+use crate::since::{Since, is_near};
 use crate::slots::{SLOTS, last_group_by, slot_in, slot_of, wanted_moment, wanted_slot};
 use crate::stamp::Stamp;
 use crate::terms::Terms;
@@ -94,9 +95,21 @@ fn is_over(within: Span, moment: Moment, now: Moment) -> bool
     moment.in_range() && !Meter::new().reached(now, moment.after(within))
 }
 
+/// Returns whether an entry is of this side, has this subject, has no partner, and isn't before a moment.
+fn is_free<F: Family>(
+    side: Side,
+    asked: Asked<F::Address>,
+    from: &Since,
+    entry: &Entry<F::Address>,
+) -> bool
+    ensures { result ≡ waits.is_free side (numbered_asked F.Address.number asked) from.now (numbered_entry F.Address.number entry.now) }
+{
+    is_open::<F>(side, asked, entry) && from.is_reached(entry.moment())
+}
+
 /// Returns whether an entry is of this side, has this subject, and has no partner.
-fn is_free<F: Family>(side: Side, asked: Asked<F::Address>, entry: &Entry<F::Address>) -> bool
-    ensures { result ≡ waits.is_free side (numbered_asked F.Address.number asked) (numbered_entry F.Address.number entry.now) }
+fn is_open<F: Family>(side: Side, asked: Asked<F::Address>, entry: &Entry<F::Address>) -> bool
+    ensures { result ≡ waits.is_open side (numbered_asked F.Address.number asked) (numbered_entry F.Address.number entry.now) }
 {
     match (side, entry) {
         (Side::OfWanted, Entry::Wanted(_, other, _, _, is_found)) => {
@@ -121,14 +134,23 @@ fn is_group_wanted<F: Family>(moment: Moment, group: F::Address, entry: &Entry<F
     }
 }
 
-/// Marks that each wanted query may be left out.
-fn excuse_each<F: Family, A: Allocator>(entries: &mut VecDeque<Entry<F::Address>, A>)
+/// Marks each wanted query that may be left out, since its partner may come after the end. `sent` has the queries of
+/// schedules.
+fn excuse_each<F: Family, A: Allocator>(
+    entries: &mut VecDeque<Entry<F::Address>, A>,
+    within: Span,
+    end: Moment,
+    sent: &Waiting<F, A>,
+)
+    requires in_range { end ≤ 2 ^ 53 }
     ensures entries { list_map (numbered_entry F.Address.number) entries.new.items
-        ≡ list_map spec.excused (list_map (numbered_entry F.Address.number) entries.old.items) }
+        ≡ list_map (waits.excused_at within end sent.now) (list_map (numbered_entry F.Address.number) entries.old.items) }
     ensures capacity { deque_capacity entries.new ≡ deque_capacity entries.old }
 {
     for place in 0..entries.len() {
-        entries[place] = entries[place].excused();
+        let entry = entries[place];
+        let may_come = sent.may_still_come(within, end, &entry);
+        entries[place] = entry.excused_if(may_come);
     }
 }
 
@@ -174,30 +196,53 @@ impl<F: Family, A: Allocator> Waiting<F, A> {
         }
     }
 
-    /// Pairs the first entry of a side with this subject that has no partner, and returns its terms.
+    /// Pairs the first entry of a side with this subject that has no partner and isn't before `from`, and returns its terms.
     pub(crate) fn join(
         &mut self,
         side: Side,
         asked: Asked<F::Address>,
+        from: &Since,
         other: Terms<F::Address>,
     ) -> Option<Terms<F::Address>>
         ensures terms { numbered_terms_if F.Address.number result
-            ≡ spec.first_terms (waits.is_free side (numbered_asked F.Address.number asked)) self.old.entries }
+            ≡ spec.first_terms (waits.is_free side (numbered_asked F.Address.number asked) from.now) self.old.entries }
         ensures joined { self.new
-            ≡ waits.with_partner side (numbered_asked F.Address.number asked) (numbered_terms F.Address.number other) self.old }
+            ≡ waits.with_partner side (numbered_asked F.Address.number asked) from.now (numbered_terms F.Address.number other) self.old }
     {
-        let place = self.place_of(side, asked)?;
+        let place = self.place_of(side, asked, from)?;
         let entry = self.entries[place];
         self.trails.pass(place);
         self.entries[place] = entry.joined(other);
         entry.terms()
     }
 
-    /// Returns whether an entry of a side with this subject has no partner.
-    pub(crate) fn has_free(&self, side: Side, asked: Asked<F::Address>) -> bool
-        ensures { result ≡ is_some (spec.first_terms (waits.is_free side (numbered_asked F.Address.number asked)) self.now.entries) }
+    /// Pairs the first entry of a side with this subject that has no partner, and returns its terms.
+    pub(crate) fn join_any(
+        &mut self,
+        side: Side,
+        asked: Asked<F::Address>,
+        other: Terms<F::Address>,
+    ) -> Option<Terms<F::Address>>
+        ensures terms { numbered_terms_if F.Address.number result
+            ≡ spec.first_terms (waits.is_free side (numbered_asked F.Address.number asked) 0) self.old.entries }
+        ensures joined { self.new
+            ≡ waits.with_partner side (numbered_asked F.Address.number asked) 0 (numbered_terms F.Address.number other) self.old }
     {
-        match self.place_of(side, asked) {
+        self.join(side, asked, &Since::start(), other)
+    }
+
+    /// Returns whether an entry of a side with this subject has no partner.
+    pub(crate) fn has_any(&self, side: Side, asked: Asked<F::Address>) -> bool
+        ensures { result ≡ waits.has_free side (numbered_asked F.Address.number asked) 0 self.now }
+    {
+        self.has_free(side, asked, &Since::start())
+    }
+
+    /// Returns whether an entry of a side with this subject has no partner and isn't before `from`.
+    pub(crate) fn has_free(&self, side: Side, asked: Asked<F::Address>, from: &Since) -> bool
+        ensures { result ≡ waits.has_free side (numbered_asked F.Address.number asked) from.now self.now }
+    {
+        match self.place_of(side, asked, from) {
             Some(place) => self.entries[place].terms().is_some(),
             None => false,
         }
@@ -206,23 +251,23 @@ impl<F: Family, A: Allocator> Waiting<F, A> {
     /// Returns the first entry of a side with this subject that has no partner.
     pub(crate) fn first(&self, side: Side, asked: Asked<F::Address>) -> Option<Entry<F::Address>>
         ensures { numbered_entry_if F.Address.number result
-            ≡ spec.first_entry (waits.is_free side (numbered_asked F.Address.number asked)) self.now.entries }
+            ≡ spec.first_entry (waits.is_free side (numbered_asked F.Address.number asked) 0) self.now.entries }
     {
-        match self.place_of(side, asked) {
+        match self.place_of(side, asked, &Since::start()) {
             Some(place) => Some(self.entries[place]),
             None => None,
         }
     }
 
-    /// Returns the place of the first entry of a side with this subject that has no partner.
-    fn place_of(&self, side: Side, asked: Asked<F::Address>) -> Option<usize>
-        ensures none { IfNone result (IsNoneFree side (numbered_asked F.Address.number asked) self.now.entries) }
-        ensures some { IfSome result (IsFirstFree side (numbered_asked F.Address.number asked) self.now.entries) }
+    /// Returns the place of the first entry of a side with this subject that has no partner and isn't before `from`.
+    fn place_of(&self, side: Side, asked: Asked<F::Address>, from: &Since) -> Option<usize>
+        ensures none { IfNone result (IsNoneFree side (numbered_asked F.Address.number asked) from.now self.now.entries) }
+        ensures some { IfSome result (IsFirstFree side (numbered_asked F.Address.number asked) from.now self.now.entries) }
     {
         let slot = slot_of(side, asked);
         let mut place = self.trails.start(slot);
         while place < self.entries.len() {
-            if is_free::<F>(side, asked, &self.entries[place]) {
+            if is_free::<F>(side, asked, from, &self.entries[place]) {
                 return Some(place);
             }
             place = self.trails.next(place, slot);
@@ -230,12 +275,13 @@ impl<F: Family, A: Allocator> Waiting<F, A> {
         None
     }
 
-    /// Removes the first entry if it has expired at a moment, unless an entry had no room.
-    pub(crate) fn pop_over(&mut self, within: Span, now: Moment) -> Option<Entry<F::Address>>
+    /// Removes the first entry if it has expired at a moment, unless an entry had no room. An entry expires after the time
+    /// `keep`.
+    pub(crate) fn pop_over(&mut self, keep: Span, now: Moment) -> Option<Entry<F::Address>>
         requires in_range { now ≤ 2 ^ 53 }
         ensures none { IfNone result (self.new ≡ self.old) }
-        ensures none_over { IfNone result (IsNoneOver within now self.old) }
-        ensures some { IfSome result (λ entry. IsFirstOver within now self.old self.new (numbered_entry F.Address.number entry)) }
+        ensures none_over { IfNone result (IsNoneOver keep now self.old) }
+        ensures some { IfSome result (λ entry. IsFirstOver keep now self.old self.new (numbered_entry F.Address.number entry)) }
     {
         if self.is_full {
             return None;
@@ -243,7 +289,7 @@ impl<F: Family, A: Allocator> Waiting<F, A> {
         if self.entries.is_empty() {
             return None;
         }
-        if !is_over(within, self.entries[0].moment(), now) {
+        if !is_over(keep, self.entries[0].moment(), now) {
             return None;
         }
         self.trails.pop();
@@ -258,11 +304,27 @@ impl<F: Family, A: Allocator> Waiting<F, A> {
         while let Some(_entry) = self.pop_over(within, now) {}
     }
 
-    /// Marks at the end of a capture that each wanted query may be left out.
-    pub(crate) fn excuse(&mut self)
-        ensures { self.new ≡ waits.all_excused self.old }
+    /// Returns whether the partner of a wanted query may come after the end of a capture. This list has the queries of
+    /// schedules.
+    fn may_still_come(&self, within: Span, end: Moment, entry: &Entry<F::Address>) -> bool
+        requires in_range { end ≤ 2 ^ 53 }
+        ensures { result ≡ waits.may_still_come within end self.now (numbered_entry F.Address.number entry.now) }
     {
-        excuse_each::<F, A>(&mut self.entries);
+        match entry {
+            Entry::Wanted(moment, asked, ..) => {
+                is_near(within, *moment, end) || self.has_any(Side::OfSeen, *asked)
+            }
+            _ => false,
+        }
+    }
+
+    /// Marks at the end of a capture each wanted query whose partner may come after the end. `sent` has the queries of
+    /// schedules.
+    pub(crate) fn excuse(&mut self, within: Span, end: Moment, sent: &Waiting<F, A>)
+        requires in_range { end ≤ 2 ^ 53 }
+        ensures { self.new ≡ waits.all_excused within end sent.now self.old }
+    {
+        excuse_each::<F, A>(&mut self.entries, within, end, sent);
     }
 
     /// Removes the first entry.

@@ -5,6 +5,7 @@ ghost use Rattle.mq_pcap.specs.Frame.{carried_of};
 ghost use Rattle.mq_wire.specs.Numbered.{numbered_query};
 ghost use Rattle.mq_text.specs.Printing.{output_of};
 ghost use Rattle.mq_check.specs.Basis as basis;
+ghost use Rattle.mq_check.specs.Blocked.{blocked_in};
 ghost use Rattle.mq_check.specs.Checking as spec;
 ghost use Rattle.mq_check.specs.declared.headers.HeaderFault.TheVariants.{WrongChecksum};
 ghost use Rattle.mq_check.specs.Headers.{faults_of};
@@ -47,11 +48,14 @@ impl<F: CheckedFamily, A: Allocator> Model for WantedQueries<F, A>
 where
     F::Address: LineKey,
 {
+    ghost use Rattle.std.specs.Prelude.{◌≤◌, ◌^◌};
     ghost use Rattle.mq_check.specs.Wanting.{WantingValue};
 
     ghost Value = { WantingValue };
 
     ghost view = { λ w. record { checking = w.checking; basis = w.basis; own = F.Address.number w.own; moment = w.moment; is_returning = w.is_returning } };
+
+    ghost invariant = { λ w. w.moment ≤ 2 ^ 53 };
 }
 
 impl<F: CheckedFamily, A: Allocator> WantedQueries<F, A>
@@ -78,6 +82,7 @@ where
 
     /// Sets the moment of the next queries. General queries are wanted if the router may become querier again.
     pub(crate) fn begin(&mut self, moment: Moment, is_returning: bool)
+        requires in_range { moment ≤ 2 ^ 53 }
         ensures { self.new ≡ record self.old { moment = moment; is_returning = is_returning } }
     {
         self.moment = moment;
@@ -138,7 +143,7 @@ where
         requires in_range { now ≤ 2 ^ 53 }
         ensures own { self.new.own ≡ self.old.own }
         ensures basis { self.new.basis ≡ self.old.basis }
-        ensures settled { IfOk result (λ _. self.new.checking ≡ spec.settled within now self.old.checking) }
+        ensures settled { IfOk result (λ _. self.new.checking ≡ spec.settled now self.old.checking) }
         ensures tells { Tells F.Address.family (spec.told within now self.old.checking) told.old told.new
             (output_of W.contents writer.old) (output_of W.contents writer.new) result }
     {
@@ -146,24 +151,40 @@ where
     }
 
     /// Handles the end of the capture, after which the partners of wanted queries may come.
-    pub(crate) fn excuse_all(&mut self)
-        ensures { self.new ≡ record self.old { checking = spec.with_all_excused self.old.checking } }
+    pub(crate) fn excuse_all(&mut self, within: u32, end: Moment)
+        requires in_range { end ≤ 2 ^ 53 }
+        ensures { self.new ≡ record self.old { checking = spec.with_all_excused within end self.old.checking } }
     {
-        self.checking.excuse_all();
+        self.checking.excuse_all(within, end);
     }
 
-    /// Removes all pending entries at the end of a capture, and reports their findings. A wanted query has none.
+    /// Handles the sources that a datagram of a host blocks.
+    pub(crate) fn block_all(&mut self, moment: Moment, datagram: &CapturedDatagram<'_, F::Envelope>)
+        ensures { self.new ≡ record self.old {
+          checking =
+              spec.all_blocked moment
+              (blocked_in F.FAMILY (record { envelope = F.envelope_of datagram.now.envelope; body = datagram.now.body.now }))
+              self.old.checking;
+        } }
+    {
+        self.checking
+            .block_all(moment, &datagram.envelope, datagram.body);
+    }
+
+    /// Removes all pending entries at the end of a capture, and reports their findings.
     pub(crate) fn tell_rest<W: Write>(
         &mut self,
         within: u32,
+        end: Moment,
         told: &mut Told,
         writer: &mut Watched<W>,
     ) -> Result<(), LineFault>
+        requires in_range { end ≤ 2 ^ 53 }
         ensures own { self.new.own ≡ self.old.own }
-        ensures tells { Tells F.Address.family (flat_map (spec.found_of_last within self.old.checking.changed) self.old.checking.waiting.entries) told.old told.new
+        ensures tells { Tells F.Address.family (flat_map (spec.found_of_last within end self.old.checking.changed) self.old.checking.waiting.entries) told.old told.new
             (output_of W.contents writer.old) (output_of W.contents writer.new) result }
     {
-        self.checking.tell_rest(within, told, writer)
+        self.checking.tell_rest(within, end, told, writer)
     }
 
     /// Handles the return of the role, by a tick or a datagram.

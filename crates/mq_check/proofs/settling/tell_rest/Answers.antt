@@ -1,10 +1,12 @@
-use Rattle.std.proofs.Common.{ℕ, List, [], ◌++◌, length, refl, ap, sym, ◌∙◌, append_assoc, append-nil, arith}
+use Rattle.std.proofs.Common.{ℕ, ◌+◌, Bool, List, [], ◌++◌, length, refl, ap, sym, ◌∙◌, append_assoc, append-nil, arith}
 use Rattle.std.specs.List.{flat_map}
+use Rattle.std.specs.Prelude.{nat_le}
 use Rattle.std.proofs.lemmas.Result.{err_from_is_err_and}
 use Rattle.mq_check.specs.declared.entry.Entry.{Entry}
 use Rattle.mq_check.specs.declared.finding.Finding.{Finding}
 use Rattle.mq_check.specs.Checking.{found_of_last}
-use Rattle.mq_check.specs.Entries.{findings_of}
+use Rattle.mq_check.specs.Entries.{excused_if, findings_of}
+use Rattle.mq_check.specs.Numbered.{numbered_entry}
 use Rattle.mq_check.proofs.Tellings.{none_told, then_told, told_broken, broken_as, tells_as}
 use Rattle.mq_check.proofs.settling.tell_rest.Goals as goal
 
@@ -14,8 +16,9 @@ loop-entry-init g c = ([], refl, none_told _ _ _ _)
 pub loop-entry-preserved : goal.loop-entry-preserved
 loop-entry-preserved g c =
     let now = c.loop-entry.invariant in
-    let first = ap (λ (es : List (Entry ℕ)). flat_map (found_of_last c.args.within c.args.changed.now) es) c.in-Some.ensures.some in
-    let one = tells_as _ _ _ _ _ _ _ _ (ap (findings_of c.args.within c.args.changed.now) c.excused.ensures) c.in_ok-tell_entry.ensures in
+    let first = ap (λ (es : List (Entry ℕ)). flat_map (found_of_last c.args.within c.args.end c.args.changed.now) es) c.in-Some.ensures.some in
+    let last = numbered_entry g.F.Address.LineKey.number c.in-Some.entry in
+    let one = tells_as _ _ _ _ _ _ _ _ (ap (findings_of c.args.within c.args.changed.now) (c.excused_if.ensures ∙ ap (λ (b : Bool). excused_if b last) (c.is_near-may_come.ensures ∙ ap (λ (m : ℕ). nat_le c.args.end (m + c.args.within)) c.moment.ensures))) c.in_ok-tell_entry.ensures in
     (_, now.1 ∙ ap (λ (xs : List (Finding ℕ)). now.0 ++ xs) first ∙ sym (append_assoc now.0 _ _), then_told _ _ _ _ _ _ _ _ _ _ _ now.2 one)
 
 pub loop-entry-smaller : goal.loop-entry-smaller
@@ -25,13 +28,14 @@ pub returns-in_err-tell_entry : goal.returns-in_err-tell_entry
 returns-in_err-tell_entry g c =
     let p = err_from_is_err_and c.from_residual.result c.from_residual.ensures.1 in
     let now = c.loop-entry.invariant in
-    let first = ap (λ (es : List (Entry ℕ)). flat_map (found_of_last c.args.within c.args.changed.now) es) c.in-Some.ensures.some in
-    let one = tells_as _ _ _ _ _ _ _ _ (ap (findings_of c.args.within c.args.changed.now) c.excused.ensures) c.in_err-tell_entry.ensures in
+    let first = ap (λ (es : List (Entry ℕ)). flat_map (found_of_last c.args.within c.args.end c.args.changed.now) es) c.in-Some.ensures.some in
+    let last = numbered_entry g.F.Address.LineKey.number c.in-Some.entry in
+    let one = tells_as _ _ _ _ _ _ _ _ (ap (findings_of c.args.within c.args.changed.now) (c.excused_if.ensures ∙ ap (λ (b : Bool). excused_if b last) (c.is_near-may_come.ensures ∙ ap (λ (m : ℕ). nat_le c.args.end (m + c.args.within)) c.moment.ensures))) c.in_err-tell_entry.ensures in
     rw p.1 (broken_as _ _ _ _ _ _ _ _ (tells_as _ _ _ _ _ _ _ _ (sym (now.1 ∙ ap (λ (xs : List (Finding ℕ)). now.0 ++ xs) first ∙ sym (append_assoc now.0 _ _)))
     (told_broken _ _ _ _ _ _ _ _ (then_told _ _ _ _ _ _ _ _ _ _ _ now.2 one))))
 
 pub returns : goal.returns
 returns g c =
     let now = c.loop-entry.invariant in
-    let none = ap (λ (es : List (Entry ℕ)). flat_map (found_of_last c.args.within c.args.changed.now) es) c.in_default.ensures.none in
+    let none = ap (λ (es : List (Entry ℕ)). flat_map (found_of_last c.args.within c.args.end c.args.changed.now) es) c.in_default.ensures.none in
     tells_as _ _ _ _ _ _ _ _ (sym (now.1 ∙ ap (λ (xs : List (Finding ℕ)). now.0 ++ xs) none ∙ append-nil now.0)) now.2

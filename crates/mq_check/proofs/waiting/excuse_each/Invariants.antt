@@ -2,7 +2,7 @@
 use Rattle.std.proofs.Common.{◌≡◌, ◌++◌, length, take, drop}
 use Rattle.std.specs.Prelude.{map as list_map}
 use Rattle.std.specs.VecDeque.{deque_capacity}
-use Rattle.mq_check.specs.Entries.{excused}
+use Rattle.mq_check.specs.Waiting.{excused_at}
 use Rattle.mq_check.specs.Numbered.{numbered_entry}
 use Rattle.mq_check.proofs.waiting.excuse_each.Given as goal
 
@@ -10,7 +10,7 @@ abbrev pub invariant-loop-place : goal.invariant-loop-place
 invariant-loop-place g l =
     let es = list_map (numbered_entry g.F.Address.Key.number) l.fn.entries.items in
     record {
-      excused : list_map (numbered_entry g.F.Address.Key.number) l.entries.items ≡ list_map excused (take l.place es) ++ drop l.place es;
+      excused : list_map (numbered_entry g.F.Address.Key.number) l.entries.items ≡ list_map (excused_at l.within l.end l.sent) (take l.place es) ++ drop l.place es;
       long : length l.entries.items ≡ length l.fn.entries.items;
       capacity : deque_capacity l.entries ≡ deque_capacity l.fn.entries;
     }

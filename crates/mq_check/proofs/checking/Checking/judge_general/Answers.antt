@@ -7,4 +7,4 @@ pub returns : goal.returns
 returns g c =
     let passed = c.wrong_interval-passed.ensures ∙ ap (λ (m : ℕ). wrong_interval c.args.within c.args.configured m c.self.inside.phase) c.ms.ensures in
     let behind = c.behind-self-inside.ensures ∙ ap (λ (m : ℕ). phase_behind c.args.within c.args.configured m c.self.inside.phase) c.ms-2.ensures in
-    general_put _ _ _ _ _ _ _ _ _ _ _ _ _ c.self.view_is c.moment.ensures.same passed c.put_interval.ensures behind c.join.ensures.joined c.put.ensures
+    general_put _ _ _ _ _ _ _ _ _ _ _ _ _ _ c.self.view_is c.moment.ensures.same c.near-from.ensures passed c.put_interval.ensures behind c.join.ensures.joined c.put.ensures

@@ -1,7 +1,8 @@
-use Rattle.std.proofs.Common.{ap, sym, ◌∙◌}
+use Rattle.std.proofs.Common.{ℕ, ap, sym, ◌∙◌}
 use Rattle.std.specs.Prelude.{Some}
-use Rattle.mq_check.specs.Numbered.{numbered_entry}
-use Rattle.mq_check.specs.Waiting.{WaitingValue}
+use Rattle.mq_check.specs.Entries.{first_entry}
+use Rattle.mq_check.specs.Numbered.{numbered_asked, numbered_entry}
+use Rattle.mq_check.specs.Waiting.{WaitingValue, is_free}
 use Rattle.mq_check.proofs.Waits.{made_at}
 use Rattle.mq_check.proofs.waiting.Waiting.first.Goals as goal
 
@@ -10,7 +11,8 @@ returns-in-Some g c =
     let f = numbered_entry g.F.Address.Key.number in
     let made = ap (λ (w : WaitingValue). w.entries) c.self.view_is in
     let here = made_at f _ _ c.in-Some.place _ made c.index.ensures in
-    ap Some here ∙ sym (c.in-Some.ensures.some.entry (f c.index.result.now))
+    ap Some here ∙ sym (c.in-Some.ensures.some.entry (f c.index.result.now)) ∙ ap (λ (from : ℕ). first_entry (is_free c.args.side (numbered_asked g.F.Address.Key.number c.args.asked) from) c.args.self.now.entries) c.start.ensures
 
 pub returns-in-None : goal.returns-in-None
-returns-in-None g c = sym c.in-None.ensures.none.entry
+returns-in-None g c =
+    sym c.in-None.ensures.none.entry ∙ ap (λ (from : ℕ). first_entry (is_free c.args.side (numbered_asked g.F.Address.Key.number c.args.asked) from) c.args.self.now.entries) c.start.ensures

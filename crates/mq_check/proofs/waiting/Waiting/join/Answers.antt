@@ -10,7 +10,7 @@ use Rattle.mq_check.proofs.Waits.{made_at, made_long, partner_of_none, partner_j
 use Rattle.mq_check.proofs.waiting.Waiting.join.Goals as goal
 
 pub returns-in_err-place-clause-joined : goal.returns-in_err-place-clause-joined
-returns-in_err-place-clause-joined g c = partner_of_none _ _ _ _ c.in_err-place.ensures.none
+returns-in_err-place-clause-joined g c = partner_of_none _ _ _ _ _ c.in_err-place.ensures.none
 
 pub returns-clause-terms : goal.returns-clause-terms
 returns-clause-terms g c =
@@ -23,7 +23,7 @@ returns-clause-terms g c =
 pub returns-clause-joined : goal.returns-clause-joined
 returns-clause-joined g c =
     let f = numbered_entry g.F.Address.Key.number in
-    partner_joined f _ _ _ c.in_ok-place.place c.index.result.now _ _ _ _ c.in_ok-place.ensures.some c.self.view_is c.index.ensures c.joined.ensures
+    partner_joined f _ _ _ c.in_ok-place.place c.index.result.now _ _ _ _ _ c.in_ok-place.ensures.some c.self.view_is c.index.ensures c.joined.ensures
 
 pub invariant_of-self : goal.invariant_of-self
 invariant_of-self g c =

@@ -12,7 +12,7 @@ loop-place-preserved g c =
     let f = numbered_entry g.F.Address.Key.number in
     let made = ap (λ (w : WaitingValue). w.entries) c.self.view_is in
     let within : c.loop-place.place < length c.args.self.now.entries = omega (arith, made_long f _ _ made, c.self.inside.entries.ok.0) in
-    none_further _ _ _ _ _ _ c.loop-place.place _ _ (subst (λ (es : List (Entry ℕ)). AreMarked g.F.Address.WireKey.WIDTH es c.self.inside.trails) made c.self.invariant.1) c.slot_of-slot.ensures.slot within
+    none_further _ _ _ _ _ _ _ c.loop-place.place _ _ (subst (λ (es : List (Entry ℕ)). AreMarked g.F.Address.WireKey.WIDTH es c.self.inside.trails) made c.self.invariant.1) c.slot_of-slot.ensures.slot within
     (made_at f _ _ _ _ made c.index.ensures) (sym c.is_free.ensures ∙ c.if-is_free.false) c.next-place.ensures.passed c.loop-place.invariant
 
 pub returns-then-is_free-clause-some : goal.returns-then-is_free-clause-some
@@ -20,12 +20,12 @@ returns-then-is_free-clause-some g c =
     let f = numbered_entry g.F.Address.Key.number in
     let made = ap (λ (w : WaitingValue). w.entries) c.self.view_is in
     let within : c.loop-place.place < length c.args.self.now.entries = omega (arith, made_long f _ _ made, c.self.inside.entries.ok.0) in
-    free_at _ _ _ c.loop-place.place _ within (made_at f _ _ _ _ made c.index.ensures) (sym c.is_free.ensures ∙ c.if-is_free.true) (passed_up_to _ _ _ _ c.loop-place.invariant (omega (arith, within)))
+    free_at _ _ _ _ c.loop-place.place _ within (made_at f _ _ _ _ made c.index.ensures) (sym c.is_free.ensures ∙ c.if-is_free.true) (passed_up_to _ _ _ _ _ c.loop-place.invariant (omega (arith, within)))
 
 pub returns-clause-none : goal.returns-clause-none
 returns-clause-none g c =
     let f = numbered_entry g.F.Address.Key.number in
     let made = ap (λ (w : WaitingValue). w.entries) c.self.view_is in
     let all : length c.args.self.now.entries ≤ c.loop-place.place = omega (arith, made_long f _ _ made, c.self.inside.entries.ok.0) in
-    let none : AreNoneBefore _ _ c.args.self.now.entries (length c.args.self.now.entries) = record { none = λ k before within. c.loop-place.invariant.none k (omega (arith, before, all)) within } in
-    none_free _ _ _ _ refl (passed_up_to _ _ _ _ none (omega arith))
+    let none : AreNoneBefore _ _ _ c.args.self.now.entries (length c.args.self.now.entries) = record { none = λ k before within. c.loop-place.invariant.none k (omega (arith, before, all)) within } in
+    none_free _ _ _ _ _ refl (passed_up_to _ _ _ _ _ none (omega arith))

@@ -23,13 +23,13 @@ returns-then-not-is_over-clause-none_over g c =
     let some : 0 < length c.self.inside.entries.items = grind (arith, nat_tests, c.self.inside.entries.ok.0) in
     let within : 0 < length c.args.self.now.entries = omega (arith, some, made_long f _ _ made) in
     none_of_first _ _ _ _ _ (sym (ap (λ (w : WaitingValue). w.is_full) c.self.view_is) ∙ c.if-self.false) (from_place c.args.self.now.entries 0 _ within (made_at f _ _ 0 _ made c.index.ensures))
-    (ap (λ (m : ℕ). nat_lt (m + c.args.within) c.args.now) (sym c.moment.ensures) ∙ sym c.is_over.ensures ∙ c.if-not-is_over.true)
+    (ap (λ (m : ℕ). nat_lt (m + c.args.keep) c.args.now) (sym c.moment.ensures) ∙ sym c.is_over.ensures ∙ c.if-not-is_over.true)
 
 pub returns-clause-some : goal.returns-clause-some
 returns-clause-some g c =
     let f = numbered_entry g.F.Address.Key.number in
     popped f _ _ _ _ _ _ c.index.result.now _ c.if-self.false c.self.view_is c.index.ensures
-    (ap (λ (m : ℕ). nat_lt (m + c.args.within) c.args.now) (sym c.moment.ensures) ∙ sym c.is_over.ensures ∙ c.if-not-is_over.false) c.pop_front.ensures.items
+    (ap (λ (m : ℕ). nat_lt (m + c.args.keep) c.args.now) (sym c.moment.ensures) ∙ sym c.is_over.ensures ∙ c.if-not-is_over.false) c.pop_front.ensures.items
 
 pub invariant_of-self : goal.invariant_of-self
 invariant_of-self g c =

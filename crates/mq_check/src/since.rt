@@ -1,0 +1,61 @@
+//! The earliest moment of a partner.
+
+ghost use Rattle.std.specs.Prelude.{◌≡◌, ◌+◌, ◌-◌, ◌≤◌, ◌^◌, nat_le};
+
+use mq_count::{Meter, Moment, Span};
+use std::marker::Model;
+
+/// The earliest moment of a partner: any, or a tolerance before a moment.
+#[derive(Drop)]
+pub(crate) struct Since {
+    within: Span,
+    at: Moment,
+}
+
+impl Model for Since {
+    ghost use Rattle.std.specs.Prelude.{ℕ, ◌-◌, ◌≤◌, ◌^◌};
+
+    ghost Value = { ℕ };
+
+    ghost view = { λ s. s.at - s.within };
+
+    ghost invariant = { λ s. s.at ≤ 2 ^ 53 };
+}
+
+/// Returns whether at most the tolerance has passed since a moment.
+pub(crate) fn is_near(within: Span, moment: Moment, now: Moment) -> bool
+    requires in_range { now ≤ 2 ^ 53 }
+    ensures { result ≡ nat_le now (moment + within) }
+{
+    !moment.in_range() || Meter::new().reached(now, moment.after(within))
+}
+
+impl Since {
+    /// Returns the earliest of all moments.
+    pub(crate) fn start() -> Since
+        ensures { result ≡ 0 }
+    {
+        let Some(at) = Moment::from_ms(0) else {
+            unreachable!()
+        };
+        Since {
+            within: Span::from_ms(0),
+            at,
+        }
+    }
+
+    /// Returns the moment that is the tolerance before another.
+    pub(crate) fn near(within: Span, now: Moment) -> Since
+        requires in_range { now ≤ 2 ^ 53 }
+        ensures { result ≡ now - within }
+    {
+        Since { within, at: now }
+    }
+
+    /// Returns whether a moment isn't before this one.
+    pub(crate) fn is_reached(&self, moment: Moment) -> bool
+        ensures { result ≡ nat_le self.now moment }
+    {
+        is_near(self.within, moment, self.at)
+    }
+}
