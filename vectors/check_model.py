@@ -1,14 +1,14 @@
 """A model of the check of another querier, written from docs/FORMATS.md.
 
 The queries of a querier at the same address are wanted, and the capture's queries from that address were seen. The model compares
-the two at the end. It pairs whole lists, for each group or source apart, and streams nothing. `check` returns the verdict of a capture,
-and `check_taking` that about the querier which the capture names.
+the two at the end. It walks through the events of each group or source apart, and streams nothing. `check` returns the verdict of a
+capture, and `check_taking` that about the querier which the capture names.
 """
 
 import copy
 import dataclasses
 
-from model import DAY, Options, Querier
+from model import BLOCK, DAY, TO_EX, Options, Querier
 from wire import IGMP, CaptureFault, Fault, code_of, moments, opened, read, text_of, unwrap, value_of
 
 
@@ -26,7 +26,8 @@ class Terms:
 class Asked:
     """A query for one thing: a group, a source of one (`source` is None without), or all groups (`group` is zero). `order` is
     its place in the order in which things happen, and `packet` the number of its packet, or of the last one before a wanted query. If
-    the standard's words allow a query that was seen, `allowed` has its fields."""
+    the standard's words allow a query that was seen, `allowed` has its fields. `is_found` says that a wanted query was seen, and
+    `may_come_later` that it may be seen after the end."""
 
     order: int
     at: int
@@ -38,7 +39,8 @@ class Asked:
     may_be_left_out: bool = False
     in_role: bool = True
     allowed: Terms | None = None
-    seen: "Asked | None" = None
+    is_found: bool = False
+    may_come_later: bool = False
 
     def thing(self):
         return self.group, self.source
@@ -47,8 +49,120 @@ class Asked:
         return text_of(self.group) + (f" {text_of(self.source)}" if self.source is not None else "")
 
 
-# The latest moment.
-LATEST = 2**53
+@dataclasses.dataclass
+class Blocked:
+    """A Report in which a host blocks a source."""
+
+    order: int
+    at: int
+    group: bytes
+    source: bytes
+
+    def thing(self):
+        return self.group, self.source
+
+
+def with_s_of(seen, wanted):
+    """Fields that are wanted, with S as seen: it depends on a timer at the moment of a query."""
+    s = seen.querier[0] if seen.querier else 0
+    return dataclasses.replace(wanted, querier=(s, *wanted.querier[1:]))
+
+
+class Walk:
+    """The events of one thing in their order: queries that are wanted, queries that were seen, and Reports that block the source.
+    `wanted` and `seen` have the queries that have no partner yet. `schedules` has the moment at which each schedule's next query is due,
+    and how many are left of it. `last` has the fields of the last wanted query and the moment one interval after it, or after a Report
+    that blocks the source in that time: then `is_blocked` is set."""
+
+    def __init__(self, within, interval, keep, more):
+        self.within, self.interval, self.keep, self.more = within, interval, keep, more
+        self.wanted, self.seen, self.schedules, self.last, self.is_blocked = [], [], [], None, False
+
+    def is_near(self, one, other):
+        return abs(one - other) <= self.within
+
+    def move_to(self, now):
+        """Forgets what is too old to matter at a moment."""
+        self.wanted = [it for it in self.wanted if now <= it.at + self.keep]
+        self.seen = [it for it in self.seen if now <= it.at + self.keep]
+        self.schedules = [(due, left) for due, left in self.schedules if now <= due + self.within]
+        if self.last and self.last[0] + self.within < now:
+            self.last, self.is_blocked = None, False
+
+    def first_near(self, now, them):
+        return next((it for it in them if self.is_near(it.at, now)), None)
+
+    def want(self, it):
+        """A query is wanted. Its partner is the first one within the tolerance that was seen and has none."""
+        self.move_to(it.at)
+        if other := self.first_near(it.at, self.seen):
+            other.partner, it.is_found = it.terms, True
+            self.seen.remove(other)
+        else:
+            self.wanted.append(it)
+        self.last, self.is_blocked = (it.at + self.interval, it.terms), False
+
+    def block(self, it):
+        """A host blocks the source. If a query for it was wanted in the last interval, the source waits, and a querier may ask at once."""
+        self.move_to(it.at)
+        if self.more and self.last:
+            self.last, self.is_blocked = (it.at + self.interval, self.last[1]), True
+
+    def find(self, it):
+        it.is_found = True
+        self.wanted.remove(it)
+
+    def see_compared(self, it):
+        """A general query is seen in the role. Its fields are compared whether it has a partner or not."""
+        self.move_to(it.at)
+        if other := self.first_near(it.at, self.wanted):
+            self.find(other)
+
+    def see(self, it):
+        """A query is seen. Its partner is the first wanted one within the tolerance that has none. If there is none and the query comes
+        when the next query of a schedule is due, its partner is the first wanted one before: the querier counts from its last query."""
+        self.move_to(it.at)
+        follows = bool(self.schedules) and self.is_near(self.schedules[0][0], it.at)
+        if other := self.first_near(it.at, self.wanted):
+            it.partner = other.terms
+            self.find(other)
+        elif follows and self.wanted:
+            it.partner = with_s_of(it.terms, self.wanted[0].terms)
+            self.find(self.wanted[0])
+        if not it.partner:
+            self.seen.append(it)
+        is_asked_again = self.is_blocked and self.is_near(self.last[0], it.at + self.interval)
+        if it.in_role and it.allowed is None and (follows and self.is_replaced() or is_asked_again):
+            it.allowed = with_s_of(it.terms, self.last[1])
+        self.go_on(it, follows, is_asked_again)
+
+    def is_replaced(self):
+        """Whether a query that was wanted after the last one of the first schedule, and before the next one, replaced the schedule."""
+        due = self.schedules[0][0]
+        return bool(self.last) and due + self.within < self.last[0] and self.last[0] + self.within < due + self.interval
+
+    def go_on(self, it, follows, is_asked_again):
+        """A query goes on with the first schedule that waits. A query with a partner, or one asked again at once, starts a schedule. A
+        source that is blocked again is asked again once."""
+        left = self.more
+        if follows:
+            left = self.schedules.pop(0)[1] - 1
+        elif not it.partner and is_asked_again:
+            self.last, self.is_blocked = None, False
+        elif not it.partner:
+            return
+        if left:
+            self.schedules.append((it.at + self.interval, left))
+
+    def end(self, end):
+        """The capture ends: which wanted queries may still be seen."""
+        self.move_to(end)
+        for it in self.wanted:
+            it.may_come_later = end <= it.at + self.within or bool(self.schedules)
+
+
+# The latest moment, and the longest time for which a query waits for its partner.
+LATEST, LONGEST = 2**53, 2**32 - 1
 
 # Types of Ethernet behind which an IP packet may stand that no check looks into: tags, MPLS, PPPoE, MACsec; and that of `convert`
 # for a link type that it doesn't read.
@@ -159,7 +273,9 @@ class Check:
     def __init__(self, family, options, within, strict, packets):
         self.family, self.it, self.within, self.strict, self.packets = family, options, within, strict, packets
         self.link = Observed(family, options)
-        self.seen, self.changes, self.findings = [], [], []
+        self.seen, self.blocked, self.changes, self.findings = [], [], [], []
+        # The time for which a query waits for its partner.
+        self.keep = within if strict else min(within + options.lmqi, LONGEST)
         self.general, self.specific = 0, 0
         self.basis = Basis(family, options.own)
         # The last general query in this time as querier; None where there was none, or where it isn't known of any.
@@ -275,44 +391,45 @@ class Check:
         if self.before is not None and moment - self.before > 1000 * self.it.qi + self.within:
             self.find(order, f"{moment} general none for {moment - self.before}, wanted {1000 * self.it.qi}")
 
+    def block(self, moment, packet):
+        """Notes the sources that a Report blocks, if routers don't drop it."""
+        try:
+            message = read(self.family, packet.body, packet.source, packet.to)
+        except Fault:
+            return
+        is_dropped = self.family is not IGMP and (not is_router(self.family, packet.source) or packet.hops != 1 or not packet.alert)
+        for kind, group, sources in [] if message.what != "report" or is_dropped else message.records:
+            if kind in (TO_EX, BLOCK):
+                self.blocked += [Blocked(self.link.next_order(), moment, group, source) for source in sources]
+
     # Findings.
+
+    def is_near_change(self, moment):
+        """Whether the role changed near a moment: the last change counts that comes while a query of the moment waits for its partner."""
+        changes = [it for it in self.changes if it <= moment + self.keep]
+        return bool(changes) and self.is_near(moment, changes[-1])
 
     def find(self, order, line, packet=0):
         """Adds a finding. A silence has no packet, and the line of a packet's headers names it already."""
         self.findings.append((order, f"{line} packet {packet}" if self.packets and packet else line))
 
-    def pair(self):
-        """For each thing, in the order of moments: a seen query goes with the earliest wanted one within the tolerance that
-        has no partner."""
-        for it in self.seen:
-            of_thing = [one for one in self.link.wanted if one.thing() == it.thing() and self.is_near(one.at, it.at) and not one.partner]
-            # A general query seen in the role takes a query that is already wanted.
-            of_thing = [one for one in of_thing if one.order < it.order] if it.partner else of_thing
-            if of_thing:
-                of_thing[0].partner, of_thing[0].seen = it.terms, it
-                it.partner = it.partner or of_thing[0].terms
-
-    def schedules(self):
-        """Allows queries of schedules that the link has replaced, for each thing in the order in which things happen. A query goes on
-        with the first schedule that waits, if it comes one interval after that schedule's last query. Any other query starts a
-        schedule if its partner was wanted before it."""
-        for thing in {it.thing() for it in self.seen}:
-            waiting = []
-            for it in [one for one in self.seen if one.thing() == thing]:
-                waiting = [one for one in waiting if it.at <= one[0] + self.it.lmqi + self.within]
-                follows = bool(waiting) and self.is_near(it.at, waiting[0][0] + self.it.lmqi)
-                before, left = waiting.pop(0) if follows else (None, self.it.rv)
-                wanted = [one for one in self.link.wanted if one.thing() == thing and one.order < it.order]
-                has_partner = any(one.seen is it for one in wanted)
-                if follows and it.in_role and it.allowed is None and wanted and self.is_replaced(before, wanted[-1].at):
-                    s, terms = it.terms.querier[0] if it.terms.querier else False, wanted[-1].terms
-                    it.allowed = dataclasses.replace(terms, querier=(s, *terms.querier[1:]))
-                if left > 1 and (follows or has_partner):
-                    waiting.append((it.at, left - 1))
-
-    def is_replaced(self, before, wanted):
-        """Whether a query that was wanted at a moment replaced the schedule of a query that was seen before."""
-        return before + self.within < wanted and wanted + self.within < before + self.it.lmqi
+    def pair(self, end):
+        """Walks through the events of each thing, first up to the end of the capture."""
+        more = 0 if self.strict else self.it.rv - 1
+        events = [(it, Walk.want) for it in self.link.wanted] + [(it, Walk.block) for it in self.blocked]
+        events += [(it, Walk.see_compared if it.partner else Walk.see) for it in self.seen]
+        of_thing = {}
+        for it, take in sorted(events, key=lambda it: it[0].order):
+            of_thing.setdefault(it.thing(), []).append((it, take))
+        for these in of_thing.values():
+            walk = Walk(self.within, self.it.lmqi, self.keep, more)
+            for it, take in these:
+                if it.at <= end:
+                    take(walk, it)
+            walk.end(end)
+            for it, take in these:
+                if it.at > end:
+                    take(walk, it)
 
     def differences(self, it):
         seen, wanted = it.terms, it.partner or it.allowed
@@ -332,17 +449,15 @@ class Check:
             self.silence(end, self.link.next_order())
         basis = copy.copy(self.basis)
         self.tick_to(min(end + self.within, LATEST))
-        self.pair()
-        if not self.strict:
-            self.schedules()
+        self.pair(end)
         for it in self.link.wanted:
-            if not it.partner and not it.may_be_left_out and it.at + self.within < end:
+            if not it.is_found and not it.may_be_left_out and not it.may_come_later and it.at + self.within < end:
                 self.find(it.order, f"{it.at} missing {it.text()}", it.packet)
         for it in self.seen:
             if it.partner:
                 for line in self.differences(it):
                     self.find(it.order, line, it.packet)
-            elif not any(self.is_near(it.at, change) for change in self.changes):
+            elif not self.is_near_change(it.at):
                 for line in self.differences(it) if it.allowed else [f"{it.at} extra {it.text()}"]:
                     self.find(it.order, line, it.packet)
         lines = [line for _, line in sorted(self.findings, key=lambda it: it[0])]
@@ -449,6 +564,7 @@ def check(data, family, options, within=100, strict=False, packets=False):
             if message:
                 it.see(moment, message, destination(kind, frame, packet))
             else:
+                it.block(moment, packet)
                 it.step(it.link.receive, packet, moment)
     except CaptureFault as fault:
         return None, fault.text

@@ -78,8 +78,9 @@ class Bench:
     def code(self, milliseconds):
         return wire.code_of(milliseconds // 100, 8) if self.family is IGMP else wire.code_of(milliseconds, 16)
 
-    def framed(self, body, source, to, hops=1, has_alert=True):
+    def framed(self, body, source, to, hops=1, has_alert=True, is_broken=False):
         body = wire.with_checksum(self.family, body, source, to)
+        body = body[:3] + bytes([body[3] ^ is_broken]) + body[4:]
         if self.family is IGMP:
             packet = wire.in_ipv4(body, source, to, ROUTER_ALERT if has_alert else b"", hops=hops)
         else:
@@ -96,15 +97,11 @@ class Bench:
             body = wire.query(self.family, group, it.sources, it.s, self.code(it.response), it.qrv, wire.code_of(it.seconds, 8))
         if it.reserved is not None:
             body = body[: it.reserved] + bytes([body[it.reserved] | 0x10]) + body[it.reserved + 1 :]
-        frame = self.framed(body, source or self.querier, to, it.hops, it.has_alert)
-        if it.is_broken:
-            at = len(frame) - len(body) + 3
-            frame = frame[:at] + bytes([frame[at] ^ 1]) + frame[at + 1 :]
-        return frame
+        return self.framed(body, source or self.querier, to, it.hops, it.has_alert, it.is_broken)
 
-    def report(self, *records):
+    def report(self, *records, **faults):
         to = wire.address("224.0.0.22" if self.family is IGMP else "ff02::16")
-        return self.framed(wire.report(self.family, records), self.host, to)
+        return self.framed(wire.report(self.family, records), self.host, to, **faults)
 
     def general(self, at):
         return Query(at, GENERAL, response=10000)
@@ -156,6 +153,10 @@ def moved(**moments):
 
 def both(*changes):
     return lambda queries: functools.reduce(lambda made, change: change(made), changes, queries)
+
+
+def all_with(**fields):
+    return lambda queries: [dataclasses.replace(it, **fields) for it in queries]
 
 
 def as_it_is(queries):
@@ -323,6 +324,11 @@ def right(b):
     yield Case("names its interval by --lmqi", both(each(LEFT, response=500), each(BLOCKED, response=500), moved(m41000=40500, m51000=50500)), words=("--lmqi", "500"))
 
 
+def of_three(b, *more):
+    """The queries of a querier with Robustness Variable 3, and more of them."""
+    return both(having(Query(42000, LEFT, b.A), Query(52000, BLOCKED, b.B, (b.S,)), *more), all_with(qrv=3))
+
+
 def other_readings(b):
     """Queriers that read a sentence of the standards in the other way (docs/READINGS.md), with what a check finds of them."""
     a, s, zero = wire.text_of(b.A), f"{wire.text_of(b.B)} {wire.text_of(b.S)}", wire.text_of(b.zero)
@@ -349,18 +355,74 @@ def other_readings(b):
     yield Case("says another QRV in the earlier schedule", other_qrv, differing((41000,), a, "qrv 3, wanted 2"), (f"41000 extra {a}",), hosts=(left_again,), specific=6)
     yield Case("keeps a schedule that was not replaced", having(ask_group(41000)), (f"41000 extra {a}",), specific=5)
     found = f"40400 missing {a}", f"41000 extra {a}", f"41400 missing {a}"
-    yield Case("asks nothing at a leave that comes again", as_it_is, found[::2], found, hosts=(left_again,))
+    yield Case("asks nothing at a leave that comes again", as_it_is, found[2:], found, hosts=(left_again,))
+    found = *found, f"42000 extra {a}", f"42400 missing {a}"
+    thrice = {"words": ("--rv", "3")}
+    yield Case("asks nothing at a leave that comes again, of three queries", of_three(b), found[4:], found, hosts=(left_again,), specific=6, **thrice)
+    # A source that is blocked again.
+    at = [f"{moment} {what} {s}" for moment in (50400, 51000, 51400) for what in ("extra", "missing")]
+    asked_again, again = having(ask_source(50400, b.S)), {"hosts": (blocked_again,)}
     yield Case("waits with a source that is blocked again", as_it_is, hosts=(blocked_again,))
-    yield Case("asks at once for a source that is blocked again", having(ask_source(50400, b.S)), (f"50400 extra {s}",), hosts=(blocked_again,), specific=5)
+    yield Case("asks at once for a source that is blocked again", asked_again, (), at[:1], specific=5, **again)
+    anew = both(without(51000), having(ask_source(50400, b.S), ask_source(51400, b.S)))
+    yield Case("starts the count of a source that is blocked again anew", anew, (), (at[0], at[3], at[4]), specific=5, **again)
+    beside = both(asked_again, having(ask_source(51400, b.S)))
+    yield Case("keeps both schedules of a source that is blocked again", beside, (), (at[0], at[4]), specific=6, **again)
+    yield Case("doesn't ask again for a source that is blocked again", both(asked_again, without(51000)), at[3:4], (at[0], at[3]), **again)
+    yield Case("asks twice at once for a source that is blocked again", both(asked_again, asked_again), at[:1], at[:1] * 2, specific=6, **again)
+    other_qrv = having(dataclasses.replace(ask_source(50400, b.S), qrv=3))
+    yield Case("says another QRV for a source that is blocked again", other_qrv, differing((50400,), s, "qrv 3, wanted 2"), at[:1], specific=5, **again)
+    with_s = having(dataclasses.replace(ask_source(50400, b.S), s=True))
+    yield Case("sets S for a source that is blocked again", with_s, (), at[:1], specific=5, **again)
+    for moment, is_accepted in ((50300, False), (50500, True), (50501, False)):
+        found = (f"{moment} extra {s}",)
+        yield Case(f"asks at {moment} for a source that is blocked again", having(ask_source(moment, b.S)), () if is_accepted else found, found, specific=5, **again)
+    yield Case("asks for a source that waits and isn't blocked again", asked_again, at[:1], specific=5)
+    yield Case("asks for a source when another one is blocked", both(asked_again, having(ask_source(50400, b.T), ask_source(51400, b.T)), without(51000)), specific=6, hosts=(other_blocked,))
+    once = both(without(41000, 51000), asked_again, moved(m31250=125000, m156250=250000), all_with(qrv=1))
+    yield Case("asks again at once although it asks once", once, at[:1], words=("--rv", "1"), specific=3, **again)
+    excluded = {"hosts": ((50400, b.report((TO_EX, b.B, (b.S,)))),)}
+    yield Case("asks at once for a source that waits and is excluded", asked_again, (), at[:1], specific=5, **excluded)
+    left_out = {"hosts": ((50400, b.report((TO_IN, b.B, (b.T,)))),)}
+    yield Case("asks at once for a source that waits and that a TO_IN leaves out", asked_again, at[:1], specific=5, **left_out)
+    for what, faults in (("a wrong checksum", {"is_broken": True}), ("hop limit 64", {"hops": 64}), ("no Router Alert", {"has_alert": False})):
+        is_dropped = "is_broken" in faults or b.family is not IGMP
+        faulty = {"hosts": ((50400, b.report((BLOCK, b.B, (b.S,)), **faults)),)}
+        yield Case(f"asks at once for a source that is blocked again with {what}", asked_again, at[:1] if is_dropped else (), at[:1], specific=5, **faulty)
+    for moment, is_accepted in ((51300, True), (52100, True), (52101, False)):
+        late, found = {"hosts": ((moment, b.report((BLOCK, b.B, (b.S,)))),)}, (f"{moment} extra {s}",)
+        yield Case(f"asks for a source that is blocked again at {moment}", having(ask_source(moment, b.S)), () if is_accepted else found, found, specific=5, **late)
+    # A Report in the interval of another one, and one just before the retransmission that waits.
+    blocked_thrice = {"hosts": (blocked_again, (50800, b.report((BLOCK, b.B, (b.S,)))))}
+    found = tuple(f"{moment} {what} {s}" for moment, what in ((50400, "extra"), (50800, "extra"), (51000, "missing"), (51800, "extra")))
+    each_time = both(without(51000), having(*(ask_source(moment, b.S) for moment in (50400, 50800, 51800))))
+    yield Case("asks at once each time that a source is blocked again", each_time, found[1:], found, specific=6, **blocked_thrice)
+    blocked_late = {"hosts": ((50950, b.report((BLOCK, b.B, (b.S,)))),)}
+    found = tuple(f"{moment} extra {s}" for moment in (51000, 51950))
+    late = having(ask_source(50950, b.S), ask_source(51950, b.S))
+    yield Case("keeps both schedules of a source that is blocked again within the tolerance", late, found, specific=6, **blocked_late)
     # A source that waits, beside a new one.
     together = both(without(51000), having(ask_source(50400, b.S, b.T), ask_source(51400, b.T)))
     yield Case("names a source that waits in the new sending", together, hosts=(other_blocked,), specific=5)
-    apart = having(ask_source(50400, b.T), ask_source(51400, b.T))
+    own = having(ask_source(50400, b.T), ask_source(51400, b.T))
+    apart, t = {"hosts": (other_blocked,)}, f"{wire.text_of(b.B)} {wire.text_of(b.T)}"
+    found = f"50400 missing {s}", f"51000 extra {s}", f"51400 missing {t}"
+    yield Case("asks for each source at its own moments", own, (), found[:2], specific=6, **apart)
+    yield Case("doesn't ask again for the first source at its own moment", both(own, without(51000)), found[:1], specific=5, **apart)
+    yield Case("doesn't ask again for the second source at its own moment", both(own, without(51400)), found[2:], found, specific=5, **apart)
+    with_s = both(own, without(51000), having(dataclasses.replace(ask_source(51000, b.S), s=True)))
+    yield Case("sets S in a query at its own moment", with_s, (), found[:2], specific=6, **apart)
+    late_response = both(own, without(51000), having(dataclasses.replace(ask_source(51000, b.S), response=500)))
+    yield Case("says another response in a query at its own moment", late_response, differing((51000,), s, "response 500, wanted 1000"), found[:2], specific=6, **apart)
+    three = lambda *moments: both(of_three(b, *(ask_source(at, b.T) for at in (50400, 51400, 52400))), without(*moments))
+    found = f"50400 missing {s}", f"51000 extra {s}", f"51400 missing {s}", f"52000 extra {s}"
+    yield Case("asks three times for each source at its own moments", three(), (), found, specific=9, **apart, **thrice)
+    yield Case("leaves out the second query at its own moments", three(51000), (found[0], *found[2:]), specific=8, **apart, **thrice)
+    yield Case("leaves out the third query at its own moments", three(52000), found[2:3], found[:3], specific=8, **apart, **thrice)
     found = f"50400 missing {s}", f"51000 extra {s}"
-    yield Case("asks for each source at its own moments", apart, found[:1], found, hosts=(other_blocked,), specific=6)
     beside = both(together, having(ask_source(51000, b.S)))
-    yield Case("keeps both schedules of a source", beside, (), found[1:], hosts=(other_blocked,), specific=6)
-    yield Case("asks a third time for a source beside both schedules", both(beside, having(ask_source(52000, b.S))), (f"52000 extra {s}",), (*found[1:], f"52000 extra {s}"), hosts=(other_blocked,), specific=7)
+    yield Case("keeps both schedules of a source", beside, (), found[1:], specific=6, **apart)
+    yield Case("asks a third time for a source beside both schedules", both(beside, having(ask_source(52000, b.S))), (f"52000 extra {s}",), (*found[1:], f"52000 extra {s}"), specific=7, **apart)
     # A query for sources with S set, beside one for their group.
     excluded = (55000, b.report((TO_EX, b.C, ()))), (56000, b.report((ALLOW, b.C, (b.S,))))
     gone = (*excluded, (60000, b.report((TO_IN, b.C, ()))), (60500, b.report((ALLOW, b.C, (b.S,)))))
@@ -373,7 +435,26 @@ def other_readings(b):
     yield Case("leaves out a half with S clear", having(asked[0], asked[1], half), (f"60000 missing {wire.text_of(b.C)} {wire.text_of(b.S)}",), hosts=gone, specific=7)
     # A retransmission behind a late query.
     yield Case("counts a retransmission from the first moment", moved(m40000=40060, m41000=41060))
-    yield Case("counts a late retransmission from a late query", moved(m40000=40060, m41000=41120), (f"41000 missing {a}", f"41120 extra {a}"))
+    found = f"41000 missing {a}", f"41120 extra {a}"
+    yield Case("counts a late retransmission from a late query", moved(m40000=40060, m41000=41120), (), found)
+    of_source = f"51000 missing {s}", f"51120 extra {s}"
+    yield Case("counts a late retransmission for a source from a late query", moved(m50000=50060, m51000=51120), (), of_source)
+    other_qrv = both(without(41000), moved(m40000=40060), having(dataclasses.replace(ask_group(41120), qrv=3)))
+    yield Case("says another QRV in a retransmission that is counted from a late query", other_qrv, differing((41120,), a, "qrv 3, wanted 2"), found)
+    yield Case("counts as late as the tolerance allows", moved(m40000=40060, m41000=41160), (), (found[0], f"41160 extra {a}"))
+    yield Case("counts a millisecond too late", moved(m40000=40060, m41000=41161), (found[0], f"41161 extra {a}"))
+    yield Case("asks again 200 ms too late", moved(m41000=41200), (found[0], f"41200 extra {a}"))
+    yield Case("asks a third time behind a late retransmission", both(moved(m40000=40060, m41000=41120), having(ask_group(41320))), (f"41320 extra {a}",), (*found, f"41320 extra {a}"), specific=5)
+    later = both(of_three(b), moved(m40000=40060, m41000=41120, m42000=42180))
+    found = f"41000 missing {a}", f"41120 extra {a}", f"42000 missing {a}", f"42180 extra {a}"
+    yield Case("is late by more each time", later, (), found, specific=6, **thrice)
+    # The late query may come after the end.
+    for end, is_missing in ((51160, False), (51161, True)):
+        found = (f"51000 missing {s}",)
+        yield Case(f"may ask again late after {end}", both(without(51000, 156250), moved(m50000=50060)), found if is_missing else (), found, words=("--until", str(end)), general=2, specific=3)
+    for end, is_missing in ((51100, False), (51101, True)):
+        found, first = (f"50400 missing {s}",), both(without(51000, 156250), having(ask_source(50400, b.T)))
+        yield Case(f"may ask at its own moment after {end}", first, found if is_missing else (), found, words=("--until", str(end)), general=2, **apart)
     # A group from before the capture.
     known = (90000, b.report((TO_IN, b.C, ())))
     held, other = having(Query(90000, LEFT, b.C), Query(91000, LEFT, b.C)), wire.text_of(b.C)

@@ -254,7 +254,7 @@ def test_command_line():
     found = [json.loads(line) for line in it.stdout.splitlines()]
     assert it.returncode == 3 and len(found) == 2 * len(mquerier.check(SAMPLE, "10.9.0.1", **VARIABLES))
     assert found[1] == {
-        "file": SAMPLE, "time": 4355, "kind": "extra", "group": "232.1.1.1", "source": "10.9.0.101",
+        "file": SAMPLE, "time": 4763, "kind": "missing", "group": "232.1.1.1", "source": "10.9.0.101",
         "section": "RFC 3376 section 6.6.3.2", "detail": "",
     }  # fmt: skip
     right = ran("check", f"{TOP}/vectors/igmp-query-from-lower.pcap", "--querier", "10.0.0.2")
