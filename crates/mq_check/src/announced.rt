@@ -12,8 +12,8 @@ ghost use Rattle.mq_check.specs.CheckedCaptures.{is_granted};
 ghost use Rattle.mq_check.specs.Numbered.{numbered_announced, numbered_announced_if, numbered_answer, numbered_query_if};
 
 use crate::check_fault::CheckFault;
-use crate::checking::is_general;
 use crate::seen_queries::query_spelled;
+use crate::wanting::is_general;
 use mq_arena::{OfAllocator, VectorSource, filled};
 use mq_count::Watched;
 use mq_lines::LineKey;

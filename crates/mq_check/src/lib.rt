@@ -34,6 +34,7 @@ mod phase;
 mod querier_address;
 mod running_check;
 mod schedules;
+mod seeing;
 mod seen_queries;
 mod settling;
 mod since;
@@ -48,6 +49,7 @@ mod unheld;
 mod unjudged;
 mod waiting;
 mod wanted_queries;
+mod wanting;
 
 pub use announced::{Announced, announced_variables, announced_variables_in};
 pub use asked::Asked;

@@ -1,0 +1,330 @@
+//! Queries of the checked router that are seen.
+
+ghost use Rattle.std.specs.Prelude.{◌≡◌, ◌≤◌, ◌^◌, fold, map as list_map};
+ghost use Rattle.mq_wire.specs.Numbered.{numbered_query};
+ghost use Rattle.mq_check.specs.declared.asked.Asked.TheVariants.{Source};
+ghost use Rattle.mq_check.specs.Checking as spec;
+ghost use Rattle.mq_check.specs.declared.headers.HeaderFault.TheVariants.{WrongChecksum};
+ghost use Rattle.mq_check.specs.Headers.{faults_of};
+ghost use Rattle.mq_check.specs.Numbered.{numbered_asked, numbered_terms, numbered_terms_if, numbered_unpaired};
+ghost use Rattle.mq_check.specs.Queries as queries;
+ghost use Rattle.mq_check.specs.Unheld as unheld;
+
+use crate::asked::Asked;
+use crate::checked_family::CheckedFamily;
+use crate::checking::Checking;
+use crate::entry::{Entry, Unpaired};
+use crate::general::query_interval;
+use crate::headers::{HeaderFault, Headers};
+use crate::schedules::as_seen;
+use crate::since::Since;
+use crate::stamp::Stamp;
+use crate::terms::{Terms, general_terms, terms_of};
+use crate::unheld::{specific_terms, unheld};
+use crate::waiting::{Side, Waiting};
+use crate::wanting::{asked_without_sources, is_general, sources_of};
+use mq_count::Moment;
+use mq_lines::LineKey;
+use mq_link::{Family, Link};
+use mq_table::Timing;
+use mq_wire::{Query, Sources, WireKey};
+use std::alloc::Allocator;
+
+/// Returns the verdict on a seen query without a partner, which is allowed if it has terms.
+fn allowed_if<K: WireKey>(is_querier: bool, wanted: Option<Terms<K>>) -> Unpaired<K>
+    ensures { numbered_unpaired K.number result ≡ spec.allowed_if is_querier (numbered_terms_if K.number wanted) }
+{
+    match (is_querier, wanted) {
+        (true, Some(wanted)) => Unpaired::Allowed(wanted),
+        _ => Unpaired::Extra(is_querier),
+    }
+}
+
+/// Returns the terms of a query on a subject that the link doesn't hold, or else those of an earlier schedule.
+fn either_of<K: WireKey>(
+    may_be_unknown: bool,
+    unheld: Option<Terms<K>>,
+    earlier: Option<Terms<K>>,
+) -> Option<Terms<K>>
+    ensures { numbered_terms_if K.number result
+        ≡ spec.either_of may_be_unknown (numbered_terms_if K.number unheld) (numbered_terms_if K.number earlier) }
+{
+    match (may_be_unknown, unheld) {
+        (true, Some(wanted)) => Some(wanted),
+        _ => earlier,
+    }
+}
+
+/// Queues a finding if the interval is wrong.
+fn put_interval<F: Family, A: Allocator>(
+    waiting: &mut Waiting<F, A>,
+    configured: Timing,
+    stamp: Stamp,
+    packet: u64,
+    passed: Option<u64>,
+)
+    ensures { waiting.new ≡ spec.with_interval configured stamp packet passed waiting.old }
+{
+    if let Some(passed) = passed {
+        let wanted = query_interval(configured);
+        waiting.put(Entry::Interval(stamp.moment(), packet, passed, wanted));
+    }
+}
+
+impl<F: Family, A: Allocator> Checking<F, A> {
+    /// Adds a seen query, and pairs it with a wanted query on the subject that has no partner. `unheld` has the terms of such
+    /// a query if the link doesn't hold the subject.
+    fn see(
+        &mut self,
+        moment: Moment,
+        terms: Terms<F::Address>,
+        unheld: Option<Terms<F::Address>>,
+        asked: Asked<F::Address>,
+    )
+        requires in_range { moment ≤ 2 ^ 53 }
+        ensures { self.new ≡ spec.with_seen moment (numbered_terms F.Address.number terms) (numbered_terms_if F.Address.number unheld) self.old (numbered_asked F.Address.number asked) }
+    {
+        let from = self.near(moment);
+        self.forget(moment);
+        let alone = self.alone(moment, terms, unheld, asked);
+        let partner = self.pair(moment, &from, terms, asked);
+        let has_partner = partner.is_some();
+        self.schedules.see(moment, terms, asked, has_partner);
+        self.waiting
+            .put(Entry::Seen(moment, asked, terms, partner, alone));
+    }
+
+    /// Returns whether the partner of a seen query may be before `from`: no wanted query from then on may be it, and the seen
+    /// query goes on with a schedule.
+    fn is_late(&self, moment: Moment, from: &Since, asked: Asked<F::Address>) -> bool
+        ensures { result ≡ spec.is_late_in from.now moment (numbered_asked F.Address.number asked) self.now.waiting self.now.schedules }
+    {
+        !self.waiting.has_free(Side::OfWanted, asked, from) && self.schedules.goes_on(moment, asked)
+    }
+
+    /// Pairs a seen query with the first wanted query on the subject that has no partner, and returns its terms. The wanted
+    /// query may be before `from` only if the seen one goes on with a schedule.
+    fn pair(
+        &mut self,
+        moment: Moment,
+        from: &Since,
+        terms: Terms<F::Address>,
+        asked: Asked<F::Address>,
+    ) -> Option<Terms<F::Address>>
+        ensures partner { numbered_terms_if F.Address.number result
+            ≡ spec.partner_if (spec.is_late_in from.now moment (numbered_asked F.Address.number asked) self.old.waiting self.old.schedules)
+            from.now (numbered_terms F.Address.number terms) (numbered_asked F.Address.number asked) self.old.waiting }
+        ensures paired { self.new ≡ record self.old {
+          waiting =
+              spec.paired_if (spec.is_late_in from.now moment (numbered_asked F.Address.number asked) self.old.waiting self.old.schedules)
+              from.now (numbered_terms F.Address.number terms) (numbered_asked F.Address.number asked) self.old.waiting;
+        } }
+    {
+        if !self.is_late(moment, from, asked) {
+            return self.waiting.join(Side::OfWanted, asked, from, terms);
+        }
+        let earlier = self.waiting.join_any(Side::OfWanted, asked, terms);
+        as_seen(terms, earlier)
+    }
+
+    /// Returns the verdict on a seen query if it finds no partner.
+    fn alone(
+        &self,
+        moment: Moment,
+        terms: Terms<F::Address>,
+        unheld: Option<Terms<F::Address>>,
+        asked: Asked<F::Address>,
+    ) -> Unpaired<F::Address>
+        ensures { numbered_unpaired F.Address.number result
+            ≡ spec.alone_after moment (numbered_terms F.Address.number terms) (numbered_terms_if F.Address.number unheld) (numbered_asked F.Address.number asked) self.now }
+    {
+        let is_querier = self.phase.is_querier();
+        let is_unknown = self.may_be_unknown(moment, asked);
+        let earlier = self.schedules.allowed(moment, terms, asked);
+        allowed_if(is_querier, either_of(is_unknown, unheld, earlier))
+    }
+
+    /// Adds a seen query for each subject of a query. `wanted` has the terms of such a query.
+    fn see_all(
+        &mut self,
+        moment: Moment,
+        terms: Terms<F::Address>,
+        link: &Link<F, A>,
+        wanted: Terms<F::Address>,
+        query: &Query<'_, F::Address>,
+    )
+        requires in_range { moment ≤ 2 ^ 53 }
+        ensures { self.new ≡ fold (spec.one_seen moment (numbered_terms F.Address.number terms) (unheld.unheld F.FAMILY link.now.state.groups (numbered_terms F.Address.number wanted)))
+            self.old (queries.asked_in (numbered_query F.Address.number query.now)) }
+    {
+        let sources = sources_of(&query.version);
+        if sources.is_empty() {
+            let asked = asked_without_sources::<F>(query.group);
+            let held = unheld(link, wanted, asked);
+            self.see(moment, terms, held, asked);
+            return;
+        }
+        self.see_sources(moment, terms, link, wanted, query.group, sources);
+    }
+
+    /// Adds a seen query for each of some sources of a group.
+    fn see_sources(
+        &mut self,
+        moment: Moment,
+        terms: Terms<F::Address>,
+        link: &Link<F, A>,
+        wanted: Terms<F::Address>,
+        group: F::Address,
+        sources: Sources<'_, F::Address>,
+    )
+        requires in_range { moment ≤ 2 ^ 53 }
+        ensures { self.new ≡ fold (spec.one_seen moment (numbered_terms F.Address.number terms) (unheld.unheld F.FAMILY link.now.state.groups (numbered_terms F.Address.number wanted)))
+            self.old (list_map (Source (F.Address.number group)) sources.entry) }
+    {
+        for source in sources {
+            let asked = Asked::Source(group, source);
+            let held = unheld(link, wanted, asked);
+            self.see(moment, terms, held, asked);
+        }
+    }
+
+    /// Judges the interval and the fields of a general query that is seen while the router is querier.
+    fn judge_general(
+        &mut self,
+        within: u32,
+        configured: Timing,
+        stamp: Stamp,
+        terms: Terms<F::Address>,
+        wanted: Terms<F::Address>,
+    )
+        ensures { self.new ≡ spec.with_general within configured stamp (numbered_terms F.Address.number terms) (numbered_terms F.Address.number wanted) self.old }
+    {
+        let passed = self.phase.wrong_interval(within, configured, stamp.ms());
+        put_interval(&mut self.waiting, configured, stamp, terms.packet, passed);
+        self.phase = self.phase.behind(within, configured, stamp.ms());
+        let from = self.near(stamp.moment());
+        self.waiting
+            .join(Side::OfWanted, Asked::AllGroups, &from, terms);
+        self.waiting.put(Entry::Seen(
+            stamp.moment(),
+            Asked::AllGroups,
+            terms,
+            Some(wanted),
+            Unpaired::Extra(true),
+        ));
+    }
+
+    /// Judges a general query if the router is querier, and adds it as a seen query otherwise.
+    fn compare_general(
+        &mut self,
+        within: u32,
+        configured: Timing,
+        stamp: Stamp,
+        terms: Terms<F::Address>,
+        wanted: Terms<F::Address>,
+    )
+        ensures { self.new ≡ spec.general_compared within configured stamp (numbered_terms F.Address.number terms) (numbered_terms F.Address.number wanted) self.old }
+    {
+        if self.phase.is_querier() {
+            self.judge_general(within, configured, stamp, terms, wanted);
+            return;
+        }
+        self.see(stamp.moment(), terms, None, Asked::AllGroups);
+    }
+
+    /// Handles a general query that is seen, and counts it.
+    fn see_general(
+        &mut self,
+        within: u32,
+        configured: Timing,
+        stamp: Stamp,
+        terms: Terms<F::Address>,
+        wanted: Terms<F::Address>,
+    )
+        ensures { self.new ≡ spec.general_seen within configured stamp (numbered_terms F.Address.number terms) (numbered_terms F.Address.number wanted) self.old }
+    {
+        self.compare_general(within, configured, stamp, terms, wanted);
+        self.last_general = Some(stamp);
+        self.general = self.general.saturating_add(1);
+    }
+
+    /// Handles a query for a group or for sources that is seen, and counts it.
+    fn see_specific(
+        &mut self,
+        moment: Moment,
+        terms: Terms<F::Address>,
+        link: &Link<F, A>,
+        wanted: Terms<F::Address>,
+        query: &Query<'_, F::Address>,
+    )
+        requires in_range { moment ≤ 2 ^ 53 }
+        ensures { self.new ≡ spec.specific_seen moment (numbered_terms F.Address.number terms) (unheld.unheld F.FAMILY link.now.state.groups (numbered_terms F.Address.number wanted))
+            (queries.asked_in (numbered_query F.Address.number query.now)) self.old }
+    {
+        self.see_all(moment, terms, link, wanted, query);
+        self.specific = self.specific.saturating_add(1);
+    }
+
+    /// Handles the headers of a packet with a query of the checked router.
+    pub(crate) fn see_headers(
+        &mut self,
+        moment: Moment,
+        number: u64,
+        headers: Headers,
+        has_reserved_bits: bool,
+    )
+        ensures { self.new ≡ spec.faults_seen moment number (faults_of headers has_reserved_bits) self.old }
+    {
+        if headers.ttl != 1 {
+            let fault = HeaderFault::TimeToLive(headers.ttl);
+            self.waiting.put(Entry::Packet(moment, number, fault));
+        }
+        if !headers.alert {
+            let fault = HeaderFault::NoRouterAlert;
+            self.waiting.put(Entry::Packet(moment, number, fault));
+        }
+        if has_reserved_bits {
+            let fault = HeaderFault::ReservedBits;
+            self.waiting.put(Entry::Packet(moment, number, fault));
+        }
+    }
+
+    /// Handles a query of the checked router with a wrong checksum.
+    pub(crate) fn see_broken(&mut self, moment: Moment, number: u64)
+        ensures { self.new ≡ spec.with_fault moment number self.old WrongChecksum }
+    {
+        let fault = HeaderFault::WrongChecksum;
+        self.waiting.put(Entry::Packet(moment, number, fault));
+    }
+}
+
+impl<F: CheckedFamily, A: Allocator> Checking<F, A>
+where
+    F::Address: LineKey,
+{
+    /// Handles a query of the checked router that is seen in a packet.
+    pub(crate) fn query_seen(
+        &mut self,
+        within: u32,
+        link: &Link<F, A>,
+        stamp: Stamp,
+        packet: u64,
+        to: F::Address,
+        query: &Query<'_, F::Address>,
+    )
+        ensures { self.new ≡ spec.query_came within link.now.config link.now.state stamp packet (F.Address.number to) (numbered_query F.Address.number query.now) self.old }
+    {
+        let config = link.config();
+        config.is_faultless();
+        let terms = terms_of(packet, to, query);
+        let configured = config.timing();
+        let in_force = link.timing();
+        if is_general::<F>(query) {
+            let wanted = general_terms(config, in_force);
+            self.see_general(within, configured, stamp, terms, wanted);
+            return;
+        }
+        let wanted = specific_terms(config, in_force, query);
+        self.see_specific(stamp.moment(), terms, link, wanted, query);
+    }
+}

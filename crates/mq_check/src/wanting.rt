@@ -1,0 +1,158 @@
+//! Queries that the link sends, in a check.
+
+ghost use Rattle.std.specs.Prelude.{◌≡◌, ◌≤◌, ◌^◌, [], fold, map as list_map};
+ghost use Rattle.mq_wire.specs.Numbered.{numbered_query, numbered_version};
+ghost use Rattle.mq_lines.specs.Text.{query_sources};
+ghost use Rattle.mq_check.specs.declared.asked.Asked.TheVariants.{Source};
+ghost use Rattle.mq_check.specs.Checking as spec;
+ghost use Rattle.mq_check.specs.Entries.{may_be_left_out};
+ghost use Rattle.mq_check.specs.Numbered.{numbered_asked, numbered_terms};
+ghost use Rattle.mq_check.specs.Queries as queries;
+ghost use Rattle.mq_check.specs.Schedules.{recent, schedules_wanted};
+
+use crate::asked::Asked;
+use crate::checked_family::CheckedFamily;
+use crate::checking::Checking;
+use crate::entry::Entry;
+use crate::terms::{Terms, terms_of};
+use crate::waiting::Side;
+use mq_count::Moment;
+use mq_lines::LineKey;
+use mq_link::Family;
+use mq_wire::{Query, QueryVersion, Sources, WireKey};
+use std::alloc::Allocator;
+
+/// Returns the sources of a query. A query of an older version has none.
+pub(crate) fn sources_of<'a, K: WireKey>(version: &QueryVersion<'a, K>) -> Sources<'a, K>
+    ensures { result ≡ query_sources (numbered_version version.now) }
+{
+    match version {
+        QueryVersion::Older(_) => Sources::lent(&[]),
+        QueryVersion::Current(fields) => fields.sources.iter(),
+    }
+}
+
+/// Returns whether a query is a General Query.
+pub(crate) fn is_general<F: Family>(query: &Query<'_, F::Address>) -> bool
+    ensures { result ≡ queries.is_general (numbered_query F.Address.number query.now) }
+{
+    F::is_zero(query.group) && sources_of(&query.version).is_empty()
+}
+
+/// Returns the subject of a query without sources.
+pub(crate) fn asked_without_sources<F: Family>(group: F::Address) -> Asked<F::Address>
+    ensures { numbered_asked F.Address.number result ≡ queries.asked_for_group (F.Address.number group) }
+{
+    if F::is_zero(group) {
+        Asked::AllGroups
+    } else {
+        Asked::Group(group)
+    }
+}
+
+impl<F: Family, A: Allocator> Checking<F, A> {
+    /// Adds a wanted query, and pairs it with the first seen query on the subject within the tolerance that has no partner.
+    fn want(&mut self, moment: Moment, terms: Terms<F::Address>, asked: Asked<F::Address>)
+        requires in_range { moment ≤ 2 ^ 53 }
+        ensures { self.new ≡ spec.with_wanted moment (numbered_terms F.Address.number terms) self.old (numbered_asked F.Address.number asked) }
+    {
+        let from = self.near(moment);
+        self.know(moment, terms, asked);
+        self.schedule(moment, terms, asked);
+        let is_optional = self.may_be_left_out(moment, asked, &terms);
+        let is_found = self
+            .waiting
+            .join(Side::OfSeen, asked, &from, terms)
+            .is_some();
+        self.waiting
+            .put(Entry::Wanted(moment, asked, terms, is_optional, is_found));
+    }
+
+    /// Notes the subject of a wanted query.
+    fn know(&mut self, moment: Moment, terms: Terms<F::Address>, asked: Asked<F::Address>)
+        ensures { self.new ≡ record self.old { known = spec.with_known moment (numbered_terms F.Address.number terms) (numbered_asked F.Address.number asked) self.old } }
+    {
+        if self.may_be_unknown(moment, asked) {
+            self.known
+                .put(Entry::Wanted(moment, asked, terms, true, false));
+        }
+    }
+
+    /// Notes a wanted query, which starts a schedule or goes on with one.
+    fn schedule(&mut self, moment: Moment, terms: Terms<F::Address>, asked: Asked<F::Address>)
+        ensures { self.new ≡ record self.old { schedules = schedules_wanted moment (numbered_terms F.Address.number terms) (numbered_asked F.Address.number asked) (recent moment self.old.schedules) } }
+    {
+        self.schedules.forget(moment);
+        self.schedules.want(moment, terms, asked);
+    }
+
+    /// Returns whether a wanted query may be left out.
+    fn may_be_left_out(
+        &self,
+        moment: Moment,
+        asked: Asked<F::Address>,
+        terms: &Terms<F::Address>,
+    ) -> bool
+        ensures { result ≡ may_be_left_out moment (numbered_asked F.Address.number asked) (numbered_terms F.Address.number terms.now) self.now.waiting.entries }
+    {
+        match (asked, terms.querier) {
+            (Asked::Source(group, _), Some(querier)) => {
+                querier.suppress && self.waiting.has_group_wanted(moment, group)
+            }
+            _ => false,
+        }
+    }
+
+    /// Adds a wanted query for each subject of a query.
+    fn want_all(&mut self, moment: Moment, terms: Terms<F::Address>, query: &Query<'_, F::Address>)
+        requires in_range { moment ≤ 2 ^ 53 }
+        ensures { self.new ≡ fold (spec.with_wanted moment (numbered_terms F.Address.number terms)) self.old (queries.asked_in (numbered_query F.Address.number query.now)) }
+    {
+        let sources = sources_of(&query.version);
+        if sources.is_empty() {
+            self.want(moment, terms, asked_without_sources::<F>(query.group));
+            return;
+        }
+        self.want_sources(moment, terms, query.group, sources);
+    }
+
+    /// Adds a wanted query for each of some sources of a group.
+    fn want_sources(
+        &mut self,
+        moment: Moment,
+        terms: Terms<F::Address>,
+        group: F::Address,
+        sources: Sources<'_, F::Address>,
+    )
+        requires in_range { moment ≤ 2 ^ 53 }
+        ensures { self.new ≡ fold (spec.with_wanted moment (numbered_terms F.Address.number terms)) self.old (list_map (Source (F.Address.number group)) sources.entry) }
+    {
+        for source in sources {
+            self.want(moment, terms, Asked::Source(group, source));
+        }
+    }
+}
+
+impl<F: CheckedFamily, A: Allocator> Checking<F, A>
+where
+    F::Address: LineKey,
+{
+    /// Handles a query that the link sends after a packet. A general query is wanted only if the router becomes querier
+    /// again.
+    pub(crate) fn query_wanted(
+        &mut self,
+        moment: Moment,
+        packet: u64,
+        is_returning: bool,
+        to: F::Address,
+        query: &Query<'_, F::Address>,
+    )
+        requires in_range { moment ≤ 2 ^ 53 }
+        ensures { self.new ≡ spec.one_wanted F.FAMILY moment packet is_returning (F.Address.number to) (numbered_query F.Address.number query.now) self.old }
+    {
+        if is_general::<F>(query) && !is_returning {
+            return;
+        }
+        self.want_all(moment, terms_of(packet, to, query), query);
+    }
+}
