@@ -138,7 +138,7 @@ abbrev pub without_before : (is_next : Bool) → Terms ℕ → Asked ℕ → Wai
 without_before true terms asked w = with_partner OfSeen asked 0 terms w
 without_before false terms asked w = w
 
--- the schedules after a query for a blocked source, of which only the first is asked again
+-- the schedules after a query for a blocked source; a second query at once is no longer accepted
 abbrev pub without_blocked : (is_again : Bool) → Terms ℕ → Asked ℕ → WaitingValue → WaitingValue
 without_blocked true terms asked w = with_partner OfWanted asked 0 terms w
 without_blocked false terms asked w = w
