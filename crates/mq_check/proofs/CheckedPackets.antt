@@ -20,52 +20,52 @@ use Rattle.mq_check.specs.Wanting.{WantingValue}
 use Rattle.mq_check.proofs.Tellings.{none_told, then_told, told_broken, broken_as}
 
 -- what waits behind the headers of a packet
-abbrev pub headers_checked : Configuration → LinkType → (within moment number : ℕ) → (frame : List ℕ) → Datagram → CheckingValue → CheckingValue
-headers_checked config link within moment number frame datagram c = faults_seen moment number (faults_in config link frame datagram) (settled within moment c)
+abbrev pub headers_checked : Configuration → LinkType → (moment number : ℕ) → (frame : List ℕ) → Datagram → CheckingValue → CheckingValue
+headers_checked config link moment number frame datagram c = faults_seen moment number (faults_in config link frame datagram) (settled moment c)
 
 -- a datagram that the link was handed
 pub datagram_received : (config : Configuration) (link : LinkType) (within moment number : ℕ) (frame : List ℕ) (datagram : Datagram) (before after : LinkValue) (queries left new : WantingValue)
-    → left.checking ≡ headers_checked config link within moment number frame datagram queries.checking → left.basis ≡ queries.basis → checked_in after new ≡ received config within moment datagram (checked_in before left) → None ≡ query_seen config datagram
+    → left.checking ≡ headers_checked config link moment number frame datagram queries.checking → left.basis ≡ queries.basis → checked_in after new ≡ received config within moment datagram (checked_in before left) → None ≡ query_seen config datagram
     → checked_in after new ≡ (with_datagram config link within moment number frame (Some datagram) (checked_in before queries)).checked
 datagram_received config link within moment number frame datagram before after queries left new settles kept is none =
     let to = destination_in config.family link frame datagram.envelope in
     is ∙ (λ i. received config within moment datagram (record { link = before.state; checking = settles i; basis = kept i }))
-    ∙ ap (λ (q : Option (Query ℕ)). seen_or_received config within moment to datagram q (with_faults moment number (faults_in config link frame datagram) (settled_at within moment (checked_in before queries)))) none
+    ∙ ap (λ (q : Option (Query ℕ)). seen_or_received config within moment to datagram q (with_faults moment number (faults_in config link frame datagram) (settled_at moment (checked_in before queries)))) none
 
 -- a query of the querier that is checked
 pub datagram_seen : (config : Configuration) (link : LinkType) (within moment number to : ℕ) (frame : List ℕ) (datagram : Datagram) (query : Query ℕ) (before : LinkValue) (queries left new : WantingValue)
-    → left.checking ≡ headers_checked config link within moment number frame datagram queries.checking → left.basis ≡ queries.basis → new.basis ≡ queries.basis → new.checking ≡ query_came within config before.state moment left.basis.packets to query left.checking
+    → left.checking ≡ headers_checked config link moment number frame datagram queries.checking → left.basis ≡ queries.basis → new.basis ≡ queries.basis → new.checking ≡ query_came within config before.state moment left.basis.packets to query left.checking
     → to ≡ destination_in config.family link frame datagram.envelope → Some query ≡ query_seen config datagram
     → checked_in before new ≡ (with_datagram config link within moment number frame (Some datagram) (checked_in before queries)).checked
 unfolding seen_at
 datagram_seen config link within moment number to frame datagram query before queries left new settles left_so kept is goes some =
     let there = destination_in config.family link frame datagram.envelope in
-    let r = with_faults moment number (faults_in config link frame datagram) (settled_at within moment (checked_in before queries)) in
+    let r = with_faults moment number (faults_in config link frame datagram) (settled_at moment (checked_in before queries)) in
     let here : checked_in before new ≡ seen_at config within moment there query r =
     λ i. record { link = before.state; checking = (is ∙ (λ j. query_came within config before.state moment (left_so j).packets (goes j) query (settles j))) i; basis = kept i } in
     here ∙ ap (λ (q : Option (Query ℕ)). seen_or_received config within moment there datagram q r) some
 
 -- the same in the terms of the code
 pub received_comes : (config config' : Configuration) (link : LinkType) (within moment m number : ℕ) (frame : List ℕ) (datagram : Datagram) (before after : LinkValue) (queries left new : WantingValue)
-    → None ≡ query_seen config' datagram → config' ≡ config → m ≡ moment → left.checking ≡ headers_checked config' link within m number frame datagram queries.checking → left.basis ≡ queries.basis → checked_in after new ≡ received config within moment datagram (checked_in before left)
+    → None ≡ query_seen config' datagram → config' ≡ config → m ≡ moment → left.checking ≡ headers_checked config' link m number frame datagram queries.checking → left.basis ≡ queries.basis → checked_in after new ≡ received config within moment datagram (checked_in before left)
     → checked_in after new ≡ (with_datagram config link within moment number frame (Some datagram) (checked_in before queries)).checked
 received_comes config config' link within moment m number frame datagram before after queries left new none is_config is_moment settles kept is =
-    datagram_received config link within moment number frame datagram before after queries left new (settles ∙ (λ i. headers_checked (is_config i) link within (is_moment i) number frame datagram queries.checking)) kept is (none ∙ ap (λ (k : Configuration). query_seen k datagram) is_config)
+    datagram_received config link within moment number frame datagram before after queries left new (settles ∙ (λ i. headers_checked (is_config i) link (is_moment i) number frame datagram queries.checking)) kept is (none ∙ ap (λ (k : Configuration). query_seen k datagram) is_config)
 
 pub seen_comes : (config config' config'' : Configuration) (link : LinkType) (within moment m number to : ℕ) (frame : List ℕ) (datagram : Datagram) (query : Query ℕ) (family : Family) (before : LinkValue) (queries left new : WantingValue)
-    → Some query ≡ query_seen config' datagram → config' ≡ config → m ≡ moment → left.checking ≡ headers_checked config' link within m number frame datagram queries.checking → left.basis ≡ queries.basis → new.basis ≡ queries.basis
+    → Some query ≡ query_seen config' datagram → config' ≡ config → m ≡ moment → left.checking ≡ headers_checked config' link m number frame datagram queries.checking → left.basis ≡ queries.basis → new.basis ≡ queries.basis
     → new.checking ≡ query_came within config'' before.state moment left.basis.packets to query left.checking → config'' ≡ config
     → to ≡ destination_in family link frame datagram.envelope → family ≡ config.family
     → checked_in before new ≡ (with_datagram config link within moment number frame (Some datagram) (checked_in before queries)).checked
 seen_comes config config' config'' link within moment m number to frame datagram query family before queries left new some is_config is_moment settles left_so kept is same_config goes is_family =
-    datagram_seen config link within moment number to frame datagram query before queries left new (settles ∙ (λ i. headers_checked (is_config i) link within (is_moment i) number frame datagram queries.checking)) left_so kept
+    datagram_seen config link within moment number to frame datagram query before queries left new (settles ∙ (λ i. headers_checked (is_config i) link (is_moment i) number frame datagram queries.checking)) left_so kept
     (is ∙ (λ i. query_came within (same_config i) before.state moment left.basis.packets to query left.checking)) (goes ∙ ap (λ (f : Family). destination_in f link frame datagram.envelope) is_family)
     (some ∙ ap (λ (k : Configuration). query_seen k datagram) is_config)
 
 -- the headers were looked at behind what was over, by a configuration that the code names otherwise
-pub headers_left : (config config' : Configuration) (link : LinkType) (within m number : ℕ) (frame : List ℕ) (datagram : Datagram) (old mid new : CheckingValue)
-    → config ≡ config' → mid ≡ settled within m old → new ≡ faults_seen m number (faults_in config link frame datagram) mid → new ≡ headers_checked config' link within m number frame datagram old
-headers_left config config' link within m number frame datagram old mid new is_config settles looks =
+pub headers_left : (config config' : Configuration) (link : LinkType) (m number : ℕ) (frame : List ℕ) (datagram : Datagram) (old mid new : CheckingValue)
+    → config ≡ config' → mid ≡ settled m old → new ≡ faults_seen m number (faults_in config link frame datagram) mid → new ≡ headers_checked config' link m number frame datagram old
+headers_left config config' link m number frame datagram old mid new is_config settles looks =
     looks ∙ (λ i. faults_seen m number (faults_in (is_config i) link frame datagram) (settles i))
 
 -- one thing came, and then another, or a write failed by then

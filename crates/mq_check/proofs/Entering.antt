@@ -1,5 +1,5 @@
 -- What a query that is wanted, or one that was seen, makes of a check.
-use Rattle.std.proofs.Common.{◌≡◌, ℕ, Bool, true, refl, ap, ◌∙◌}
+use Rattle.std.proofs.Common.{◌≡◌, ℕ, Bool, true, List, [], ◌∷◌, ◌++◌, refl, ap, ◌∙◌}
 use Rattle.std.specs.Prelude.{Option, None, Some, is_some}
 use Rattle.mq_table.specs.declared.timing.Timing.{Timing}
 use Rattle.mq_check.specs.declared.asked.Asked.{Asked}
@@ -11,7 +11,7 @@ use Rattle.mq_check.specs.declared.phase.Phase.{Phase}
 use Rattle.mq_check.specs.declared.phase.Phase.TheVariants.{NotQuerier}
 use Rattle.mq_check.specs.declared.terms.Terms.{Terms}
 use Rattle.mq_check.specs.declared.waiting.Side.TheVariants.{OfWanted, OfSeen}
-use Rattle.mq_check.specs.Checking.{CheckingValue, with_wanted, with_seen, with_interval, with_silence, with_general, role_lost, role_returned, with_known, alone_after, counted_up, is_late_in, near, paired, paired_if, partner_if, partner_of}
+use Rattle.mq_check.specs.Checking.{CheckingValue, with_wanted, with_seen, with_interval, with_silence, with_general, role_lost, role_returned, with_known, alone_after, all_blocked, one_blocked, counted_up, is_late_in, near, paired, paired_if, partner_if, partner_of}
 use Rattle.mq_check.specs.Entries.{first_terms, may_be_left_out}
 use Rattle.mq_check.specs.General.{wrong_interval, phase_behind, phase_again, silence_up_to}
 use Rattle.mq_check.specs.Numbered.{numbered_terms_if}
@@ -99,3 +99,8 @@ pub specific_counted : (viewed now seen : CheckingValue) (count : ℕ) → viewe
 specific_counted viewed now seen count same is counts =
     let all = same ∙ is in
     λ i. record (all i) { specific = (counts ∙ ap (λ (v : CheckingValue). counted_up v.specific) all) i }
+
+-- sources that are blocked after others
+pub blocked_both : (moment : ℕ) (xs ys : List (Asked ℕ)) (c : CheckingValue) → all_blocked moment (xs ++ ys) c ≡ all_blocked moment ys (all_blocked moment xs c)
+blocked_both moment [] ys c = refl
+blocked_both moment (x ∷ xs) ys c = blocked_both moment xs ys (one_blocked moment c x)

@@ -1,12 +1,13 @@
 -- What a query that was seen, or that is wanted, makes of the schedules.
-use Rattle.std.proofs.Common.{◌≡◌, ℕ, Bool, true, false, ap, ◌∙◌}
+use Rattle.std.proofs.Common.{◌≡◌, ℕ, ◌<◌, Bool, true, false, if◌then◌else◌, ap, sym, ◌∙◌, arith}
+use Rattle.std.proofs.lemmas.Bool.{lt-ltb, le-ltb}
 use Rattle.std.specs.Prelude.{Option, Some, ◌&&◌, ◌||◌, not}
 use Rattle.mq_check.specs.declared.asked.Asked.{Asked}
 use Rattle.mq_check.specs.declared.entry.Entry.{Entry}
 use Rattle.mq_check.specs.declared.entry.Entry.TheVariants.{Wanted}
 use Rattle.mq_check.specs.declared.terms.Terms.{Terms}
 use Rattle.mq_check.specs.declared.waiting.Side.TheVariants.{OfWanted}
-use Rattle.mq_check.specs.Schedules.{SchedulesValue, before_in, last_in, is_asked_again, is_next, left_after, due_after, marked_blocked, without_before, without_blocked, with_scheduled, schedules_seen, schedules_wanted}
+use Rattle.mq_check.specs.Schedules.{SchedulesValue, before_in, last_in, is_asked_again, is_next, left_after, due_after, marked_blocked, without_before, without_blocked, with_scheduled, schedules_seen, schedules_wanted, schedules_blocked, terms_of}
 use Rattle.mq_check.specs.Waiting.{WaitingValue, with_entry, with_partner}
 
 pub seen_scheduled : (moment : ℕ) (terms : Terms ℕ) (asked : Asked ℕ) (has_partner : Bool) (viewed old taken passed new : SchedulesValue) (before last : Option (Entry ℕ)) (follows is_blocked is_again is_scheduled : Bool) (left due : ℕ)
@@ -38,7 +39,7 @@ wanted_scheduled moment terms asked viewed old partnered put due same is_due joi
     λ i. record viewed { sent = (is ∙ (λ j. with_entry (Wanted (is_due j) asked terms true false) (joined j))) i } in
     here ∙ ap (schedules_wanted moment terms asked) same
 
--- a source that was blocked, and the end where none of it waits
+-- a pending source that was blocked
 pub marked : (moment : ℕ) (terms : Terms ℕ) (asked : Asked ℕ) (viewed old : SchedulesValue) (partnered put : WaitingValue) (due : ℕ)
     → viewed ≡ old → due ≡ due_after viewed.repeats moment → partnered ≡ with_partner OfWanted asked 0 terms viewed.sent → put ≡ with_entry (Wanted due asked terms false false) partnered
     → record viewed { sent = put } ≡ marked_blocked moment asked (Some terms) old
@@ -46,3 +47,22 @@ marked moment terms asked viewed old partnered put due same is_due joined is =
     let here : record viewed { sent = put } ≡ marked_blocked moment asked (Some terms) viewed =
     λ i. record viewed { sent = (is ∙ (λ j. with_entry (Wanted (is_due j) asked terms false false) (joined j))) i } in
     here ∙ ap (marked_blocked moment asked (Some terms)) same
+
+-- a source that is blocked, where no query is sent again, and where one may be
+abbrev blocked_if : SchedulesValue → SchedulesValue → Bool → SchedulesValue
+blocked_if marked s b = if b then marked else s
+
+pub none_blocked : (moment : ℕ) (asked : Asked ℕ) (viewed old : SchedulesValue) → viewed ≡ old → viewed.repeats.more ≡ 0 → viewed ≡ schedules_blocked moment asked old
+unfolding schedules_blocked
+none_blocked moment asked viewed old same none =
+    let test = le-ltb 0 viewed.repeats.more (omega (arith, none)) in
+    let here : viewed ≡ schedules_blocked moment asked viewed = sym (ap (blocked_if (marked_blocked moment asked (terms_of (last_in asked viewed)) viewed) viewed) test) in
+    here ∙ ap (schedules_blocked moment asked) same
+
+pub some_blocked : (moment : ℕ) (asked : Asked ℕ) (last : Option (Terms ℕ)) (old new : SchedulesValue) → 0 < old.repeats.more → last ≡ terms_of (last_in asked old) → new ≡ marked_blocked moment asked last old
+    → new ≡ schedules_blocked moment asked old
+unfolding schedules_blocked
+some_blocked moment asked last old new more is_last is =
+    let test = lt-ltb 0 old.repeats.more more in
+    is ∙ ap (λ (l : Option (Terms ℕ)). marked_blocked moment asked l old) is_last
+    ∙ sym (ap (blocked_if (marked_blocked moment asked (terms_of (last_in asked old)) old) old) test)

@@ -16,7 +16,8 @@ use Rattle.mq_replay.specs.Report.{Datagram, all_sent}
 use Rattle.mq_check.specs.declared.finding.Finding.{Finding}
 use Rattle.mq_check.specs.Check.{Checked, Outcome, quiet, behind, settled_at, settled_through, wanted_by, ticked, ticked_through, ticked_within, received}
 use Rattle.mq_check.specs.Basis as basis
-use Rattle.mq_check.specs.Checking.{settled, told, with_messages, role_after_tick, role_changed}
+use Rattle.mq_check.specs.Blocked.{blocked_in}
+use Rattle.mq_check.specs.Checking.{all_blocked, settled, told, with_messages, role_after_tick, role_changed}
 use Rattle.mq_check.specs.Coming.{Comes, checked_in}
 use Rattle.mq_check.specs.Telling.{ToldState, Tells}
 use Rattle.mq_check.specs.Wanting.{WantingValue, TakesMessage}
@@ -62,18 +63,19 @@ ticked_is family within now before after old begun new last messages answers is_
       basis = (rests ∙ (λ j. basis.role_after_tick now (is_querier before.state.election.role) (is_querier (left j).election.role) (kept j))) i;
     }
 
-pub received_is : (family : Family) (within now : ℕ) (datagram : Datagram) (before after : LinkValue) (old begun new last : WantingValue) (messages : List Outgoing) (answers : List Bool)
-    → family ≡ before.config.family → old.own ≡ before.config.own → begun ≡ begun_at now before old
+pub received_is : (family : Family) (within now : ℕ) (datagram : Datagram) (before after : LinkValue) (old noted begun new last : WantingValue) (messages : List Outgoing) (answers : List Bool)
+    → family ≡ before.config.family → old.own ≡ before.config.own → noted ≡ record old { checking = all_blocked now (blocked_in before.config.family datagram) old.checking } → begun ≡ begun_at now before noted
     → HandsOut before.config (receipt_of before.config datagram.envelope datagram.body now before.state).step messages answers after.state → HandsOver (TakesMessage family) begun messages answers new
     → last.checking ≡ role_changed within before.config.timing now (is_querier before.state.election.role) (is_querier after.state.election.role) new.checking
     → last.basis ≡ basis.with_other_querier before.config.family after.state.election.role (basis.role_changed now (is_querier before.state.election.role) (is_querier after.state.election.role) new.basis)
     → checked_in after last ≡ received before.config within now datagram (checked_in before old)
 unfolding received
-received_is family within now datagram before after old begun new last messages answers is_family is_own begins out handed role rests =
+received_is family within now datagram before after old noted begun new last messages answers is_family is_own notes begins out handed role rests =
     let step = (receipt_of before.config datagram.envelope datagram.body now before.state).step in
     let left = step_left family now before after step begun new messages answers out handed in
-    let wanted = step_wanted family now before after step old begun new messages answers is_family is_own begins out handed in
-    let kept : new.basis ≡ old.basis = basis_kept family begun new messages answers handed ∙ ap (λ (w : WantingValue). w.basis) begins in
+    let owns = ap (λ (w : WantingValue). w.own) notes ∙ is_own in
+    let wanted = step_wanted family now before after step noted begun new messages answers is_family owns begins out handed ∙ ap (λ (w : WantingValue). wanted_by before.config now step (checked_in before w)) notes in
+    let kept : new.basis ≡ old.basis = basis_kept family begun new messages answers handed ∙ ap (λ (w : WantingValue). w.basis) begins ∙ ap (λ (w : WantingValue). w.basis) notes in
     λ i. record {
       link = left i;
       checking = (role ∙ (λ j. role_changed within before.config.timing now (is_querier before.state.election.role) (is_querier (left j).election.role) (wanted j))) i;
@@ -90,16 +92,16 @@ unfolding ticked_within
 none_within zero config within limit r reached = refl
 none_within (suc most) config within limit r reached =
     ap (λ b. elim b [
-      | true ↦ behind (told within (next_of r.link) r.checking) (ticked_within most config within limit (ticked config within (next_of r.link) (settled_at within (next_of r.link) r)))
+      | true ↦ behind (told within (next_of r.link) r.checking) (ticked_within most config within limit (ticked config within (next_of r.link) (settled_at (next_of r.link) r)))
       | false ↦ quiet r
     ]) (le-ltb (next_of r.link) limit reached)
 
 pub one_within : (most : ℕ) (config : Configuration) (within limit : ℕ) (r : Checked) → next_of r.link < limit
-    → ticked_within (suc most) config within limit r ≡ behind (told within (next_of r.link) r.checking) (ticked_within most config within limit (ticked config within (next_of r.link) (settled_at within (next_of r.link) r)))
+    → ticked_within (suc most) config within limit r ≡ behind (told within (next_of r.link) r.checking) (ticked_within most config within limit (ticked config within (next_of r.link) (settled_at (next_of r.link) r)))
 unfolding ticked_within
 one_within most config within limit r due =
     ap (λ b. elim b [
-      | true ↦ behind (told within (next_of r.link) r.checking) (ticked_within most config within limit (ticked config within (next_of r.link) (settled_at within (next_of r.link) r)))
+      | true ↦ behind (told within (next_of r.link) r.checking) (ticked_within most config within limit (ticked config within (next_of r.link) (settled_at (next_of r.link) r)))
       | false ↦ quiet r
     ]) (lt-ltb (next_of r.link) limit due)
 
@@ -117,7 +119,7 @@ pub all_ticked : (config : Configuration) (within limit : ℕ) (all : Outcome) (
 all_ticked config within limit all done to reached ticked =
     ticked.same ∙ ap (behind done) (none_within ticked.left config within limit to reached) ∙ (λ i. record { checked = to; found = append-nil done i })
 
-pub once_more : (config : Configuration) (within limit : ℕ) (all : Outcome) (done : List (Finding ℕ)) (to next : Checked) → next_of to.link < limit → next ≡ ticked config within (next_of to.link) (settled_at within (next_of to.link) to)
+pub once_more : (config : Configuration) (within limit : ℕ) (all : Outcome) (done : List (Finding ℕ)) (to next : Checked) → next_of to.link < limit → next ≡ ticked config within (next_of to.link) (settled_at (next_of to.link) to)
     → next_of to.link < next_of next.link → IsTickedTo config within limit all done to → IsTickedTo config within limit all (done ++ told within (next_of to.link) to.checking) next
 once_more config within limit all done to next due is later ticked_to = by_left ticked_to.left ticked_to.enough ticked_to.same
   where
@@ -144,15 +146,15 @@ found_first config within limit all done to due ticked_to = by_left ticked_to.le
     by_left : (left : ℕ) → limit ≤ left + next_of to.link → all ≡ behind done (ticked_within left config within limit to) → (rest : List (Finding ℕ)) × (all.found ≡ (done ++ found) ++ rest)
     by_left zero enough same = absurd (omega arith)
     by_left (suc n) enough same =
-        let rest = (ticked_within n config within limit (ticked config within (next_of to.link) (settled_at within (next_of to.link) to))).found in
+        let rest = (ticked_within n config within limit (ticked config within (next_of to.link) (settled_at (next_of to.link) to))).found in
         (rest, ap (λ (o : Outcome). o.found) (same ∙ ap (behind done) (one_within n config within limit to due)) ∙ sym (append_assoc done found rest))
 
 -- one tick, in the terms of the code: what is over at its moment is told first
 pub tick_next : (config : Configuration) (within moment : ℕ) (mid after : LinkValue) (queries left new : WantingValue) → mid.config ≡ config → moment ≡ next_of mid.state
-    → left.checking ≡ settled within moment queries.checking → left.basis ≡ queries.basis → checked_in after new ≡ ticked mid.config within moment (checked_in mid left)
-    → checked_in after new ≡ ticked config within (next_of mid.state) (settled_at within (next_of mid.state) (checked_in mid queries))
+    → left.checking ≡ settled moment queries.checking → left.basis ≡ queries.basis → checked_in after new ≡ ticked mid.config within moment (checked_in mid left)
+    → checked_in after new ≡ ticked config within (next_of mid.state) (settled_at (next_of mid.state) (checked_in mid queries))
 tick_next config within moment mid after queries left new is_config is_next is kept ticks =
-    let settles = is ∙ ap (λ (m : ℕ). settled within m queries.checking) is_next in
+    let settles = is ∙ ap (λ (m : ℕ). settled m queries.checking) is_next in
     ticks ∙ (λ i. ticked (is_config i) within (is_next i) (record { link = mid.state; checking = settles i; basis = kept i }))
 
 -- all ticks were made
@@ -174,15 +176,15 @@ comes_as {T} {E} family o p before after new old_told new_told a b r same comes 
 
 -- the ticks up to a moment, and what is over then; or a write failed before
 settled_there : {T E : Type 0} (config : Configuration) (within within' moment : ℕ) (r : Checked) (after : LinkValue) (queries new : WantingValue) (outcome : Result T E) → within' ≡ within
-    → checked_in after queries ≡ (ticked_through config within moment r).checked → IfOk outcome (λ _. new.checking ≡ settled within' moment queries.checking) → new.basis ≡ queries.basis
+    → checked_in after queries ≡ (ticked_through config within moment r).checked → IfOk outcome (λ _. new.checking ≡ settled moment queries.checking) → new.basis ≡ queries.basis
     → IfOk outcome (λ _. checked_in after new ≡ (settled_through config within moment r).checked)
 settled_there config within within' moment r after queries new (Ok x) same is settles kept =
-    (λ i. record { link = after.state; checking = (settles ∙ (λ j. settled (same j) moment queries.checking)) i; basis = kept i }) ∙ ap (settled_at within moment) is
+    (λ i. record { link = after.state; checking = settles i; basis = kept i }) ∙ ap (settled_at moment) is
 settled_there config within within' moment r after queries new (Err e) same is settles kept = tt
 
 pub settles_at : {T E E' : Type 0} (family : Family) (within within' m end : ℕ) (before after : LinkValue) (old queries new : WantingValue) (first mid last : ToldState) (x y z : OutputState) (outcome : Result T E) → within' ≡ within → m ≡ end
     → Comes {T = Unit} {E = E'} family (ticked_through before.config within m (checked_in before old)) before after queries first mid x y (Ok tt)
-    → IfOk outcome (λ _. new.checking ≡ settled within' m queries.checking) → new.basis ≡ queries.basis → Tells family (told within' m queries.checking) mid last y z outcome
+    → IfOk outcome (λ _. new.checking ≡ settled m queries.checking) → new.basis ≡ queries.basis → Tells family (told within' m queries.checking) mid last y z outcome
     → Comes family (settled_through before.config within end (checked_in before old)) before after new first last x z outcome
 settles_at {T} {E} family within within' m end before after old queries new first mid last x y z outcome same is_end comes settles kept tells =
     let found : told within' m queries.checking ≡ told within m (ticked_through before.config within m (checked_in before old)).checked.checking = λ i. told (same i) m (comes.checked i).checking in

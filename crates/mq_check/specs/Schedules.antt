@@ -13,7 +13,7 @@ use Rattle.mq_check.specs.declared.schedules.Repeats.{Repeats}
 use Rattle.mq_check.specs.declared.terms.Terms.{Terms}
 use Rattle.mq_check.specs.declared.terms.QuerierTerms.{QuerierTerms}
 use Rattle.mq_check.specs.declared.waiting.Side.TheVariants.{OfWanted, OfSeen}
-use Rattle.mq_check.specs.Entries.{moment_of, left_in, terms_in, first_terms, first_entry, is_suppressed}
+use Rattle.mq_check.specs.Entries.{moment_of, left_in, terms_in, first_entry, is_suppressed}
 use Rattle.mq_check.specs.Waiting.{WaitingValue, nothing, is_free, with_entry, with_partner, settled}
 
 -- The retransmission of queries, and the queries of schedules. `sent` has the seen queries after which one more may come,
@@ -166,6 +166,11 @@ schedules_wanted moment terms asked s =
           (with_partner OfWanted asked 0 terms s.sent);
     }
 
+-- the terms of a query, if there is one
+abbrev pub terms_of : Option (Entry ℕ) → Option (Terms ℕ)
+terms_of None = None
+terms_of (Some query) = terms_in query
+
 -- The schedules after a host blocked a source. If a query for it was wanted in the last interval, the source is pending.
 abbrev pub marked_blocked : (moment : ℕ) → Asked ℕ → (last : Option (Terms ℕ)) → SchedulesValue → SchedulesValue
 marked_blocked moment asked None s = s
@@ -179,5 +184,5 @@ marked_blocked moment asked (Some terms) s =
 unfoldable pub schedules_blocked : (moment : ℕ) → Asked ℕ → SchedulesValue → SchedulesValue
 schedules_blocked moment asked s =
     if nat_lt 0 s.repeats.more
-    then marked_blocked moment asked (first_terms (is_free OfWanted asked 0) s.sent.entries) s
+    then marked_blocked moment asked (terms_of (last_in asked s)) s
     else s

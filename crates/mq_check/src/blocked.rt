@@ -43,7 +43,7 @@ impl<F: Family, A: Allocator> Checking<F, A> {
 
     /// Handles the sources that records block.
     fn block_records(&mut self, moment: Moment, records: Records<'_, F::Address>)
-        ensures { self.new ≡ spec.all_blocked moment (flat_map blocked_by records) self.old }
+        ensures { self.new ≡ spec.all_blocked moment (flat_map blocked_by records.entry) self.old }
     {
         for view in records {
             self.block_record(moment, view);
@@ -52,7 +52,7 @@ impl<F: Family, A: Allocator> Checking<F, A> {
 
     /// Handles the sources that a record blocks.
     fn block_record(&mut self, moment: Moment, view: RecordView<'_, F::Address>)
-        ensures { self.new ≡ spec.all_blocked moment (blocked_by (numbered_record F.Address.number view)) self.old }
+        ensures { self.new ≡ spec.all_blocked moment (blocked_by (numbered_record F.Address.number view.entry)) self.old }
     {
         if is_blocking(view.kind) {
             self.block_sources(moment, view.group, view.sources);

@@ -97,8 +97,13 @@ where
     let Ok(link) = Link::new_in(memory, config, first_moment()) else {
         return Err(CheckFault::Memory);
     };
-    let checking = Checking::<F, A>::new(memory, terms.within, timing, last_member, terms.strict);
-    let Ok(checking) = checking else {
+    let Ok(checking) = Checking::<F, A>::new(
+        memory,
+        terms.within,
+        timing,
+        last_member,
+        terms.strict,
+    ) else {
         return Err(CheckFault::Memory);
     };
     let mut check = Check::new(link, checking, terms);

@@ -257,6 +257,16 @@ fn is_only_again(follows: bool, has_partner: bool, is_blocked: bool) -> bool
     !(follows || has_partner) && is_blocked
 }
 
+/// Returns the terms of a query, if there is one.
+fn terms_of<K: WireKey>(query: &Option<Entry<K>>) -> Option<Terms<K>>
+    ensures { numbered_terms_if K.number result ≡ spec.terms_of (numbered_entry_if K.number query.now) }
+{
+    match query {
+        Some(query) => query.terms(),
+        None => None,
+    }
+}
+
 /// Returns the first of two terms.
 fn first_of<K: WireKey>(a: Option<Terms<K>>, b: Option<Terms<K>>) -> Option<Terms<K>>
     ensures { numbered_terms_if K.number result ≡ spec.first_of (numbered_terms_if K.number a) (numbered_terms_if K.number b) }
@@ -423,17 +433,27 @@ impl<F: Family, A: Allocator> Schedules<F, A> {
         if self.repeats.more == 0 {
             return;
         }
-        let Some(last) = self.sent.first(Side::OfWanted, asked) else {
-            return;
-        };
-        let Some(terms) = last.terms() else {
-            return;
-        };
-        self.mark_blocked(moment, asked, terms);
+        let last = self.sent.first(Side::OfWanted, asked);
+        self.mark_blocked(moment, asked, terms_of(&last));
     }
 
-    /// Marks that a pending source was blocked at a moment.
-    fn mark_blocked(&mut self, moment: Moment, asked: Asked<F::Address>, terms: Terms<F::Address>)
+    /// Marks that a source was blocked at a moment, if it is pending. `last` has the terms of its last wanted query.
+    fn mark_blocked(
+        &mut self,
+        moment: Moment,
+        asked: Asked<F::Address>,
+        last: Option<Terms<F::Address>>,
+    )
+        ensures { self.new ≡ spec.marked_blocked moment (numbered_asked F.Address.number asked) (numbered_terms_if F.Address.number last) self.old }
+    {
+        match last {
+            Some(terms) => self.put_blocked(moment, asked, terms),
+            None => {}
+        }
+    }
+
+    /// Marks that a pending source was blocked at a moment. `terms` are those of its last wanted query.
+    fn put_blocked(&mut self, moment: Moment, asked: Asked<F::Address>, terms: Terms<F::Address>)
         ensures { self.new ≡ spec.marked_blocked moment (numbered_asked F.Address.number asked) (Some (numbered_terms F.Address.number terms)) self.old }
     {
         let due = due_after(&self.repeats, moment);

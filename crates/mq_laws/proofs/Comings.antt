@@ -4,7 +4,7 @@ use Rattle.std.proofs.Common.{◌≡◌, ℕ, suc, ◌+◌, ◌<◌, ◌≤◌, 
 use Rattle.std.specs.Prelude.{Option, None, Some, ◌⊎◌, flat_map, nat_lt, take_while, map as list_map}
 use mathlib.Core.Logic.{inl, inr}
 use Rattle.std.specs.List.{AllByRecursion, prefix_len}
-use Rattle.std.proofs.lemmas.Bool.{le-ltb, ltb-true, ltb-false, or_right}
+use Rattle.std.proofs.lemmas.Bool.{lt-ltb, ltb-true, ltb-false, or_right}
 use Rattle.mq_check.specs.declared.asked.Asked.{Asked}
 use Rattle.mq_check.specs.declared.entry.Entry.{Entry}
 use Rattle.mq_check.specs.declared.entry.Entry.TheVariants.{Wanted, Seen, Interval, Silence, Packet}
@@ -17,8 +17,8 @@ use Rattle.mq_check.specs.Queries.{is_same}
 use Rattle.mq_laws.specs.Pairing.{Ask, Expected, Sent, LeftOut, PairUp, ask_of, seen_about, wanted_about, missing_of}
 use Rattle.mq_laws.specs.WantedAndSeen.{still_due}
 use Rattle.mq_laws.proofs.Same.{is_same-self}
-use Rattle.mq_laws.proofs.Held.{ask, Holds, free_seen, IsAscending, NoneOver, kept_ask, wanted_here, wanted_other, seen_here, seen_other, wanted_about-append, seen_about-append, ascending-from, none_over-ascending}
-use Rattle.mq_laws.proofs.Steps.{Stands, by_asked, moments_seen, moments_wanted, returns_of, to_pairs}
+use Rattle.mq_laws.proofs.Held.{ask, Holds, free_seen, IsAscending, wanted_here, wanted_other, seen_here, seen_other, wanted_about-append, seen_about-append, ascending-from, none_over-ascending, moments_wanted}
+use Rattle.mq_laws.proofs.Steps.{Stands, by_asked, moments_seen, returns_of, to_pairs}
 
 -- all that is still to come comes at a moment or later
 abbrev pub WantedFrom : (moment : ℕ) → List Expected → Type 0
@@ -44,133 +44,105 @@ seen_from-about moment asked (s ∷ ss) is = one (seen_from-about moment asked s
     one rest false differs = rw (seen_other asked s ss differs) rest
 
 -- one that was sent would have been answered by then
-sent_in_time : (within moment : ℕ) (w : Ask) (ws : List Expected) (ss : List Ask) → PairUp within (Sent w ∷ ws) ss → SeenFrom moment ss → w.moment + within < moment → ⊥
-sent_in_time within moment w ws [] pairs from over = pairs
-sent_in_time within moment w ws (s ∷ ss) pairs from over = let late = pairs.0.not_late in omega (arith, from.0)
+sent_in_time : (within keep moment : ℕ) (w : Ask) (ws : List Expected) (ss : List Ask) → within ≤ keep → PairUp within keep (Sent w ∷ ws) ss → SeenFrom moment ss → w.moment + keep < moment → ⊥
+sent_in_time within keep moment w ws [] long pairs from over = pairs
+sent_in_time within keep moment w ws (s ∷ ss) long pairs from over = let late = pairs.0.not_late in omega (arith, from.0)
 
 -- one that was seen would have been wanted by then
-seen_in_time : (within moment : ℕ) (s : Ask) (ws : List Expected) (ss : List Ask) → PairUp within ws (s ∷ ss) → WantedFrom moment ws → s.moment + within < moment → ⊥
-seen_in_time within moment s [] ss pairs from over = pairs
-seen_in_time within moment s (Sent w ∷ ws) ss pairs from over = let early = pairs.0.not_early in omega (arith, from.0)
-seen_in_time within moment s (LeftOut w ∷ ws) ss pairs from over = omega (arith, from.0, pairs.0.0)
+seen_in_time : (within keep moment : ℕ) (s : Ask) (ws : List Expected) (ss : List Ask) → within ≤ keep → PairUp within keep ws (s ∷ ss) → WantedFrom moment ws → s.moment + keep < moment → ⊥
+seen_in_time within keep moment s [] ss long pairs from over = pairs
+seen_in_time within keep moment s (Sent w ∷ ws) ss long pairs from over = let early = pairs.0.not_early in omega (arith, from.0)
+seen_in_time within keep moment s (LeftOut w ∷ ws) ss long pairs from over = omega (arith, from.0, pairs.0.0)
 
 -- What waits when a moment comes, before what is over is told.
-pub record Waits (within : ℕ) (low moment : ℕ) (entries : List (Entry ℕ)) (free wanted : List Expected) (seen : List Ask) : Type 0 where
+pub record Waits (within keep : ℕ) (low moment : ℕ) (entries : List (Entry ℕ)) (free wanted : List Expected) (seen : List Ask) : Type 0 where
   pub holds : Holds entries free
   pub ascending : IsAscending low entries moment
   pub one_side : (asked : Asked ℕ) → (wanted_about asked free ≡ []) ⊎ (seen_about asked (free_seen entries) ≡ [])
-  pub pairs : (asked : Asked ℕ) → PairUp within (wanted_about asked (free ++ wanted)) (seen_about asked (free_seen entries ++ seen))
+  pub pairs : (asked : Asked ℕ) → PairUp within keep (wanted_about asked (free ++ wanted)) (seen_about asked (free_seen entries ++ seen))
 
 -- What is found of what is over at a moment, and what still waits.
-abbrev pub told_of : (within moment : ℕ) (changed : Option ℕ) → List (Entry ℕ) → List (Finding ℕ)
-told_of within moment changed entries = flat_map (findings_of within changed) (take_while (is_over within moment) entries)
+abbrev pub told_of : (keep within moment : ℕ) (changed : Option ℕ) → List (Entry ℕ) → List (Finding ℕ)
+told_of keep within moment changed entries = flat_map (findings_of within changed) (take_while (is_over keep moment) entries)
 
-abbrev pub left_of : (within moment : ℕ) → List (Entry ℕ) → List (Entry ℕ)
-left_of within moment entries = drop (prefix_len (is_over within moment) entries) entries
+abbrev pub left_of : (keep moment : ℕ) → List (Entry ℕ) → List (Entry ℕ)
+left_of keep moment entries = drop (prefix_len (is_over keep moment) entries) entries
 
-pub over_told : (within moment : ℕ) (changed : Option ℕ) (e : Entry ℕ) (es : List (Entry ℕ)) → is_over within moment e ≡ true
-    → told_of within moment changed (e ∷ es) ≡ findings_of within changed e ++ told_of within moment changed es
-over_told within moment changed e es is = let more : 1 + prefix_len (is_over within moment) es ≡ suc (prefix_len (is_over within moment) es) = omega arith in rw (is, more) refl
+pub over_told : (keep within moment : ℕ) (changed : Option ℕ) (e : Entry ℕ) (es : List (Entry ℕ)) → is_over keep moment e ≡ true
+    → told_of keep within moment changed (e ∷ es) ≡ findings_of within changed e ++ told_of keep within moment changed es
+over_told keep within moment changed e es is = let more : 1 + prefix_len (is_over keep moment) es ≡ suc (prefix_len (is_over keep moment) es) = omega arith in rw (is, more) refl
 
-pub over_left : (within moment : ℕ) (e : Entry ℕ) (es : List (Entry ℕ)) → is_over within moment e ≡ true → left_of within moment (e ∷ es) ≡ left_of within moment es
-over_left within moment e es is = let more : 1 + prefix_len (is_over within moment) es ≡ suc (prefix_len (is_over within moment) es) = omega arith in rw (is, more) refl
+pub over_left : (keep moment : ℕ) (e : Entry ℕ) (es : List (Entry ℕ)) → is_over keep moment e ≡ true → left_of keep moment (e ∷ es) ≡ left_of keep moment es
+over_left keep moment e es is = let more : 1 + prefix_len (is_over keep moment) es ≡ suc (prefix_len (is_over keep moment) es) = omega arith in rw (is, more) refl
 
-pub ahead_told : (within moment : ℕ) (changed : Option ℕ) (e : Entry ℕ) (es : List (Entry ℕ)) → is_over within moment e ≡ false → told_of within moment changed (e ∷ es) ≡ []
-ahead_told within moment changed e es is = rw is refl
+pub ahead_told : (keep within moment : ℕ) (changed : Option ℕ) (e : Entry ℕ) (es : List (Entry ℕ)) → is_over keep moment e ≡ false → told_of keep within moment changed (e ∷ es) ≡ []
+ahead_told keep within moment changed e es is = rw is refl
 
-pub ahead_left : (within moment : ℕ) (e : Entry ℕ) (es : List (Entry ℕ)) → is_over within moment e ≡ false → left_of within moment (e ∷ es) ≡ e ∷ es
-ahead_left within moment e es is = rw is refl
+pub ahead_left : (keep moment : ℕ) (e : Entry ℕ) (es : List (Entry ℕ)) → is_over keep moment e ≡ false → left_of keep moment (e ∷ es) ≡ e ∷ es
+ahead_left keep moment e es is = rw is refl
 
 -- What waits behind a moment that came; no less is missing than was told, and what is still missing.
-pub record Come (within moment : ℕ) (changed : Option ℕ) (entries : List (Entry ℕ)) (free wanted : List Expected) (seen : List Ask) : Type 0 where
+pub record Come (within keep moment : ℕ) (changed : Option ℕ) (entries : List (Entry ℕ)) (free wanted : List Expected) (seen : List Ask) : Type 0 where
   pub left : List Expected
-  pub stands : Stands within moment (left_of within moment entries) left wanted seen
-  pub missing : missing_of (free ++ wanted) ≡ told_of within moment changed entries ++ missing_of (left ++ wanted)
-  pub returns : (b : Asked ℕ) → returns_of b left (left_of within moment entries) ≡ record { due = still_due within moment (moments_wanted (wanted_about b free)); early = moments_seen (seen_about b (free_seen entries)) }
-
--- those that aren't over are still due
-abbrev AllStill : (within moment : ℕ) → List Expected → Type 0
-AllStill within moment xs = AllByRecursion (λ (x : Expected). moment ≤ (ask_of x).moment + within) xs
-
-ahead-holds : (within moment : ℕ) (es : List (Entry ℕ)) (xs : List Expected) → Holds es xs → NoneOver within moment es → AllStill within moment xs
-ahead-holds within moment [] [] holds ahead = tt
-ahead-holds within moment [] (x ∷ xs) holds ahead = absurd holds
-ahead-holds within moment (Wanted m a t o true ∷ es) xs holds ahead = ahead-holds within moment es xs holds ahead.1
-ahead-holds within moment (Wanted m a t o false ∷ es) [] holds ahead = absurd holds
-ahead-holds within moment (Wanted m a t o false ∷ es) (x ∷ xs) holds ahead = (rw (kept_ask m a t o x holds.0) ahead.0, ahead-holds within moment es xs holds.1 ahead.1)
-ahead-holds within moment (Seen m a t None q ∷ es) xs holds ahead = ahead-holds within moment es xs holds ahead.1
-ahead-holds within moment (Seen m a t (Some w) q ∷ es) xs holds ahead = ahead-holds within moment es xs holds.1 ahead.1
-ahead-holds within moment (Interval m n a w ∷ es) xs holds ahead = absurd holds
-ahead-holds within moment (Silence m a w ∷ es) xs holds ahead = absurd holds
-ahead-holds within moment (Packet m number fault ∷ es) xs holds ahead = absurd holds
-
-ahead-about : (within moment : ℕ) (asked : Asked ℕ) (xs : List Expected) → AllStill within moment xs → AllStill within moment (wanted_about asked xs)
-ahead-about within moment asked [] is = is
-ahead-about within moment asked (x ∷ xs) is = one (ahead-about within moment asked xs is.1) (is_same asked (ask_of x).asked) refl
-  where
-    one : AllStill within moment (wanted_about asked xs) → (b : Bool) → is_same asked (ask_of x).asked ≡ b → AllStill within moment (wanted_about asked (x ∷ xs))
-    one rest true same = rw (wanted_here asked x xs same) (is.0, rest)
-    one rest false differs = rw (wanted_other asked x xs differs) rest
-
-all_still : (within moment : ℕ) (xs : List Expected) → AllStill within moment xs → still_due within moment (moments_wanted xs) ≡ moments_wanted xs
-all_still within moment [] is = refl
-all_still within moment (x ∷ xs) is = let ahead = le-ltb ((ask_of x).moment + within) moment is.0 in rw ahead refl
+  pub stands : Stands within keep moment (left_of keep moment entries) left wanted seen
+  pub missing : missing_of (free ++ wanted) ≡ told_of keep within moment changed entries ++ missing_of (left ++ wanted)
+  pub returns : (b : Asked ℕ) → returns_of within moment b left (left_of keep moment entries) ≡ record { due = still_due within moment (moments_wanted (wanted_about b free)); early = moments_seen (seen_about b (free_seen entries)) }
 
 -- none is over
-none_comes : (within low moment : ℕ) (changed : Option ℕ) (e : Entry ℕ) (es : List (Entry ℕ)) (free wanted : List Expected) (seen : List Ask)
-    → is_over within moment e ≡ false → Waits within low moment (e ∷ es) free wanted seen → Come within moment changed (e ∷ es) free wanted seen
-none_comes within low moment changed e es free wanted seen ahead w =
-    let near : moment ≤ moment_of e + within = ltb-false (moment_of e + within) moment ahead in
+none_comes : (within keep low moment : ℕ) (changed : Option ℕ) (e : Entry ℕ) (es : List (Entry ℕ)) (free wanted : List Expected) (seen : List Ask)
+    → is_over keep moment e ≡ false → Waits within keep low moment (e ∷ es) free wanted seen → Come within keep moment changed (e ∷ es) free wanted seen
+none_comes within keep low moment changed e es free wanted seen ahead w =
+    let near : moment ≤ moment_of e + keep = ltb-false (moment_of e + keep) moment ahead in
     record {
       left = free;
-      stands = rw (ahead_left within moment e es ahead) (record {
+      stands = rw (ahead_left keep moment e es ahead) (record {
         holds = w.holds;
         ascending = ascending-from low 0 (e ∷ es) moment (omega arith) w.ascending;
-        none_over = (near, none_over-ascending within moment (moment_of e) es moment near w.ascending.1);
+        none_over = (near, none_over-ascending keep moment (moment_of e) es moment near w.ascending.1);
         one_side = w.one_side;
         pairs = w.pairs;
       });
-      missing = ap (λ (l : List (Finding ℕ)). l ++ missing_of (free ++ wanted)) (sym (ahead_told within moment changed e es ahead));
+      missing = ap (λ (l : List (Finding ℕ)). l ++ missing_of (free ++ wanted)) (sym (ahead_told keep within moment changed e es ahead));
       returns = λ b. λ i. record {
-        due = sym (all_still within moment (wanted_about b free) (ahead-about within moment b free (ahead-holds within moment (e ∷ es) free w.holds (near, none_over-ascending within moment (moment_of e) es moment near w.ascending.1)))) i;
-        early = moments_seen (seen_about b (free_seen (ahead_left within moment e es ahead i)));
+        due = still_due within moment (moments_wanted (wanted_about b free));
+        early = moments_seen (seen_about b (free_seen (ahead_left keep moment e es ahead i)));
       };
     }
 
 -- the first entry is over, of which this is found
-one_comes : (within moment : ℕ) (changed : Option ℕ) (e : Entry ℕ) (es : List (Entry ℕ)) (before free wanted : List Expected) (seen : List Ask) (found : List (Finding ℕ))
-    → is_over within moment e ≡ true → findings_of within changed e ≡ found → missing_of (before ++ wanted) ≡ found ++ missing_of (free ++ wanted)
+one_comes : (within keep moment : ℕ) (changed : Option ℕ) (e : Entry ℕ) (es : List (Entry ℕ)) (before free wanted : List Expected) (seen : List Ask) (found : List (Finding ℕ))
+    → is_over keep moment e ≡ true → findings_of within changed e ≡ found → missing_of (before ++ wanted) ≡ found ++ missing_of (free ++ wanted)
     → ((b : Asked ℕ) → still_due within moment (moments_wanted (wanted_about b before)) ≡ still_due within moment (moments_wanted (wanted_about b free))) → free_seen (e ∷ es) ≡ free_seen es
-    → Come within moment changed es free wanted seen → Come within moment changed (e ∷ es) before wanted seen
-one_comes within moment changed e es before free wanted seen found over finds missing due plain rest = record {
+    → Come within keep moment changed es free wanted seen → Come within keep moment changed (e ∷ es) before wanted seen
+one_comes within keep moment changed e es before free wanted seen found over finds missing due plain rest = record {
   left = rest.left;
-  stands = rw (over_left within moment e es over) rest.stands;
+  stands = rw (over_left keep moment e es over) rest.stands;
   missing =
       missing ∙ ap (λ (l : List (Finding ℕ)). found ++ l) rest.missing
-      ∙ sym (append_assoc found (told_of within moment changed es) (missing_of (rest.left ++ wanted)))
-      ∙ ap (λ (l : List (Finding ℕ)). l ++ missing_of (rest.left ++ wanted)) (ap (λ (l : List (Finding ℕ)). l ++ told_of within moment changed es) (sym finds) ∙ sym (over_told within moment changed e es over));
+      ∙ sym (append_assoc found (told_of keep within moment changed es) (missing_of (rest.left ++ wanted)))
+      ∙ ap (λ (l : List (Finding ℕ)). l ++ missing_of (rest.left ++ wanted)) (ap (λ (l : List (Finding ℕ)). l ++ told_of keep within moment changed es) (sym finds) ∙ sym (over_told keep within moment changed e es over));
   returns = λ b.
-      ap (λ (l : List (Entry ℕ)). returns_of b rest.left l) (over_left within moment e es over) ∙ rest.returns b
+      ap (λ (l : List (Entry ℕ)). returns_of within moment b rest.left l) (over_left keep moment e es over) ∙ rest.returns b
       ∙ (λ i. record { due = sym (due b) i; early = moments_seen (seen_about b (sym plain i)) });
 }
 
 -- an entry that keeps nothing is taken out
-plain_out : (within low moment : ℕ) (e : Entry ℕ) (es : List (Entry ℕ)) (free wanted : List Expected) (seen : List Ask)
-    → Holds es free → free_seen (e ∷ es) ≡ free_seen es → Waits within low moment (e ∷ es) free wanted seen → Waits within (moment_of e) moment es free wanted seen
-plain_out within low moment e es free wanted seen holds same w = record {
+plain_out : (within keep low moment : ℕ) (e : Entry ℕ) (es : List (Entry ℕ)) (free wanted : List Expected) (seen : List Ask)
+    → Holds es free → free_seen (e ∷ es) ≡ free_seen es → Waits within keep low moment (e ∷ es) free wanted seen → Waits within keep (moment_of e) moment es free wanted seen
+plain_out within keep low moment e es free wanted seen holds same w = record {
   holds = holds;
   ascending = w.ascending.1;
   one_side = λ b. elim (w.one_side b) [
     | inl n ↦ inl n
     | inr n ↦ inr (ap (seen_about b) (sym same) ∙ n)
   ];
-  pairs = λ b. to_pairs within _ _ _ _ refl (ap (λ (l : List Ask). seen_about b (l ++ seen)) same) (w.pairs b);
+  pairs = λ b. to_pairs within keep _ _ _ _ refl (ap (λ (l : List Ask). seen_about b (l ++ seen)) same) (w.pairs b);
 }
 
 -- one that was left out is taken out
-missed_out : (within low moment : ℕ) (m : ℕ) (asked : Asked ℕ) (terms : Terms ℕ) (is_optional : Bool) (es : List (Entry ℕ)) (x : Ask) (free wanted : List Expected) (seen : List Ask)
-    → Waits within low moment (Wanted m asked terms is_optional false ∷ es) (LeftOut x ∷ free) wanted seen → Waits within m moment es free wanted seen
-missed_out within low moment m asked terms is_optional es x free wanted seen w =
+missed_out : (within keep low moment : ℕ) (m : ℕ) (asked : Asked ℕ) (terms : Terms ℕ) (is_optional : Bool) (es : List (Entry ℕ)) (x : Ask) (free wanted : List Expected) (seen : List Ask)
+    → Waits within keep low moment (Wanted m asked terms is_optional false ∷ es) (LeftOut x ∷ free) wanted seen → Waits within keep m moment es free wanted seen
+missed_out within keep low moment m asked terms is_optional es x free wanted seen w =
     let near : is_same asked x.asked ≡ true = ap (λ (a : Ask). is_same asked a.asked) w.holds.0.0 ∙ is_same-self asked in
     let here = wanted_here asked (LeftOut x) free near in
     record {
@@ -185,15 +157,15 @@ missed_out within low moment m asked terms is_optional es x free wanted seen w =
             | inl n ↦ inl (sym (wanted_other b (LeftOut x) free (ap (λ (a : Ask). is_same b a.asked) w.holds.0.0 ∙ differs)) ∙ n)
             | inr n ↦ inr n
           ]);
-      pairs = by_asked (λ b. PairUp within (wanted_about b (free ++ wanted)) (seen_about b (free_seen es ++ seen))) asked
-          ((to_pairs within _ _ _ _ (wanted_here asked (LeftOut x) (free ++ wanted) near) refl (w.pairs asked)).1)
-          (λ b differs. to_pairs within _ _ _ _ (wanted_other b (LeftOut x) (free ++ wanted) (ap (λ (a : Ask). is_same b a.asked) w.holds.0.0 ∙ differs)) refl (w.pairs b));
+      pairs = by_asked (λ b. PairUp within keep (wanted_about b (free ++ wanted)) (seen_about b (free_seen es ++ seen))) asked
+          ((to_pairs within keep _ _ _ _ (wanted_here asked (LeftOut x) (free ++ wanted) near) refl (w.pairs asked)).1)
+          (λ b differs. to_pairs within keep _ _ _ _ (wanted_other b (LeftOut x) (free ++ wanted) (ap (λ (a : Ask). is_same b a.asked) w.holds.0.0 ∙ differs)) refl (w.pairs b));
     }
 
 -- one that was sent isn't over
-no_sent : (within low moment : ℕ) (m : ℕ) (asked : Asked ℕ) (terms : Terms ℕ) (is_optional : Bool) (es : List (Entry ℕ)) (x : Ask) (free wanted : List Expected) (seen : List Ask)
-    → SeenFrom moment seen → m + within < moment → Waits within low moment (Wanted m asked terms is_optional false ∷ es) (Sent x ∷ free) wanted seen → ⊥
-no_sent within low moment m asked terms is_optional es x free wanted seen from over w =
+no_sent : (within keep low moment : ℕ) (m : ℕ) (asked : Asked ℕ) (terms : Terms ℕ) (is_optional : Bool) (es : List (Entry ℕ)) (x : Ask) (free wanted : List Expected) (seen : List Ask)
+    → within ≤ keep → SeenFrom moment seen → m + keep < moment → Waits within keep low moment (Wanted m asked terms is_optional false ∷ es) (Sent x ∷ free) wanted seen → ⊥
+no_sent within keep low moment m asked terms is_optional es x free wanted seen long from over w =
     let near : is_same asked x.asked ≡ true = ap (λ (a : Ask). is_same asked a.asked) w.holds.0 ∙ is_same-self asked in
     let here = wanted_here asked (Sent x) free near in
     let none : seen_about asked (free_seen es) ≡ [] = elim (w.one_side asked) [
@@ -202,12 +174,12 @@ no_sent within low moment m asked terms is_optional es x free wanted seen from o
     ] in
     let alone : seen_about asked (free_seen es ++ seen) ≡ seen_about asked seen = seen_about-append asked (free_seen es) seen ∙ ap (λ (l : List Ask). l ++ seen_about asked seen) none in
     let at : x.moment ≡ m = ap (λ (a : Ask). a.moment) w.holds.0 in
-    sent_in_time within moment x _ _ (to_pairs within _ _ _ _ (wanted_here asked (Sent x) (free ++ wanted) near) alone (w.pairs asked)) (seen_from-about moment asked seen from) (omega arith)
+    sent_in_time within keep moment x _ _ long (to_pairs within keep _ _ _ _ (wanted_here asked (Sent x) (free ++ wanted) near) alone (w.pairs asked)) (seen_from-about moment asked seen from) (omega arith)
 
 -- and neither is one that was seen and has no partner
-no_seen_over : (within low moment : ℕ) (m : ℕ) (asked : Asked ℕ) (terms : Terms ℕ) (alone : Unpaired ℕ) (es : List (Entry ℕ)) (free wanted : List Expected) (seen : List Ask)
-    → WantedFrom moment wanted → m + within < moment → Waits within low moment (Seen m asked terms None alone ∷ es) free wanted seen → ⊥
-no_seen_over within low moment m asked terms alone es free wanted seen from over w =
+no_seen_over : (within keep low moment : ℕ) (m : ℕ) (asked : Asked ℕ) (terms : Terms ℕ) (alone : Unpaired ℕ) (es : List (Entry ℕ)) (free wanted : List Expected) (seen : List Ask)
+    → within ≤ keep → WantedFrom moment wanted → m + keep < moment → Waits within keep low moment (Seen m asked terms None alone ∷ es) free wanted seen → ⊥
+no_seen_over within keep low moment m asked terms alone es free wanted seen long from over w =
     let s = ask m asked terms in
     let here = seen_here asked s (free_seen es) (is_same-self asked) in
     let none : wanted_about asked free ≡ [] = elim (w.one_side asked) [
@@ -215,7 +187,7 @@ no_seen_over within low moment m asked terms alone es free wanted seen from over
       | inr n ↦ absurd (let two : [] ≡ s ∷ seen_about asked (free_seen es) = sym n ∙ here in cc)
     ] in
     let alone : wanted_about asked (free ++ wanted) ≡ wanted_about asked wanted = wanted_about-append asked free wanted ∙ ap (λ (l : List Expected). l ++ wanted_about asked wanted) none in
-    seen_in_time within moment s _ _ (to_pairs within _ _ _ _ alone (seen_here asked s (free_seen es ++ seen) (is_same-self asked)) (w.pairs asked)) (wanted_from-about moment asked wanted from) over
+    seen_in_time within keep moment s _ _ long (to_pairs within keep _ _ _ _ alone (seen_here asked s (free_seen es ++ seen) (is_same-self asked)) (w.pairs asked)) (wanted_from-about moment asked wanted from) over
 
 -- what is found of those that are over
 found_of_pair : (within : ℕ) (changed : Option ℕ) (m : ℕ) (asked : Asked ℕ) (terms wanted : Terms ℕ) (alone : Unpaired ℕ) → terms_differ terms wanted ≡ [] → findings_of within changed (Seen m asked terms (Some wanted) alone) ≡ []
@@ -229,60 +201,57 @@ found_of_missed : (within : ℕ) (changed : Option ℕ) (m : ℕ) (asked : Asked
 found_of_missed within changed m asked terms is_optional x is must = rw (must, is) refl
 
 -- one that is over is no longer due
-missed_due : (within moment m : ℕ) (asked : Asked ℕ) (terms : Terms ℕ) (x : Ask) (free : List Expected) (b : Asked ℕ) → x ≡ ask m asked terms → nat_lt (m + within) moment ≡ true
+missed_due : (within keep moment m : ℕ) (asked : Asked ℕ) (terms : Terms ℕ) (x : Ask) (free : List Expected) (b : Asked ℕ) → within ≤ keep → x ≡ ask m asked terms → nat_lt (m + keep) moment ≡ true
     → still_due within moment (moments_wanted (wanted_about b (LeftOut x ∷ free))) ≡ still_due within moment (moments_wanted (wanted_about b free))
-missed_due within moment m asked terms x free b is over = elim (is_same b x.asked) as (λ t. is_same b x.asked ≡ t → still_due within moment (moments_wanted (wanted_about b (LeftOut x ∷ free))) ≡ still_due within moment (moments_wanted (wanted_about b free))) [
+missed_due within keep moment m asked terms x free b long is over = elim (is_same b x.asked) as (λ t. is_same b x.asked ≡ t → still_due within moment (moments_wanted (wanted_about b (LeftOut x ∷ free))) ≡ still_due within moment (moments_wanted (wanted_about b free))) [
   | true ↦ λ same.
-      let gone : nat_lt (x.moment + within) moment ≡ true = ap (λ (a : Ask). nat_lt (a.moment + within) moment) is ∙ over in
+      let past : m + keep < moment = ltb-true (m + keep) moment over in
+      let early : nat_lt (m + within) moment ≡ true = lt-ltb (m + within) moment (omega arith) in
+      let gone : nat_lt (x.moment + within) moment ≡ true = ap (λ (a : Ask). nat_lt (a.moment + within) moment) is ∙ early in
       ap (λ (l : List Expected). still_due within moment (moments_wanted l)) (wanted_here b (LeftOut x) free same) ∙ rw gone refl
   | false ↦ λ differs. ap (λ (l : List Expected). still_due within moment (moments_wanted l)) (wanted_other b (LeftOut x) free differs)
 ] refl
 
-none_of_none : (within moment : ℕ) (free : List Expected) → Holds [] free → (b : Asked ℕ)
-    → returns_of b free [] ≡ record { due = still_due within moment (moments_wanted (wanted_about b free)); early = [] }
-none_of_none within moment [] holds b = refl
-none_of_none within moment (x ∷ xs) holds b = absurd holds
-
 -- whether the first entry is over
-either_comes : (within low moment : ℕ) (changed : Option ℕ) (e : Entry ℕ) (es : List (Entry ℕ)) (free wanted : List Expected) (seen : List Ask)
-    → Waits within low moment (e ∷ es) free wanted seen → (is_over within moment e ≡ true → Come within moment changed (e ∷ es) free wanted seen) → Come within moment changed (e ∷ es) free wanted seen
-either_comes within low moment changed e es free wanted seen w over = elim (is_over within moment e) as (λ b. is_over within moment e ≡ b → Come within moment changed (e ∷ es) free wanted seen) [
+either_comes : (within keep low moment : ℕ) (changed : Option ℕ) (e : Entry ℕ) (es : List (Entry ℕ)) (free wanted : List Expected) (seen : List Ask)
+    → Waits within keep low moment (e ∷ es) free wanted seen → (is_over keep moment e ≡ true → Come within keep moment changed (e ∷ es) free wanted seen) → Come within keep moment changed (e ∷ es) free wanted seen
+either_comes within keep low moment changed e es free wanted seen w over = elim (is_over keep moment e) as (λ b. is_over keep moment e ≡ b → Come within keep moment changed (e ∷ es) free wanted seen) [
   | true ↦ λ is. over is
-  | false ↦ λ ahead. none_comes within low moment changed e es free wanted seen ahead w
+  | false ↦ λ ahead. none_comes within keep low moment changed e es free wanted seen ahead w
 ] refl
 
 -- All that is over when a moment comes.
-pub comes : (within low moment : ℕ) (changed : Option ℕ) (es : List (Entry ℕ)) (free wanted : List Expected) (seen : List Ask)
-    → WantedFrom moment wanted → SeenFrom moment seen → Waits within low moment es free wanted seen → Come within moment changed es free wanted seen
-comes within low moment changed [] free wanted seen later_wanted later_seen w = record {
+pub comes : (within keep low moment : ℕ) (changed : Option ℕ) (es : List (Entry ℕ)) (free wanted : List Expected) (seen : List Ask)
+    → within ≤ keep → WantedFrom moment wanted → SeenFrom moment seen → Waits within keep low moment es free wanted seen → Come within keep moment changed es free wanted seen
+comes within keep low moment changed [] free wanted seen long later_wanted later_seen w = record {
   left = free;
   stands = record { holds = w.holds; ascending = omega arith; none_over = tt; one_side = w.one_side; pairs = w.pairs };
   missing = refl;
-  returns = λ b. none_of_none within moment free w.holds b;
+  returns = λ b. refl;
 }
-comes within low moment changed (Wanted m asked terms is_optional true ∷ es) free wanted seen later_wanted later_seen w =
+comes within keep low moment changed (Wanted m asked terms is_optional true ∷ es) free wanted seen long later_wanted later_seen w =
     let e = Wanted m asked terms is_optional true in
-    either_comes within low moment changed e es free wanted seen w (λ over.
-    one_comes within moment changed e es free free wanted seen [] over (found_of_found within changed m asked terms is_optional) refl (λ b. refl) refl
-    (comes within m moment changed es free wanted seen later_wanted later_seen (plain_out within low moment e es free wanted seen w.holds refl w)))
-comes within low moment changed (Wanted m asked terms is_optional false ∷ es) [] wanted seen later_wanted later_seen w = absurd w.holds
-comes within low moment changed (Wanted m asked terms is_optional false ∷ es) (Sent x ∷ free) wanted seen later_wanted later_seen w =
-    either_comes within low moment changed (Wanted m asked terms is_optional false) es (Sent x ∷ free) wanted seen w (λ over.
-    absurd (no_sent within low moment m asked terms is_optional es x free wanted seen later_seen (ltb-true (m + within) moment over) w))
-comes within low moment changed (Wanted m asked terms is_optional false ∷ es) (LeftOut x ∷ free) wanted seen later_wanted later_seen w =
+    either_comes within keep low moment changed e es free wanted seen w (λ over.
+    one_comes within keep moment changed e es free free wanted seen [] over (found_of_found within changed m asked terms is_optional) refl (λ b. refl) refl
+    (comes within keep m moment changed es free wanted seen long later_wanted later_seen (plain_out within keep low moment e es free wanted seen w.holds refl w)))
+comes within keep low moment changed (Wanted m asked terms is_optional false ∷ es) [] wanted seen long later_wanted later_seen w = absurd w.holds
+comes within keep low moment changed (Wanted m asked terms is_optional false ∷ es) (Sent x ∷ free) wanted seen long later_wanted later_seen w =
+    either_comes within keep low moment changed (Wanted m asked terms is_optional false) es (Sent x ∷ free) wanted seen w (λ over.
+    absurd (no_sent within keep low moment m asked terms is_optional es x free wanted seen long later_seen (ltb-true (m + keep) moment over) w))
+comes within keep low moment changed (Wanted m asked terms is_optional false ∷ es) (LeftOut x ∷ free) wanted seen long later_wanted later_seen w =
     let e = Wanted m asked terms is_optional false in
-    either_comes within low moment changed e es (LeftOut x ∷ free) wanted seen w (λ over.
-    one_comes within moment changed e es (LeftOut x ∷ free) free wanted seen (Missing x.moment x.terms.packet x.asked ∷ []) over
-    (found_of_missed within changed m asked terms is_optional x w.holds.0.0 w.holds.0.1) refl (λ b. missed_due within moment m asked terms x free b w.holds.0.0 over) refl
-    (comes within m moment changed es free wanted seen later_wanted later_seen (missed_out within low moment m asked terms is_optional es x free wanted seen w)))
-comes within low moment changed (Seen m asked terms None alone ∷ es) free wanted seen later_wanted later_seen w =
-    either_comes within low moment changed (Seen m asked terms None alone) es free wanted seen w (λ over.
-    absurd (no_seen_over within low moment m asked terms alone es free wanted seen later_wanted (ltb-true (m + within) moment over) w))
-comes within low moment changed (Seen m asked terms (Some partner) alone ∷ es) free wanted seen later_wanted later_seen w =
+    either_comes within keep low moment changed e es (LeftOut x ∷ free) wanted seen w (λ over.
+    one_comes within keep moment changed e es (LeftOut x ∷ free) free wanted seen (Missing x.moment x.terms.packet x.asked ∷ []) over
+    (found_of_missed within changed m asked terms is_optional x w.holds.0.0 w.holds.0.1) refl (λ b. missed_due within keep moment m asked terms x free b long w.holds.0.0 over) refl
+    (comes within keep m moment changed es free wanted seen long later_wanted later_seen (missed_out within keep low moment m asked terms is_optional es x free wanted seen w)))
+comes within keep low moment changed (Seen m asked terms None alone ∷ es) free wanted seen long later_wanted later_seen w =
+    either_comes within keep low moment changed (Seen m asked terms None alone) es free wanted seen w (λ over.
+    absurd (no_seen_over within keep low moment m asked terms alone es free wanted seen long later_wanted (ltb-true (m + keep) moment over) w))
+comes within keep low moment changed (Seen m asked terms (Some partner) alone ∷ es) free wanted seen long later_wanted later_seen w =
     let e = Seen m asked terms (Some partner) alone in
-    either_comes within low moment changed e es free wanted seen w (λ over.
-    one_comes within moment changed e es free free wanted seen [] over (found_of_pair within changed m asked terms partner alone w.holds.0) refl (λ b. refl) refl
-    (comes within m moment changed es free wanted seen later_wanted later_seen (plain_out within low moment e es free wanted seen w.holds.1 refl w)))
-comes within low moment changed (Interval m packet after wanted' ∷ es) free wanted seen later_wanted later_seen w = absurd w.holds
-comes within low moment changed (Silence m after wanted' ∷ es) free wanted seen later_wanted later_seen w = absurd w.holds
-comes within low moment changed (Packet m number fault ∷ es) free wanted seen later_wanted later_seen w = absurd w.holds
+    either_comes within keep low moment changed e es free wanted seen w (λ over.
+    one_comes within keep moment changed e es free free wanted seen [] over (found_of_pair within changed m asked terms partner alone w.holds.0) refl (λ b. refl) refl
+    (comes within keep m moment changed es free wanted seen long later_wanted later_seen (plain_out within keep low moment e es free wanted seen w.holds.1 refl w)))
+comes within keep low moment changed (Interval m packet after wanted' ∷ es) free wanted seen long later_wanted later_seen w = absurd w.holds
+comes within keep low moment changed (Silence m after wanted' ∷ es) free wanted seen long later_wanted later_seen w = absurd w.holds
+comes within keep low moment changed (Packet m number fault ∷ es) free wanted seen long later_wanted later_seen w = absurd w.holds

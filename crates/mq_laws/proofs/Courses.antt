@@ -1,5 +1,5 @@
 -- What is found in the course of a check whose queries pair up.
-use Rattle.std.proofs.Common.{◌≡◌, ℕ, ◌+◌, ◌≤◌, Bool, true, false, List, [], ◌∷◌, ◌++◌, refl, ap, sym, ◌∙◌, arith, subst, append_assoc}
+use Rattle.std.proofs.Common.{◌≡◌, ℕ, ◌+◌, ◌-◌, ◌≤◌, Bool, true, false, List, [], ◌∷◌, ◌++◌, refl, ap, sym, ◌∙◌, arith, subst, append_assoc}
 use Rattle.std.specs.Prelude.{Option, None, Some, fold, nat_le, if◌then◌else◌}
 use Rattle.mq_table.specs.declared.timing.Timing.{Timing}
 use Rattle.mq_check.specs.declared.asked.Asked.{Asked}
@@ -8,89 +8,99 @@ use Rattle.mq_check.specs.declared.entry.Entry.{Entry}
 use Rattle.mq_check.specs.declared.finding.Finding.{Finding}
 use Rattle.mq_check.specs.declared.phase.Phase.{Phase}
 use Rattle.mq_check.specs.declared.phase.Phase.TheVariants.{Starting, Heard, Returned, NotQuerier}
+use Rattle.mq_check.specs.declared.schedules.Repeats.{Repeats}
 use Rattle.mq_check.specs.declared.terms.Terms.{Terms}
-use Rattle.mq_check.specs.Checking.{CheckingValue, alone_in, is_querier_in, with_wanted, with_seen, one_seen, with_general, general_compared, general_seen, specific_seen, role_lost, role_returned, settled, told, with_fault}
-use Rattle.mq_check.specs.Entries.{may_be_left_out, terms_differ}
+use Rattle.mq_check.specs.Checking.{CheckingValue, all_blocked, alone_in, is_querier_in, near, with_wanted, with_seen, one_seen, with_general, general_compared, general_seen, specific_seen, role_lost, role_returned, settled, told, with_fault}
+use Rattle.mq_check.specs.Entries.{is_free_seen, is_free_wanted, may_be_left_out, terms_differ}
 use Rattle.mq_check.specs.General.{wrong_interval, phase_again, phase_behind, silence_up_to}
 use Rattle.mq_check.specs.Queries.{is_same}
+use Rattle.mq_check.specs.Schedules.{repeats_in}
 use Rattle.mq_check.specs.Waiting.{WaitingValue}
-use Rattle.mq_laws.specs.Pairing.{Ask, Expected, Sent, LeftOut, ask_of, asks_of, missing_of}
-use Rattle.mq_laws.specs.Events.{CheckEvent, Comes, Wants, Sees, SeesGeneral, LosesRole, HasRoleAgain, SeesFault, moment_behind, check_by, told_by, moment_behind_all, check_by_all, told_by_all}
+use Rattle.mq_laws.specs.Pairing.{Ask, Expected, Sent, LeftOut, ask_of, asks_of, kept_for, missing_of, wanted_about}
+use Rattle.mq_laws.specs.Events.{CheckEvent, Comes, Wants, Sees, SeesGeneral, LosesRole, HasRoleAgain, SeesFault, Blocks, moment_behind, check_by, told_by, moment_behind_all, check_by_all, told_by_all}
 use Rattle.mq_laws.specs.WantedAndSeen.{asks_at, wanted_in, seen_in, general_ask, general_returned, all_seen, all_wanted, return_seen, return_wanted, still_due, Returns}
 use Rattle.mq_laws.specs.OnTime.{AreInOrder, AreOnTime, IsAsWantedThen}
 use Rattle.mq_laws.specs.AsWanted.{AreMissed}
-use Rattle.mq_laws.proofs.Held.{ask, IsKept, ascending-to}
+use Rattle.mq_laws.proofs.Held.{ask, IsKept, ascending-to, moments_wanted, still_later}
 use Rattle.mq_laws.proofs.Same.{same_asked}
-use Rattle.mq_laws.proofs.Steps.{Stands, Stepped, general_one, returns_of, see_one, want_one}
-use Rattle.mq_laws.proofs.Comings.{WantedFrom, SeenFrom, Waits, comes}
-use Rattle.mq_laws.proofs.Rooms.{entered, wanted_part, seen_part, general_part, lost_part, required, told_now, settled_free, settled_full, compared_querier, compared_other, general_free, lost_free, returned_free, returned_part}
+use Rattle.mq_laws.proofs.Partners.{SameFrom}
+use Rattle.mq_laws.proofs.Steps.{Stands, Stepped, general_one, returns_of, see_one, seen_near, want_one, wanted_near}
+use Rattle.mq_laws.proofs.Comings.{WantedFrom, SeenFrom, Waits, comes, left_of, told_of}
+use Rattle.mq_laws.proofs.Rooms.{entered, wanted_part, seen_part, general_part, lost_part, required, told_now, settled_free, settled_full, compared_querier, compared_other, general_free, lost_free, returned_free, returned_part, blocked_free, blocked_part}
 
 -- What waits behind some steps, and the general queries among it.
-pub record StepsTo (within now : ℕ) (entries : List (Entry ℕ)) (before wanted : List Expected) (seen : List Ask) (returns : Returns) : Type 0 where
+pub record StepsTo (within keep now : ℕ) (entries : List (Entry ℕ)) (before wanted : List Expected) (seen : List Ask) (returns : Returns) : Type 0 where
   pub left : List Expected
-  pub stands : Stands within now entries left wanted seen
+  pub stands : Stands within keep now entries left wanted seen
   pub missing : missing_of before ≡ missing_of (left ++ wanted)
-  pub returns_are : returns_of AllGroups left entries ≡ returns
+  pub returns_are : returns_of within now AllGroups left entries ≡ returns
 
-abbrev pub general_returns : List Expected → List (Entry ℕ) → Returns
-general_returns free entries = returns_of AllGroups free entries
+abbrev pub general_returns : (within now : ℕ) → List Expected → List (Entry ℕ) → Returns
+general_returns within now free entries = returns_of within now AllGroups free entries
 
 -- one step, as far as general queries go
-stepped : (within now : ℕ) (asked : Asked ℕ) (step : (due early : List ℕ) → Returns) (old entries : List (Entry ℕ)) (free before wanted : List Expected) (seen : List Ask)
-    → Stepped within now asked step old entries free before wanted seen
-    → StepsTo within now entries before wanted seen
-    (if is_same AllGroups asked then step (general_returns free old).due (general_returns free old).early else general_returns free old)
-stepped within now asked step old entries free before wanted seen s = record {
+stepped : (within keep now : ℕ) (asked : Asked ℕ) (step : (due early : List ℕ) → Returns) (old entries : List (Entry ℕ)) (free before wanted : List Expected) (seen : List Ask)
+    → Stepped within keep now asked step old entries free before wanted seen
+    → StepsTo within keep now entries before wanted seen
+    (if is_same AllGroups asked then step (general_returns within now free old).due (general_returns within now free old).early else general_returns within now free old)
+stepped within keep now asked step old entries free before wanted seen s = record {
   left = s.left;
   stands = s.stands;
   missing = s.missing;
-  returns_are = elim (is_same AllGroups asked) as (λ b. is_same AllGroups asked ≡ b → returns_of AllGroups s.left entries ≡ (if is_same AllGroups asked then step (general_returns free old).due (general_returns free old).early else general_returns free old)) [
+  returns_are = elim (is_same AllGroups asked) as (λ b. is_same AllGroups asked ≡ b → returns_of within now AllGroups s.left entries ≡ (if is_same AllGroups asked then step (general_returns within now free old).due (general_returns within now free old).early else general_returns within now free old)) [
     | true ↦ λ same.
         let is : AllGroups ≡ asked = same_asked AllGroups asked same in
-        rw same (subst (λ (a : Asked ℕ). returns_of a s.left entries ≡ step (returns_of a free old).due (returns_of a free old).early) (sym is) s.here)
+        rw same (subst (λ (a : Asked ℕ). returns_of within now a s.left entries ≡ step (returns_of within now a free old).due (returns_of within now a free old).early) (sym is) s.here)
     | false ↦ λ differs. rw differs (s.others AllGroups differs)
   ] refl;
 }
 
+-- the first moment within the tolerance, as the check has it
+near_as : (within now : ℕ) (test : Entry ℕ → Bool) (c : CheckingValue) → c.schedules.repeats.within ≡ within → SameFrom test (now - within) c.waiting.entries → SameFrom test (near now c) c.waiting.entries
+near_as within now test c within_is same = subst (λ (w : ℕ). SameFrom test (now - w) c.waiting.entries) (sym within_is) same
+
 -- what is left to do behind some of what is wanted at a moment
-pub record WantedAll (within end now : ℕ) (c after : CheckingValue) (free before : List Expected) (seen : List Ask) (rest : List Ask) (returns : Returns) : Type 0 where
+pub record WantedAll (within keep end now : ℕ) (c after : CheckingValue) (free before : List Expected) (seen : List Ask) (rest : List Ask) (returns : Returns) : Type 0 where
   pub wanted : List Expected
-  pub step : StepsTo within now after.waiting.entries before wanted seen returns
+  pub step : StepsTo within keep now after.waiting.entries before wanted seen returns
   pub asks : asks_of wanted ≡ rest
-  pub missed : AreMissed within end wanted
+  pub missed : AreMissed keep end wanted
   pub phase : after.phase ≡ c.phase
   pub last : after.last_general ≡ c.last_general
+  pub repeats : after.schedules.repeats ≡ c.schedules.repeats
 
-kept_of : (within end now : ℕ) (a : Asked ℕ) (terms : Terms ℕ) (entries : List (Entry ℕ)) (x : Expected) (xs : List Expected)
-    → ask_of x ≡ ask now a terms → AreMissed within end (x ∷ xs) → IsKept now a terms (may_be_left_out now a terms entries) x
-kept_of within end now a terms entries (Sent w) xs is missed = is
-kept_of within end now a terms entries (LeftOut w) xs is missed = (is, required now a terms entries (rw is at missed.0.has_to_be_sent))
+kept_of : (keep end now : ℕ) (a : Asked ℕ) (terms : Terms ℕ) (entries : List (Entry ℕ)) (x : Expected) (xs : List Expected)
+    → ask_of x ≡ ask now a terms → AreMissed keep end (x ∷ xs) → IsKept now a terms (may_be_left_out now a terms entries) x
+kept_of keep end now a terms entries (Sent w) xs is missed = is
+kept_of keep end now a terms entries (LeftOut w) xs is missed = (is, required now a terms entries (rw is at missed.0.has_to_be_sent))
 
-missed_behind : (within end : ℕ) (x : Expected) (xs : List Expected) → AreMissed within end (x ∷ xs) → AreMissed within end xs
-missed_behind within end (Sent w) xs missed = missed
-missed_behind within end (LeftOut w) xs missed = missed.1
+missed_behind : (keep end : ℕ) (x : Expected) (xs : List Expected) → AreMissed keep end (x ∷ xs) → AreMissed keep end xs
+missed_behind keep end (Sent w) xs missed = missed
+missed_behind keep end (LeftOut w) xs missed = missed.1
 
 pub wants_free : (now : ℕ) (terms : Terms ℕ) (asked : List (Asked ℕ)) (c : CheckingValue) → (fold (with_wanted now terms) c asked).waiting.is_full ≡ false → c.waiting.is_full ≡ false
 wants_free now terms [] c free = free
 wants_free now terms (a ∷ more) c free = (wanted_part now terms c a (wants_free now terms more (with_wanted now terms c a) free)).was
 
-wants_all : (within end now : ℕ) (terms : Terms ℕ) (asked : List (Asked ℕ)) (c : CheckingValue) (free expected : List Expected) (seen : List Ask) (rest : List Ask)
-    → asks_of expected ≡ asks_at now terms asked ++ rest → AreMissed within end expected → (fold (with_wanted now terms) c asked).waiting.is_full ≡ false
-    → Stands within now c.waiting.entries free expected seen
-    → WantedAll within end now c (fold (with_wanted now terms) c asked) free (free ++ expected) seen rest (all_wanted now asked (general_returns free c.waiting.entries))
-wants_all within end now terms [] c free expected seen rest is missed room st =
-    record { wanted = expected; step = record { left = free; stands = st; missing = refl; returns_are = refl }; asks = is; missed = missed; phase = refl; last = refl }
-wants_all within end now terms (a ∷ more) c free [] seen rest is missed room st = absurd (cc)
-wants_all within end now terms (a ∷ more) c free (x ∷ xs) seen rest is missed room st =
+wants_all : (within keep end now : ℕ) (terms : Terms ℕ) (asked : List (Asked ℕ)) (c : CheckingValue) (free expected : List Expected) (seen : List Ask) (rest : List Ask)
+    → c.schedules.repeats.within ≡ within → asks_of expected ≡ asks_at now terms asked ++ rest → AreMissed keep end expected → (fold (with_wanted now terms) c asked).waiting.is_full ≡ false
+    → Stands within keep now c.waiting.entries free expected seen
+    → WantedAll within keep end now c (fold (with_wanted now terms) c asked) free (free ++ expected) seen rest (all_wanted now asked (general_returns within now free c.waiting.entries))
+wants_all within keep end now terms [] c free expected seen rest within_is is missed room st =
+    record { wanted = expected; step = record { left = free; stands = st; missing = refl; returns_are = refl }; asks = is; missed = missed; phase = refl; last = refl; repeats = refl }
+wants_all within keep end now terms (a ∷ more) c free [] seen rest within_is is missed room st = absurd (cc)
+wants_all within keep end now terms (a ∷ more) c free (x ∷ xs) seen rest within_is is missed room st =
     let first : ask_of x ≡ ask now a terms = cc in
     let others : asks_of xs ≡ asks_at now terms more ++ rest = cc in
     let next = with_wanted now terms c a in
     let part = wanted_part now terms c a (wants_free now terms more next room) in
-    let r = general_returns free c.waiting.entries in
-    let one : StepsTo within now next.waiting.entries (free ++ x ∷ xs) xs seen (if is_same AllGroups a then return_wanted now r.due r.early else r) =
-    rw part.entries (stepped within now a (return_wanted now) _ _ free (free ++ x ∷ xs) xs seen
-    (want_one within now a terms (may_be_left_out now a terms c.waiting.entries) x c.waiting.entries free xs seen (kept_of within end now a terms c.waiting.entries x xs first missed) st)) in
-    let all = wants_all within end now terms more next one.left xs seen rest others (missed_behind within end x xs missed) room one.stands in
+    let r = general_returns within now free c.waiting.entries in
+    let near_is : SameFrom (is_free_seen a) (near now c) c.waiting.entries =
+    near_as within now (is_free_seen a) c within_is (seen_near within keep now a terms x c.waiting.entries free xs seen first st) in
+    let one : StepsTo within keep now next.waiting.entries (free ++ x ∷ xs) xs seen (if is_same AllGroups a then return_wanted now r.due r.early else r) =
+    rw (part.entries near_is) (stepped within keep now a (return_wanted now) _ _ free (free ++ x ∷ xs) xs seen
+    (want_one within keep now a terms (may_be_left_out now a terms c.waiting.entries) x c.waiting.entries free xs seen (kept_of keep end now a terms c.waiting.entries x xs first missed) st)) in
+    let all = wants_all within keep end now terms more next one.left xs seen rest (ap (λ (r : Repeats). r.within) part.repeats ∙ within_is) others (missed_behind keep end x xs missed) room one.stands in
     record {
       wanted = all.wanted;
       step = record {
@@ -103,31 +113,35 @@ wants_all within end now terms (a ∷ more) c free (x ∷ xs) seen rest is misse
       missed = all.missed;
       phase = all.phase ∙ part.phase;
       last = all.last ∙ part.last;
+      repeats = all.repeats ∙ part.repeats;
     }
 
 -- all that a query asks about that was seen
-pub record SeenAll (within now : ℕ) (c after : CheckingValue) (free before wanted : List Expected) (rest : List Ask) (returns : Returns) : Type 0 where
-  pub step : StepsTo within now after.waiting.entries before wanted rest returns
+pub record SeenAll (within keep now : ℕ) (c after : CheckingValue) (free before wanted : List Expected) (rest : List Ask) (returns : Returns) : Type 0 where
+  pub step : StepsTo within keep now after.waiting.entries before wanted rest returns
   pub phase : after.phase ≡ c.phase
   pub last : after.last_general ≡ c.last_general
+  pub repeats : after.schedules.repeats ≡ c.schedules.repeats
 
 sees_free : (now : ℕ) (terms : Terms ℕ) (unheld : Asked ℕ → Option (Terms ℕ)) (asked : List (Asked ℕ)) (c : CheckingValue) → (fold (one_seen now terms unheld) c asked).waiting.is_full ≡ false → c.waiting.is_full ≡ false
 sees_free now terms unheld [] c free = free
 sees_free now terms unheld (a ∷ more) c free = (seen_part now terms (unheld a) c a (sees_free now terms unheld more (with_seen now terms (unheld a) c a) free)).was
 
-sees_all : (within now : ℕ) (terms : Terms ℕ) (unheld : Asked ℕ → Option (Terms ℕ)) (asked : List (Asked ℕ)) (c : CheckingValue) (free wanted : List Expected) (rest : List Ask)
-    → (fold (one_seen now terms unheld) c asked).waiting.is_full ≡ false
-    → Stands within now c.waiting.entries free wanted (asks_at now terms asked ++ rest)
-    → SeenAll within now c (fold (one_seen now terms unheld) c asked) free (free ++ wanted) wanted rest (all_seen now asked (general_returns free c.waiting.entries))
-sees_all within now terms unheld [] c free wanted rest room st = record { step = record { left = free; stands = st; missing = refl; returns_are = refl }; phase = refl; last = refl }
-sees_all within now terms unheld (a ∷ more) c free wanted rest room st =
+sees_all : (within keep now : ℕ) (terms : Terms ℕ) (unheld : Asked ℕ → Option (Terms ℕ)) (asked : List (Asked ℕ)) (c : CheckingValue) (free wanted : List Expected) (rest : List Ask)
+    → c.schedules.repeats.within ≡ within → (fold (one_seen now terms unheld) c asked).waiting.is_full ≡ false
+    → Stands within keep now c.waiting.entries free wanted (asks_at now terms asked ++ rest)
+    → SeenAll within keep now c (fold (one_seen now terms unheld) c asked) free (free ++ wanted) wanted rest (all_seen now asked (general_returns within now free c.waiting.entries))
+sees_all within keep now terms unheld [] c free wanted rest within_is room st = record { step = record { left = free; stands = st; missing = refl; returns_are = refl }; phase = refl; last = refl; repeats = refl }
+sees_all within keep now terms unheld (a ∷ more) c free wanted rest within_is room st =
     let next = with_seen now terms (unheld a) c a in
     let part = seen_part now terms (unheld a) c a (sees_free now terms unheld more next room) in
-    let r = general_returns free c.waiting.entries in
-    let one : StepsTo within now next.waiting.entries (free ++ wanted) wanted (asks_at now terms more ++ rest) (if is_same AllGroups a then return_seen now r.due r.early else r) =
-    rw part.entries (stepped within now a (return_seen now) _ _ free (free ++ wanted) wanted (asks_at now terms more ++ rest)
-    (see_one within now a terms (alone_in now terms (unheld a) a c) c.waiting.entries free wanted (asks_at now terms more ++ rest) st)) in
-    let all = sees_all within now terms unheld more next one.left wanted rest room one.stands in
+    let r = general_returns within now free c.waiting.entries in
+    let near_is : SameFrom (is_free_wanted a) (near now c) c.waiting.entries =
+    near_as within now (is_free_wanted a) c within_is (wanted_near within keep now a terms c.waiting.entries free wanted (asks_at now terms more ++ rest) st) in
+    let one : StepsTo within keep now next.waiting.entries (free ++ wanted) wanted (asks_at now terms more ++ rest) (if is_same AllGroups a then return_seen now r.due r.early else r) =
+    rw (part.entries near_is) (stepped within keep now a (return_seen now) _ _ free (free ++ wanted) wanted (asks_at now terms more ++ rest)
+    (see_one within keep now a terms (alone_in now terms (unheld a) a c) c.waiting.entries free wanted (asks_at now terms more ++ rest) st)) in
+    let all = sees_all within keep now terms unheld more next one.left wanted rest (ap (λ (r : Repeats). r.within) part.repeats ∙ within_is) room one.stands in
     record {
       step = record {
         left = all.step.left;
@@ -137,26 +151,29 @@ sees_all within now terms unheld (a ∷ more) c free wanted rest room st =
       };
       phase = all.phase ∙ part.phase;
       last = all.last ∙ part.last;
+      repeats = all.repeats ∙ part.repeats;
     }
 
 -- where there is room at the end, there was at the beginning
 pub all_free : (within : ℕ) (timing : Timing) (now : ℕ) (events : List CheckEvent) (c : CheckingValue) → (check_by_all within timing now events c).waiting.is_full ≡ false → c.waiting.is_full ≡ false
 all_free within timing now [] c free = free
-all_free within timing now (Comes moment ∷ es) c free = sym (settled_full within moment c.waiting) ∙ all_free within timing moment es (settled within moment c) free
+all_free within timing now (Comes moment ∷ es) c free = sym (settled_full c.schedules.repeats.keep moment c.waiting) ∙ all_free within timing moment es (settled moment c) free
 all_free within timing now (Wants terms asked ∷ es) c free = wants_free now terms asked c (all_free within timing now es (fold (with_wanted now terms) c asked) free)
 all_free within timing now (Sees terms unheld asked ∷ es) c free = sees_free now terms unheld asked c (all_free within timing now es (specific_seen now terms unheld asked c) free)
 all_free within timing now (SeesGeneral terms wanted ∷ es) c free = general_free within timing now terms wanted c (all_free within timing now es (general_seen within timing now terms wanted c) free)
 all_free within timing now (LosesRole ∷ es) c free = lost_free within timing now c (all_free within timing now es (role_lost within timing now c) free)
 all_free within timing now (HasRoleAgain ∷ es) c free = returned_free within now c (all_free within timing now es (role_returned within now c) free)
 all_free within timing now (SeesFault number fault ∷ es) c free = (entered _ _ (all_free within timing now es (with_fault now number c fault) free)).was
+all_free within timing now (Blocks asked ∷ es) c free = blocked_free now asked c (all_free within timing now es (all_blocked now asked c) free)
 
 -- What waits at the end, and that no less is missing than was told and is missing still.
-pub record Ended (within : ℕ) (timing : Timing) (end now : ℕ) (events : List CheckEvent) (c : CheckingValue) (missing : List (Finding ℕ)) : Type 0 where
+pub record Ended (within : ℕ) (timing : Timing) (strict : Bool) (end now : ℕ) (events : List CheckEvent) (c : CheckingValue) (missing : List (Finding ℕ)) : Type 0 where
   pub left : List Expected
-  pub stands : Stands within (moment_behind_all now events) (check_by_all within timing now events c).waiting.entries left [] []
+  pub stands : Stands within (kept_for within timing strict) (moment_behind_all now events) (check_by_all within timing now events c).waiting.entries left [] []
   pub missing_is : missing ≡ told_by_all within timing now events c ++ missing_of (left ++ [])
   pub silence : silence_up_to within timing end (check_by_all within timing now events c).phase ≡ None
   pub in_time : moment_behind_all now events ≤ end
+  pub repeats : (check_by_all within timing now events c).schedules.repeats ≡ repeats_in within timing strict
 
 -- what is still to come lies at a moment or later
 asks-from : (now : ℕ) (terms : Terms ℕ) (asked : List (Asked ℕ)) (rest : List Ask) → SeenFrom now rest → SeenFrom now (asks_at now terms asked ++ rest)
@@ -176,6 +193,7 @@ wanted-from now (SeesGeneral terms wanted ∷ es) end order = wanted-from now es
 wanted-from now (LosesRole ∷ es) end order = wanted-from now es end order
 wanted-from now (HasRoleAgain ∷ es) end order = wanted-from now es end order
 wanted-from now (SeesFault number fault ∷ es) end order = wanted-from now es end order
+wanted-from now (Blocks asked ∷ es) end order = wanted-from now es end order
 
 general-from : (is_querier : Bool) (due : List ℕ) (now : ℕ) (terms : Terms ℕ) (rest : List Ask) → SeenFrom now rest → SeenFrom now (general_ask is_querier due now terms ++ rest)
 general-from true [] now terms rest is = is
@@ -191,6 +209,7 @@ seen-from within q r now (SeesGeneral terms wanted ∷ es) end order = general-f
 seen-from within q r now (LosesRole ∷ es) end order = seen-from within false r now es end order
 seen-from within q r now (HasRoleAgain ∷ es) end order = seen-from within true r now es end order
 seen-from within q r now (SeesFault number fault ∷ es) end order = seen-from within q r now es end order
+seen-from within q r now (Blocks asked ∷ es) end order = seen-from within q r now es end order
 
 expected-from : (now : ℕ) (expected : List Expected) (asks : List Ask) → asks_of expected ≡ asks → SeenFrom now asks → WantedFrom now expected
 expected-from now [] asks is from = tt
@@ -221,134 +240,157 @@ no_phase_behind within timing now Returned is = absurd (cc)
 no_phase_behind within timing now NotQuerier is = refl
 
 -- a general query that was seen
-pub record GeneralAll (within : ℕ) (timing : Timing) (now : ℕ) (c after : CheckingValue) (free before wanted : List Expected) (rest : List Ask) (returns : Returns) : Type 0 where
-  pub step : StepsTo within now after.waiting.entries before wanted rest returns
+pub record GeneralAll (within keep : ℕ) (timing : Timing) (now : ℕ) (c after : CheckingValue) (free before wanted : List Expected) (rest : List Ask) (returns : Returns) : Type 0 where
+  pub step : StepsTo within keep now after.waiting.entries before wanted rest returns
   pub phase : after.phase ≡ phase_behind within timing now c.phase
+  pub repeats : after.schedules.repeats ≡ c.schedules.repeats
 
 -- one step about all groups
-general_step : (within now : ℕ) (step : (due early : List ℕ) → Returns) (old entries : List (Entry ℕ)) (free before wanted : List Expected) (seen : List Ask)
-    → Stepped within now AllGroups step old entries free before wanted seen
-    → StepsTo within now entries before wanted seen (step (general_returns free old).due (general_returns free old).early)
-general_step within now step old entries free before wanted seen s = record { left = s.left; stands = s.stands; missing = s.missing; returns_are = s.here }
+general_step : (within keep now : ℕ) (step : (due early : List ℕ) → Returns) (old entries : List (Entry ℕ)) (free before wanted : List Expected) (seen : List Ask)
+    → Stepped within keep now AllGroups step old entries free before wanted seen
+    → StepsTo within keep now entries before wanted seen (step (general_returns within now free old).due (general_returns within now free old).early)
+general_step within keep now step old entries free before wanted seen s = record { left = s.left; stands = s.stands; missing = s.missing; returns_are = s.here }
 
-general_all : (within : ℕ) (timing : Timing) (now : ℕ) (terms partner : Terms ℕ) (c : CheckingValue) (free wanted : List Expected) (rest : List Ask)
-    → wrong_interval within timing now c.phase ≡ None → IsAsWantedThen (is_querier_in c.phase) terms partner
+general_all : (within keep : ℕ) (timing : Timing) (now : ℕ) (terms partner : Terms ℕ) (c : CheckingValue) (free wanted : List Expected) (rest : List Ask)
+    → c.schedules.repeats.within ≡ within → wrong_interval within timing now c.phase ≡ None → IsAsWantedThen (is_querier_in c.phase) terms partner
     → (general_compared within timing now terms partner c).waiting.is_full ≡ false
-    → (let r = general_returns free c.waiting.entries in
-    Stands within now c.waiting.entries free wanted (general_ask (is_querier_in c.phase) r.due now terms ++ rest)
-    → GeneralAll within timing now c (general_compared within timing now terms partner c) free (free ++ wanted) wanted rest (general_returned (is_querier_in c.phase) now r.due r.early))
-general_all within timing now terms partner c free wanted rest in_time alike room st =
-    let r = general_returns free c.waiting.entries in
-    elim (is_querier_in c.phase) as (λ b. is_querier_in c.phase ≡ b → GeneralAll within timing now c (general_compared within timing now terms partner c) free (free ++ wanted) wanted rest (general_returned b now r.due r.early)) [
+    → (let r = general_returns within now free c.waiting.entries in
+    Stands within keep now c.waiting.entries free wanted (general_ask (is_querier_in c.phase) r.due now terms ++ rest)
+    → GeneralAll within keep timing now c (general_compared within timing now terms partner c) free (free ++ wanted) wanted rest (general_returned (is_querier_in c.phase) now r.due r.early))
+general_all within keep timing now terms partner c free wanted rest within_is in_time alike room st =
+    let r = general_returns within now free c.waiting.entries in
+    elim (is_querier_in c.phase) as (λ b. is_querier_in c.phase ≡ b → GeneralAll within keep timing now c (general_compared within timing now terms partner c) free (free ++ wanted) wanted rest (general_returned b now r.due r.early)) [
       | true ↦ λ is.
           let same = compared_querier within timing now terms partner c is in
           let part = general_part within timing now terms partner c in_time (ap (λ (d : CheckingValue). d.waiting.is_full) (sym same) ∙ room) in
-          let before : Stands within now c.waiting.entries free wanted (general_ask true r.due now terms ++ rest) = subst (λ (b : Bool). Stands within now c.waiting.entries free wanted (general_ask b r.due now terms ++ rest)) is st in
+          let before : Stands within keep now c.waiting.entries free wanted (general_ask true r.due now terms ++ rest) = subst (λ (b : Bool). Stands within keep now c.waiting.entries free wanted (general_ask b r.due now terms ++ rest)) is st in
           let fits : terms_differ terms partner ≡ [] = subst (λ (b : Bool). IsAsWantedThen b terms partner) is alike in
-          let one : StepsTo within now (with_general within timing now terms partner c).waiting.entries (free ++ wanted) wanted rest (general_returned true now r.due r.early) =
-          rw part.entries (general_step within now (general_returned true now) _ _ free (free ++ wanted) wanted rest (general_one within now terms partner c.waiting.entries free wanted rest fits before)) in
-          rw same (record { step = one; phase = part.phase })
+          let one : StepsTo within keep now (with_general within timing now terms partner c).waiting.entries (free ++ wanted) wanted rest (general_returned true now r.due r.early) =
+          rw (part.entries, within_is) (general_step within keep now (general_returned true now) _ _ free (free ++ wanted) wanted rest (general_one within keep now terms partner c.waiting.entries free wanted rest fits before)) in
+          rw same (record { step = one; phase = part.phase; repeats = part.repeats })
       | false ↦ λ is.
           let same = compared_other within timing now terms partner c is in
           let part = seen_part now terms None c AllGroups (ap (λ (d : CheckingValue). d.waiting.is_full) (sym same) ∙ room) in
-          let before : Stands within now c.waiting.entries free wanted (ask now AllGroups terms ∷ rest) = subst (λ (b : Bool). Stands within now c.waiting.entries free wanted (general_ask b r.due now terms ++ rest)) is st in
-          let one : StepsTo within now (with_seen now terms None c AllGroups).waiting.entries (free ++ wanted) wanted rest (general_returned false now r.due r.early) =
-          rw part.entries (general_step within now (return_seen now) _ _ free (free ++ wanted) wanted rest (see_one within now AllGroups terms (alone_in now terms None AllGroups c) c.waiting.entries free wanted rest before)) in
-          rw same (record { step = one; phase = part.phase ∙ sym (no_phase_behind within timing now c.phase is) })
+          let before : Stands within keep now c.waiting.entries free wanted (ask now AllGroups terms ∷ rest) = subst (λ (b : Bool). Stands within keep now c.waiting.entries free wanted (general_ask b r.due now terms ++ rest)) is st in
+          let near_is : SameFrom (is_free_wanted AllGroups) (near now c) c.waiting.entries =
+          near_as within now (is_free_wanted AllGroups) c within_is (wanted_near within keep now AllGroups terms c.waiting.entries free wanted rest before) in
+          let one : StepsTo within keep now (with_seen now terms None c AllGroups).waiting.entries (free ++ wanted) wanted rest (general_returned false now r.due r.early) =
+          rw (part.entries near_is) (general_step within keep now (return_seen now) _ _ free (free ++ wanted) wanted rest (see_one within keep now AllGroups terms (alone_in now terms None AllGroups c) c.waiting.entries free wanted rest before)) in
+          rw same (record { step = one; phase = part.phase ∙ sym (no_phase_behind within timing now c.phase is); repeats = part.repeats })
     ] refl
 
 -- one more event before others
-ended_behind : (within : ℕ) (timing : Timing) (end now : ℕ) (e : CheckEvent) (es : List CheckEvent) (c : CheckingValue) (before after : List (Finding ℕ))
-    → before ≡ told_by within e c ++ after → Ended within timing end (moment_behind now e) es (check_by within timing now e c) after → Ended within timing end now (e ∷ es) c before
-ended_behind within timing end now e es c before after told rest = record {
+ended_behind : (within : ℕ) (timing : Timing) (strict : Bool) (end now : ℕ) (e : CheckEvent) (es : List CheckEvent) (c : CheckingValue) (before after : List (Finding ℕ))
+    → before ≡ told_by within e c ++ after → Ended within timing strict end (moment_behind now e) es (check_by within timing now e c) after → Ended within timing strict end now (e ∷ es) c before
+ended_behind within timing strict end now e es c before after told rest = record {
   left = rest.left;
   stands = rest.stands;
   missing_is = told ∙ ap (λ (l : List (Finding ℕ)). told_by within e c ++ l) rest.missing_is ∙ sym (append_assoc (told_by within e c) _ _);
   silence = rest.silence;
   in_time = rest.in_time;
+  repeats = rest.repeats;
 }
 
 -- What waits, whatever is known of the queries to come by other names.
-seen_as : (within now : ℕ) (entries : List (Entry ℕ)) (free wanted : List Expected) (q q' : Bool) (r r' : Returns) (events : List CheckEvent) → q' ≡ q → r' ≡ r
-    → Stands within now entries free wanted (seen_in within q r now events) → Stands within now entries free wanted (seen_in within q' r' now events)
-seen_as within now entries free wanted q q' r r' events same is st =
-    subst (λ (b : Bool). Stands within now entries free wanted (seen_in within b r' now events)) (sym same) (subst (λ (x : Returns). Stands within now entries free wanted (seen_in within q x now events)) (sym is) st)
+seen_as : (within keep now : ℕ) (entries : List (Entry ℕ)) (free wanted : List Expected) (q q' : Bool) (r r' : Returns) (events : List CheckEvent) → q' ≡ q → r' ≡ r
+    → Stands within keep now entries free wanted (seen_in within q r now events) → Stands within keep now entries free wanted (seen_in within q' r' now events)
+seen_as within keep now entries free wanted q q' r r' events same is st =
+    subst (λ (b : Bool). Stands within keep now entries free wanted (seen_in within b r' now events)) (sym same) (subst (λ (x : Returns). Stands within keep now entries free wanted (seen_in within q x now events)) (sym is) st)
 
 time_as : (within : ℕ) (timing : Timing) (phase phase' : Phase) (last last' : Option ℕ) (now : ℕ) (events : List CheckEvent) (end : ℕ) → phase' ≡ phase → last' ≡ last → AreOnTime within timing phase last now events end
     → AreOnTime within timing phase' last' now events end
 time_as within timing phase phase' last last' now events end same is time =
     subst (λ (p : Phase). AreOnTime within timing p last' now events end) (sym same) (subst (λ (l : Option ℕ). AreOnTime within timing phase l now events end) (sym is) time)
 
+-- a query is kept for the tolerance at least
+pub kept-long : (within : ℕ) (timing : Timing) (strict : Bool) → within ≤ kept_for within timing strict
+kept-long within timing true = omega arith
+kept-long within timing false = omega arith
+
 -- What is wanted and what was seen are told at the end, or are pairs.
-pub course : (within : ℕ) (timing : Timing) (end now : ℕ) (events : List CheckEvent) (c : CheckingValue) (free expected : List Expected)
-    → asks_of expected ≡ wanted_in now events → AreMissed within end expected → AreInOrder now events end
+pub course : (within : ℕ) (timing : Timing) (strict : Bool) (end now : ℕ) (events : List CheckEvent) (c : CheckingValue) (free expected : List Expected)
+    → c.schedules.repeats ≡ repeats_in within timing strict → asks_of expected ≡ wanted_in now events → AreMissed (kept_for within timing strict) end expected → AreInOrder now events end
     → AreOnTime within timing c.phase c.last_general now events end → (check_by_all within timing now events c).waiting.is_full ≡ false
-    → Stands within now c.waiting.entries free expected (seen_in within (is_querier_in c.phase) (general_returns free c.waiting.entries) now events)
-    → Ended within timing end now events c (missing_of (free ++ expected))
-course within timing end now [] c free [] asks missed order general room st = record { left = free; stands = st; missing_is = refl; silence = general; in_time = order }
-course within timing end now [] c free (x ∷ xs) asks missed order general room st = absurd (cc)
-course within timing end now (Comes moment ∷ es) c free expected asks missed order general room st =
-    let next = settled within moment c in
+    → Stands within (kept_for within timing strict) now c.waiting.entries free expected (seen_in within (is_querier_in c.phase) (general_returns within now free c.waiting.entries) now events)
+    → Ended within timing strict end now events c (missing_of (free ++ expected))
+course within timing strict end now [] c free [] keeps asks missed order general room st = record { left = free; stands = st; missing_is = refl; silence = general; in_time = order; repeats = keeps }
+course within timing strict end now [] c free (x ∷ xs) keeps asks missed order general room st = absurd (cc)
+course within timing strict end now (Comes moment ∷ es) c free expected keeps asks missed order general room st =
+    let next = settled moment c in
+    let keep = kept_for within timing strict in
+    let keep_is : c.schedules.repeats.keep ≡ keep = ap (λ (r : Repeats). r.keep) keeps in
     let before = all_free within timing now (Comes moment ∷ es) c room in
-    let r = general_returns free c.waiting.entries in
+    let r = general_returns within now free c.waiting.entries in
     let still : Returns = record r { due = still_due within moment r.due } in
     let q = is_querier_in c.phase in
-    let waits : Waits within 0 moment c.waiting.entries free expected (seen_in within q still moment es) = record {
+    let waits : Waits within keep 0 moment c.waiting.entries free expected (seen_in within q still moment es) = record {
       holds = st.holds;
       ascending = ascending-to 0 c.waiting.entries now moment order.0 st.ascending;
       one_side = st.one_side;
       pairs = st.pairs;
     } in
-    let come = comes within 0 moment c.changed c.waiting.entries free expected (seen_in within q still moment es)
-    (expected-from moment expected (wanted_in moment es) asks (wanted-from moment es end order.1)) (seen-from within q still moment es end order.1) waits in
-    let stands : Stands within moment next.waiting.entries come.left expected (seen_in within q still moment es) = rw (settled_free within moment c.waiting before) come.stands in
-    let returns : general_returns come.left next.waiting.entries ≡ still =
-    ap (general_returns come.left) (settled_free within moment c.waiting before) ∙ come.returns AllGroups in
-    ended_behind within timing end now (Comes moment) es c (missing_of (free ++ expected)) (missing_of (come.left ++ expected))
-    (come.missing ∙ ap (λ (l : List (Finding ℕ)). l ++ missing_of (come.left ++ expected)) (sym (told_now within moment c before)))
-    (course within timing end moment es next come.left expected asks missed order.1 general room
-    (seen_as within moment next.waiting.entries come.left expected q q still _ es refl returns stands))
-course within timing end now (Wants terms asked ∷ es) c free expected asks missed order general room st =
+    let come = comes within keep 0 moment c.changed c.waiting.entries free expected (seen_in within q still moment es)
+    (kept-long within timing strict) (expected-from moment expected (wanted_in moment es) asks (wanted-from moment es end order.1)) (seen-from within q still moment es end order.1) waits in
+    let left_is : next.waiting.entries ≡ left_of keep moment c.waiting.entries =
+    settled_free c.schedules.repeats.keep moment c.waiting before ∙ ap (λ (k : ℕ). left_of k moment c.waiting.entries) keep_is in
+    let stands : Stands within keep moment next.waiting.entries come.left expected (seen_in within q still moment es) = rw left_is come.stands in
+    let returns : general_returns within moment come.left next.waiting.entries ≡ still =
+    ap (general_returns within moment come.left) left_is ∙ come.returns AllGroups
+    ∙ (λ i. record { due = sym (still_later within now moment (moments_wanted (wanted_about AllGroups free)) order.0) i; early = r.early }) in
+    ended_behind within timing strict end now (Comes moment) es c (missing_of (free ++ expected)) (missing_of (come.left ++ expected))
+    (come.missing ∙ ap (λ (l : List (Finding ℕ)). l ++ missing_of (come.left ++ expected)) (sym (told_now within moment c before ∙ ap (λ (k : ℕ). told_of k within moment c.changed c.waiting.entries) keep_is)))
+    (course within timing strict end moment es next come.left expected keeps asks missed order.1 general room
+    (seen_as within _ moment next.waiting.entries come.left expected q q still _ es refl returns stands))
+course within timing strict end now (Wants terms asked ∷ es) c free expected keeps asks missed order general room st =
     let next = fold (with_wanted now terms) c asked in
-    let r = general_returns free c.waiting.entries in
-    let all = wants_all within end now terms asked c free expected (seen_in within (is_querier_in c.phase) (all_wanted now asked r) now es) (wanted_in now es) asks missed (all_free within timing now es next room) st in
-    ended_behind within timing end now (Wants terms asked) es c (missing_of (free ++ expected)) (missing_of (all.step.left ++ all.wanted)) all.step.missing
-    (course within timing end now es next all.step.left all.wanted all.asks all.missed order
+    let r = general_returns within now free c.waiting.entries in
+    let all = wants_all within (kept_for within timing strict) end now terms asked c free expected (seen_in within (is_querier_in c.phase) (all_wanted now asked r) now es) (wanted_in now es) (ap (λ (r : Repeats). r.within) keeps) asks missed (all_free within timing now es next room) st in
+    ended_behind within timing strict end now (Wants terms asked) es c (missing_of (free ++ expected)) (missing_of (all.step.left ++ all.wanted)) all.step.missing
+    (course within timing strict end now es next all.step.left all.wanted (all.repeats ∙ keeps) all.asks all.missed order
     (time_as within timing c.phase next.phase c.last_general next.last_general now es end all.phase all.last general) room
-    (seen_as within now next.waiting.entries all.step.left all.wanted (is_querier_in c.phase) _ (all_wanted now asked r) _ es (ap is_querier_in all.phase) all.step.returns_are all.step.stands))
-course within timing end now (Sees terms unheld asked ∷ es) c free expected asks missed order general room st =
+    (seen_as within _ now next.waiting.entries all.step.left all.wanted (is_querier_in c.phase) _ (all_wanted now asked r) _ es (ap is_querier_in all.phase) all.step.returns_are all.step.stands))
+course within timing strict end now (Sees terms unheld asked ∷ es) c free expected keeps asks missed order general room st =
     let next = specific_seen now terms unheld asked c in
-    let r = general_returns free c.waiting.entries in
-    let all = sees_all within now terms unheld asked c free expected (seen_in within (is_querier_in c.phase) (all_seen now asked r) now es) (all_free within timing now es next room) st in
-    ended_behind within timing end now (Sees terms unheld asked) es c (missing_of (free ++ expected)) (missing_of (all.step.left ++ expected)) all.step.missing
-    (course within timing end now es next all.step.left expected asks missed order
+    let r = general_returns within now free c.waiting.entries in
+    let all = sees_all within (kept_for within timing strict) now terms unheld asked c free expected (seen_in within (is_querier_in c.phase) (all_seen now asked r) now es) (ap (λ (r : Repeats). r.within) keeps) (all_free within timing now es next room) st in
+    ended_behind within timing strict end now (Sees terms unheld asked) es c (missing_of (free ++ expected)) (missing_of (all.step.left ++ expected)) all.step.missing
+    (course within timing strict end now es next all.step.left expected (all.repeats ∙ keeps) asks missed order
     (time_as within timing c.phase next.phase c.last_general next.last_general now es end all.phase all.last general) room
-    (seen_as within now next.waiting.entries all.step.left expected (is_querier_in c.phase) _ (all_seen now asked r) _ es (ap is_querier_in all.phase) all.step.returns_are all.step.stands))
-course within timing end now (SeesGeneral terms partner ∷ es) c free expected asks missed order general room st =
+    (seen_as within _ now next.waiting.entries all.step.left expected (is_querier_in c.phase) _ (all_seen now asked r) _ es (ap is_querier_in all.phase) all.step.returns_are all.step.stands))
+course within timing strict end now (SeesGeneral terms partner ∷ es) c free expected keeps asks missed order general room st =
     let next = general_seen within timing now terms partner c in
-    let r = general_returns free c.waiting.entries in
+    let r = general_returns within now free c.waiting.entries in
     let q = is_querier_in c.phase in
-    let all = general_all within timing now terms partner c free expected (seen_in within q (general_returned q now r.due r.early) now es) general.0 general.1 (all_free within timing now es next room) st in
-    ended_behind within timing end now (SeesGeneral terms partner) es c (missing_of (free ++ expected)) (missing_of (all.step.left ++ expected)) all.step.missing
-    (course within timing end now es next all.step.left expected asks missed order
+    let all = general_all within (kept_for within timing strict) timing now terms partner c free expected (seen_in within q (general_returned q now r.due r.early) now es) (ap (λ (r : Repeats). r.within) keeps) general.0 general.1 (all_free within timing now es next room) st in
+    ended_behind within timing strict end now (SeesGeneral terms partner) es c (missing_of (free ++ expected)) (missing_of (all.step.left ++ expected)) all.step.missing
+    (course within timing strict end now es next all.step.left expected (all.repeats ∙ keeps) asks missed order
     (time_as within timing _ next.phase _ next.last_general now es end all.phase refl general.2) room
-    (seen_as within now next.waiting.entries all.step.left expected q _ (general_returned q now r.due r.early) _ es (ap is_querier_in all.phase ∙ querier_behind within timing now c.phase) all.step.returns_are all.step.stands))
-course within timing end now (LosesRole ∷ es) c free expected asks missed order general room st =
+    (seen_as within _ now next.waiting.entries all.step.left expected q _ (general_returned q now r.due r.early) _ es (ap is_querier_in all.phase ∙ querier_behind within timing now c.phase) all.step.returns_are all.step.stands))
+course within timing strict end now (LosesRole ∷ es) c free expected keeps asks missed order general room st =
     let next = role_lost within timing now c in
     let part = lost_part within timing now c general.0 in
-    let r = general_returns free c.waiting.entries in
+    let r = general_returns within now free c.waiting.entries in
     let entries = ap (λ (w : WaitingValue). w.entries) part.waiting in
-    ended_behind within timing end now LosesRole es c (missing_of (free ++ expected)) (missing_of (free ++ expected)) refl
-    (course within timing end now es next free expected asks missed order
+    ended_behind within timing strict end now LosesRole es c (missing_of (free ++ expected)) (missing_of (free ++ expected)) refl
+    (course within timing strict end now es next free expected (part.repeats ∙ keeps) asks missed order
     (time_as within timing NotQuerier next.phase c.last_general next.last_general now es end part.phase part.last general.1) room
-    (seen_as within now next.waiting.entries free expected false _ r _ es (ap is_querier_in part.phase) (ap (general_returns free) entries) (rw entries st)))
-course within timing end now (HasRoleAgain ∷ es) c free expected asks missed order general room st =
+    (seen_as within _ now next.waiting.entries free expected false _ r _ es (ap is_querier_in part.phase) (ap (general_returns within now free) entries) (rw entries st)))
+course within timing strict end now (HasRoleAgain ∷ es) c free expected keeps asks missed order general room st =
     let next = role_returned within now c in
     let part = returned_part within now c in
-    let r = general_returns free c.waiting.entries in
+    let r = general_returns within now free c.waiting.entries in
     let entries = ap (λ (w : WaitingValue). w.entries) part.waiting in
-    ended_behind within timing end now HasRoleAgain es c (missing_of (free ++ expected)) (missing_of (free ++ expected)) refl
-    (course within timing end now es next free expected asks missed order
+    ended_behind within timing strict end now HasRoleAgain es c (missing_of (free ++ expected)) (missing_of (free ++ expected)) refl
+    (course within timing strict end now es next free expected (part.repeats ∙ keeps) asks missed order
     (time_as within timing (phase_again within now c.last_general) next.phase c.last_general next.last_general now es end part.phase part.last general) room
-    (seen_as within now next.waiting.entries free expected true _ r _ es (ap is_querier_in part.phase ∙ querier_again within now c.last_general) (ap (general_returns free) entries) (rw entries st)))
-course within timing end now (SeesFault number fault ∷ es) c free expected asks missed order general room st = absurd general
+    (seen_as within _ now next.waiting.entries free expected true _ r _ es (ap is_querier_in part.phase ∙ querier_again within now c.last_general) (ap (general_returns within now free) entries) (rw entries st)))
+course within timing strict end now (SeesFault number fault ∷ es) c free expected keeps asks missed order general room st = absurd general
+course within timing strict end now (Blocks asked ∷ es) c free expected keeps asks missed order general room st =
+    let next = all_blocked now asked c in
+    let part = blocked_part now asked c in
+    let r = general_returns within now free c.waiting.entries in
+    let entries = ap (λ (w : WaitingValue). w.entries) part.waiting in
+    ended_behind within timing strict end now (Blocks asked) es c (missing_of (free ++ expected)) (missing_of (free ++ expected)) refl
+    (course within timing strict end now es next free expected (part.repeats ∙ keeps) asks missed order
+    (time_as within timing c.phase next.phase c.last_general next.last_general now es end part.phase part.last general) room
+    (seen_as within _ now next.waiting.entries free expected (is_querier_in c.phase) _ r _ es (ap is_querier_in part.phase) (ap (general_returns within now free) entries) (rw entries st)))

@@ -22,12 +22,13 @@ use Rattle.mq_check.specs.declared.basis.Basis.{Basis}
 use Rattle.mq_check.specs.declared.finding.Finding.{Finding}
 use Rattle.mq_check.specs.declared.headers.HeaderFault.{HeaderFault}
 use Rattle.mq_check.specs.Basis as basis
+use Rattle.mq_check.specs.Blocked.{blocked_in}
 use Rattle.mq_check.specs.Check.{Checked, Outcome, behind, quiet, settled_at, ticked, ticked_within, ticked_through, received, seen_at, seen_or_received, with_datagram, with_faults, with_packet, destination_in, faults_in, noted}
-use Rattle.mq_check.specs.Checking.{CheckingValue, counted_up, told, settled, faults_seen, with_fault, with_message, with_messages, query_wanted, role_after_tick, role_changed, query_came}
+use Rattle.mq_check.specs.Checking.{CheckingValue, all_blocked, counted_up, told, settled, faults_seen, with_fault, with_message, with_messages, query_wanted, role_after_tick, role_changed, query_came}
 use Rattle.mq_check.specs.Queries.{is_general, query_sent, query_seen}
 use Rattle.mq_check.proofs.Steppings.{none_within, one_within}
 use Rattle.mq_laws.specs.Captures.{Passage, nothing_happens, happening_behind, wanted_for, wanted_of, wanted_by, role_by_tick, role_by_datagram, tick_passage, ticks_passage, ticks_through, event_of, fault_events, datagram_passage, frame_passage, packet_passage}
-use Rattle.mq_laws.specs.Events.{CheckEvent, Comes, moment_behind, check_by, told_by, moment_behind_all, check_by_all, told_by_all}
+use Rattle.mq_laws.specs.Events.{CheckEvent, Comes, Blocks, moment_behind, check_by, told_by, moment_behind_all, check_by_all, told_by_all}
 
 -- events one after the other
 check_by-append : (within : ℕ) (timing : Timing) (now : ℕ) (xs ys : List CheckEvent) (c : CheckingValue)
@@ -111,7 +112,7 @@ pub record Follows (within : ℕ) (timing : Timing) (p : Passage) (r : Checked) 
 
 -- a moment comes, and then what happens at it
 follows-still : (within : ℕ) (timing : Timing) (moment packets : ℕ) (link : LinkState) (events : List CheckEvent) (r after : Checked)
-    → after.link ≡ link → after.basis.packets ≡ packets → IsStill within timing moment events (settled within moment r.checking) after.checking
+    → after.link ≡ link → after.basis.packets ≡ packets → IsStill within timing moment events (settled moment r.checking) after.checking
     → Follows within timing (record { link = link; packets = packets; events = Comes moment ∷ events }) r (record { checked = after; found = told within moment r.checking })
 follows-still within timing moment packets link events r after is counts still = record {
   link = is;
@@ -179,14 +180,14 @@ frame_packets family link frame content None b = without_packets link frame cont
 
 -- a tick
 follows-tick : (config : Configuration) (within moment : ℕ) (r : Checked)
-    → Follows within config.timing (tick_passage config moment r.basis.packets r.link) r (record { checked = ticked config within moment (settled_at within moment r); found = told within moment r.checking })
+    → Follows within config.timing (tick_passage config moment r.basis.packets r.link) r (record { checked = ticked config within moment (settled_at moment r); found = told within moment r.checking })
 unfolding ticked
 follows-tick config within moment r =
     let step = tick_of config moment r.link in
     let was = is_querier r.link.election.role in
-    let c = settled within moment r.checking in
+    let c = settled moment r.checking in
     let wanted = with_messages config.family config.own moment r.basis.packets (not was) (outgoing_of config step) c in
-    follows-still within config.timing moment _ _ (wanted_by config r.basis.packets r.link step ++ role_by_tick was (is_querier step.state.election.role)) r (ticked config within moment (settled_at within moment r)) refl
+    follows-still within config.timing moment _ _ (wanted_by config r.basis.packets r.link step ++ role_by_tick was (is_querier step.state.election.role)) r (ticked config within moment (settled_at moment r)) refl
     (tick_packets moment was (is_querier step.state.election.role) r.basis)
     (still-append within config.timing moment (wanted_by config r.basis.packets r.link step) (role_by_tick was (is_querier step.state.election.role)) c wanted _
     (still-messages within config moment r.basis.packets (not was) (outgoing_of config step) c) (still-tick within config.timing moment was (is_querier step.state.election.role) wanted))
@@ -213,7 +214,7 @@ follows-ticks (suc most) config within limit r =
       | true ↦ λ due.
           let before = ltb-true (next_of r.link) limit due in
           let one = follows-tick config within (next_of r.link) r in
-          let next = ticked config within (next_of r.link) (settled_at within (next_of r.link) r) in
+          let next = ticked config within (next_of r.link) (settled_at (next_of r.link) r) in
           follows-as within config.timing _ _ r _ _ (one_passes most config limit r.basis.packets r.link before) (one_within most config within limit r before)
           (follows-behind within config.timing (tick_passage config (next_of r.link) r.basis.packets r.link) _ r _ _ one
           (subst (λ (n : ℕ). Follows within config.timing (ticks_passage most config limit n (tick_passage config (next_of r.link) r.basis.packets r.link).link) next (ticked_within most config within limit next)) one.packets
@@ -237,27 +238,30 @@ still-came within config link moment packets to query c =
 -- any other datagram, or a query of the querier
 follows-datagram : (config : Configuration) (within moment number to : ℕ) (datagram : Datagram) (query : Option (Query ℕ)) (faults : List HeaderFault) (r : Checked)
     → Follows within config.timing (datagram_passage config moment to datagram query (fault_events number faults) r.basis.packets r.link) r
-    (record { checked = seen_or_received config within moment to datagram query (with_faults moment number faults (settled_at within moment r)); found = told within moment r.checking })
+    (record { checked = seen_or_received config within moment to datagram query (with_faults moment number faults (settled_at moment r)); found = told within moment r.checking })
 unfolding received seen_at
 follows-datagram config within moment number to datagram (Some query) faults r =
-    let begun = settled within moment r.checking in
+    let begun = settled moment r.checking in
     let c = faults_seen moment number faults begun in
     let event = event_of config r.link r.basis.packets to query in
-    follows-still within config.timing moment r.basis.packets r.link (fault_events number faults ++ event ∷ []) r (seen_at config within moment to query (with_faults moment number faults (settled_at within moment r))) refl refl
+    follows-still within config.timing moment r.basis.packets r.link (fault_events number faults ++ event ∷ []) r (seen_at config within moment to query (with_faults moment number faults (settled_at moment r))) refl refl
     (still-append within config.timing moment (fault_events number faults) (event ∷ []) begun c _ (still-faults within config.timing moment number faults begun)
     (still-came within config r.link moment r.basis.packets to query c))
 follows-datagram config within moment number to datagram None faults r =
     let step = (receipt_of config datagram.envelope datagram.body moment r.link).step in
     let was = is_querier r.link.election.role in
-    let begun = settled within moment r.checking in
+    let begun = settled moment r.checking in
     let c = faults_seen moment number faults begun in
-    let wanted = with_messages config.family config.own moment r.basis.packets (not was) (outgoing_of config step) c in
+    let blocked = blocked_in config.family datagram in
+    let noted = all_blocked moment blocked c in
+    let wanted = with_messages config.family config.own moment r.basis.packets (not was) (outgoing_of config step) noted in
     let rest = wanted_by config r.basis.packets r.link step ++ role_by_datagram was (is_querier step.state.election.role) in
-    follows-still within config.timing moment _ _ (fault_events number faults ++ rest) r (received config within moment datagram (with_faults moment number faults (settled_at within moment r))) refl
+    follows-still within config.timing moment _ _ (fault_events number faults ++ Blocks blocked ∷ rest) r (received config within moment datagram (with_faults moment number faults (settled_at moment r))) refl
     (other_packets config.family step.state.election.role _ ∙ role_packets moment was (is_querier step.state.election.role) r.basis)
-    (still-append within config.timing moment (fault_events number faults) rest begun c _ (still-faults within config.timing moment number faults begun)
-    (still-append within config.timing moment (wanted_by config r.basis.packets r.link step) (role_by_datagram was (is_querier step.state.election.role)) c wanted _
-    (still-messages within config moment r.basis.packets (not was) (outgoing_of config step) c) (still-datagram within config.timing moment was (is_querier step.state.election.role) wanted)))
+    (still-append within config.timing moment (fault_events number faults) (Blocks blocked ∷ rest) begun c _ (still-faults within config.timing moment number faults begun)
+    (still-append within config.timing moment (Blocks blocked ∷ []) rest c noted _ (record { check = refl; told = refl; moment = refl })
+    (still-append within config.timing moment (wanted_by config r.basis.packets r.link step) (role_by_datagram was (is_querier step.state.election.role)) noted wanted _
+    (still-messages within config moment r.basis.packets (not was) (outgoing_of config step) noted) (still-datagram within config.timing moment was (is_querier step.state.election.role) wanted))))
 
 follows-frame : (config : Configuration) (link : LinkType) (within moment number : ℕ) (frame : List ℕ) (datagram : Option Datagram) (r : Checked)
     → Follows within config.timing (frame_passage config link moment number frame datagram r.basis.packets r.link) r (with_datagram config link within moment number frame datagram r)

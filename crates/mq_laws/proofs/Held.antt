@@ -1,7 +1,8 @@
 -- What waits in the midst of a check whose queries pair up.
 use Rattle.std.proofs.Common.{◌≡◌, ℕ, ◌+◌, ◌≤◌, Bool, true, false, List, [], ◌∷◌, ◌++◌, refl, ap, sym, ◌∙◌, arith}
-use Rattle.std.specs.Prelude.{None, Some, ⊤}
+use Rattle.std.specs.Prelude.{None, Some, ⊤, nat_lt}
 use Rattle.std.specs.List.{AllByRecursion}
+use Rattle.std.proofs.lemmas.Bool.{le-ltb, lt-ltb, ltb-true}
 use Rattle.mq_check.specs.declared.asked.Asked.{Asked}
 use Rattle.mq_check.specs.declared.entry.Entry.{Entry}
 use Rattle.mq_check.specs.declared.entry.Entry.TheVariants.{Wanted, Seen, Interval, Silence, Packet}
@@ -9,6 +10,7 @@ use Rattle.mq_check.specs.declared.terms.Terms.{Terms}
 use Rattle.mq_check.specs.Entries.{moment_of, terms_in, joined, first_terms, first_joined, terms_differ}
 use Rattle.mq_check.specs.Queries.{is_same}
 use Rattle.mq_laws.specs.Pairing.{Ask, Expected, Sent, LeftOut, ask_of, seen_about, wanted_about}
+use Rattle.mq_laws.specs.WantedAndSeen.{still_due}
 
 abbrev pub ask : (moment : ℕ) → Asked ℕ → Terms ℕ → Ask
 ask moment asked terms = record { moment = moment; asked = asked; terms = terms }
@@ -145,3 +147,53 @@ none_over-put within now (d ∷ es) e at is = (is.0, none_over-put within now es
 pub none_over-ascending : (within now low : ℕ) (es : List (Entry ℕ)) (last : ℕ) → now ≤ low + within → IsAscending low es last → NoneOver within now es
 none_over-ascending within now low [] last ahead is = tt
 none_over-ascending within now low (e ∷ es) last ahead is = (omega arith, none_over-ascending within now (moment_of e) es last (omega arith) is.1)
+
+-- the moments of the queries about a thing that wait without a partner
+abbrev pub moments_wanted : List Expected → List ℕ
+moments_wanted [] = []
+moments_wanted (x ∷ xs) = (ask_of x).moment ∷ moments_wanted xs
+
+-- wanted queries that are still due at a moment
+abbrev pub AllStill : (within moment : ℕ) → List Expected → Type 0
+AllStill within moment xs = AllByRecursion (λ (x : Expected). moment ≤ (ask_of x).moment + within) xs
+
+pub ahead-holds : (within moment : ℕ) (es : List (Entry ℕ)) (xs : List Expected) → Holds es xs → NoneOver within moment es → AllStill within moment xs
+ahead-holds within moment [] [] holds ahead = tt
+ahead-holds within moment [] (x ∷ xs) holds ahead = absurd holds
+ahead-holds within moment (Wanted m a t o true ∷ es) xs holds ahead = ahead-holds within moment es xs holds ahead.1
+ahead-holds within moment (Wanted m a t o false ∷ es) [] holds ahead = absurd holds
+ahead-holds within moment (Wanted m a t o false ∷ es) (x ∷ xs) holds ahead = (rw (kept_ask m a t o x holds.0) ahead.0, ahead-holds within moment es xs holds.1 ahead.1)
+ahead-holds within moment (Seen m a t None q ∷ es) xs holds ahead = ahead-holds within moment es xs holds ahead.1
+ahead-holds within moment (Seen m a t (Some w) q ∷ es) xs holds ahead = ahead-holds within moment es xs holds.1 ahead.1
+ahead-holds within moment (Interval m n a w ∷ es) xs holds ahead = absurd holds
+ahead-holds within moment (Silence m a w ∷ es) xs holds ahead = absurd holds
+ahead-holds within moment (Packet m number fault ∷ es) xs holds ahead = absurd holds
+
+pub ahead-about : (within moment : ℕ) (asked : Asked ℕ) (xs : List Expected) → AllStill within moment xs → AllStill within moment (wanted_about asked xs)
+ahead-about within moment asked [] is = is
+ahead-about within moment asked (x ∷ xs) is = one (ahead-about within moment asked xs is.1) (is_same asked (ask_of x).asked) refl
+  where
+    one : AllStill within moment (wanted_about asked xs) → (b : Bool) → is_same asked (ask_of x).asked ≡ b → AllStill within moment (wanted_about asked (x ∷ xs))
+    one rest true same = rw (wanted_here asked x xs same) (is.0, rest)
+    one rest false differs = rw (wanted_other asked x xs differs) rest
+
+pub all_still : (within moment : ℕ) (xs : List Expected) → AllStill within moment xs → still_due within moment (moments_wanted xs) ≡ moments_wanted xs
+all_still within moment [] is = refl
+all_still within moment (x ∷ xs) is = let ahead = le-ltb ((ask_of x).moment + within) moment is.0 in rw ahead refl
+
+pub still_put : (within now : ℕ) (ds : List ℕ) → still_due within now (ds ++ now ∷ []) ≡ still_due within now ds ++ now ∷ []
+still_put within now [] = let ahead = le-ltb (now + within) now (omega arith) in rw ahead refl
+still_put within now (d ∷ ds) = one (still_put within now ds) (nat_lt (d + within) now) refl
+  where
+    one : still_due within now (ds ++ now ∷ []) ≡ still_due within now ds ++ now ∷ [] → (b : Bool) → nat_lt (d + within) now ≡ b → still_due within now (d ∷ ds ++ now ∷ []) ≡ still_due within now (d ∷ ds) ++ now ∷ []
+    one rest true over = rw over rest
+    one rest false ahead = rw ahead refl
+
+-- those that are due at a later moment
+pub still_later : (within now later : ℕ) (ds : List ℕ) → now ≤ later → still_due within later (still_due within now ds) ≡ still_due within later ds
+still_later within now later [] before = refl
+still_later within now later (d ∷ ds) before = one (still_later within now later ds before) (nat_lt (d + within) now) refl
+  where
+    one : still_due within later (still_due within now ds) ≡ still_due within later ds → (b : Bool) → nat_lt (d + within) now ≡ b → still_due within later (still_due within now (d ∷ ds)) ≡ still_due within later (d ∷ ds)
+    one rest true over = let past = ltb-true (d + within) now over in let gone : nat_lt (d + within) later ≡ true = lt-ltb (d + within) later (omega arith) in rw (over, gone) rest
+    one rest false ahead = rw ahead refl

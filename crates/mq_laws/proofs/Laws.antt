@@ -2,7 +2,7 @@
 use Rattle.std.proofs.Common.{◌≡◌, ℕ, Bool, List, [], ◌++◌, sym, ◌∙◌}
 use Rattle.mq_table.specs.declared.timing.Timing.{Timing}
 use Rattle.mq_check.specs.declared.finding.Finding.{Finding}
-use Rattle.mq_laws.specs.Pairing.{Ask, all_sent, sent_but, seen_about}
+use Rattle.mq_laws.specs.Pairing.{Ask, all_sent, kept_for, sent_but, seen_about}
 use Rattle.mq_laws.specs.Events.{CheckEvent, HasRoom, found_by}
 use Rattle.mq_laws.specs.OnTime.{AreAhead, AreInOrder, IsOnTime}
 use Rattle.mq_laws.specs.AsWanted.{IsAsWanted, AreSeen, AreSeenWithin, TakesOut, all_missing}
@@ -11,31 +11,31 @@ use Rattle.mq_laws.specs.Verdicts.{CheckedCapture, Tells, TellsWhatHappened, ahe
 use Rattle.mq_laws.proofs.Found.{found_is}
 use Rattle.mq_laws.proofs.Moved.{moved-self, all_pair_up, all_but_some_pair_up, asks_of-sent, asks_of-sent_but, missing_of-sent, missing_of-sent_but, missed-sent, missed-sent_but}
 
-pub moved_are_found : (within : ℕ) (timing : Timing) (end : ℕ) (events : List CheckEvent) → IsOnTime within timing end events → AreSeenWithin within (wanted_in 0 events) events
-    → IsAsWanted within timing end (all_sent (wanted_in 0 events)) events
-moved_are_found within timing end events on_time are = record {
+pub moved_are_found : (within : ℕ) (timing : Timing) (strict : Bool) (end : ℕ) (events : List CheckEvent) → IsOnTime within timing end events → AreSeenWithin within (wanted_in 0 events) events
+    → IsAsWanted within timing strict end (all_sent (wanted_in 0 events)) events
+moved_are_found within timing strict end events on_time are = record {
   on_time = on_time;
   wanted = asks_of-sent (wanted_in 0 events);
-  pairs = all_pair_up within (wanted_in 0 events) (all_seen_in within events) are;
-  missed = missed-sent within end (wanted_in 0 events);
+  pairs = all_pair_up within (kept_for within timing strict) (wanted_in 0 events) (all_seen_in within events) are;
+  missed = missed-sent (kept_for within timing strict) end (wanted_in 0 events);
 }
 
 pub none_of_moved : (within : ℕ) (timing : Timing) (strict : Bool) (end : ℕ) (events ahead : List CheckEvent) → AreInOrder 0 events end → AreAhead within end ahead → IsOnTime within timing end events → HasRoom within timing strict end events ahead
     → AreSeenWithin within (wanted_in 0 events) events → found_by within timing strict end events ahead ≡ []
 none_of_moved within timing strict end events ahead order after on_time room are =
-    found_is within timing strict end (all_sent (wanted_in 0 events)) events ahead order after (moved_are_found within timing end events on_time are) room ∙ missing_of-sent (wanted_in 0 events)
+    found_is within timing strict end (all_sent (wanted_in 0 events)) events ahead order after (moved_are_found within timing strict end events on_time are) room ∙ missing_of-sent (wanted_in 0 events)
 
 pub seen_are_moved : (within : ℕ) (asks : List Ask) (events : List CheckEvent) → AreSeen within asks events → AreSeenWithin within asks events
 seen_are_moved within asks events are asked = rw (are asked) (moved-self within (seen_about asked asks))
 
 pub taken_are_missing : (within : ℕ) (timing : Timing) (strict : Bool) (end : ℕ) (events ahead : List CheckEvent) (before taken behind : List Ask) → AreInOrder 0 events end → AreAhead within end ahead → IsOnTime within timing end events → HasRoom within timing strict end events ahead
-    → wanted_in 0 events ≡ before ++ taken ++ behind → TakesOut within end taken behind → AreSeen within (before ++ behind) events → found_by within timing strict end events ahead ≡ all_missing taken
+    → wanted_in 0 events ≡ before ++ taken ++ behind → TakesOut (kept_for within timing strict) end taken behind → AreSeen within (before ++ behind) events → found_by within timing strict end events ahead ≡ all_missing taken
 taken_are_missing within timing strict end events ahead before taken behind order after on_time room wanted out are =
     found_is within timing strict end (sent_but before taken behind) events ahead order after (record {
       on_time = on_time;
       wanted = asks_of-sent_but before taken behind ∙ sym wanted;
-      pairs = all_but_some_pair_up within end before taken behind (all_seen_in within events) are out;
-      missed = missed-sent_but within end before taken behind out;
+      pairs = all_but_some_pair_up within (kept_for within timing strict) end before taken behind (all_seen_in within events) are out;
+      missed = missed-sent_but (kept_for within timing strict) end before taken behind out;
     }) room
     ∙ missing_of-sent_but before taken behind
 

@@ -63,27 +63,27 @@ sent_about asked (w ∷ ws) = one (sent_about asked ws) (is_same asked w.asked) 
     one rest true is = wanted_here asked (Sent w) (all_sent ws) is ∙ ap (λ (l : List Expected). Sent w ∷ l) rest ∙ ap all_sent (sym (seen_here asked w ws is))
     one rest false is = wanted_other asked (Sent w) (all_sent ws) is ∙ rest ∙ ap all_sent (sym (seen_other asked w ws is))
 
-pairs_moved : (within : ℕ) (ws ss : List Ask) → AreMoved within ws ss → PairUp within (all_sent ws) ss
-pairs_moved within [] [] are = tt
-pairs_moved within [] (s ∷ ss) are = absurd are
-pairs_moved within (w ∷ ws) [] are = absurd are
-pairs_moved within (w ∷ ws) (s ∷ ss) are = (answers_moved within w s are.0, pairs_moved within ws ss are.1)
+pairs_moved : (within kept : ℕ) (ws ss : List Ask) → AreMoved within ws ss → PairUp within kept (all_sent ws) ss
+pairs_moved within kept [] [] are = tt
+pairs_moved within kept [] (s ∷ ss) are = absurd are
+pairs_moved within kept (w ∷ ws) [] are = absurd are
+pairs_moved within kept (w ∷ ws) (s ∷ ss) are = (answers_moved within w s are.0, pairs_moved within kept ws ss are.1)
 
-pub all_pair_up : (within : ℕ) (wanted seen : List Ask) → ((asked : Asked ℕ) → AreMoved within (seen_about asked wanted) (seen_about asked seen))
-    → (asked : Asked ℕ) → PairUp within (wanted_about asked (all_sent wanted)) (seen_about asked seen)
-all_pair_up within wanted seen are asked = rw (sent_about asked wanted) (pairs_moved within (seen_about asked wanted) (seen_about asked seen) (are asked))
+pub all_pair_up : (within kept : ℕ) (wanted seen : List Ask) → ((asked : Asked ℕ) → AreMoved within (seen_about asked wanted) (seen_about asked seen))
+    → (asked : Asked ℕ) → PairUp within kept (wanted_about asked (all_sent wanted)) (seen_about asked seen)
+all_pair_up within kept wanted seen are asked = rw (sent_about asked wanted) (pairs_moved within kept (seen_about asked wanted) (seen_about asked seen) (are asked))
 
 -- all but some of those about one thing
-abbrev AllLaterThan : (within : ℕ) → (taken behind : List Ask) → Type 0
-AllLaterThan within taken behind = AllByRecursion (λ (ask : Ask). AllLater (ask.moment + within) behind) taken
+abbrev AllLaterThan : (kept : ℕ) → (taken behind : List Ask) → Type 0
+AllLaterThan kept taken behind = AllByRecursion (λ (ask : Ask). AllLater (ask.moment + kept) behind) taken
 
-pairs_behind : (within : ℕ) (taken behind : List Ask) → AllLaterThan within taken behind → PairUp within (all_left_out taken ++ all_sent behind) behind
-pairs_behind within [] behind later = pairs_moved within behind behind (moved-self within behind)
-pairs_behind within (ask ∷ taken) behind later = (later.0, pairs_behind within taken behind later.1)
+pairs_behind : (within kept : ℕ) (taken behind : List Ask) → AllLaterThan kept taken behind → PairUp within kept (all_left_out taken ++ all_sent behind) behind
+pairs_behind within kept [] behind later = pairs_moved within kept behind behind (moved-self within behind)
+pairs_behind within kept (ask ∷ taken) behind later = (later.0, pairs_behind within kept taken behind later.1)
 
-pairs_but : (within : ℕ) (before taken behind : List Ask) → AllLaterThan within taken behind → PairUp within (all_sent before ++ (all_left_out taken ++ all_sent behind)) (before ++ behind)
-pairs_but within [] taken behind later = pairs_behind within taken behind later
-pairs_but within (w ∷ before) taken behind later = (answers_moved within w w (moved_none within w), pairs_but within before taken behind later)
+pairs_but : (within kept : ℕ) (before taken behind : List Ask) → AllLaterThan kept taken behind → PairUp within kept (all_sent before ++ (all_left_out taken ++ all_sent behind)) (before ++ behind)
+pairs_but within kept [] taken behind later = pairs_behind within kept taken behind later
+pairs_but within kept (w ∷ before) taken behind later = (answers_moved within w w (moved_none within w), pairs_but within kept before taken behind later)
 
 left_out_about : (asked : Asked ℕ) (ws : List Ask) → wanted_about asked (all_left_out ws) ≡ all_left_out (seen_about asked ws)
 left_out_about asked [] = refl
@@ -101,21 +101,21 @@ sent_but_about asked before taken behind =
     ∙ (λ i. (sent_about asked before i ++ left_out_about asked taken i) ++ sent_about asked behind i)
     ∙ append_assoc (all_sent (seen_about asked before)) (all_left_out (seen_about asked taken)) (all_sent (seen_about asked behind))
 
--- of those about one thing each is taken out more than the tolerance before the next
-later_about : (within end : ℕ) (asked : Asked ℕ) (taken behind : List Ask) → TakesOut within end taken behind → AllLaterThan within (seen_about asked taken) (seen_about asked behind)
-later_about within end asked [] behind out = tt
-later_about within end asked (ask ∷ taken) behind out = one (later_about within end asked taken behind out.2) (is_same asked ask.asked) refl
+-- of those about one thing each is taken out longer before the next than it is kept
+later_about : (kept end : ℕ) (asked : Asked ℕ) (taken behind : List Ask) → TakesOut kept end taken behind → AllLaterThan kept (seen_about asked taken) (seen_about asked behind)
+later_about kept end asked [] behind out = tt
+later_about kept end asked (ask ∷ taken) behind out = one (later_about kept end asked taken behind out.2) (is_same asked ask.asked) refl
   where
-    one : AllLaterThan within (seen_about asked taken) (seen_about asked behind) → (b : Bool) → is_same asked ask.asked ≡ b → AllLaterThan within (seen_about asked (ask ∷ taken)) (seen_about asked behind)
-    one rest true is = rw (seen_here asked ask taken is) (subst (λ (a : Asked ℕ). AllLater (ask.moment + within) (seen_about a behind)) (sym (same_asked asked ask.asked is)) out.1, rest)
+    one : AllLaterThan kept (seen_about asked taken) (seen_about asked behind) → (b : Bool) → is_same asked ask.asked ≡ b → AllLaterThan kept (seen_about asked (ask ∷ taken)) (seen_about asked behind)
+    one rest true is = rw (seen_here asked ask taken is) (subst (λ (a : Asked ℕ). AllLater (ask.moment + kept) (seen_about a behind)) (sym (same_asked asked ask.asked is)) out.1, rest)
     one rest false is = rw (seen_other asked ask taken is) rest
 
-pub all_but_some_pair_up : (within end : ℕ) (before taken behind seen : List Ask)
-    → ((asked : Asked ℕ) → seen_about asked seen ≡ seen_about asked (before ++ behind)) → TakesOut within end taken behind
-    → (asked : Asked ℕ) → PairUp within (wanted_about asked (sent_but before taken behind)) (seen_about asked seen)
-all_but_some_pair_up within end before taken behind seen are out asked =
+pub all_but_some_pair_up : (within kept end : ℕ) (before taken behind seen : List Ask)
+    → ((asked : Asked ℕ) → seen_about asked seen ≡ seen_about asked (before ++ behind)) → TakesOut kept end taken behind
+    → (asked : Asked ℕ) → PairUp within kept (wanted_about asked (sent_but before taken behind)) (seen_about asked seen)
+all_but_some_pair_up within kept end before taken behind seen are out asked =
     rw (sent_but_about asked before taken behind, are asked, seen_about-append asked before behind)
-    (pairs_but within (seen_about asked before) (seen_about asked taken) (seen_about asked behind) (later_about within end asked taken behind out))
+    (pairs_but within kept (seen_about asked before) (seen_about asked taken) (seen_about asked behind) (later_about kept end asked taken behind out))
 
 -- what is wanted of those that were sent and those that weren't
 pub asks_of-sent : (asks : List Ask) → asks_of (all_sent asks) ≡ asks
@@ -153,19 +153,19 @@ missing_of-sent_but before taken behind =
     ap missing_of (append_assoc (all_sent before) (all_left_out taken) (all_sent behind)) ∙ missing_of-behind before (all_left_out taken ++ all_sent behind) ∙ missing_of-left_out taken behind
 
 -- nothing is missed of what was sent, and of the rest what is taken out
-pub missed-sent : (within end : ℕ) (asks : List Ask) → AreMissed within end (all_sent asks)
-missed-sent within end [] = tt
-missed-sent within end (a ∷ asks) = missed-sent within end asks
+pub missed-sent : (kept end : ℕ) (asks : List Ask) → AreMissed kept end (all_sent asks)
+missed-sent kept end [] = tt
+missed-sent kept end (a ∷ asks) = missed-sent kept end asks
 
-missed-left_out : (within end : ℕ) (taken behind : List Ask) → TakesOut within end taken behind → AreMissed within end (all_left_out taken ++ all_sent behind)
-missed-left_out within end [] behind out = missed-sent within end behind
-missed-left_out within end (a ∷ taken) behind out = (out.0, missed-left_out within end taken behind out.2)
+missed-left_out : (kept end : ℕ) (taken behind : List Ask) → TakesOut kept end taken behind → AreMissed kept end (all_left_out taken ++ all_sent behind)
+missed-left_out kept end [] behind out = missed-sent kept end behind
+missed-left_out kept end (a ∷ taken) behind out = (out.0, missed-left_out kept end taken behind out.2)
 
-missed-behind : (within end : ℕ) (before : List Ask) (xs : List Expected) → AreMissed within end xs → AreMissed within end (all_sent before ++ xs)
-missed-behind within end [] xs missed = missed
-missed-behind within end (a ∷ before) xs missed = missed-behind within end before xs missed
+missed-behind : (kept end : ℕ) (before : List Ask) (xs : List Expected) → AreMissed kept end xs → AreMissed kept end (all_sent before ++ xs)
+missed-behind kept end [] xs missed = missed
+missed-behind kept end (a ∷ before) xs missed = missed-behind kept end before xs missed
 
-pub missed-sent_but : (within end : ℕ) (before taken behind : List Ask) → TakesOut within end taken behind → AreMissed within end (sent_but before taken behind)
-missed-sent_but within end before taken behind out =
-    subst (AreMissed within end) (sym (append_assoc (all_sent before) (all_left_out taken) (all_sent behind)))
-    (missed-behind within end before (all_left_out taken ++ all_sent behind) (missed-left_out within end taken behind out))
+pub missed-sent_but : (kept end : ℕ) (before taken behind : List Ask) → TakesOut kept end taken behind → AreMissed kept end (sent_but before taken behind)
+missed-sent_but kept end before taken behind out =
+    subst (AreMissed kept end) (sym (append_assoc (all_sent before) (all_left_out taken) (all_sent behind)))
+    (missed-behind kept end before (all_left_out taken ++ all_sent behind) (missed-left_out kept end taken behind out))

@@ -23,7 +23,8 @@ use Rattle.mq_check.specs.declared.headers.HeaderFault.{HeaderFault}
 use Rattle.mq_check.specs.Check.{destination_in, faults_in}
 use Rattle.mq_check.specs.Queries.{asked_in, is_general, terms_of, query_sent, query_seen}
 use Rattle.mq_laws.specs.Captures.{Passage, happening_behind, wanted_for, wanted_of, wanted_by, role_by_tick, role_by_datagram, tick_passage, ticks_passage, ticks_through, event_of, fault_events, datagram_passage, frame_passage, packet_passage, packets_passage, last_of, end_of, events_ahead, events_of}
-use Rattle.mq_laws.specs.Events.{CheckEvent, Comes, Wants, Sees, SeesGeneral, LosesRole, HasRoleAgain, SeesFault}
+use Rattle.mq_check.specs.Blocked.{blocked_in}
+use Rattle.mq_laws.specs.Events.{CheckEvent, Comes, Wants, Sees, SeesGeneral, LosesRole, HasRoleAgain, SeesFault, Blocks}
 use Rattle.mq_laws.specs.OnTime.{AreAhead, AreInOrder, IsOfTick}
 use Rattle.mq_laws.proofs.Followed.{none_passes, one_passes}
 
@@ -49,6 +50,7 @@ order-later now later (SeesGeneral terms wanted ∷ es) end before order = order
 order-later now later (LosesRole ∷ es) end before order = order-later now later es end before order
 order-later now later (HasRoleAgain ∷ es) end before order = order-later now later es end before order
 order-later now later (SeesFault number fault ∷ es) end before order = order-later now later es end before order
+order-later now later (Blocks asked ∷ es) end before order = order-later now later es end before order
 
 order-append : (now middle : ℕ) (xs ys : List CheckEvent) (end : ℕ) → AreInOrder now xs middle → AreInOrder middle ys end → AreInOrder now (xs ++ ys) end
 order-append now middle [] ys end first second = order-later now middle ys end first second
@@ -59,6 +61,7 @@ order-append now middle (SeesGeneral terms wanted ∷ es) ys end first second = 
 order-append now middle (LosesRole ∷ es) ys end first second = order-append now middle es ys end first second
 order-append now middle (HasRoleAgain ∷ es) ys end first second = order-append now middle es ys end first second
 order-append now middle (SeesFault number fault ∷ es) ys end first second = order-append now middle es ys end first second
+order-append now middle (Blocks asked ∷ es) ys end first second = order-append now middle es ys end first second
 
 -- what happens at one moment
 order-wanted_for : (now packets : ℕ) (family : Family) (is_returning : Bool) (to : ℕ) (query : Option (Query ℕ)) → AreInOrder now (wanted_for family packets is_returning to query) now
@@ -161,7 +164,7 @@ ordered-datagram known config moment number to datagram None faults packets link
     record {
       order = (
         omega arith,
-        order-append moment moment (fault_events number faults) (wanted_by config packets link step ++ role_by_datagram (is_querier link.election.role) (is_querier step.state.election.role)) moment (order-faults moment number faults)
+        order-append moment moment (fault_events number faults) (Blocks (blocked_in config.family datagram) ∷ wanted_by config packets link step ++ role_by_datagram (is_querier link.election.role) (is_querier step.state.election.role)) moment (order-faults moment number faults)
             (order-append moment moment (wanted_by config packets link step) (role_by_datagram (is_querier link.election.role) (is_querier step.state.election.role)) moment
             (order-wanted moment packets config (not (is_querier link.election.role)) (outgoing_of config step)) (order-datagram moment (is_querier link.election.role) (is_querier step.state.election.role))),
       );
@@ -263,6 +266,7 @@ order-until now (SeesGeneral terms wanted ∷ es) end later before order = order
 order-until now (LosesRole ∷ es) end later before order = order-until now es end later before order
 order-until now (HasRoleAgain ∷ es) end later before order = order-until now es end later before order
 order-until now (SeesFault number fault ∷ es) end later before order = order-until now es end later before order
+order-until now (Blocks asked ∷ es) end later before order = order-until now es end later before order
 
 -- the ticks behind the end, where the end is in range and where it isn't
 order-ahead : KnownOfLinks → (config : Configuration) (within end limit packets : ℕ) (link : LinkState) → IsFaultless config → IsWellFormed config link → end < next_of link → limit ≤ end + within

@@ -1,5 +1,5 @@
 -- The expected queries of a check, and the queries that are left out.
-use Rattle.std.specs.Prelude.{◌≡◌, ℕ, ◌+◌, ◌<◌, false, List, [], ◌∷◌, map as list_map, ⊤}
+use Rattle.std.specs.Prelude.{◌≡◌, ℕ, ◌+◌, ◌<◌, Bool, false, List, [], ◌∷◌, map as list_map, ⊤}
 use Rattle.mq_table.specs.declared.timing.Timing.{Timing}
 use Rattle.mq_check.specs.declared.asked.Asked.{Asked}
 use Rattle.mq_check.specs.declared.asked.Asked.TheVariants.{AllGroups, Group, Source}
@@ -9,32 +9,32 @@ use Rattle.mq_check.specs.declared.terms.Terms.{Terms}
 use Rattle.mq_check.specs.Entries.{is_suppressed}
 use Rattle.mq_laws.specs.Events.{CheckEvent}
 use Rattle.mq_laws.specs.OnTime.{IsOnTime}
-use Rattle.mq_laws.specs.Pairing.{Ask, Expected, Sent, LeftOut, AllLater, AreMoved, PairUp, asks_of, seen_about, wanted_about}
+use Rattle.mq_laws.specs.Pairing.{Ask, Expected, Sent, LeftOut, AllLater, AreMoved, PairUp, asks_of, kept_for, seen_about, wanted_about}
 use Rattle.mq_laws.specs.WantedAndSeen.{all_seen_in, wanted_in}
 
 -- A query that was left out is missed. A query for sources with S set may be left out if a query for their group goes
--- at the same moment, so it isn't missed. The capture goes on for longer than the tolerance.
+-- at the same moment, so it isn't missed. The capture goes on for longer than the query is kept.
 abbrev pub HasToBeSent : Asked ℕ → Terms ℕ → Type 0
 HasToBeSent AllGroups terms = ⊤
 HasToBeSent (Group group) terms = ⊤
 HasToBeSent (Source group source) terms = is_suppressed terms.querier ≡ false
 
-pub record IsMissed (within end : ℕ) (ask : Ask) : Type 0 where
+pub record IsMissed (kept end : ℕ) (ask : Ask) : Type 0 where
   pub has_to_be_sent : HasToBeSent ask.asked ask.terms
-  pub over : ask.moment + within < end
+  pub over : ask.moment + kept < end
 
-abbrev pub AreMissed : (within end : ℕ) → List Expected → Type 0
-AreMissed within end [] = ⊤
-AreMissed within end (Sent ask ∷ xs) = AreMissed within end xs
-AreMissed within end (LeftOut ask ∷ xs) = IsMissed within end ask × AreMissed within end xs
+abbrev pub AreMissed : (kept end : ℕ) → List Expected → Type 0
+AreMissed kept end [] = ⊤
+AreMissed kept end (Sent ask ∷ xs) = AreMissed kept end xs
+AreMissed kept end (LeftOut ask ∷ xs) = IsMissed kept end ask × AreMissed kept end xs
 
 -- The queries are as expected. Those that were sent were seen, in order and within the tolerance of their moments, and
 -- no others. The rest was left out.
-pub record IsAsWanted (within : ℕ) (timing : Timing) (end : ℕ) (expected : List Expected) (events : List CheckEvent) : Type 0 where
+pub record IsAsWanted (within : ℕ) (timing : Timing) (strict : Bool) (end : ℕ) (expected : List Expected) (events : List CheckEvent) : Type 0 where
   pub on_time : IsOnTime within timing end events
   pub wanted : asks_of expected ≡ wanted_in 0 events
-  pub pairs : (asked : Asked ℕ) → PairUp within (wanted_about asked expected) (seen_about asked (all_seen_in within events))
-  pub missed : AreMissed within end expected
+  pub pairs : (asked : Asked ℕ) → PairUp within (kept_for within timing strict) (wanted_about asked expected) (seen_about asked (all_seen_in within events))
+  pub missed : AreMissed (kept_for within timing strict) end expected
 
 -- The queries that were seen about each thing are these, at their moments. In the second definition they are these
 -- within the tolerance.
@@ -44,12 +44,12 @@ AreSeen within asks events = (asked : Asked ℕ) → seen_about asked (all_seen_
 abbrev pub AreSeenWithin : (within : ℕ) → List Ask → List CheckEvent → Type 0
 AreSeenWithin within asks events = (asked : Asked ℕ) → AreMoved within (seen_about asked asks) (seen_about asked (all_seen_in within events))
 
--- Some expected queries are taken out, each with all that it asks about. They are more than the tolerance before the
--- next query about the same thing, and before the end.
-abbrev pub TakesOut : (within end : ℕ) → (taken behind : List Ask) → Type 0
-TakesOut within end [] behind = ⊤
-TakesOut within end (ask ∷ asks) behind =
-    IsMissed within end ask × AllLater (ask.moment + within) (seen_about ask.asked behind) × TakesOut within end asks behind
+-- Some expected queries are taken out, each with all that it asks about. The next query about the same thing and the end
+-- come after the time for which they are kept.
+abbrev pub TakesOut : (kept end : ℕ) → (taken behind : List Ask) → Type 0
+TakesOut kept end [] behind = ⊤
+TakesOut kept end (ask ∷ asks) behind =
+    IsMissed kept end ask × AllLater (ask.moment + kept) (seen_about ask.asked behind) × TakesOut kept end asks behind
 
 -- the findings that each of these queries is missing
 abbrev pub all_missing : List Ask → List (Finding ℕ)

@@ -17,11 +17,12 @@ use Rattle.mq_link.specs.Tick.{Step, tick_of, next_of}
 use Rattle.mq_replay.specs.Listing.{moment_of}
 use Rattle.mq_replay.specs.Report.{Datagram, datagram_of, all_sent}
 use Rattle.mq_check.specs.declared.headers.HeaderFault.{HeaderFault}
+use Rattle.mq_check.specs.Blocked.{blocked_in}
 use Rattle.mq_check.specs.Check.{destination_in, faults_in}
 use Rattle.mq_check.specs.Checking.{counted_up}
 use Rattle.mq_check.specs.Queries.{asked_in, is_general, terms_of, general_terms, query_sent, query_seen}
 use Rattle.mq_check.specs.Unheld.{specific_terms, unheld}
-use Rattle.mq_laws.specs.Events.{CheckEvent, Comes, Wants, Sees, SeesGeneral, LosesRole, HasRoleAgain, SeesFault}
+use Rattle.mq_laws.specs.Events.{CheckEvent, Comes, Wants, Sees, SeesGeneral, LosesRole, HasRoleAgain, SeesFault, Blocks}
 
 -- a link after a part of a capture, the number of packets so far, and the events of the check
 pub record Passage : Type 0 where
@@ -93,7 +94,7 @@ ticks_through config moment packets link = ticks_passage (moment + 1) config (mo
 abbrev pub fault_events : (number : ℕ) → List HeaderFault → List CheckEvent
 fault_events number faults = list_map (SeesFault number) faults
 
--- a query from the querier's address, or any other datagram, which the link receives
+-- A query from the querier's address, or any other datagram, which the link receives. A Report may block sources.
 abbrev pub event_of : Configuration → LinkState → (packets to : ℕ) → Query ℕ → CheckEvent
 event_of config link packets to query =
     if is_general query
@@ -110,7 +111,7 @@ datagram_passage config moment to datagram None faults packets link =
       packets = packets;
       events =
           Comes moment ∷ faults
-          ++ (wanted_by config packets link step ++ role_by_datagram (is_querier link.election.role) (is_querier step.state.election.role));
+          ++ (Blocks (blocked_in config.family datagram) ∷ wanted_by config packets link step ++ role_by_datagram (is_querier link.election.role) (is_querier step.state.election.role));
     }
 
 -- a frame, if it carries a datagram; the faults of the headers of a query come first

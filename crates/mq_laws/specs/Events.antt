@@ -6,12 +6,12 @@ use Rattle.mq_check.specs.declared.finding.Finding.{Finding}
 use Rattle.mq_check.specs.declared.headers.HeaderFault.{HeaderFault}
 use Rattle.mq_check.specs.declared.terms.Terms.{Terms}
 use Rattle.mq_check.specs.General.{silence_up_to}
-use Rattle.mq_check.specs.Checking.{CheckingValue, checking_at_start, told, settled, with_wanted, specific_seen, general_seen, with_fault, role_lost, role_returned, told_at_end, with_all_excused}
+use Rattle.mq_check.specs.Checking.{CheckingValue, checking_at_start, told, settled, with_wanted, specific_seen, general_seen, with_fault, role_lost, role_returned, all_blocked, told_at_end, with_all_excused}
 
 -- An event of a check. A moment comes, the link sends a query about these things, which is expected, or a query about
 -- these was seen. Then `unheld` has its expected fields for each of them that the link doesn't hold. A general query was
 -- seen, with the expected one. The router loses the role of querier, or is querier again. A query's packet has a fault in
--- its headers.
+-- its headers. A host blocks these sources, or none.
 pub data CheckEvent : Type 0 where
   Comes : (moment : ℕ) → CheckEvent
   Wants : Terms ℕ → List (Asked ℕ) → CheckEvent
@@ -20,6 +20,7 @@ pub data CheckEvent : Type 0 where
   LosesRole : CheckEvent
   HasRoleAgain : CheckEvent
   SeesFault : (number : ℕ) → HeaderFault → CheckEvent
+  Blocks : List (Asked ℕ) → CheckEvent
 
 -- the moment after an event
 abbrev pub moment_behind : (now : ℕ) → CheckEvent → ℕ
@@ -30,16 +31,18 @@ moment_behind now (SeesGeneral terms wanted) = now
 moment_behind now LosesRole = now
 moment_behind now HasRoleAgain = now
 moment_behind now (SeesFault number fault) = now
+moment_behind now (Blocks asked) = now
 
 -- a check after one event, and the findings by it
 abbrev pub check_by : (within : ℕ) → Timing → (now : ℕ) → CheckEvent → CheckingValue → CheckingValue
-check_by within timing now (Comes moment) c = settled within moment c
+check_by within timing now (Comes moment) c = settled moment c
 check_by within timing now (Wants terms asked) c = fold (with_wanted now terms) c asked
 check_by within timing now (Sees terms unheld asked) c = specific_seen now terms unheld asked c
 check_by within timing now (SeesGeneral terms wanted) c = general_seen within timing now terms wanted c
 check_by within timing now LosesRole c = role_lost within timing now c
 check_by within timing now HasRoleAgain c = role_returned within now c
 check_by within timing now (SeesFault number fault) c = with_fault now number c fault
+check_by within timing now (Blocks asked) c = all_blocked now asked c
 
 abbrev pub told_by : (within : ℕ) → CheckEvent → CheckingValue → List (Finding ℕ)
 told_by within (Comes moment) c = told within moment c
@@ -49,6 +52,7 @@ told_by within (SeesGeneral terms wanted) c = []
 told_by within LosesRole c = []
 told_by within HasRoleAgain c = []
 told_by within (SeesFault number fault) c = []
+told_by within (Blocks asked) c = []
 
 -- the moment, the check and the findings after several events
 abbrev pub moment_behind_all : (now : ℕ) → List CheckEvent → ℕ
@@ -68,10 +72,10 @@ told_by_all within timing now (e ∷ es) c = told_by within e c ++ told_by_all w
 abbrev pub checked_by : (within : ℕ) → Timing → (strict : Bool) → List CheckEvent → CheckingValue
 checked_by within timing strict events = check_by_all within timing 0 events (checking_at_start within timing strict)
 
--- The check at the end of a capture: expired entries are removed, and no pending query has to be sent. Then the check after
--- the events that are due just after the end.
+-- The check at the end of a capture: expired entries are removed, and a pending query needn't be sent if its partner may
+-- still come. Then the check after the events that are due just after the end.
 abbrev pub at_the_end : (within end : ℕ) → CheckingValue → CheckingValue
-at_the_end within end c = with_all_excused (settled within end c)
+at_the_end within end c = with_all_excused within end (settled end c)
 
 abbrev pub checked_ahead : (within : ℕ) → Timing → (end : ℕ) → (ahead : List CheckEvent) → CheckingValue → CheckingValue
 checked_ahead within timing end ahead c = check_by_all within timing end ahead (at_the_end within end c)

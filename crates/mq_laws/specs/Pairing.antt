@@ -1,12 +1,14 @@
 -- Terms of the laws of the pairing of queries.
-use Rattle.std.specs.Prelude.{◌≡◌, ℕ, ◌+◌, ◌<◌, ◌≤◌, List, [], ◌∷◌, ◌++◌, map as list_map, filter, ⊤}
+use Rattle.std.specs.Prelude.{◌≡◌, ℕ, ◌+◌, ◌<◌, ◌≤◌, Bool, List, [], ◌∷◌, ◌++◌, map as list_map, filter, ⊤}
 use Rattle.std.specs.List.{AllByRecursion}
+use Rattle.mq_table.specs.declared.timing.Timing.{Timing}
 use Rattle.mq_check.specs.declared.asked.Asked.{Asked}
 use Rattle.mq_check.specs.declared.finding.Finding.{Finding}
 use Rattle.mq_check.specs.declared.finding.Finding.TheVariants.{Missing}
 use Rattle.mq_check.specs.declared.terms.Terms.{Terms}
 use Rattle.mq_check.specs.Entries.{terms_differ}
 use Rattle.mq_check.specs.Queries.{is_same}
+use Rattle.mq_check.specs.Schedules.{keep_in}
 
 -- A query about one thing: its moment, what it asks about, and its fields. It is expected, or was seen.
 pub record Ask : Type 0 where
@@ -41,18 +43,24 @@ pub record Answers (within : ℕ) (wanted seen : Ask) : Type 0 where
   pub not_early : wanted.moment ≤ seen.moment + within
   pub alike : terms_differ seen.terms wanted.terms ≡ []
 
+-- The time for which a check keeps a query without a partner. In a strict check it is the tolerance, so the laws of strict
+-- checks name no other time. In other checks it is longer, by at most a Last Member Query Interval. There a query that goes
+-- on with a schedule may be the partner of a query from an interval before.
+abbrev pub kept_for : (within : ℕ) → Timing → (strict : Bool) → ℕ
+kept_for within timing strict = keep_in within timing strict
+
 -- all of these were seen later than a moment
 abbrev pub AllLater : (moment : ℕ) → List Ask → Type 0
 AllLater moment seen = AllByRecursion (λ (ask : Ask). moment < ask.moment) seen
 
--- Queries about one thing pair up. Each sent query was answered, in order, by a query that was seen. After a query that
--- was left out more than the tolerance passes before the next seen query, so this isn't taken for it.
-abbrev pub PairUp : (within : ℕ) → (wanted : List Expected) → (seen : List Ask) → Type 0
-PairUp within [] [] = ⊤
-PairUp within [] (s ∷ ss) = ⊥
-PairUp within (Sent w ∷ ws) [] = ⊥
-PairUp within (Sent w ∷ ws) (s ∷ ss) = Answers within w s × PairUp within ws ss
-PairUp within (LeftOut w ∷ ws) ss = AllLater (w.moment + within) ss × PairUp within ws ss
+-- Queries about one thing pair up. Each sent query was answered, in order, by a query that was seen. A query that was left
+-- out is kept for the time `kept`. The next seen query comes later, so it isn't taken for it.
+abbrev pub PairUp : (within kept : ℕ) → (wanted : List Expected) → (seen : List Ask) → Type 0
+PairUp within kept [] [] = ⊤
+PairUp within kept [] (s ∷ ss) = ⊥
+PairUp within kept (Sent w ∷ ws) [] = ⊥
+PairUp within kept (Sent w ∷ ws) (s ∷ ss) = Answers within w s × PairUp within kept ws ss
+PairUp within kept (LeftOut w ∷ ws) ss = AllLater (w.moment + kept) ss × PairUp within kept ws ss
 
 -- the findings: each query that was left out is missing
 abbrev pub missing_of : List Expected → List (Finding ℕ)

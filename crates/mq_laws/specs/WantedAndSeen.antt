@@ -4,7 +4,7 @@ use Rattle.mq_check.specs.declared.asked.Asked.{Asked}
 use Rattle.mq_check.specs.declared.asked.Asked.TheVariants.{AllGroups}
 use Rattle.mq_check.specs.declared.terms.Terms.{Terms}
 use Rattle.mq_check.specs.Queries.{is_same}
-use Rattle.mq_laws.specs.Events.{CheckEvent, Comes, Wants, Sees, SeesGeneral, LosesRole, HasRoleAgain, SeesFault}
+use Rattle.mq_laws.specs.Events.{CheckEvent, Comes, Wants, Sees, SeesGeneral, LosesRole, HasRoleAgain, SeesFault, Blocks}
 use Rattle.mq_laws.specs.Pairing.{Ask}
 
 -- the expected queries, one for each thing that they ask about
@@ -20,6 +20,7 @@ wanted_in now (SeesGeneral terms wanted ∷ es) = wanted_in now es
 wanted_in now (LosesRole ∷ es) = wanted_in now es
 wanted_in now (HasRoleAgain ∷ es) = wanted_in now es
 wanted_in now (SeesFault number fault ∷ es) = wanted_in now es
+wanted_in now (Blocks asked ∷ es) = wanted_in now es
 
 -- General queries that are expected at their moment, like those after the router becomes querier again. `due` has the
 -- moments of those for which none was seen yet. `early` has those that were seen before, while another router was
@@ -78,6 +79,7 @@ seen_in within is_querier r now (SeesGeneral terms wanted ∷ es) =
 seen_in within is_querier r now (LosesRole ∷ es) = seen_in within false r now es
 seen_in within is_querier r now (HasRoleAgain ∷ es) = seen_in within true r now es
 seen_in within is_querier r now (SeesFault number fault ∷ es) = seen_in within is_querier r now es
+seen_in within is_querier r now (Blocks asked ∷ es) = seen_in within is_querier r now es
 
 abbrev pub all_seen_in : (within : ℕ) → List CheckEvent → List Ask
 all_seen_in within events = seen_in within true none_returned 0 events

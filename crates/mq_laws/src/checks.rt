@@ -6,10 +6,11 @@
 //! - If some of them are taken out, exactly these are missing: `what_is_taken_out_is_missing`.
 //! - If they are moved within the tolerance: `nothing_is_found_of_moved_queries`.
 //! - All three follow from `what_was_left_out_is_missing`.
+//! - The time for which a check keeps a query without a partner: `queries_are_kept_for_these_times`.
 //! - The text in these cases: `clean_captures_are_told_so`, `what_was_left_out_is_told`.
 //! - The times of general queries: `general_queries_are_on_time_at_these_intervals`.
 //! - The existence of such checks: `a_check_of_two_queries`.
-ghost use Rattle.std.specs.Prelude.{◌≡◌, ◌↔◌, ℕ, Bool, ◌+◌, ◌-◌, ◌≤◌, List, [], ◌++◌, None, false};
+ghost use Rattle.std.specs.Prelude.{◌≡◌, ◌↔◌, ℕ, Bool, ◌+◌, ◌-◌, ◌≤◌, List, [], ◌++◌, None, false, true};
 ghost use Rattle.mq_table.specs.declared.timing.Timing.{Timing};
 ghost use Rattle.mq_table.specs.Timing.{query_interval};
 ghost use Rattle.mq_check.specs.declared.phase.Phase.TheVariants.{Starting, Heard, Returned};
@@ -20,7 +21,7 @@ ghost use Rattle.mq_laws.specs.AsWanted.{AreSeen, AreSeenWithin, IsAsWanted, Tak
 ghost use Rattle.mq_laws.specs.Events.{CheckEvent, HasRoom, found_by};
 ghost use Rattle.mq_laws.specs.WantedAndSeen.{wanted_in};
 ghost use Rattle.mq_laws.specs.CheckExamples.{example_events, example_expected, example_timing};
-ghost use Rattle.mq_laws.specs.Pairing.{Ask, Expected, missing_of};
+ghost use Rattle.mq_laws.specs.Pairing.{Ask, Expected, kept_for, missing_of};
 ghost use Rattle.mq_laws.specs.Verdicts.{CameToItsEnd, CheckedCapture, IsClean, Tells, TellsWhatHappened, ahead_in, end_in, events_in};
 
 use crate::links::{
@@ -45,12 +46,21 @@ pub fn what_happens_comes_in_order()
     datagrams_leave_nothing_due();
 }
 
-/// A lemma: if queries about each thing pair up in order, the findings are those that were left out. Each is within the
-/// tolerance of its partner, with the same fields. Each finding is there once, in the order in which the queries are
-/// expected.
+/// A lemma: a check keeps a query without a partner for `kept_for`. In a strict check that is the tolerance, so the laws
+/// of strict checks name no other time. In other checks it is at most a Last Member Query Interval longer.
+pub fn queries_are_kept_for_these_times()
+    ensures strict { (within : ℕ) (timing : Timing) → kept_for within timing true ≡ within }
+    ensures least { (within : ℕ) (timing : Timing) (strict : Bool) → within ≤ kept_for within timing strict }
+    ensures most { (within : ℕ) (timing : Timing) (strict : Bool)
+        → kept_for within timing strict ≤ within + timing.last_member_interval }
+{}
+
+/// A lemma: if queries about each thing pair up in order, the findings are those that were left out. Each of the others is
+/// within the tolerance of its partner, with the same fields. After a query that was left out, the next one and the end
+/// come after the time for which it is kept. Each finding is there once, in the order in which the queries are expected.
 pub fn what_was_left_out_is_missing()
     ensures { (within : ℕ) (timing : Timing) (strict : Bool) (end : ℕ) (expected : List Expected) (events ahead : List CheckEvent)
-        → AreInOrder 0 events end → AreAhead within end ahead → IsAsWanted within timing end expected events
+        → AreInOrder 0 events end → AreAhead within end ahead → IsAsWanted within timing strict end expected events
         → HasRoom within timing strict end events ahead
         → found_by within timing strict end events ahead ≡ missing_of expected }
 {}
@@ -63,12 +73,13 @@ pub fn nothing_is_found()
         → AreSeen within (wanted_in 0 events) events → found_by within timing strict end events ahead ≡ [] }
 {}
 
-/// A lemma: if some of the expected queries are taken out, exactly these are missing.
+/// A lemma: if some of the expected queries are taken out, exactly these are missing. The next query about the same thing
+/// and the end come after the time for which they are kept.
 pub fn what_is_taken_out_is_missing()
     ensures { (within : ℕ) (timing : Timing) (strict : Bool) (end : ℕ) (events ahead : List CheckEvent) (before taken behind : List Ask)
         → AreInOrder 0 events end → AreAhead within end ahead → IsOnTime within timing end events
         → HasRoom within timing strict end events ahead
-        → wanted_in 0 events ≡ before ++ taken ++ behind → TakesOut within end taken behind
+        → wanted_in 0 events ≡ before ++ taken ++ behind → TakesOut (kept_for within timing strict) end taken behind
         → AreSeen within (before ++ behind) events → found_by within timing strict end events ahead ≡ all_missing taken }
 {}
 
@@ -93,7 +104,7 @@ pub fn clean_captures_are_told_so()
 /// A lemma: the check says what was left out, and no more.
 pub fn what_was_left_out_is_told()
     ensures { (c : CheckedCapture) (expected : List Expected)
-        → IsFaultless c.config → CameToItsEnd c → IsAsWanted c.within c.config.timing (end_in c) expected (events_in c)
+        → IsFaultless c.config → CameToItsEnd c → IsAsWanted c.within c.config.timing c.strict (end_in c) expected (events_in c)
         → Tells c (missing_of expected) }
 {
     what_happens_comes_in_order();
@@ -118,6 +129,6 @@ pub fn general_queries_are_on_time_at_these_intervals()
 /// one was left out. Then the role was lost, and the router was querier again.
 pub fn a_check_of_two_queries()
     ensures in_order { AreInOrder 0 example_events 262000 }
-    ensures as_wanted { IsAsWanted 100 example_timing 262000 example_expected example_events }
+    ensures as_wanted { IsAsWanted 100 example_timing false 262000 example_expected example_events }
     ensures room { HasRoom 100 example_timing false 262000 example_events [] }
 {}

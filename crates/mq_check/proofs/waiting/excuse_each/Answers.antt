@@ -14,7 +14,7 @@ loop-place-preserved g c =
     let now = c.loop-place.invariant in
     record {
       excused = one_excused _ f _ _ _ c.loop-place.place _ _ now.excused (omega (arith, now.long)) c.index.ensures refl
-      (c.excused_if.ensures ∙ ap (λ (b : Bool). excused_if b (f c.index.result.now)) c.may_still_come-may_come.ensures);
+          (c.excused_if.ensures ∙ ap (λ (b : Bool). excused_if b (f c.index.result.now)) c.may_still_come-may_come.ensures);
       long = length-set _ _ _ ∙ now.long;
       capacity = omega (arith, now.capacity);
     }

@@ -4,15 +4,15 @@ use Rattle.mq_check.specs.declared.asked.Asked.{Asked}
 use Rattle.mq_check.specs.declared.asked.Asked.TheVariants.{AllGroups, Group, Source}
 use Rattle.mq_check.specs.Checking.{role_lost, role_returned, with_general, with_seen, with_wanted}
 use Rattle.mq_check.specs.Queries.{is_same}
-use Rattle.mq_check.specs.Schedules.{schedules_seen, schedules_wanted}
+use Rattle.mq_check.specs.Schedules.{schedules_blocked, schedules_seen, schedules_wanted}
 use Rattle.mq_check.specs.Waiting.{all_excused, settled, with_entry, with_partner}
 use Rattle.mq_laws.specs.WantedAndSeen.{all_seen_in}
-use Rattle.mq_laws.specs.CheckExamples.{example_events, example_expected}
-use Rattle.mq_laws.specs.Pairing.{PairUp, seen_about, wanted_about}
+use Rattle.mq_laws.specs.CheckExamples.{example_events, example_expected, example_timing}
+use Rattle.mq_laws.specs.Pairing.{PairUp, kept_for, seen_about, wanted_about}
 use Rattle.mq_laws.proofs.checks.a_check_of_two_queries.Goals as goal
 
 abbrev Pairs : Asked ℕ → Type 0
-Pairs asked = PairUp 100 (wanted_about asked example_expected) (seen_about asked (all_seen_in 100 example_events))
+Pairs asked = PairUp 100 (kept_for 100 example_timing false) (wanted_about asked example_expected) (seen_about asked (all_seen_in 100 example_events))
 
 pairs_of : (asked : Asked ℕ) → Pairs asked
 pairs_of AllGroups = (record { not_late = omega arith; not_early = omega arith; alike = refl }, tt)
@@ -23,7 +23,7 @@ pairs_of (Group group) = elim (is_same (Group group) (Group 5)) as (λ (b : Bool
 pairs_of (Source group source) = tt
 
 pub returns-clause-in_order : goal.returns-clause-in_order
-returns-clause-in_order c = (omega arith, (omega arith, (omega arith, (omega arith, (omega arith, (omega arith, (omega arith, omega arith)))))))
+returns-clause-in_order c = (omega arith, (omega arith, (omega arith, (omega arith, (omega arith, (omega arith, (omega arith, (omega arith, omega arith))))))))
 
 pub returns-clause-as_wanted : goal.returns-clause-as_wanted
 returns-clause-as_wanted c = record {
@@ -34,5 +34,5 @@ returns-clause-as_wanted c = record {
 }
 
 pub returns-clause-room : goal.returns-clause-room
-unfolding all_excused settled with_entry with_partner with_general with_seen with_wanted schedules_seen schedules_wanted role_lost role_returned
+unfolding all_excused settled with_entry with_partner with_general with_seen with_wanted schedules_blocked schedules_seen schedules_wanted role_lost role_returned
 returns-clause-room c = refl
