@@ -12,6 +12,10 @@ edit removed, or a new goal has no answer. Then the tools try the edit with othe
 
 An edit that only swaps the two sides of a symmetric operator, or only exchanges whole statements, is never REFUSED (tools/answers.py).
 Its answers may name the sides, or the states between the statements.
+
+A right body can be REFUSED if it calls a function once more, before the call that an answer names. The name then stands for the new
+call. An example is `DeadlineTree::change` with a count of its own: `own.count(1); moves.count(own.made() as usize);`. It does the
+same as the present body, so no clause can refuse it. right-bodies/ does not have it.
 """
 
 import re
