@@ -29,7 +29,7 @@ with_entry entry w =
     then record w { entries = w.entries ++ entry ∷ [] }
     else record w { is_full = true }
 
--- an entry of this side with this subject that has no partner, and one whose moment isn't before `from` either
+-- An entry of this side with this subject has no partner. A free one isn't before `from` either.
 abbrev pub is_open : Side → Asked ℕ → Entry ℕ → Bool
 is_open OfWanted asked entry = is_free_wanted asked entry
 is_open OfSeen asked entry = is_free_seen asked entry
@@ -41,7 +41,7 @@ is_free side asked from entry = is_open side asked entry && nat_le from (moment_
 unfoldable pub with_partner : Side → Asked ℕ → (from : ℕ) → Terms ℕ → WaitingValue → WaitingValue
 with_partner side asked from other w = record w { entries = first_joined (is_free side asked from) other w.entries }
 
--- such an entry is in the list
+-- the list has a free entry
 abbrev pub has_free : Side → Asked ℕ → (from : ℕ) → WaitingValue → Bool
 has_free side asked from w = is_some (first_terms (is_free side asked from) w.entries)
 
