@@ -29,6 +29,10 @@ EARLIER = {("rattle-kit-13f logic dac8208d650f15bf", 1): "6d4204f509bda9b94ab18d
 PARTS = re.compile(r"(?m)^ +(?:pub )?([^\s:(]+) :")
 # A lemma or a definition in an attribute.
 CITED = re.compile(r"\b(\w+)::(specs|proofs)::([^\s(),\]]+)")
+# A text in quotes.
+QUOTED = re.compile(r'("(?:[^"\\\n]|\\.)*")')
+# A line of imports of a file of specs/ or proofs/: the module and the names.
+IMPORTS = re.compile(r"(?m)^((?:pub |unfoldable )*use \S+?)\.\{([^}]*)\}")
 # A name in the code of a function, with the words before it. Two points are not a method call.
 CALLED = re.compile(r"(?:(?:\w+::)*(\w+)(?:::<[^()]*>)?(::)|(?<!\.)(\.)\s*)?\b([a-zA-Z_]\w*)\b")
 
@@ -225,10 +229,27 @@ def summed(*parts):
     return hashlib.sha256("\0".join(parts).encode()).hexdigest()
 
 
+def without_layout(text):
+    """Returns a text of specs/ or proofs/ without comment lines and line breaks. A list in brackets with an item on each line also loses the
+    separator at its end. Texts in quotes stay."""
+    parts = QUOTED.split(re.sub(r"(?m)^\s*--.*", "", text))
+    for at in range(0, len(parts), 2):
+        flat = re.sub(r"(\[(?: \|)?|[({]) ", lambda it: it[1][0], re.sub(r"\s+", " ", parts[at]))
+        parts[at] = re.sub(r"[,;]? ([)}\]])", r"\1", flat)
+    return "".join(parts).strip()
+
+
+def proof_of(text):
+    """Returns the text of a proof without layout. Its imports are in order, each with one name."""
+    found = {f"{module}.{name.strip()}" for module, names in IMPORTS.findall(text) for name in names.split(",") if name.strip()}
+    return "\n".join([*sorted(found), without_layout(IMPORTS.sub("", text))])
+
+
 @functools.lru_cache(maxsize=None)
 def sum_of_item(item):
     uses = {name: path for name, path in item.uses.items() if name == "*" or name in words(item.text)}
-    return summed(item.place(), item.text, repr(sorted(imported(item, item.text).items())), repr(sorted(uses.items())))
+    text = without_layout(item.text) if item.kind == "term" else item.text
+    return summed(item.place(), text, repr(sorted(imported(item, item.text).items())), repr(sorted(uses.items())))
 
 
 @functools.lru_cache(maxsize=None)
@@ -252,7 +273,7 @@ def parts_of(edit):
     function, folder = function_of(edit), f"{TOP}/crates/{edit.crate}"
     closure = closure_of(function)
     own = [function.place(), function.text, function.rest, *(repr(sorted(it.items())) for it in (function.imports, function.uses))]
-    proof = [f"{it}\n{text_of(f'{folder}/{it}')}" for it in closure.files]
+    proof = [f"{it}\n{proof_of(text_of(f'{folder}/{it}'))}" for it in closure.files]
     read = sorted(sum_of_item(it) for it in closure.with_edit(edit))
     return attributes(edit.crate), edit.path, text_of(f"{TOP}/{edit.path}"), *own, *proof, *read
 

@@ -25,9 +25,10 @@ class Terms:
 @dataclasses.dataclass
 class Asked:
     """A query for one thing: a group, a source of one (`source` is None without), or all groups (`group` is zero). `order` is
-    its place in the order in which things happen, and `packet` the number of its packet, or of the last one before a wanted query. If
-    the standard's words allow a query that was seen, `allowed` has its fields. `is_found` says that a wanted query was seen, and
-    `may_come_later` that it may be seen after the end."""
+    its place in the order in which things happen, and `packet` the number of its packet, or of the last one before a wanted query. A
+    timer sends a wanted query with `is_again` again: then the packet is the one that started its schedule. If the standard's words
+    allow a query that was seen, `allowed` has its fields. `is_found` says that a wanted query was seen, and `may_come_later` that it
+    may be seen after the end."""
 
     order: int
     at: int
@@ -41,6 +42,7 @@ class Asked:
     allowed: Terms | None = None
     is_found: bool = False
     may_come_later: bool = False
+    is_again: bool = False
 
     def thing(self):
         return self.group, self.source
@@ -71,8 +73,8 @@ def with_s_of(seen, wanted):
 class Walk:
     """The events of one thing in their order: queries that are wanted, queries that were seen, and Reports that block the source.
     `wanted` and `seen` have the queries that have no partner yet. `schedules` has the moment at which each schedule's next query is due,
-    and how many are left of it. `last` has the fields of the last wanted query and the moment one interval after it, or after a Report
-    that blocks the source in that time: then `is_blocked` is set."""
+    and how many are left of it. `last` has the fields and the packet of the last wanted query and the moment one interval after it, or
+    after a Report that blocks the source in that time: then `is_blocked` is set."""
 
     def __init__(self, within, interval, keep, more):
         self.within, self.interval, self.keep, self.more = within, interval, keep, more
@@ -95,18 +97,20 @@ class Walk:
     def want(self, it):
         """A query is wanted. Its partner is the first one within the tolerance that was seen and has none."""
         self.move_to(it.at)
+        if it.is_again and self.last:
+            it.packet = self.last[2]
         if other := self.first_near(it.at, self.seen):
             other.partner, it.is_found = it.terms, True
             self.seen.remove(other)
         else:
             self.wanted.append(it)
-        self.last, self.is_blocked = (it.at + self.interval, it.terms), False
+        self.last, self.is_blocked = (it.at + self.interval, it.terms, it.packet), False
 
     def block(self, it):
         """A host blocks the source. If a query for it was wanted in the last interval, the source waits, and a querier may ask at once."""
         self.move_to(it.at)
         if self.more and self.last:
-            self.last, self.is_blocked = (it.at + self.interval, self.last[1]), True
+            self.last, self.is_blocked = (it.at + self.interval, *self.last[1:]), True
 
     def find(self, it):
         it.is_found = True
@@ -220,10 +224,16 @@ class Observed(Querier):
     def __init__(self, family, options):
         super().__init__(family, options)
         self.wanted, self.is_back, self.order, self.heard, self.packet = [], False, 0, None, 0
+        self.is_ticking = False
 
     def next_order(self):
         self.order += 1
         return self.order
+
+    def tick(self, moment):
+        self.is_ticking = True
+        super().tick(moment)
+        self.is_ticking = False
 
     def hear(self, source, message):
         super().hear(source, message)
@@ -249,7 +259,9 @@ class Observed(Querier):
         for source in sources or [None]:
             other = s and any((it.at, it.group, it.source) == (self.now, group, None) for it in self.wanted)
             left_out = other and source is not None
-            self.wanted.append(Asked(self.next_order(), self.now, group, source, terms, self.packet, None, left_out))
+            it = Asked(self.next_order(), self.now, group, source, terms, self.packet, None, left_out)
+            it.is_again = self.is_ticking and any(group)
+            self.wanted.append(it)
 
 
 @dataclasses.dataclass
@@ -267,11 +279,16 @@ class Verdict:
         return f"mquerier: nothing judged: {self.unjudged}\n".encode() if self.unjudged else b""
 
 
-class Check:
-    """A check of a capture. `findings` are lines with their order. With `packets` each has the number of its packet."""
+# The variables of a querier in its queries. If they come from the capture, a change of one has one line.
+VARIABLES = ("response", "qrv", "interval")
 
-    def __init__(self, family, options, within, strict, packets):
-        self.family, self.it, self.within, self.strict, self.packets = family, options, within, strict, packets
+
+class Check:
+    """A check of a capture. `findings` are lines with their order, and for a difference its kind of query, field and values. With
+    `packets` each has the number of its packet. With `once` a changed variable is reported once."""
+
+    def __init__(self, family, options, within, strict, packets, once):
+        self.family, self.it, self.within, self.strict, self.packets, self.once = family, options, within, strict, packets, once
         self.link = Observed(family, options)
         self.seen, self.blocked, self.changes, self.findings = [], [], [], []
         # The time for which a query waits for its partner.
@@ -409,9 +426,21 @@ class Check:
         changes = [it for it in self.changes if it <= moment + self.keep]
         return bool(changes) and self.is_near(moment, changes[-1])
 
-    def find(self, order, line, packet=0):
+    def find(self, order, line, packet=0, difference=None):
         """Adds a finding. A silence has no packet, and the line of a packet's headers names it already."""
-        self.findings.append((order, f"{line} packet {packet}" if self.packets and packet else line))
+        self.findings.append((order, f"{line} packet {packet}" if self.packets and packet else line, difference))
+
+    def reported(self):
+        """Returns the lines of the findings, in order. With `once`, those are omitted that repeat the last difference of a variable in
+        queries of one kind, general or not."""
+        lines, last = [], {}
+        for _, line, difference in sorted(self.findings, key=lambda it: it[0]):
+            kind, values = (difference[:2], difference[2:]) if difference else (None, None)
+            if not (self.once and kind and last.get(kind) == values):
+                lines.append(line)
+            if kind and kind[1] in VARIABLES:
+                last[kind] = values
+        return lines
 
     def pair(self, end):
         """Walks through the events of each thing, first up to the end of the capture."""
@@ -432,6 +461,7 @@ class Check:
                     take(walk, it)
 
     def differences(self, it):
+        """Finds each field of a seen query that differs from its partner, or from the query that is allowed."""
         seen, wanted = it.terms, it.partner or it.allowed
         named = [("version", seen.version, wanted.version)]
         if None not in (seen.response, wanted.response):
@@ -439,7 +469,10 @@ class Check:
         if None not in (seen.querier, wanted.querier):
             named += zip(("s", "qrv", "interval"), seen.querier, wanted.querier)
         named.append(("to", text_of(seen.to), text_of(wanted.to)))
-        return [f"{it.at} differs {it.text()}: {name} {one}, wanted {other}" for name, one, other in named if one != other]
+        for name, one, other in named:
+            if one != other:
+                line = f"{it.at} differs {it.text()}: {name} {one}, wanted {other}"
+                self.find(it.order, line, it.packet, (any(it.group), name, one, other))
 
     def judge(self, end):
         """All lines, where the capture ends at a moment. The partner of a wanted query may come after the end: then it isn't missing. The
@@ -455,12 +488,12 @@ class Check:
                 self.find(it.order, f"{it.at} missing {it.text()}", it.packet)
         for it in self.seen:
             if it.partner:
-                for line in self.differences(it):
-                    self.find(it.order, line, it.packet)
+                self.differences(it)
+            elif not self.is_near_change(it.at) and it.allowed:
+                self.differences(it)
             elif not self.is_near_change(it.at):
-                for line in self.differences(it) if it.allowed else [f"{it.at} extra {it.text()}"]:
-                    self.find(it.order, line, it.packet)
-        lines = [line for _, line in sorted(self.findings, key=lambda it: it[0])]
+                self.find(it.order, f"{it.at} extra {it.text()}", it.packet)
+        lines = self.reported()
         totals = f"checked general {self.general} specific {self.specific}: {len(lines)} findings"
         unjudged = basis.unjudged(self.general, self.specific, len(lines))
         return Verdict([*lines, totals, *basis.lines()], lines, unjudged)
@@ -536,17 +569,17 @@ def check_taking(data, family, given, within=100, strict=False, packets=False):
     options = Options(querier, **{**found, **given})
     if options.qri >= 1000 * options.qi:
         return None, "configuration fault 3"
-    verdict, fault = check(data, family, options, within, strict, packets)
+    verdict, fault = check(data, family, options, within, strict, packets, True)
     if verdict:
         words = [f" {name} {found[name]}" for name in ("rv", "qi", "qri", "lmqi") if name in found and name not in given]
         verdict.lines.append(f"taken from the capture: querier {text_of(querier)}{''.join(words)}")
     return verdict, fault
 
 
-def check(data, family, options, within=100, strict=False, packets=False):
+def check(data, family, options, within=100, strict=False, packets=False, once=False):
     """The verdict of a whole capture, or None and what it says where a fault or a gap ends it. `strict` allows no other readings, and
-    with `packets` findings have the numbers of packets."""
-    it, last, number = Check(family, options, within, strict, packets), 0, 0
+    with `packets` findings have the numbers of packets. With `once` a changed variable is reported once."""
+    it, last, number = Check(family, options, within, strict, packets, once), 0, 0
     try:
         kind, records = opened(data)
         for number, moment, frame in moments(records):

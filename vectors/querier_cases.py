@@ -476,3 +476,27 @@ def other_readings(b):
     # The phase of general queries.
     yield Case("counts an interval from the query before", moved(m31250=31300, m156250=156350))
     yield Case("counts intervals from the first query", moved(m31250=31350, m156250=156250))
+
+
+# Captures in which very many queries are pending. A check of one takes little more time than a replay.
+
+CROWD = 20000
+
+
+def crowds(b):
+    """Returns such captures by name."""
+    leave, query = b.report((TO_IN, b.A, ())), b.query(Query(0, LEFT, b.A))
+    starts = [(0, b.query(b.general(0))), (5000, b.report((TO_EX, b.A, ())))]
+    leaves = [(10000 + 300 * n // CROWD, leave) for n in range(CROWD)]
+    late = [(11001 + 80 * n // CROWD, query) for n in range(CROWD // 2)]
+    pairs = [(10500 + 400 * n // CROWD, frame) for n in range(CROWD // 2) for frame in (leave, query)]
+    # The program looks for the queries of these two groups in one place.
+    first, second = (b.A[:-3] + bytes(end) for end in ((3, 100, 100), (4, 98, 86)))
+    beside = [(5000, b.report((TO_EX, group, ()))) for group in (first, second)] + [(9999, b.report((TO_IN, first, ())))]
+    leave, query = b.report((TO_IN, second, ())), b.query(Query(0, LEFT, second))
+    more = [(10000 + 80 * n // CROWD, frame) for n in range(CROWD) for frame in (leave, query)]
+    return {
+        "many leaves of a group, and queries after the tolerance": wire.capture(starts + leaves + late),
+        "many leaves without a query, and then many with one": wire.capture(starts + leaves + pairs),
+        "a pending query beside many of another group": wire.capture(starts + beside + more),
+    }

@@ -8,7 +8,8 @@ use base.Logic.{sep, wand, apply∗}
 use base.Fml.{Lft, Share, Fml, Incl-refl, ftrue, fsep, fex, fat, flft, ftok}
 use base.Mask.{every, less}
 use types.Logic.{Logic, sem}
-use types.Kit.{Item, Goal, Seq, Step, Soaks, step, ‵, raw, ◌⊛◌, later, ◌$◌, move, drop, use1, use2, use3, split, join, fsplit, fjoin, fpick, fpack, rewrite, await}
+use types.Kit.{Item, Goal, Seq, Step, Soaks, step, ‵, raw, ◌⊛◌, later, ◌$◌, move, drop, use1, use2, use3, split, join, fsplit, fjoin, fpick, fpack}
+use types.Kit.{rewrite, await}
 use types.Na.{na_acc_in}
 use denote.RattleType.{RattleType}
 use denote.Exit.{Last, left, yes}
@@ -55,13 +56,18 @@ quiet x f = tt
 
 abbrev pub Shut : {M : Type 1} {𝓤 : Ura M} (𝓛 : Logic 𝓤) → ℕ → ℕ → ℕ → Lft → Share → Item 𝓤
 Shut {𝓤 = 𝓤} 𝓛 r b o κ q =
-    ‵ (ftok (less every (b, o))) ⊛ raw (wand 𝓤 (sep 𝓤 (sem 𝓛 (fields_with Fields (over r) b o)) (𝓛.A.tok (less every (b, o)))) (𝓛.H.⇛ (sep 𝓤 (𝓛.A.lft κ q) (𝓛.A.tok every))))
+    ‵ (ftok (less every (b, o))) ⊛ raw (wand 𝓤 (sep 𝓤 (sem 𝓛 (fields_with Fields (over r) b o)) (𝓛.A.tok (less every (b, o))))
+    (𝓛.H.⇛ (sep 𝓤 (𝓛.A.lft κ q) (𝓛.A.tok every))))
 
 module _ {M : Type 1} {𝓤 : Ura M} {𝓛 : Logic 𝓤} {K : Type 0} {Γ : List (Item 𝓤)} {G : Goal 𝓤 𝓛.H} (r : ℕ) where
   open 𝓛 use {H, A}
 
-  pub contents_out : K → (vs : List Val) → ((x : Held.Denot) (v : Val) → Over r x → Good (layout Held) v → vs ≡ round v ∷ [] → Seq K 𝓛 (‵ (Held.own_val x (v ∷ [])) ∷ Γ) G) → Seq K 𝓛 (‵ (contents r vs) ∷ Γ) G
-  contents_out t vs k = fpick t (λ i. fsplit t $ move t (1 ∷ []) $ fpick t (λ is. drop t $ unwraps held t (held_Lawful 𝓛) [] [] i.unused vs (λ v typed e. k i.unused v is typed e)))
+  pub contents_out : K → (vs : List Val) →
+      ((x : Held.Denot) (v : Val) → Over r x → Good (layout Held) v → vs ≡ round v ∷ [] → Seq K 𝓛 (‵ (Held.own_val x (v ∷ [])) ∷ Γ) G) →
+      Seq K 𝓛 (‵ (contents r vs) ∷ Γ) G
+  contents_out t vs k =
+      fpick t (λ i. fsplit t $ move t (1 ∷ []) $ fpick t
+      (λ is. drop t $ unwraps held t (held_Lawful 𝓛) [] [] i.unused vs (λ v typed e. k i.unused v is typed e)))
 
   pub contents_in : K → (x : Held.Denot) (v : Val) → Over r x → Step K 𝓛 (‵ (contents r (round v ∷ [])) ∷ Γ) G (‵ (Held.own_val x (v ∷ [])) ∷ Γ) G
   contents_in t x v is = step (λ s.
@@ -73,7 +79,8 @@ module _ {M : Type 1} {𝓤 : Ura M} {𝓛 : Logic 𝓤} {K : Type 0} {Γ : List
   open 𝓛 use {H, A}
 
   pub opens_slot : K → Soaks G → {κ : Lft} {q : Share}
-      → ((x : Held.Denot) (v : Val) → Over r x → Good (layout Held) v → Seq K 𝓛 (‵ (fat full_share slot_type b o (round v)) ∷ ‵ (Held.own_val x (v ∷ [])) ∷ Shut 𝓛 r b o κ q ∷ Γ) G)
+      → ((x : Held.Denot) (v : Val) → Over r x → Good (layout Held) v →
+      Seq K 𝓛 (‵ (fat full_share slot_type b o (round v)) ∷ ‵ (Held.own_val x (v ∷ [])) ∷ Shut 𝓛 r b o κ q ∷ Γ) G)
       → Seq K 𝓛 (‵ (hidden_shr slot.the_row κ r b o) ∷ ‵ (flft κ q) ∷ ‵ (ftok every) ∷ Γ) G
   opens_slot t z {κ} {q} k =
       let P : Fml = fields_with Fields (over r) b o in
@@ -86,6 +93,9 @@ module _ {M : Type 1} {𝓤 : Ura M} {𝓛 : Logic 𝓤} {K : Type 0} {Γ : List
       → Step K 𝓛 (‵ (flft κ q) ∷ ‵ (ftok every) ∷ Γ) G (‵ (fat full_share slot_type b o (round v)) ∷ ‵ (Held.own_val x (v ∷ [])) ∷ Shut 𝓛 r b o κ q ∷ Γ) G
   shuts_slot t z {κ} {q} x v is = step (λ s.
       let P : Fml = fields_with Fields (over r) b o in
-      use1 𝓛 (‵ (cell_at full_share Fields.mir (round v ∷ []) b o)) (𝓛.laws.at_raw full_share slot_type b o (round v)) $ move t (1 ∷ []) $ contents_in r t x v is $ move t (1 ∷ 0 ∷ []) $ fjoin t $
-      fpack t (List Val) (λ us. fsep (cell_at full_share Fields.mir us b o) (contents r us)) (round v ∷ []) $ move t (1 ∷ []) $ split t $ move t (2 ∷ 0 ∷ []) $ join t $
-      use2 𝓛 (later (‵ (flft κ q) ⊛ ‵ (ftok every))) (apply∗ 𝓤 (sep 𝓤 (sem 𝓛 P) (A.tok (less every (b, o)))) (H.⇛ (sep 𝓤 (A.lft κ q) (A.tok every)))) $ await t z $ split t $ s)
+      use1 𝓛 (‵ (cell_at full_share Fields.mir (round v ∷ []) b o)) (𝓛.laws.at_raw full_share slot_type b o (round v)) $ move t
+      (1 ∷ []) $ contents_in r t x v is $ move t (1 ∷ 0 ∷ []) $ fjoin t $
+      fpack t (List Val) (λ us. fsep (cell_at full_share Fields.mir us b o) (contents r us)) (round v ∷ []) $ move t (1 ∷ []) $ split t $ move t
+      (2 ∷ 0 ∷ []) $ join t $
+      use2 𝓛 (later (‵ (flft κ q) ⊛ ‵ (ftok every))) (apply∗ 𝓤 (sep 𝓤 (sem 𝓛 P) (A.tok (less every (b, o)))) (H.⇛ (sep 𝓤 (A.lft κ q) (A.tok every))))
+      $ await t z $ split t $ s)

@@ -19,7 +19,8 @@ use mir.Syntax.{Callee, Ty, a_type, w64, ty_array, given}
 use mir.Val.{Val, vint, vptr}
 use prog.Memory.{Memory}
 use prog.Routine.{Routine}
-use types.Kit.{‵, raw, ◌⊛◌, some, later, ◌$◌, ◌∵◌, !, qed, move, use0, use1, drop, split, join, pick, rewrite, fjoin, feq_i, flt_i, check, show, await, updating, now, done}
+use types.Kit.{‵, raw, ◌⊛◌, some, later, ◌$◌, ◌∵◌, !, qed, move, use0, use1, drop, split, join, pick, rewrite, fjoin, feq_i, flt_i, check, show}
+use types.Kit.{await, updating, now, done}
 use types.Logic.{Logic, sem}
 use Rattle.core.proofs.alloc.Calls.{Al}
 use Rattle.std_alloc.proofs.VecSteps.El.{El, no_al, R, sz}
@@ -42,7 +43,14 @@ LentVec T = vec.the_row (param 0 T) lodged_type.the_row ghosts
 
 -- its machine value, in the words of `handle_tells`
 abbrev pub lent_vec : (T : RattleType) → Laws T → Al
-lent_vec T L = record { row = LentVec T; laws = vec_laws.the_row_laws (param 0 T) lodged_type.the_row ghosts (param_laws 0 T L) lodged_laws.the_row_laws; g = record { dealloc_token = λ a τ p. ftrue }; d = given 0; drops = given 0 }
+lent_vec T L = record {
+  row = LentVec T;
+  laws = vec_laws.the_row_laws (param 0 T) lodged_type.the_row ghosts
+      (param_laws 0 T L) lodged_laws.the_row_laws;
+  g = record { dealloc_token = λ a τ p. ftrue };
+  d = given 0;
+  drops = given 0;
+}
 
 abbrev pub lodge_key : RattleType → Callee
 lodge_key T = lodge_name (layouts (a_type ∷ []) (T, tt))
@@ -65,8 +73,10 @@ module _ (T : RattleType) (L : Laws T) where
         let same : c ≡ c - 0 = omega arith in
         let start : o ≡ o + 0 * s = omega arith in
         qed 𝓛 (‵ (froom (units n) b o) ∷ []) ∵ use1 𝓛 (‵ (froom row b o)) (room_of_units 𝓛 row b o n fits) $
-        rewrite ! 0 (λ (z : ℕ × ℕ). ‵ (froom (ty_array (layout T) z.0) b z.1)) {x = (c - 0, o + 0 * s)} (λ i. (same i, start i)) refl $ nothing ! $ move ! (1 ∷ 0 ∷ []) $
-        use0 𝓛 (‵ (part_at (Array (R E) 0) full_share [] b o)) (empty E 𝓛 [] b o refl) $ blk_in E ! tt b o 0 c [] (omega arith) $ flt_i ! (c * s) (2 ^ 63) small $ fjoin ! $ done !
+        rewrite ! 0 (λ (z : ℕ × ℕ). ‵ (froom (ty_array (layout T) z.0) b z.1)) {x = (c - 0, o + 0 * s)}
+        (λ i. (same i, start i)) refl $ nothing ! $ move ! (1 ∷ 0 ∷ []) $
+        use0 𝓛 (‵ (part_at (Array (R E) 0) full_share [] b o)) (empty E 𝓛 [] b o refl) $ blk_in E ! tt b o 0 c [] (omega arith) $ flt_i ! (c * s)
+        (2 ^ 63) small $ fjoin ! $ done !
 
 module _ (T : RattleType) {M : Type 1} {𝓤 : Ura M} (𝓛 : Logic 𝓤) (at_mem : Memory → SProp 𝓤) (run : Routine → Fun 𝓤) where
   open 𝓛 use {H}
@@ -81,7 +91,8 @@ module _ (T : RattleType) {M : Type 1} {𝓤 : Ura M} (𝓛 : Logic 𝓤) (at_me
     abbrev pub IsEmptyAt : Vec T.Denot Lodged → Type 0
     IsEmptyAt r = (r.items ≡ []) × (r.len ≡ 0) × (r.cap ≡ c) × (r.ptr ≡ block_ptr b o)
 
-    pub lodge_goes : κ ⊑ T.lives → c < 2 ^ 63 → ent 𝓤 (sep 𝓤 (sem 𝓛 (lodged (param 0 T) (block_ptr b o) 0 c [])) (sep 𝓤 (sem 𝓛 (flft κ q)) (sem 𝓛 ftrue))) (Lodges.pre at_lodge)
+    pub lodge_goes : κ ⊑ T.lives → c < 2 ^ 63 →
+        ent 𝓤 (sep 𝓤 (sem 𝓛 (lodged (param 0 T) (block_ptr b o) 0 c [])) (sep 𝓤 (sem 𝓛 (flft κ q)) (sem 𝓛 ftrue))) (Lodges.pre at_lodge)
     lodge_goes lives small =
         let Asked : Type 0 = (0 ≡ length {A = T.Denot} []) × (0 ≤ c) × (c < 2 ^ 63) in
         qed 𝓛 (‵ (lodged (param 0 T) (block_ptr b o) 0 c []) ∷ (‵ (flft κ q) ⊛ ‵ ftrue) ∷ []) ∵
@@ -91,10 +102,15 @@ module _ (T : RattleType) {M : Type 1} {𝓤 : Ura M} (𝓛 : Logic 𝓤) (at_me
         flt_i ! 0 (2 ^ 64) (lit< tt) $ feq_i ! (List Val) (vint w64 0 ∷ []) (vint w64 0 ∷ []) refl $ fjoin ! $ fjoin ! $
         feq_i ! (List Val) (vptr b o ∷ []) (vptr b o ∷ []) refl $ fjoin ! $ move ! (2 ∷ 0 ∷ 1 ∷ []) $ join ! $ join ! $ done !
 
-    pub lodge_gives : (v : Val) → ent 𝓤 (Lodges.post at_lodge v) (H.⇛ (ex 𝓤 (λ (r : Vec T.Denot Lodged). guard 𝓤 (IsEmptyAt r) (sep 𝓤 (sem 𝓛 ((LentVec T).own_val r (v ∷ []))) (sep 𝓤 (sem 𝓛 (flft κ q)) (sem 𝓛 ftrue))))))
+    pub lodge_gives : (v : Val) →
+        ent 𝓤 (Lodges.post at_lodge v)
+        (H.⇛ (ex 𝓤 (λ (r : Vec T.Denot Lodged). guard 𝓤 (IsEmptyAt r)
+        (sep 𝓤 (sem 𝓛 ((LentVec T).own_val r (v ∷ []))) (sep 𝓤 (sem 𝓛 (flft κ q)) (sem 𝓛 ftrue))))))
     lodge_gives v =
         qed 𝓛 (raw (Lodges.post at_lodge v) ∷ []) ∵ updating ! $
         use1 𝓛 (later (some (λ (r : Vec T.Denot Lodged). ((‵ (flft κ q) ⊛ ‵ ftrue) ⊛ ‵ ((LentVec T).own_val r (v ∷ [])))
-        ⊛ some (λ (ws : Unit {0} × (Unit {0} × (Unit {0} × Unit {0}))). ‵ (fsep ftrue (fsep ftrue (fsep ftrue ftrue))) ⊛ raw (fact 𝓤 (IsEmptyAt r)))))) (id⊢ 𝓤 _) $ await ! tt $ pick ! (λ r.
+        ⊛ some (λ (ws : Unit {0} × (Unit {0} × (Unit {0} × Unit {0}))). ‵ (fsep ftrue (fsep ftrue (fsep ftrue ftrue))) ⊛ raw
+        (fact 𝓤 (IsEmptyAt r)))))) (id⊢ 𝓤 _) $ await ! tt $ pick ! (λ r.
         split ! $ move ! (1 ∷ []) $ pick ! (λ ws. split ! $ drop ! $ heard ! (IsEmptyAt r) (λ is. split ! $ move ! (1 ∷ 0 ∷ []) $ now ! $
-        show ! (λ (z : Vec T.Denot Lodged). guard 𝓤 (IsEmptyAt z) (sep 𝓤 (sem 𝓛 ((LentVec T).own_val z (v ∷ []))) (sep 𝓤 (sem 𝓛 (flft κ q)) (sem 𝓛 ftrue)))) r $ check ! is $ done !)))
+        show ! (λ (z : Vec T.Denot Lodged). guard 𝓤 (IsEmptyAt z)
+        (sep 𝓤 (sem 𝓛 ((LentVec T).own_val z (v ∷ []))) (sep 𝓤 (sem 𝓛 (flft κ q)) (sem 𝓛 ftrue)))) r $ check ! is $ done !)))

@@ -26,20 +26,25 @@ use Rattle.core.proofs.result.Result.TheLaws as result_laws
 use Rattle.mq_arena.specs.contracts.arenas.Arena as arena
 
 abbrev pub parameters : List (ParamKind 2)
-parameters = p_shr_to {n = 2} (plain (λ κs. struct.row arena.the_type)) arena.the_row.written (λ κs. refl) arena.the_type.D (one_type 2 arena.the_type.D) 0 tt ∷ p_ptr ∷ p_num w64 ∷ p_num w64 ∷ p_num w64 ∷ []
+parameters = p_shr_to {n = 2} (plain (λ κs. struct.row arena.the_type)) arena.the_row.written (λ κs. refl) arena.the_type.D
+    (one_type 2 arena.the_type.D) 0 tt ∷ p_ptr ∷ p_num w64 ∷ p_num w64 ∷ p_num w64 ∷ []
 
 abbrev pub answer : ResultKind 2
 answer = r_val (record {
   ty = enum.row (result.the_type RawPtr error.the_row);
   one = refl;
-  val = enum_laws.val (result.the_type RawPtr error.the_row) (result_laws.the_laws RawPtr error.the_row ptr_laws error_laws.the_row_laws (field_told RawPtr-field RawPtr-laws) error_laws.the_told);
-  tells = enum_laws.tells (result.the_type RawPtr error.the_row) (result_laws.the_laws RawPtr error.the_row ptr_laws error_laws.the_row_laws (field_told RawPtr-field RawPtr-laws) error_laws.the_told);
-  still = enum_laws.still (result.the_type RawPtr error.the_row) (result_laws.the_copy RawPtr error.the_row ptr_laws error_laws.the_row_laws ptr_copy error_laws.the_row_copy) yes;
+  val = enum_laws.val (result.the_type RawPtr error.the_row)
+      (result_laws.the_laws RawPtr error.the_row ptr_laws error_laws.the_row_laws (field_told RawPtr-field RawPtr-laws) error_laws.the_told);
+  tells = enum_laws.tells (result.the_type RawPtr error.the_row)
+      (result_laws.the_laws RawPtr error.the_row ptr_laws error_laws.the_row_laws (field_told RawPtr-field RawPtr-laws) error_laws.the_told);
+  still = enum_laws.still (result.the_type RawPtr error.the_row)
+      (result_laws.the_copy RawPtr error.the_row ptr_laws error_laws.the_row_laws ptr_copy error_laws.the_row_copy) yes;
   row = whole (enum.row (result.the_type RawPtr error.the_row));
   rd = λ x. x;
   mk = λ x. x;
 }) (λ M 𝓤 𝓛. record {
-  copies = enum_laws.copy (result.the_type RawPtr error.the_row) (result_laws.the_copy RawPtr error.the_row ptr_laws error_laws.the_row_laws ptr_copy error_laws.the_row_copy) 𝓛;
+  copies = enum_laws.copy (result.the_type RawPtr error.the_row)
+      (result_laws.the_copy RawPtr error.the_row ptr_laws error_laws.the_row_laws ptr_copy error_laws.the_row_copy) 𝓛;
   lawful = loose_lawful (result.the_type RawPtr error.the_row) (result_laws.the_loose RawPtr error.the_row ptr_laws error_laws.the_row_laws) tt 𝓛;
   makes = enum_laws.makes (result.the_type RawPtr error.the_row) (result_laws.the_plain RawPtr error.the_row RawPtr-plain error_laws.the_row_plain) 𝓛;
   in_mem = mem_whole 𝓛 (enum.row (result.the_type RawPtr error.the_row));

@@ -50,7 +50,8 @@ module _ {M : Type 1} {𝓤 : Ura M} (𝓛 : Logic 𝓤) where
   places [] b o = 𝓛.laws.room_nil unit b o
   places (x ∷ xs) b o =
       qed 𝓛 (‵ (part_at u128 full_share x b o) ∷ ‵ (row u128 full_share xs b (o + 16)) ∷ []) ∵
-      use1 𝓛 (some (λ (v : Val). ‵ (fat full_share unit b o v) ⊛ ‵ (u128.own_val x (v ∷ [])))) (part_out 𝓛 u128 refl full_share x b o) $ pick ! (λ v. split ! $ move ! (1 ∷ []) $ drop ! $
+      use1 𝓛 (some (λ (v : Val). ‵ (fat full_share unit b o v) ⊛ ‵ (u128.own_val x (v ∷ [])))) (part_out 𝓛 u128 refl full_share x b o) $ pick !
+      (λ v. split ! $ move ! (1 ∷ []) $ drop ! $
       use1 𝓛 (‵ (froom unit b o)) (𝓛.laws.at_room unit b o v) $ move ! (1 ∷ []) $
       use1 𝓛 (‵ (froom (units (length xs)) b (o + 16))) (places xs b (o + 16)) $ move ! (1 ∷ 0 ∷ []) $ by ! (𝓛.laws.room_cons unit (length xs) b o))
 
@@ -61,10 +62,14 @@ module _ {M : Type 1} {𝓤 : Ura M} (𝓛 : Logic 𝓤) where
       let tail : Tys = tcons (ty_array (ty_int w8) (n * 16 - size τ)) tnil in
       let whole : Ty = ty_struct [] (tcons τ tail) in
       let start : up (align τ) 0 ≡ 0 = up_of (align τ) 0 (dv_zero (align τ)) in
-      let ends : end_of zero (tcons τ tail) ≡ n * 16 = ap (λ (k : ℕ). k + (n * 16 - size τ) * 1) (up_of 1 (up (align τ) 0 + size τ) (dv_one (up (align τ) 0 + size τ)) ∙ ap (λ (k : ℕ). k + size τ) start) ∙ omega arith in
+      let ends : end_of zero (tcons τ tail) ≡ n * 16 = ap (λ (k : ℕ). k + (n * 16 - size τ) * 1)
+      (up_of 1 (up (align τ) 0 + size τ) (dv_one (up (align τ) 0 + size τ)) ∙ ap (λ (k : ℕ). k + size τ) start) ∙ omega arith in
       let one : max (align τ) 1 ≡ align τ = omega (arith, align_pos τ) in
       let same : size whole ≡ n * 16 = (λ i. up (one i) (ends i)) ∙ up_of (align τ) (n * 16) (dv_mul (align τ) 16 n dv) in
       qed 𝓛 (‵ (froom (units n) b o) ∷ []) ∵
-      use1 𝓛 (‵ (froom whole b o) ⊛ raw (wand 𝓤 (Room whole b o) (Room (units n) b o))) (𝓛.laws.room_as (units n) whole b o same (subst (λ (k : ℕ). Dv k 16) (sym one) dv)) $ split ! $ move ! (1 ∷ []) $ drop ! $
-      use1 𝓛 ((‵ (froom τ b (o + up (align τ) 0)) ⊛ raw (rooms_at 𝓤 H tail (up (align τ) 0 + size τ) b o)) ⊛ raw (wand 𝓤 (rooms_at 𝓤 H (tcons τ tail) zero b o) (Room whole b o))) (𝓛.laws.room_fields [] (tcons τ tail) b o) $
-      split ! $ split ! $ keep ! (0 ∷ []) $ by ! (subst (λ (k : ℕ). ent 𝓤 (Room τ b k) (Room τ b o)) (sym (ap (λ (k : ℕ). o + k) start ∙ omega arith)) (id⊢ 𝓤 (Room τ b o)))
+      use1 𝓛 (‵ (froom whole b o) ⊛ raw (wand 𝓤 (Room whole b o) (Room (units n) b o)))
+      (𝓛.laws.room_as (units n) whole b o same (subst (λ (k : ℕ). Dv k 16) (sym one) dv)) $ split ! $ move ! (1 ∷ []) $ drop ! $
+      use1 𝓛 ((‵ (froom τ b (o + up (align τ) 0)) ⊛ raw (rooms_at 𝓤 H tail (up (align τ) 0 + size τ) b o)) ⊛ raw
+      (wand 𝓤 (rooms_at 𝓤 H (tcons τ tail) zero b o) (Room whole b o))) (𝓛.laws.room_fields [] (tcons τ tail) b o) $
+      split ! $ split ! $ keep ! (0 ∷ []) $ by ! (subst (λ (k : ℕ). ent 𝓤 (Room τ b k) (Room τ b o)) (sym (ap (λ (k : ℕ). o + k) start ∙ omega arith))
+      (id⊢ 𝓤 (Room τ b o)))

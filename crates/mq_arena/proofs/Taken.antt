@@ -31,7 +31,8 @@ Told n x = IfOk x (λ block. 16 * length block.now ≡ size_of_block n)
 module _ {M : Type 1} {𝓤 : Ura M} {𝓛 : Logic 𝓤} {K : Type 0} {Γ : List (Item 𝓤)} {G : Goal 𝓤 𝓛.H} where
   -- units that are lent for good are room
   pub lent : K → Soaks G → (r : Block.Denot) (vs : List Val)
-      → (vs ≡ slice_val r.ref_ptr (length r.now) ∷ [] → length r.now < 2 ^ 64 → length r.now * 16 < 2 ^ 63 → Seq K 𝓛 (‵ (froom (units (length r.now)) r.ref_ptr.0 r.ref_ptr.1) ∷ Γ) G) → Seq K 𝓛 (‵ (Block.own_val r vs) ∷ Γ) G
+      → (vs ≡ slice_val r.ref_ptr (length r.now) ∷ [] → length r.now < 2 ^ 64 → length r.now * 16 < 2 ^ 63 →
+      Seq K 𝓛 (‵ (froom (units (length r.now)) r.ref_ptr.0 r.ref_ptr.1) ∷ Γ) G) → Seq K 𝓛 (‵ (Block.own_val r vs) ∷ Γ) G
   lent t z r vs then =
       fsplit3 t $ pure_l t (mut_slice_at u128 r vs) (λ p.
       let b = r.ref_ptr.0 in let o = r.ref_ptr.1 in
@@ -40,11 +41,13 @@ module _ {M : Type 1} {𝓤 : Ura M} {𝓛 : Logic 𝓤} {K : Type 0} {Γ : List
       use1 𝓛 (‵ (froom (units (length r.now)) b o)) (places 𝓛 r.now b o) $ then p.0 p.1.0 p.1.1)
 
   pub taken : K → Soaks G → (n : ℕ) (x : Taken.Denot) (v : Val) → Told n x
-      → ((b o m : ℕ) → m < 2 ^ 64 → m * 16 < 2 ^ 63 → 16 * m ≡ size_of_block n → v ≡ live 0 (of_list (slice_val (b, o) m ∷ [])) → Seq K 𝓛 (‵ (froom (units m) b o) ∷ Γ) G)
+      → ((b o m : ℕ) → m < 2 ^ 64 → m * 16 < 2 ^ 63 → 16 * m ≡ size_of_block n → v ≡ live 0 (of_list (slice_val (b, o) m ∷ [])) →
+      Seq K 𝓛 (‵ (froom (units m) b o) ∷ Γ) G)
       → (v ≡ live 1 (of_list (vstruct vnil ∷ [])) → Seq K 𝓛 Γ G) → Seq K 𝓛 (‵ (Taken.own_val x (v ∷ [])) ∷ Γ) G
   taken t z n (Ok r) v told granted refused =
       fpick t (λ us. fsplit t $ feq_l t (λ e. fpick t (λ vss. fsplit t $ feq_l t (λ e'. fsplit t $ move t (1 ∷ []) $ drop t $
-      lent t z r vss.0 (λ here fits small. granted r.ref_ptr.0 r.ref_ptr.1 (length r.now) fits small told (ap only e ∙ ap (λ (ws : List Val). live 0 (of_list ws)) (e' ∙ ap (λ (ws : List Val). ws ++ []) here)))))))
+      lent t z r vss.0 (λ here fits small. granted r.ref_ptr.0 r.ref_ptr.1 (length r.now) fits small told
+      (ap only e ∙ ap (λ (ws : List Val). live 0 (of_list ws)) (e' ∙ ap (λ (ws : List Val). ws ++ []) here)))))))
   taken t z n (Err r) v told granted refused =
       fpick t (λ us. fsplit t $ feq_l t (λ e. fpick t (λ vss. fsplit t $ feq_l t (λ e'. fsplit t $ fpick t (λ none. fsplit t $ feq_l t (λ e''. drop t $ drop t $
       refused (ap only e ∙ ap (λ (ws : List Val). live 1 (of_list ws)) (e' ∙ ap (λ (ws : List Val). ws ++ []) e''))))))))

@@ -1,5 +1,6 @@
 -- Lines in memory that was lent.
-use Rattle.std.proofs.Common.{◌≡◌, ℕ, ◌-◌, ◌≤◌, IsTrue, Bool, true, false, is_ok, is_err, if◌then◌else◌, List, [], ◌++◌, length, take, drop, Some, Result, Ok, Err, refl, sym, ap, ◌∙◌, subst, arith, append-nil, ◌||◌}
+use Rattle.std.proofs.Common.{◌≡◌, ℕ, ◌-◌, ◌≤◌, IsTrue, Bool, true, false, is_ok, is_err, if◌then◌else◌, List, [], ◌++◌, length, take, drop, Some}
+use Rattle.std.proofs.Common.{Result, Ok, Err, refl, sym, ap, ◌∙◌, subst, arith, append-nil, ◌||◌}
 use Rattle.std.proofs.lemmas.List.{take-append-drop}
 use Rattle.std.proofs.lemmas.Grind.{common_steps}
 use Rattle.mq_wire.specs.Family.{Family}
@@ -9,12 +10,14 @@ use Rattle.mq_c.specs.declared.line_room.LineRoom.{LineRoom}
 use Rattle.mq_c.specs.LineRoom.{in_front, written_to, LineStands}
 
 -- a line with its end
-ended : (family : Family) (pseudo bytes : List ℕ) (flag : Bool) (text : List ℕ) → IsLineOf family pseudo bytes flag text → (line : List ℕ) × (text ≡ line_of line)
+ended : (family : Family) (pseudo bytes : List ℕ) (flag : Bool) (text : List ℕ) → IsLineOf family pseudo bytes flag text → (line : List ℕ) ×
+    (text ≡ line_of line)
 ended family pseudo bytes true text is_line = (message_text family is_line.0, is_line.2)
 ended family pseudo bytes false text is_line = (fault_text is_line.0, is_line.2)
 
 -- where all of a text was written, it stands in front
-all_in_front : (text before new : List ℕ) (written : ℕ) → written ≤ length new → length new ≡ length before → drop written new ≡ drop written before → take written new ≡ text → new ≡ in_front text before
+all_in_front : (text before new : List ℕ) (written : ℕ) → written ≤ length new → length new ≡ length before → drop written new ≡ drop written before →
+    take written new ≡ text → new ≡ in_front text before
 all_in_front text before new written within same_length behind all =
     let long : length text ≡ written = grind (arith, common_steps, ap length all) in
     let front : take (length before) text ≡ text = grind (arith, common_steps, long, within, same_length) in

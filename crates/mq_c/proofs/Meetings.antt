@@ -48,7 +48,8 @@ module _ (seen after : Seen) (groups : Groups) (met_more : (k : ℕ) → met see
   meetings-le = sum_by-le-sum_by (left_to_meet after) (left_to_meet seen) (map.entries groups) no_more
 
   -- one meeting fewer
-  pub meetings-fall : (a : ℕ) (e : ScheduledGroup) → met after a ≡ met seen a + 1 → met seen a < 4 → map.get groups a ≡ Some e → is_vacant e.group ≡ false → meetings after groups + 1 ≤ meetings seen groups
+  pub meetings-fall : (a : ℕ) (e : ScheduledGroup) → met after a ≡ met seen a + 1 → met seen a < 4 → map.get groups a ≡ Some e →
+      is_vacant e.group ≡ false → meetings after groups + 1 ≤ meetings seen groups
   meetings-fall a e once few found held =
       sum-falls (left_to_meet seen) (left_to_meet after) no_more a 1 (map.entries groups) e (sym (map.get-entries groups a) ∙ found)
       (subst (λ v. (4 - met after a) * one_if (not v) + 1 ≤ (4 - met seen a) * one_if (not v)) (sym held) (omega (arith, once, few)))
@@ -56,7 +57,8 @@ module _ (seen after : Seen) (groups : Groups) (met_more : (k : ℕ) → met see
 -- with a group as said
 module _ (seen : Seen) (groups : Groups) (a : ℕ) (e : ScheduledGroup) where
   with_total : meetings seen (with_group groups a e) + left_to_meet seen (a, group_at groups a) ≡ meetings seen groups + left_to_meet seen (a, e)
-  with_total = total-with_group (left_to_meet seen) groups a (nothing (4 - met seen a) (is_vacant unheld.group) vacant_is) e (λ vacant. nothing (4 - met seen a) (is_vacant e.group) vacant)
+  with_total = total-with_group (left_to_meet seen) groups a (nothing (4 - met seen a) (is_vacant unheld.group) vacant_is) e
+      (λ vacant. nothing (4 - met seen a) (is_vacant e.group) vacant)
     where
       nothing : (d : ℕ) (v : Bool) → v ≡ true → d * one_if (not v) ≡ 0
       nothing d true is = omega arith
@@ -74,7 +76,8 @@ module _ (seen : Seen) (groups : Groups) (a : ℕ) (e : ScheduledGroup) where
       (omega (arith, total, same), omega (arith, len, before, after))
 
   -- one that wasn't
-  pub meetings-made : map.contains_key groups a ≡ false → meetings seen (with_group groups a e) + 4 * map.len groups ≤ meetings seen groups + 4 * map.len (with_group groups a e)
+  pub meetings-made : map.contains_key groups a ≡ false →
+      meetings seen (with_group groups a e) + 4 * map.len groups ≤ meetings seen groups + 4 * map.len (with_group groups a e)
   meetings-made absent =
       let total = with_total in
       let few : 4 - met seen a ≤ 4 = omega arith in

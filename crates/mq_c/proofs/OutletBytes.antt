@@ -9,8 +9,10 @@ two_products head queries width asked few_bytes few narrow small =
     let second = mul-le-mul narrow small in
     omega (arith, first, second)
 
-pub told_in_64 : (width head per_query longest asking sources scheduled : ℕ) → width < 2 ^ 8 → head < 2 ^ 8 → longest < 2 ^ 32 → asking ≤ 1 + longest / (4 + width) → sources < 2 ^ 32 → scheduled < 2 ^ 32
-    → (width + 2 + head) * (1 + 2 * scheduled + 3 * asking + (sources + 4 * (sources + longest / width)) / per_query) + width * (sources + 4 * (sources + longest / width)) < 2 ^ 64
+pub told_in_64 : (width head per_query longest asking sources scheduled : ℕ) → width < 2 ^ 8 → head < 2 ^ 8 → longest < 2 ^ 32 →
+    asking ≤ 1 + longest / (4 + width) → sources < 2 ^ 32 → scheduled < 2 ^ 32
+    → (width + 2 + head) * (1 + 2 * scheduled + 3 * asking + (sources + 4 * (sources + longest / width)) / per_query) + width *
+    (sources + 4 * (sources + longest / width)) < 2 ^ 64
 told_in_64 width head per_query longest asking sources scheduled narrow short small few few_sources few_schedules =
     let asked = sources + 4 * (sources + longest / width) in
     let named = div-le_self longest width in

@@ -8,12 +8,14 @@ use base.Fml.{GName, Fml, ftrue, flft, fsep}
 use contract.Running.{Running, tables}
 use contract.Lifetimes.{Lfts}
 use mir.Raw.{raw as bare}
-use mir.Syntax.{named, erased, static, mut, Ty, Fn, Callee, ty_ptr, ty_ref, local, value_local, place, field, deref, copy, assign, rv_opd, addr_of, aggregate, seq, block, return}
+use mir.Syntax.{named, erased, static, mut, Ty, Fn, Callee, ty_ptr, ty_ref, local, value_local, place, field, deref, copy, assign, rv_opd, addr_of}
+use mir.Syntax.{aggregate, seq, block, return}
 use mir.Val.{Val, vptr}
 use prog.Model.{Model}
 use prog.Wp.{Closed}
 use types.Logic.{Logic, sem}
-use types.Kit.{‵, raw, ◌⊛◌, some, later, at_ret, ◌$◌, ◌∵◌, !, qed, by, move, keep, use0, use1, drop, split, join, pick, fsplit, fsplit3, fjoin, fpack, suffices, done, frame, await, group, rewrite}
+use types.Kit.{‵, raw, ◌⊛◌, some, later, at_ret, ◌$◌, ◌∵◌, !, qed, by, move, keep, use0, use1, drop, split, join, pick, fsplit, fsplit3, fjoin, fpack}
+use types.Kit.{suffices, done, frame, await, group, rewrite}
 use types.Part.{agg, whole, sub, look_in}
 use types.Run.{stop, fld, load, of_opd, no_more, and_then, first, blocks, exec, returns, enter, addr}
 use types.ByLocal.{alloc_all, pass_all, free_all, look_at, get, through, sets, env, sets_last}
@@ -52,7 +54,8 @@ module _ (R : RattleType) (P : Pointing) where
       ty_params = [];
       givens = 0;
       params = 1;
-      locals = local (ty_ref (named 0) mut R.written.ty) value_local ∷ local (ty_ref (named 0) mut O.written.ty) value_local ∷ local (ty_ref erased mut R.written.ty) value_local ∷ local ty_ptr value_local ∷ local ty_ptr value_local ∷ [];
+      locals = local (ty_ref (named 0) mut R.written.ty) value_local ∷ local (ty_ref (named 0) mut O.written.ty) value_local ∷ local
+          (ty_ref erased mut R.written.ty) value_local ∷ local ty_ptr value_local ∷ local ty_ptr value_local ∷ [];
       body =
           seq (block
           (seq (assign (place 3 []) (rv_opd (copy (place 1 (deref (ty_of O) ∷ field 0 ∷ [])))))
@@ -64,19 +67,27 @@ module _ (R : RattleType) (P : Pointing) where
     module _ (one : One R.mir) where
       abbrev pub lend_ended : Ended
       lend_ended = record {
-        signature = record { lifetimes = 1; outlives = []; params = RefMutOf (0 ∷ []) tt (plain (λ κs. O)) (λ κs. tt) ∷ []; result = RefMutOf (0 ∷ []) tt (plain (λ κs. R)) (λ κs. one) };
+        signature = record {
+          lifetimes = 1;
+          outlives = [];
+          params = RefMutOf (0 ∷ []) tt (plain (λ κs. O)) (λ κs. tt) ∷ [];
+          result =
+              RefMutOf (0 ∷ []) tt (plain (λ κs. R)) (λ κs. one);
+        };
         kept = (no, tt);
       }
 
       -- with another value behind the same pointer
-      module _ (with_kept : P.D → R.Denot → P.D) (same_at : (d : P.D) (w : R.Denot) → (P.as_values (with_kept d w)).0 ≡ (P.as_values d).0) (is_kept : (d : P.D) (w : R.Denot) → kept (with_kept d w) ≡ w)
+      module _ (with_kept : P.D → R.Denot → P.D) (same_at : (d : P.D) (w : R.Denot) → (P.as_values (with_kept d w)).0 ≡ (P.as_values d).0)
+          (is_kept : (d : P.D) (w : R.Denot) → kept (with_kept d w) ≡ w)
           {M : Type 1} (𝓤 : Ura M) (𝓛 : Logic 𝓤) where
         module _ (rb ro : ℕ) (h : P.D) (b o : ℕ) where
           -- all of the object but what is behind its pointer
           abbrev Rest : Fml
           Rest = fsep (no_freeing (bare (ty_of R)) (block_ptr b o)) (cell_at full_share O.mir (alone (vptr b o) ∷ []) rb ro)
 
-          back : (P.as_values h).0 ≡ block_ptr b o → (w : R.Denot) → ent 𝓤 (sep 𝓤 (sem 𝓛 ((mem R).own_at w b o)) (sem 𝓛 Rest)) (sem 𝓛 ((mem O).own_at (with_kept h w) rb ro))
+          back : (P.as_values h).0 ≡ block_ptr b o → (w : R.Denot) → ent 𝓤 (sep 𝓤 (sem 𝓛 ((mem R).own_at w b o)) (sem 𝓛 Rest))
+              (sem 𝓛 ((mem O).own_at (with_kept h w) rb ro))
           unfolding part_of
           back at_b w =
               let here = same_at h w ∙ at_b in
@@ -87,7 +98,8 @@ module _ (R : RattleType) (P : Pointing) where
               fpack ! (List Val) (λ us. fsep (cell_at full_share O.mir us rb ro) (O.own_val (with_kept h w) us)) (alone (vptr b o) ∷ []) $ done !
 
         module _ (𝓜 : Model 𝓤 𝓛.H) (𝓡 : Running 𝓤 𝓛.H 𝓜) (k : Callee) (c : Clauses 𝓤 lend_ended) where
-          pub lend_meets : ((κs : Lfts 1) (a : Args lend_ended.signature κs) (g : (c κs a).ghost) (r : Res lend_ended.signature κs) (e : AtExit lend_ended κs) → r.now ≡ kept a.0.now
+          pub lend_meets : ((κs : Lfts 1) (a : Args lend_ended.signature κs) (g : (c κs a).ghost) (r : Res lend_ended.signature κs)
+              (e : AtExit lend_ended κs) → r.now ≡ kept a.0.now
               → ent 𝓤 (sem 𝓛 (follows O R a.0.ghost_name r.ghost_name (with_kept a.0.now))) ((c κs a).ensures g r e))
               → Closed 𝓤 𝓛.H (tables 𝓤 𝓛.H 𝓜 𝓡 𝓡.env).C (tables 𝓤 𝓛.H 𝓜 𝓡 𝓡.env).Λ k lend_code
               → Meets 𝓛 lend_ended.signature ((tables 𝓤 𝓛.H 𝓜 𝓡 𝓡.env).C k) (closing 𝓛 lend_ended c)
@@ -96,7 +108,8 @@ module _ (R : RattleType) (P : Pointing) where
               let hs : Stays T.signature.params T.kept = (stay_dropped (mut_ref_to (0 ∷ []) tt (plain (λ κs. O))) no, tt) in let W = walk_of 𝓛 T hs c in
               proved 𝓛 T hs c 𝓜 𝓡 (Goes-spent_ref 𝓛 1 (0 ∷ []) tt (plain (λ κs. O)), tt) k lend_code closed
               (λ κs. (mut_vals, tt)) (λ κs. (mut_Tells (named 0) κs.0 O, tt)) (λ κs qs bounds a g are.
-              let κ = κs.0 in let q = qs.0 in let rb = a.0.ref_ptr.0 in let ro = a.0.ref_ptr.1 in let γ = a.0.ghost_name in let h = a.0.now in let vs = mut_vals a.0 in
+              let κ = κs.0 in let q = qs.0 in let rb = a.0.ref_ptr.0 in let ro = a.0.ref_ptr.1 in let γ = a.0.ghost_name in let h = a.0.now in
+              let vs = mut_vals a.0 in
               let y : W.Ghost = ((κs, qs, bounds, a, (vs, tt)), g) in let Post : Val → SProp 𝓤 = W.post y in
               qed 𝓛 (((‵ (flft κ q) ⊛ ‵ ftrue) ⊛ ‵ (fsep ((MutRef (named 0) κ O).own_val a.0 vs) ftrue)) ∷ raw ((c κs a).requires g) ∷ []) ∵ split ! $
               enter ! 𝓣.C 𝓣.Λ lend_code _ Post $ alloc_all ! (λ l. pass_all ! refl ((tt, tt), tt) $ let En = env lend_code.locals l in
@@ -111,16 +124,21 @@ module _ (R : RattleType) (P : Pointing) where
               exec ! 𝓣.C 𝓣.Λ En (after 1 lend_code.body) (at_ret En Post) $
               sets ! (of_opd ! (get ! refl)) refl (tt, tt) $
               move ! (1 ∷ 2 ∷ []) $ fjoin ! $ move ! (2 ∷ 3 ∷ 4 ∷ 1 ∷ 0 ∷ []) $ group ! 5 $
-              use1 𝓛 (later (some (λ (γ' : GName). raw (Part 𝓛 O R (with_kept h) (named 0) κ q rb ro b o γ (sem 𝓛 (Rest rb ro h b o)) (back rb ro h b o at_b) (kept h) γ'))))
-              (lends_Part 𝓛 O R (with_kept h) (named 0) κ q rb ro b o γ (sem 𝓛 (Rest rb ro h b o)) (back rb ro h b o at_b) (O.coded.code h) (O.coded.code h) (kept h)) $ await ! tt $ pick ! (λ γ'.
+              use1 𝓛 (later (some (λ (γ' : GName). raw
+              (Part 𝓛 O R (with_kept h) (named 0) κ q rb ro b o γ (sem 𝓛 (Rest rb ro h b o)) (back rb ro h b o at_b) (kept h) γ'))))
+              (lends_Part 𝓛 O R (with_kept h) (named 0) κ q rb ro b o γ (sem 𝓛 (Rest rb ro h b o)) (back rb ro h b o at_b) (O.coded.code h)
+              (O.coded.code h) (kept h)) $ await ! tt $ pick ! (λ γ'.
               let lent : MutBor R.Denot = record { ref_ptr = (b, o); ghost_name = γ'; now = kept h } in
               returns ! (look_at ! 0 refl) $ free_all ! refl $ keep ! (0 ∷ []) $
-              use1 𝓛 (‵ ((MutRef (named 0) κ R).own_val lent (vptr b o ∷ [])) ⊛ ‵ (flft κ q) ⊛ ‵ (follows O R γ γ' (with_kept h))) (id⊢ 𝓤 _) $ split ! $ move ! (1 ∷ []) $ split ! $ move ! (2 ∷ 0 ∷ 1 ∷ []) $
+              use1 𝓛 (‵ ((MutRef (named 0) κ R).own_val lent (vptr b o ∷ [])) ⊛ ‵ (flft κ q) ⊛ ‵ (follows O R γ γ' (with_kept h)))
+              (id⊢ 𝓤 _) $ split ! $ move ! (1 ∷ []) $ split ! $ move ! (2 ∷ 0 ∷ 1 ∷ []) $
               suffices ! _ (ends_at 𝓛 T hs c y (vptr b o) lent (tt, tt) (tt, tt)) $
-              nothing ! $ nothing ! $ fjoin ! $ join ! $ nothing ! $ move ! (2 ∷ 0 ∷ []) $ join ! $ join ! $ frame ! $ by ! (holds κs a g lent (at_exit T κs a (tt, tt)) refl))))))
+              nothing ! $ nothing ! $ fjoin ! $ join ! $ nothing ! $ move ! (2 ∷ 0 ∷ []) $ join ! $ join ! $ frame ! $ by !
+              (holds κs a g lent (at_exit T κs a (tt, tt)) refl))))))
 
   -- ---- the pointer of a value that is lent for good is put in
-  module _ (owned : P.D → Fml) (made : Ptr → R.Denot → P.D) (at_is : (p : Ptr) (v : R.Denot) → (P.as_values (made p v)).0 ≡ p) (is_owned : (p : Ptr) (v : R.Denot) → owned (made p v) ≡ box_owns no_freeing R p v) where
+  module _ (owned : P.D → Fml) (made : Ptr → R.Denot → P.D) (at_is : (p : Ptr) (v : R.Denot) → (P.as_values (made p v)).0 ≡ p)
+      (is_owned : (p : Ptr) (v : R.Denot) → owned (made p v) ≡ box_owns no_freeing R p v) where
     abbrev Q : RattleType
     Q = row_of P owned
 
@@ -146,7 +164,8 @@ module _ (R : RattleType) (P : Pointing) where
       }
 
       module _ {M : Type 1} (𝓤 : Ura M) (𝓛 : Logic 𝓤) (𝓜 : Model 𝓤 𝓛.H) (𝓡 : Running 𝓤 𝓛.H 𝓜) (k : Callee) (c : Clauses 𝓤 stay_ended) where
-        pub stay_meets : ((κs : Lfts 0) (a : Args stay_ended.signature κs) (g : (c κs a).ghost) (e : AtExit stay_ended κs) → ent 𝓤 (emp 𝓤) ((c κs a).ensures g (made (block_ptr a.0.ref_ptr.0 a.0.ref_ptr.1) a.0.now) e))
+        pub stay_meets : ((κs : Lfts 0) (a : Args stay_ended.signature κs) (g : (c κs a).ghost) (e : AtExit stay_ended κs) →
+            ent 𝓤 (emp 𝓤) ((c κs a).ensures g (made (block_ptr a.0.ref_ptr.0 a.0.ref_ptr.1) a.0.now) e))
             → Closed 𝓤 𝓛.H (tables 𝓤 𝓛.H 𝓜 𝓡 𝓡.env).C (tables 𝓤 𝓛.H 𝓜 𝓡 𝓡.env).Λ k stay_code
             → Meets 𝓛 stay_ended.signature ((tables 𝓤 𝓛.H 𝓜 𝓡 𝓡.env).C k) (closing 𝓛 stay_ended c)
         unfolding part_of

@@ -74,7 +74,8 @@ module _ {M : Type 1} {𝓤 : Ura M} {𝓛 : Logic 𝓤} {K : Type 0} {Γ : List
       → Seq K 𝓛 (‵ ((row_of P (boxed R P kept)).own_val d vs) ∷ Γ) G
   pointer_out R kept t d vs k =
       fsplit t $ fpick t (λ vss. fsplit t $ feq_l t (λ ev. fsplit t $ feq_l t (λ ep. drop t $
-      in_a_block t (P.as_values d).0 (λ p. box_owns no_freeing R p (kept d)) (fst∗ 𝓤 (never 𝓤) (sem 𝓛 (no_freeing (bare (lone R.mir)) null_ptr))) (λ b o e. k b o e
+      in_a_block t (P.as_values d).0 (λ p. box_owns no_freeing R p (kept d)) (fst∗ 𝓤 (never 𝓤) (sem 𝓛 (no_freeing (bare (lone R.mir)) null_ptr)))
+      (λ b o e. k b o e
       (subst (λ (p : Ptr). vs ≡ vstruct (of_list (ptr_val p ∷ [])) ∷ []) e
       (subst (λ (ps : List Val). vs ≡ vstruct (of_list (ps ++ [])) ∷ []) ep ev))))))
 

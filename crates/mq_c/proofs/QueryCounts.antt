@@ -1,5 +1,6 @@
 -- How many queries a tick sends at most, and how many sources they name.
-use Rattle.std.proofs.Common.{◌≡◌, ℕ, zero, suc, ◌+◌, ◌*◌, ◌<◌, ◌≤◌, Bool, true, false, cond, not, ◌&&◌, refl, List, [], ◌∷◌, ◌++◌, length, take, drop, filter, sum_by, Option, None, Some, is_some, sym, ap, ◌∙◌, arith, leb, length-append, length-drop}
+use Rattle.std.proofs.Common.{◌≡◌, ℕ, zero, suc, ◌+◌, ◌*◌, ◌<◌, ◌≤◌, Bool, true, false, cond, not, ◌&&◌, refl, List, [], ◌∷◌, ◌++◌, length, take}
+use Rattle.std.proofs.Common.{drop, filter, sum_by, Option, None, Some, is_some, sym, ap, ◌∙◌, arith, leb, length-append, length-drop}
 use Rattle.std.proofs.Math.Nat.{mul-le-mul_right}
 use Rattle.std.specs.Prelude.{map as list_map}
 use Rattle.std.specs.List.{flat_map}
@@ -18,7 +19,8 @@ use Rattle.mq_sched.specs.declared.queries.QuerySchedule.{QuerySchedule}
 use Rattle.mq_sched.specs.Election.{ElectionState, returned, general_is_due, general_messages}
 use Rattle.mq_sched.specs.Portions.{portions_within}
 use Rattle.mq_sched.specs.Schedule.{ScheduledGroup}
-use Rattle.mq_sched.specs.Sending.{SentQuery, GeneralQuery, GroupQuery, SourcesQuery, is_due, group_due, sources_where, sources_queries, group_messages, source_messages, messages_due}
+use Rattle.mq_sched.specs.Sending.{SentQuery, GeneralQuery, GroupQuery, SourcesQuery, is_due, group_due, sources_where, sources_queries}
+use Rattle.mq_sched.specs.Sending.{group_messages, source_messages, messages_due}
 use Rattle.mq_link.specs.Configuration.{Configuration}
 use Rattle.mq_link.specs.Family.{per_query}
 use Rattle.mq_link.specs.Handing.{named_in}
@@ -77,7 +79,8 @@ portions_named (suc most) n group s (x ∷ xs) =
 
 run_few : (n group : ℕ) (s : Bool) (xs : List ℕ) → 0 < n → AreFew n 1 (length xs) (sources_queries n group s xs)
 run_few n group s xs positive = record {
-  count = let same = length-map (portions_within (length xs) n xs) (SourcesQuery group s) in let few = portions_count (length xs) n xs positive in rw same (omega (arith, few));
+  count = let same = length-map (portions_within (length xs) n xs) (SourcesQuery group s) in let few = portions_count (length xs) n xs positive in
+      rw same (omega (arith, few));
   named = portions_named (length xs) n group s xs;
 }
 
@@ -129,7 +132,8 @@ module _ (n : ℕ) (positive : 0 < n) (timing : Timing) (now group : ℕ) (e : S
       (few_append n 1 1 (length over) (length under) (sources_queries n group true over) (sources_queries n group false under)
       (run_few n group true over positive) (run_few n group false under positive))
 
-  sources_few : (due : Option ℕ) → AreFew n (2 * one_if (is_some due)) (sources_of e) (cond (is_due now due) (sources_queries n group true over ++ sources_queries n group false under) [])
+  sources_few : (due : Option ℕ) → AreFew n (2 * one_if (is_some due)) (sources_of e)
+      (cond (is_due now due) (sources_queries n group true over ++ sources_queries n group false under) [])
   sources_few None = few_none n 0 (sources_of e)
   sources_few (Some due) = by_due (leb due now)
     where
@@ -138,7 +142,8 @@ module _ (n : ℕ) (positive : 0 < n) (timing : Timing) (now group : ℕ) (e : S
       by_due false = few_none n 2 (sources_of e)
 
   -- one for its group, and two runs for its sources
-  both_asked : AreFew n (one_if (is_some e.schedule.group_query) + 2 * one_if (is_some e.schedule.sources_due)) (sources_of e) (messages_due n timing now group e)
+  both_asked : AreFew n (one_if (is_some e.schedule.group_query) + 2 * one_if (is_some e.schedule.sources_due)) (sources_of e)
+      (messages_due n timing now group e)
   unfolding over under
   both_asked =
       let asked = one_if (is_some e.schedule.group_query) in
@@ -173,15 +178,18 @@ all_few n positive timing now (e ∷ es) =
     let rest = flat_map (λ (e : ℕ × ScheduledGroup). messages_due n timing now e.0 e.1) es in
     let schedules = sum_by-cons schedules_of e.1 held in
     let sources = sum_by-cons sources_of e.1 held in
-    few_weaker n (2 * schedules_of e.1 + 2 * sum_by schedules_of held) (2 * sum_by schedules_of (e.1 ∷ held)) (sources_of e.1 + sum_by sources_of held) (sum_by sources_of (e.1 ∷ held))
+    few_weaker n (2 * schedules_of e.1 + 2 * sum_by schedules_of held) (2 * sum_by schedules_of (e.1 ∷ held))
+    (sources_of e.1 + sum_by sources_of held) (sum_by sources_of (e.1 ∷ held))
     (here ++ rest) (omega (arith, schedules)) (omega (arith, sources))
-    (few_append n (2 * schedules_of e.1) (2 * sum_by schedules_of held) (sources_of e.1) (sum_by sources_of held) here rest (group_few n positive timing now e.0 e.1) (all_few n positive timing now es))
+    (few_append n (2 * schedules_of e.1) (2 * sum_by schedules_of held) (sources_of e.1) (sum_by sources_of held) here rest
+    (group_few n positive timing now e.0 e.1) (all_few n positive timing now es))
 
 pub some_held : (family : Family) → 0 < per_query family
 some_held Igmp = omega arith
 some_held Mld = omega arith
 
-due_few : (family : Family) (timing : Timing) (now : ℕ) (groups : Groups) → AreFew (per_query family) (2 * schedules_in groups) (sources_in groups) (queries_due family timing now groups)
+due_few : (family : Family) (timing : Timing) (now : ℕ) (groups : Groups) → AreFew (per_query family) (2 * schedules_in groups) (sources_in groups)
+    (queries_due family timing now groups)
 unfolding queries_due
 due_few family timing now groups = all_few (per_query family) (some_held family) timing now (map.entries groups)
 
@@ -206,7 +214,9 @@ tick_few config moment state within =
     let left = expired_within config moment state.groups within in
     let scheduled = left.scheduled in
     let sources = left.sources in
-    few_weaker n (1 + 2 * schedules_in groups) (1 + 2 * config.limits.scheduled) (0 + sources_in groups) config.limits.sources (tick_at config moment state).queries
+    few_weaker n (1 + 2 * schedules_in groups) (1 + 2 * config.limits.scheduled) (0 + sources_in groups) config.limits.sources
+    (tick_at config moment state).queries
     (omega (arith, scheduled)) (omega (arith, sources))
-    (few_append n 1 (2 * schedules_in groups) 0 (sources_in groups) (general_messages config.timing moment state.election) (queries_due config.family timing moment groups)
+    (few_append n 1 (2 * schedules_in groups) 0 (sources_in groups) (general_messages config.timing moment state.election)
+    (queries_due config.family timing moment groups)
     (general_few n config.timing moment state.election) (due_few config.family timing moment groups))

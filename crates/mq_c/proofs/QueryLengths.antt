@@ -52,7 +52,8 @@ module _ (config : Configuration) (timing : Timing) where
       let named = sum_by-cons named_in query queries in
       let head = width + (2 + query_head config.family) in
       let heads = suc-mul (length queries) head in
-      let more : sum_by named_in (query ∷ queries) * address_width config.family ≡ named_in query * address_width config.family + sum_by named_in queries * address_width config.family =
+      let more : sum_by named_in (query ∷ queries) * address_width config.family
+      ≡ named_in query * address_width config.family + sum_by named_in queries * address_width config.family =
       ap (λ n. n * address_width config.family) named ∙ add-mul (named_in query) (sum_by named_in queries) (address_width config.family) in
       bytes ∙ omega (arith, here, rest, heads, more)
 

@@ -42,46 +42,55 @@ one_asks longest config some = by_family config.family
 -- the queries of a tick, and those that a message asks behind them
 module _ (longest : ℕ) (config : Configuration) (runs sources : ℕ) (some : 1 ≤ config.limits.groups) where
   abbrev AreAsked : List SentQuery → Type 0
-  AreAsked queries = AreFew (per_query config.family) (runs + 3 * asking_records longest config) (sources + 4 * (config.limits.sources + sources_in_body longest config.family)) queries
+  AreAsked queries = AreFew (per_query config.family) (runs + 3 * asking_records longest config)
+      (sources + 4 * (config.limits.sources + sources_in_body longest config.family)) queries
 
   module _ (tick : Step) (few : AreFew (per_query config.family) runs sources tick.queries) (formed : IsWellFormed config tick.state) where
     with_none : AreAsked tick.queries
-    with_none = few_weaker (per_query config.family) runs (runs + 3 * asking_records longest config) sources (sources + 4 * (config.limits.sources + sources_in_body longest config.family)) tick.queries (omega arith) (omega arith) few
+    with_none = few_weaker (per_query config.family) runs (runs + 3 * asking_records longest config) sources
+        (sources + 4 * (config.limits.sources + sources_in_body longest config.family)) tick.queries (omega arith) (omega arith) few
 
-    with_more : (queries : List SentQuery) (r s : ℕ) → AreFew (per_query config.family) r s queries → r ≤ 3 * asking_records longest config → s ≤ 4 * (config.limits.sources + sources_in_body longest config.family) → AreAsked (tick.queries ++ queries)
+    with_more : (queries : List SentQuery) (r s : ℕ) → AreFew (per_query config.family) r s queries → r ≤ 3 * asking_records longest config →
+        s ≤ 4 * (config.limits.sources + sources_in_body longest config.family) → AreAsked (tick.queries ++ queries)
     with_more queries r s more fewer less =
-        few_weaker (per_query config.family) (runs + r) (runs + 3 * asking_records longest config) (sources + s) (sources + 4 * (config.limits.sources + sources_in_body longest config.family)) (tick.queries ++ queries)
+        few_weaker (per_query config.family) (runs + r) (runs + 3 * asking_records longest config) (sources + s)
+        (sources + 4 * (config.limits.sources + sources_in_body longest config.family)) (tick.queries ++ queries)
         (omega (arith, fewer)) (omega (arith, less)) (few_append (per_query config.family) runs r sources s tick.queries queries few more)
 
     within : sources_in tick.state.groups ≤ config.limits.sources
     within = formed.within.sources
 
-    taken_few : (envelope : Envelope) (message : Message ℕ) → IsWithin longest config.family message → AreAsked (taken_in config envelope message tick).step.queries
+    taken_few : (envelope : Envelope) (message : Message ℕ) → IsWithin longest config.family message →
+        AreAsked (taken_in config envelope message tick).step.queries
     unfolding taken_in
     taken_few envelope (QueryMessage query) body = with_none
     taken_few envelope (OldReport version group) body =
         let at = setting_of config tick.state in
         let groups = tick.state.groups in
         with_more (stated at group (OlderJoin version) groups).queries 3 (sources_in groups)
-        (older_asks at group groups (OlderJoin version) (joined_few (v1_mutes_leave config.family) (is_muted config group (OlderJoin version)) at.election.timing at.now version (group_at groups group).group))
+        (older_asks at group groups (OlderJoin version)
+        (joined_few (v1_mutes_leave config.family) (is_muted config group (OlderJoin version)) at.election.timing at.now version (group_at groups group).group))
         (omega (arith, one_asks longest config some)) (omega (arith, within))
     taken_few envelope (LeaveMessage group) body =
         let at = setting_of config tick.state in
         let groups = tick.state.groups in
         with_more (stated at group OlderLeave groups).queries 3 (sources_in groups)
-        (older_asks at group groups OlderLeave (left_few (v1_mutes_leave config.family) (is_muted config group OlderLeave) at.election.timing at.now (group_at groups group).group))
+        (older_asks at group groups OlderLeave
+        (left_few (v1_mutes_leave config.family) (is_muted config group OlderLeave) at.election.timing at.now (group_at groups group).group))
         (omega (arith, one_asks longest config some)) (omega (arith, within))
     taken_few envelope (ReportMessage records) body =
         let at = setting_of config tick.state in
         let groups = tick.state.groups in
         let most = body.0 in
         let few_named = body.1 in
-        with_more (all_judged at map.empty records groups).queries (3 * min (4 * config.limits.groups) (length records)) (4 * sources_in groups + 4 * sum_by sources_named records)
+        with_more (all_judged at map.empty records groups).queries (3 * min (4 * config.limits.groups) (length records))
+        (4 * sources_in groups + 4 * sum_by sources_named records)
         (records_ask at records groups (positive_in config tick.state formed) (sound_in config tick.state formed))
         (omega (arith, most)) (omega (arith, within, few_named))
 
   decided : (envelope : Envelope) (tick : Step) (read : Result (Message ℕ) WireFault) (reason : Option DropReason)
-      → AreFew (per_query config.family) runs sources tick.queries → IsWellFormed config tick.state → ((message : Message ℕ) → read ≡ Ok message → IsWithin longest config.family message)
+      → AreFew (per_query config.family) runs sources tick.queries → IsWellFormed config tick.state →
+      ((message : Message ℕ) → read ≡ Ok message → IsWithin longest config.family message)
       → AreAsked (taken_or_dropped config envelope tick read reason).step.queries
   decided envelope tick read (Some reason) few formed body = with_none tick few formed
   decided envelope tick (Err fault) None few formed body = with_none tick few formed
@@ -89,11 +98,15 @@ module _ (longest : ℕ) (config : Configuration) (runs sources : ℕ) (some : 1
       let counted = recounted config tick.state (counting_read (Ok message) tick).state.counters formed in
       taken_few (counting_read (Ok message) tick) few counted envelope message (body message refl)
 
-pub receipt_few : (longest : ℕ) (config : Configuration) (envelope : Envelope) (bytes : List ℕ) (now : ℕ) (state : LinkState) → IsFaultless config → IsWellFormed config state → length bytes ≤ longest
-    → AreFew (per_query config.family) (1 + 2 * config.limits.scheduled + 3 * asking_records longest config) (most_asked longest config) (receipt_of config envelope bytes now state).step.queries
+pub receipt_few : (longest : ℕ) (config : Configuration) (envelope : Envelope) (bytes : List ℕ) (now : ℕ) (state : LinkState) → IsFaultless config →
+    IsWellFormed config state → length bytes ≤ longest
+    → AreFew (per_query config.family) (1 + 2 * config.limits.scheduled + 3 * asking_records longest config) (most_asked longest config)
+    (receipt_of config envelope bytes now state).step.queries
 receipt_few longest config envelope bytes now state faultless formed short =
     let pseudo = pseudo_of config.family envelope bytes in
     let read = read_of config.family pseudo bytes in
     let moment = moment_of state now in
-    decided longest config (1 + 2 * config.limits.scheduled) config.limits.sources (some_groups config faultless) envelope (tick_of config now state) read (drop_reason config envelope read)
-    (tick_few config moment state formed.within) (IsWellFormed-tick_at config moment state (timing_in_range config faultless) formed) (λ message is. within_where_read longest config.family pseudo bytes message is short)
+    decided longest config (1 + 2 * config.limits.scheduled) config.limits.sources (some_groups config faultless) envelope
+    (tick_of config now state) read (drop_reason config envelope read)
+    (tick_few config moment state formed.within) (IsWellFormed-tick_at config moment state (timing_in_range config faultless) formed)
+    (λ message is. within_where_read longest config.family pseudo bytes message is short)

@@ -1,5 +1,6 @@
 -- How many queries the records of a datagram send at most, and how many sources they name.
-use Rattle.std.proofs.Common.{◌≡◌, ℕ, ◌+◌, ◌-◌, ◌*◌, ◌<◌, ◌≤◌, Bool, true, false, cond, ◌&&◌, refl, List, [], ◌∷◌, ◌++◌, length, sum_by, Option, None, Some, IfSome, is_some, sym, ap, subst, arith, leb, min}
+use Rattle.std.proofs.Common.{◌≡◌, ℕ, ◌+◌, ◌-◌, ◌*◌, ◌<◌, ◌≤◌, Bool, true, false, cond, ◌&&◌, refl, List, [], ◌∷◌, ◌++◌, length, sum_by, Option, None}
+use Rattle.std.proofs.Common.{Some, IfSome, is_some, sym, ap, subst, arith, leb, min}
 use Rattle.std.proofs.Math.Nat.{mul-le-mul_right}
 use Rattle.std.proofs.lemmas.Bool.{leb-false}
 use Rattle.std.proofs.lemmas.List.Sums.{sum_by-cons}
@@ -21,7 +22,9 @@ use Rattle.mq_link.specs.declared.answers.Refusal.{Refusal}
 use Rattle.mq_link.specs.declared.answers.Refusal.TheVariants.{Repeated}
 use Rattle.mq_link.specs.Counters.{Refused}
 use Rattle.mq_link.specs.Family.{v1_mutes_leave, per_query}
-use Rattle.mq_link.specs.Record.{Setting, Statement, RecordOf, leaving, unless_passed, changed_by, after_sending, sent_at_once, changed_or_refused, change_in, is_muted, limit_passed, stated, Seen, met, Entrance, Stops, GoesOn, entrance, seen_by, seen_after, judged_from, judged, all_judged}
+use Rattle.mq_link.specs.Record.{Setting, Statement, RecordOf, leaving, unless_passed, changed_by, after_sending, sent_at_once, changed_or_refused}
+use Rattle.mq_link.specs.Record.{change_in, is_muted, limit_passed, stated, Seen, met, Entrance, Stops, GoesOn, entrance, seen_by, seen_after}
+use Rattle.mq_link.specs.Record.{judged_from, judged, all_judged}
 use Rattle.mq_link.specs.Sound.{AreSound}
 use Rattle.mq_link.specs.State.{Groups, unheld, group_at, with_group, sources_of, sources_in}
 use Rattle.mq_link.proofs.ChangedSizes.{translated_few}
@@ -39,7 +42,8 @@ use Rattle.mq_c.proofs.UnheldGroups.{AsksNothing, unheld_asks_nothing, held_stay
 
 -- a statement asks for no more sources than its group has then
 module _ (at : Setting) (group : ℕ) (groups : Groups) (most : ℕ) where
-  by_change : (change : Option GroupChange) → IfSome change (λ c. size_of c.group ≤ most) → AreFew (per_query at.config.family) 3 most (changed_or_refused at group groups change).queries
+  by_change : (change : Option GroupChange) → IfSome change (λ c. size_of c.group ≤ most) →
+      AreFew (per_query at.config.family) 3 most (changed_or_refused at group groups change).queries
   by_change None few = few_none (per_query at.config.family) 3 most
   by_change (Some change) few = by_limit (limit_passed at.config.limits after (after_sending at e))
     where
@@ -60,7 +64,8 @@ module _ (at : Setting) (group : ℕ) (groups : Groups) (most : ℕ) where
           few_weaker (per_query at.config.family) 3 3 (sources_of e) most (sent_at_once at group e) (omega arith) size
           (three_at_most (per_query at.config.family) (some_held at.config.family) at.election.timing at.now group e)
 
-  pub stated_asks : (st : Statement) → IfSome (change_in at group st groups) (λ c. size_of c.group ≤ most) → AreFew (per_query at.config.family) 3 most (stated at group st groups).queries
+  pub stated_asks : (st : Statement) → IfSome (change_in at group st groups) (λ c. size_of c.group ≤ most) →
+      AreFew (per_query at.config.family) 3 most (stated at group st groups).queries
   unfolding stated
   stated_asks st few = by_change (change_in at group st groups) few
 
@@ -83,17 +88,22 @@ module _ (at : Setting) (group : ℕ) (kind : Kind) (xs : List ℕ) (groups : Gr
         left : IsHeld (after_sending at e).group
         left =
             let before : ScheduledGroup = record { group = change.group; schedule = settled change.group (group_at groups group).schedule } in
-            held_after_round at.election.timing at.now e (held_acted (is_querier at.election.role) at.election.timing at.now change.query_group change.query before stays)
+            held_after_round at.election.timing at.now e
+            (held_acted (is_querier at.election.role) at.election.timing at.now change.query_group change.query before stays)
 
-        by_limit : (passed : Option Refusal) → Keeps (unless_passed passed groups (with_group groups group (after_sending at e)) (sent_at_once at group e)).groups
+        by_limit : (passed : Option Refusal) →
+            Keeps (unless_passed passed groups (with_group groups group (after_sending at e)) (sent_at_once at group e)).groups
         by_limit (Some name) = (refl, refl)
-        by_limit None = meetings-changed seen groups group (after_sending at e) contained (not_vacant (group_at groups group).group held) (not_vacant (after_sending at e).group left)
+        by_limit None = meetings-changed seen groups group (after_sending at e) contained (not_vacant (group_at groups group).group held)
+            (not_vacant (after_sending at e).group left)
 
     stated_keeps : Keeps (stated at group (RecordOf kind (set.from_list xs)) groups).groups
     unfolding stated
     stated_keeps =
         let st = RecordOf kind (set.from_list xs) in
-        kept_by (change_in at group st groups) (held_stays_held (v1_mutes_leave at.config.family) (is_muted at.config group st) at.election.timing at.now (group_at groups group).group kind (set.from_list xs) held)
+        kept_by (change_in at group st groups)
+        (held_stays_held (v1_mutes_leave at.config.family) (is_muted at.config group st) at.election.timing at.now (group_at groups group).group kind
+        (set.from_list xs) held)
 
   -- one that isn't held is asked nothing, and may be met from then on
   module _ (seen : Seen) (absent : map.contains_key groups group ≡ false) (unheld_is : group_at groups group ≡ unheld) where
@@ -107,7 +117,8 @@ module _ (at : Setting) (group : ℕ) (kind : Kind) (xs : List ℕ) (groups : Gr
         e : ScheduledGroup
         e = changed_by at group groups change
 
-        by_limit : (passed : Option Refusal) → Makes (unless_passed passed groups (with_group groups group (after_sending at e)) (sent_at_once at group e)).groups
+        by_limit : (passed : Option Refusal) →
+            Makes (unless_passed passed groups (with_group groups group (after_sending at e)) (sent_at_once at group e)).groups
         by_limit (Some name) = omega arith
         by_limit None = meetings-made seen groups group (after_sending at e) absent
 
@@ -121,14 +132,17 @@ module _ (at : Setting) (group : ℕ) (kind : Kind) (xs : List ℕ) (groups : Gr
         let e = changed_by at group groups change in
         let left = after_sending at e in
         none_unless (limit_passed at.config.limits (with_group groups group left) left) groups (with_group groups group left) (sent_at_once at group e)
-        (nothing_sent (per_query at.config.family) (is_querier at.election.role) at.election.timing at.now group change (group_at groups group).schedule (ap (λ (e : ScheduledGroup). e.schedule) unheld_is) asks)
+        (nothing_sent (per_query at.config.family) (is_querier at.election.role) at.election.timing at.now group change
+        (group_at groups group).schedule (ap (λ (e : ScheduledGroup). e.schedule) unheld_is) asks)
 
     stated_asks_nothing : (stated at group (RecordOf kind (set.from_list xs)) groups).queries ≡ []
     unfolding stated
     stated_asks_nothing =
         let st = RecordOf kind (set.from_list xs) in
         none_by (change_in at group st groups)
-        (subst (λ (e : ScheduledGroup). IfSome (translated_change (v1_mutes_leave at.config.family) (is_muted at.config group st) at.election.timing at.now e.group kind (set.from_list xs)) AsksNothing) (sym unheld_is)
+        (subst (λ (e : ScheduledGroup). IfSome
+        (translated_change (v1_mutes_leave at.config.family) (is_muted at.config group st) at.election.timing at.now e.group kind (set.from_list xs))
+        AsksNothing) (sym unheld_is)
         (unheld_asks_nothing (v1_mutes_leave at.config.family) (is_muted at.config group st) at.election.timing at.now kind (set.from_list xs)))
 
 -- What some records ask: how many of them do, and for how many sources. It falls off what the records behind them may
@@ -148,16 +162,19 @@ held_at : (at : Setting) (groups : Groups) (group : ℕ) → AreSound at groups 
     → (e : ScheduledGroup) × (map.get groups group ≡ Some e) × (group_at groups group ≡ e) × IsHeld e.group
 held_at at groups group sound held = by_group (map.get groups group) refl held
   where
-    by_group : (found : Option ScheduledGroup) → map.get groups group ≡ found → is_some found ≡ true → (e : ScheduledGroup) × (map.get groups group ≡ Some e) × (group_at groups group ≡ e) × IsHeld e.group
+    by_group : (found : Option ScheduledGroup) → map.get groups group ≡ found → is_some found ≡ true → (e : ScheduledGroup) ×
+        (map.get groups group ≡ Some e) × (group_at groups group ≡ e) × IsHeld e.group
     by_group None is some = cc
     by_group (Some e) is some = (e, is, ap (λ (x : Option ScheduledGroup). unwrap_or x unheld) is, (sound.all group e is).held)
 
 judged_asks : (at : Setting) (seen : Seen) (r : RecordView ℕ) (groups : Groups) → AreSound at groups
-    → Asks (per_query at.config.family) 1 (length r.sources) seen (seen_after at.config r groups seen) groups (judged at seen r groups).groups (judged at seen r groups).queries
+    → Asks (per_query at.config.family) 1 (length r.sources) seen (seen_after at.config r groups seen) groups (judged at seen r groups).groups
+    (judged at seen r groups).queries
 unfolding judged
 judged_asks at seen r groups sound = by_entrance (entrance at.config r)
   where
-    asks : (kind : Kind) → AreFew (per_query at.config.family) 3 (sources_of (group_at groups r.group) + length r.sources) (stated at r.group (RecordOf kind (set.from_list r.sources)) groups).queries
+    asks : (kind : Kind) → AreFew (per_query at.config.family) 3 (sources_of (group_at groups r.group) + length r.sources)
+        (stated at r.group (RecordOf kind (set.from_list r.sources)) groups).queries
     asks kind =
         let st = RecordOf kind (set.from_list r.sources) in
         let g = (group_at groups r.group).group in
@@ -194,7 +211,8 @@ judged_asks at seen r groups sound = by_entrance (entrance at.config r)
               omega (arith, falls, left, own);
           met_less =
               let falls = meetings-fall seen (again seen r.group) groups more r.group found.0 once few found.1 (not_vacant found.0.group found.3) in
-              let stays = stated_keeps at r.group kind r.sources groups (again seen r.group) held (subst (λ (e : ScheduledGroup). IsHeld e.group) (sym found.2) found.3) in
+              let stays = stated_keeps at r.group kind r.sources groups (again seen r.group) held
+              (subst (λ (e : ScheduledGroup). IsHeld e.group) (sym found.2) found.3) in
               omega (arith, falls, stays.0, stays.1);
         }
     by_tests kind false four absent _ =
@@ -202,7 +220,8 @@ judged_asks at seen r groups sound = by_entrance (entrance at.config r)
         record {
           asked = 0;
           sources = 0;
-          few = subst (AreFew (per_query at.config.family) 0 0) (sym (stated_asks_nothing at r.group kind r.sources groups seen absent is)) (few_none (per_query at.config.family) 0 0);
+          few = subst (AreFew (per_query at.config.family) 0 0) (sym (stated_asks_nothing at r.group kind r.sources groups seen absent is))
+              (few_none (per_query at.config.family) 0 0);
           each = omega arith;
           paid =
               let left = stated_left at seen r.group kind r.sources groups in
@@ -212,8 +231,10 @@ judged_asks at seen r groups sound = by_entrance (entrance at.config r)
         }
 
     by_entrance : (entered : Entrance) →
-        Asks (per_query at.config.family) 1 (length r.sources) seen (seen_by entered r.group groups seen) groups (judged_from at seen r groups entered).groups (judged_from at seen r groups entered).queries
-    by_entrance (Stops verdict) = record { asked = 0; sources = 0; few = few_none (per_query at.config.family) 0 0; each = omega arith; paid = omega arith; met_less = omega arith }
+        Asks (per_query at.config.family) 1 (length r.sources) seen (seen_by entered r.group groups seen) groups
+        (judged_from at seen r groups entered).groups (judged_from at seen r groups entered).queries
+    by_entrance (Stops verdict) =
+        record { asked = 0; sources = 0; few = few_none (per_query at.config.family) 0 0; each = omega arith; paid = omega arith; met_less = omega arith }
     by_entrance (GoesOn kind) = by_tests kind (map.contains_key groups r.group) (leb 4 (met seen r.group)) refl refl
 
 -- All records of a datagram, one after the other.
@@ -226,8 +247,10 @@ pub record AllAsk (n records named : ℕ) (seen : Seen) (groups left : Groups) (
   pub met_less : asked + 4 * map.len groups ≤ meetings seen groups + 4 * map.len left
 
 all_ask : (at : Setting) (seen : Seen) (rs : List (RecordView ℕ)) (groups : Groups) → 0 < at.election.timing.robustness → AreSound at groups
-    → AllAsk (per_query at.config.family) (length rs) (sum_by sources_named rs) seen groups (all_judged at seen rs groups).groups (all_judged at seen rs groups).queries
-all_ask at seen [] groups positive sound = record { asked = 0; sources = 0; few = few_none (per_query at.config.family) 0 0; each = omega arith; paid = omega arith; met_less = omega arith }
+    → AllAsk (per_query at.config.family) (length rs) (sum_by sources_named rs) seen groups (all_judged at seen rs groups).groups
+    (all_judged at seen rs groups).queries
+all_ask at seen [] groups positive sound =
+    record { asked = 0; sources = 0; few = few_none (per_query at.config.family) 0 0; each = omega arith; paid = omega arith; met_less = omega arith }
 all_ask at seen (r ∷ rs) groups positive sound =
     let n = per_query at.config.family in
     let first = judged at seen r groups in
@@ -238,7 +261,8 @@ all_ask at seen (r ∷ rs) groups positive sound =
       asked = here.asked + rest.asked;
       sources = here.sources + rest.sources;
       few =
-          few_weaker n (3 * here.asked + 3 * rest.asked) (3 * (here.asked + rest.asked)) (here.sources + rest.sources) (here.sources + rest.sources) (first.queries ++ later.queries) (omega arith) (omega arith)
+          few_weaker n (3 * here.asked + 3 * rest.asked) (3 * (here.asked + rest.asked)) (here.sources + rest.sources) (here.sources + rest.sources)
+          (first.queries ++ later.queries) (omega arith) (omega arith)
           (few_append n (3 * here.asked) (3 * rest.asked) here.sources rest.sources first.queries later.queries here.few rest.few);
       each = let a = here.each in let b = rest.each in omega (arith, a, b);
       paid = let a = here.paid in let b = rest.paid in omega (arith, a, b, sum_by-cons sources_named r rs);
@@ -247,7 +271,8 @@ all_ask at seen (r ∷ rs) groups positive sound =
 
 -- A datagram's records ask four times at most for what is held and what they name; at most four ask about each group.
 pub records_ask : (at : Setting) (rs : List (RecordView ℕ)) (groups : Groups) → 0 < at.election.timing.robustness → AreSound at groups
-    → AreFew (per_query at.config.family) (3 * min (4 * at.config.limits.groups) (length rs)) (4 * sources_in groups + 4 * sum_by sources_named rs) (all_judged at map.empty rs groups).queries
+    → AreFew (per_query at.config.family) (3 * min (4 * at.config.limits.groups) (length rs)) (4 * sources_in groups + 4 * sum_by sources_named rs)
+    (all_judged at map.empty rs groups).queries
 records_ask at rs groups positive sound =
     let all = all_ask at map.empty rs groups positive sound in
     let paid = all.paid in
@@ -256,5 +281,6 @@ records_ask at rs groups positive sound =
     let left = (all_judged_leave at map.empty rs groups positive sound).within.group_count in
     let most = meetings-most map.empty groups in
     let first = potential-empty groups in
-    few_weaker (per_query at.config.family) (3 * all.asked) (3 * min (4 * at.config.limits.groups) (length rs)) all.sources (4 * sources_in groups + 4 * sum_by sources_named rs) (all_judged at map.empty rs groups).queries
+    few_weaker (per_query at.config.family) (3 * all.asked) (3 * min (4 * at.config.limits.groups) (length rs)) all.sources
+    (4 * sources_in groups + 4 * sum_by sources_named rs) (all_judged at map.empty rs groups).queries
     (omega (arith, each, less, left, most)) (omega (arith, paid, first)) all.few

@@ -7,7 +7,8 @@ use Rattle.mq_wire.specs.declared.message.Message.TheVariants.{Query, OldReport,
 use Rattle.mq_wire.specs.declared.records.RecordView.{RecordView}
 use Rattle.mq_wire.specs.Family.{Family, Igmp, Mld, address_width}
 use Rattle.mq_wire.specs.Queries.{older_query, current_query}
-use Rattle.mq_wire.specs.Records.{record_spans, record_end, record_at, record_source_count, auxiliary_length, record_count, records_at, spans_of_records, report_spans, report_records}
+use Rattle.mq_wire.specs.Records.{record_spans, record_end, record_at, record_source_count, auxiliary_length, record_count, records_at}
+use Rattle.mq_wire.specs.Records.{spans_of_records, report_spans, report_records}
 use Rattle.mq_wire.proofs.Addresses.{length_addresses}
 use Rattle.mq_wire.proofs.Spans.{ends_within, sum-append, sum-replicate}
 use Rattle.mq_link.specs.Receive.{read_of}
@@ -42,7 +43,8 @@ module _ (width : ℕ) (bytes : List ℕ) where
       let heads = suc-mul (length rs) (4 + width) in
       let named = length_addresses width (record_source_count place bytes) (drop (place + 4 + width) bytes) in
       let addresses : sum_by sources_named (r ∷ rs) * width ≡ record_source_count place bytes * width + sum_by sources_named rs * width =
-      ap (λ n. n * width) (sum_by-cons sources_named r rs ∙ ap (λ n. n + sum_by sources_named rs) named) ∙ add-mul (record_source_count place bytes) (sum_by sources_named rs) width in
+      ap (λ n. n * width) (sum_by-cons sources_named r rs ∙ ap (λ n. n + sum_by sources_named rs) named) ∙ add-mul (record_source_count place bytes)
+      (sum_by sources_named rs) width in
       omega (arith, first, rest, all, heads, addresses)
 
 -- so much of a message that a body holds
@@ -57,7 +59,8 @@ few_of : (longest : ℕ) (family : Family) (records named len : ℕ) → records
 few_of longest Igmp records named len within short = (omega (arith, within, short), omega (arith, within, short))
 few_of longest Mld records named len within short = (omega (arith, within, short), omega (arith, within, short))
 
-of_report : (longest : ℕ) (family : Family) (bytes : List ℕ) → AreWhole bytes (report_spans family bytes) → length bytes ≤ longest → IsWithin longest family (Report (report_records family bytes))
+of_report : (longest : ℕ) (family : Family) (bytes : List ℕ) → AreWhole bytes (report_spans family bytes) → length bytes ≤ longest →
+    IsWithin longest family (Report (report_records family bytes))
 of_report longest family bytes whole short =
     let records = spans_of_records (address_width family) (record_count bytes) 8 bytes in
     let ends = ends_within (length bytes) 0 (report_spans family bytes) (omega arith) whole in
@@ -66,10 +69,12 @@ of_report longest family bytes whole short =
     few_of longest family (length rs) (sum_by sources_named rs) (length bytes)
     (omega (arith, ends, head, records_bytes (address_width family) bytes (record_count bytes) 8)) short
 
-of_query : (longest : ℕ) (family : Family) (bytes : List ℕ) (b : Bool) → length bytes ≤ longest → IsWithin longest family (Query (cond b (older_query family bytes) (current_query family bytes)))
+of_query : (longest : ℕ) (family : Family) (bytes : List ℕ) (b : Bool) → length bytes ≤ longest →
+    IsWithin longest family (Query (cond b (older_query family bytes) (current_query family bytes)))
 of_query longest family bytes b short = tt
 
-pub within_where_read : (longest : ℕ) (family : Family) (pseudo bytes : List ℕ) (message : Message ℕ) → read_of family pseudo bytes ≡ Ok message → length bytes ≤ longest → IsWithin longest family message
+pub within_where_read : (longest : ℕ) (family : Family) (pseudo bytes : List ℕ) (message : Message ℕ) → read_of family pseudo bytes ≡ Ok message →
+    length bytes ≤ longest → IsWithin longest family message
 within_where_read longest =
     where_read (λ family bytes message. length bytes ≤ longest → IsWithin longest family message)
     (λ family bytes b whole. of_query longest family bytes b) (of_report longest) (λ family bytes version whole short. tt) (λ family bytes whole short. tt)

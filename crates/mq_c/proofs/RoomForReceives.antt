@@ -18,7 +18,8 @@ use Rattle.mq_c.proofs.RoomSuffices.{taken_by, AreTold, none_left_out}
 use Rattle.mq_c.proofs.RoomTaken.{room_taken}
 
 -- all that its queries take
-receive_taken : (width longest : ℕ) (config : Configuration) (envelope : Envelope) (bytes : List ℕ) (now : ℕ) (state : LinkState) → IsFaultless config → IsWellFormed config state → length bytes ≤ longest
+receive_taken : (width longest : ℕ) (config : Configuration) (envelope : Envelope) (bytes : List ℕ) (now : ℕ) (state : LinkState) →
+    IsFaultless config → IsWellFormed config state → length bytes ≤ longest
     → sum_by (taken_by width) (outgoing_of config (receipt_of config envelope bytes now state).step) ≤ receive_room width longest config
 receive_taken width longest config envelope bytes now state faultless formed short =
     let step = (receipt_of config envelope bytes now state).step in
@@ -30,8 +31,10 @@ unsent_of (Taken applied ignored refused) box = refl
 unsent_of (Dropped reason) box = refl
 
 -- a datagram leaves none out where there is so much
-pub receive_leaves_none : (width longest : ℕ) (envelope : Envelope) (bytes : List ℕ) (now : ℕ) (before after : LinkValue) (old new : List ℕ) (answer : Answer) → IsFaultless before.config → IsWellFormed before.config before.state
-    → ReceivesInto width envelope bytes now before after old new answer → receive_room width longest before.config ≤ length old → length bytes ≤ longest → answer.unsent ≡ 0
+pub receive_leaves_none : (width longest : ℕ) (envelope : Envelope) (bytes : List ℕ) (now : ℕ) (before after : LinkValue) (old new : List ℕ)
+    (answer : Answer) → IsFaultless before.config → IsWellFormed before.config before.state
+    → ReceivesInto width envelope bytes now before after old new answer → receive_room width longest before.config ≤ length old →
+    length bytes ≤ longest → answer.unsent ≡ 0
 receive_leaves_none width longest envelope bytes now before after old new answer faultless formed did room short =
     let config = before.config in
     let step = (receipt_of config envelope bytes now before.state).step in

@@ -1,5 +1,6 @@
 -- Where there is room for all queries, none is left out.
-use Rattle.std.proofs.Common.{◌≡◌, ℕ, ◌+◌, ◌<◌, ◌≤◌, ◌^◌, Bool, true, false, List, [], ◌∷◌, ◌++◌, length, take, drop, sum_by, sym, ap, arith, length-append, length-drop}
+use Rattle.std.proofs.Common.{◌≡◌, ℕ, ◌+◌, ◌<◌, ◌≤◌, ◌^◌, Bool, true, false, List, [], ◌∷◌, ◌++◌, length, take, drop, sum_by, sym, ap, arith}
+use Rattle.std.proofs.Common.{length-append, length-drop}
 use Rattle.std.proofs.lemmas.Bool.{false≢true}
 use Rattle.std.proofs.lemmas.List.{length-take-le}
 use Rattle.std.proofs.lemmas.List.Sums.{sum_by-cons}
@@ -54,4 +55,5 @@ none_left_out width old (message ∷ messages) (true ∷ answers) new told room 
     let sum = sum_by-cons (taken_by width) message messages in
     let fits = first_fits width old message messages told room in
     none_left_out width (put width message true old) messages answers new told.1 (omega (arith, sum, room, length_put width message old fits)) puts.1
-none_left_out width old (message ∷ messages) (false ∷ answers) new told room puts = absurd (false≢true (puts.0.1 (first_fits width old message messages told room)))
+none_left_out width old (message ∷ messages) (false ∷ answers) new told room puts =
+    absurd (false≢true (puts.0.1 (first_fits width old message messages told room)))

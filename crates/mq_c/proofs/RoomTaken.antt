@@ -18,7 +18,8 @@ at_most : (family : Family) (count runs sources : ℕ) → count * per_query fam
 at_most Igmp count runs sources few = omega (arith, few)
 at_most Mld count runs sources few = omega (arith, few)
 
-pub room_taken : (width : ℕ) (config : Configuration) (timing : Timing) (queries : List SentQuery) (runs sources : ℕ) → AreFew (per_query config.family) runs sources queries
+pub room_taken : (width : ℕ) (config : Configuration) (timing : Timing) (queries : List SentQuery) (runs sources : ℕ) →
+    AreFew (per_query config.family) runs sources queries
     → sum_by (taken_by width) (list_map (outgoing config timing) queries) ≤ room_of width config.family (runs + sources / per_query config.family) sources
 room_taken width config timing queries runs sources few =
     let head = width + (2 + query_head config.family) in

@@ -1,5 +1,6 @@
 -- A page, group by group.
-use Rattle.std.proofs.Common.{◌≡◌, ℕ, ◌+◌, ◌-◌, ◌*◌, ◌<◌, ◌≤◌, refl, List, [], ◌∷◌, ◌++◌, length, take, drop, get_or, set, Option, unwrap_or, append-nil, append_assoc, add-one, sym, ap, subst, ◌∙◌, arith, length-append, length-drop}
+use Rattle.std.proofs.Common.{◌≡◌, ℕ, ◌+◌, ◌-◌, ◌*◌, ◌<◌, ◌≤◌, refl, List, [], ◌∷◌, ◌++◌, length, take, drop, get_or, set, Option, unwrap_or}
+use Rattle.std.proofs.Common.{append-nil, append_assoc, add-one, sym, ap, subst, ◌∙◌, arith, length-append, length-drop}
 use Rattle.std.specs.Prelude.{map as list_map}
 use Rattle.std.proofs.lemmas.Grind.{flat_map-append}
 use Rattle.std.proofs.lemmas.List.{take_more, get_or-drop, length-map, length-take-le, map-append, set-append_right, take_all, drop_all, drop-drop}
@@ -43,13 +44,15 @@ pub all_put : {X Y : Type 0} (f : X → Y) (from : List X) (old out : List Y) (i
     → out ≡ list_map f (take i from) ++ drop i old → out ≡ list_map f from ++ drop (length from) old
 all_put f from old out i low high is =
     let end : i ≡ length from = omega arith in
-    is ∙ ap (λ (k : ℕ). list_map f (take k from) ++ drop k old) end ∙ ap (λ (l : List _). list_map f l ++ drop (length from) old) (take_all (length from) from (omega arith))
+    is ∙ ap (λ (k : ℕ). list_map f (take k from) ++ drop k old) end ∙ ap (λ (l : List _). list_map f l ++ drop (length from) old)
+    (take_all (length from) from (omega arith))
 
 -- and by a whole row
 put_behind : {X : Type 0} (front old row all : List X) (n k : ℕ) → length front ≡ n → all ≡ front ++ drop n old
     → take n all ++ (row ++ drop k (drop n all)) ≡ (front ++ row) ++ drop (n + k) old
 put_behind front old row all n k is all_is =
-    let split = subst (λ (m : ℕ). (take m (front ++ drop n old) ≡ front) × (drop m (front ++ drop n old) ≡ drop n old)) is (take-append_seam front (drop n old), drop-append_seam front (drop n old)) in
+    let split = subst (λ (m : ℕ). (take m (front ++ drop n old) ≡ front) × (drop m (front ++ drop n old) ≡ drop n old)) is
+    (take-append_seam front (drop n old), drop-append_seam front (drop n old)) in
     ap (λ (l : List _). take n l ++ (row ++ drop k (drop n l))) all_is
     ∙ ap (λ (l : List _). l ++ (row ++ drop k (drop n (front ++ drop n old)))) split.0
     ∙ ap (λ (l : List _). front ++ (row ++ drop k l)) split.1
@@ -75,7 +78,8 @@ row_forms {K} {S} number source_form row up =
     let sorted = sorted-ascending (list_map pair row) (IsAscending-map key_of pair row up) in
     sym (ap (list_map source_form) (entries-from_entries (list_map pair row) sorted) ∙ each row)
   where
-    each : (row : List (Source K)) → list_map source_form (list_map (λ (x : Source K). let e : SourceEntry = (number x.address, x.timer) in e) row) ≡ list_map (λ (x : Source K). source_form (number x.address, x.timer)) row
+    each : (row : List (Source K)) → list_map source_form (list_map (λ (x : Source K). let e : SourceEntry = (number x.address, x.timer) in e) row)
+        ≡ list_map (λ (x : Source K). source_form (number x.address, x.timer)) row
     each [] = refl
     each (x ∷ row) = ap (λ (l : List S). source_form (number x.address, x.timer) ∷ l) (each row)
 
@@ -85,7 +89,8 @@ module _ {G S : Type 0} (group_form : Entry → G) (source_form : SourceEntry �
       → (d : Entry) → ◌≡◌ {A = Entry} (get_or (map.entries held) place d) (address, e)
   entry_at address place e has is d =
       let key = key_at held address place has.address_is d in
-      let found : group_at held address ≡ (get_or (map.entries held) place d).1 = ap (λ (o : Option ScheduledGroup). unwrap_or o unheld) (get-place held address place has.address_is d) in
+      let found : group_at held address ≡ (get_or (map.entries held) place d).1 = ap (λ (o : Option ScheduledGroup). unwrap_or o unheld)
+      (get-place held address place has.address_is d) in
       λ i. (key i, sym (is ∙ found) i)
 
   -- one group more
@@ -93,28 +98,34 @@ module _ {G S : Type 0} (group_form : Entry → G) (source_form : SourceEntry �
       → Shows group_form source_form held first old_groups groups old_sources sources count used
       → first + count < map.len held → HasPlace held address (first + count) → e ≡ group_at held address
       → count < length old_groups → row ≡ list_map source_form (map.entries e.group.sources) → length row ≡ n
-      → Shows group_form source_form held first old_groups (set groups count (group_form (address, e))) old_sources (take used sources ++ (row ++ drop n (drop used sources))) (count + 1) (used + n)
+      → Shows group_form source_form held first old_groups (set groups count (group_form (address, e))) old_sources
+      (take used sources ++ (row ++ drop n (drop used sources))) (count + 1) (used + n)
   shows_more old_groups groups old_sources sources row count used address n e shows within has is room row_is row_length =
       let all = drop first (map.entries held) in
       let d : Entry = (address, e) in
       let few : count < length all = omega (arith, length-drop first (map.entries held), map.len-entries held) in
       let entry : ◌≡◌ {A = Entry} (get_or all count d) d = get_or-drop first (map.entries held) count d ∙ entry_at address (first + count) e has is d in
-      let more : groups_from held first (count + 1) ≡ groups_from held first count ++ d ∷ [] = take_more all count d few ∙ ap (λ (x : Entry). take count all ++ x ∷ []) entry in
+      let more : groups_from held first (count + 1) ≡ groups_from held first count ++ d ∷ [] = take_more all count d few ∙
+      ap (λ (x : Entry). take count all ++ x ∷ []) entry in
       let here = groups_from held first count in
       let sources_more : sources_of_entries (groups_from held first (count + 1)) ≡ sources_of_entries here ++ sources_of_entry d =
-      ap sources_of_entries more ∙ flat_map-append sources_of_entry here (d ∷ []) ∙ ap (λ (l : List SourceEntry). sources_of_entries here ++ l) (append-nil (sources_of_entry d)) in
+      ap sources_of_entries more ∙ flat_map-append sources_of_entry here (d ∷ []) ∙ ap (λ (l : List SourceEntry). sources_of_entries here ++ l)
+      (append-nil (sources_of_entry d)) in
       let here_length : length (sources_of_entry d) ≡ n = sym (ap length row_is ∙ length-map (sources_of_entry d) source_form) ∙ row_length in
       record {
         count_is = ap length more ∙ length-append here (d ∷ []) ∙ ap (λ (k : ℕ). k + 1) shows.count_is;
-        source_count_is = ap length sources_more ∙ length-append (sources_of_entries here) (sources_of_entry d) ∙ omega (arith, shows.source_count_is, here_length);
+        source_count_is = ap length sources_more ∙ length-append (sources_of_entries here) (sources_of_entry d) ∙
+            omega (arith, shows.source_count_is, here_length);
         groups_are =
             ap (λ (l : List G). set l count (group_form d)) shows.groups_are
             ∙ set_behind (list_map group_form here) old_groups count (group_form d) (length-map here group_form ∙ shows.count_is) room
             ∙ ap (λ (l : List G). l ++ drop (count + 1) old_groups) (sym (map-append group_form here (d ∷ [])) ∙ ap (list_map group_form) (sym more));
         sources_are =
-            put_behind (list_map source_form (sources_of_entries here)) old_sources row sources used n (length-map (sources_of_entries here) source_form ∙ shows.source_count_is) shows.sources_are
+            put_behind (list_map source_form (sources_of_entries here)) old_sources row sources used n
+            (length-map (sources_of_entries here) source_form ∙ shows.source_count_is) shows.sources_are
             ∙ ap (λ (l : List S). l ++ drop (used + n) old_sources)
-            (ap (λ (l : List S). list_map source_form (sources_of_entries here) ++ l) row_is ∙ sym (map-append source_form (sources_of_entries here) (sources_of_entry d)) ∙ ap (list_map source_form) (sym sources_more));
+            (ap (λ (l : List S). list_map source_form (sources_of_entries here) ++ l) row_is ∙
+            sym (map-append source_form (sources_of_entries here) (sources_of_entry d)) ∙ ap (list_map source_form) (sym sources_more));
       }
 
   -- a page so far: it shows so many groups with their sources, and no more of either than there can be
@@ -123,20 +134,27 @@ module _ {G S : Type 0} (group_form : Entry → G) (source_form : SourceEntry �
     pub within : count ≤ map.len held
     pub few : used ≤ 1024 * count
 
-  pub so_far_more : {K : Type 0} (number : K → ℕ) (old_groups groups : List G) (old_sources sources put : List S) (count used address : ℕ) (row : List (Source K)) (e : ScheduledGroup) (y : G)
+  pub so_far_more : {K : Type 0} (number : K → ℕ) (old_groups groups : List G) (old_sources sources put : List S) (count used address : ℕ)
+      (row : List (Source K)) (e : ScheduledGroup) (y : G)
       → SoFar old_groups groups old_sources sources count used
-      → first + count < map.len held → HasPlace held address (first + count) → e ≡ group_at held address → IsAscending (number_in number) row → e.group.sources ≡ timers_in number row
+      → first + count < map.len held → HasPlace held address (first + count) → e ≡ group_at held address → IsAscending (number_in number) row →
+      e.group.sources ≡ timers_in number row
       → length row ≤ 1024 → count < length old_groups → y ≡ group_form (address, e)
       → put ≡ list_map (λ (x : Source K). source_form (number x.address, x.timer)) row ++ drop (length row) (take (length sources - used) (drop used sources))
-      → SoFar old_groups (set groups count y) old_sources (take used sources ++ (put ++ drop (length sources - used) (drop used sources))) (count + 1) (used + length row)
+      → SoFar old_groups (set groups count y) old_sources (take used sources ++ (put ++ drop (length sources - used) (drop used sources))) (count + 1)
+      (used + length row)
   so_far_more {K} number old_groups groups old_sources sources put count used address row e y so_far within has is up stored small room y_is put_is =
       let form = λ (x : Source K). source_form (number x.address, x.timer) in
-      let forms : list_map form row ≡ list_map source_form (map.entries e.group.sources) = row_forms number source_form row up ∙ ap (λ m. list_map source_form (map.entries m)) (sym stored) in
-      let shown = shows_more old_groups groups old_sources sources (list_map form row) count used address (length row) e so_far.shows within has is room forms (length-map row form) in
+      let forms : list_map form row ≡ list_map source_form (map.entries e.group.sources) = row_forms number source_form row up ∙
+      ap (λ m. list_map source_form (map.entries m)) (sym stored) in
+      let shown = shows_more old_groups groups old_sources sources (list_map form row) count used address (length row) e so_far.shows within has is
+      room forms (length-map row form) in
       let as_put = sym (to_end sources (list_map form row) put used (length row) put_is) in
       record {
-        shows = subst (λ (l : List S). Shows group_form source_form held first old_groups (set groups count y) old_sources l (count + 1) (used + length row)) as_put
-            (subst (λ (x : G). Shows group_form source_form held first old_groups (set groups count x) old_sources (take used sources ++ (list_map form row ++ drop (length row) (drop used sources))) (count + 1) (used + length row)) (sym y_is) shown);
+        shows = subst (λ (l : List S). Shows group_form source_form held first old_groups (set groups count y) old_sources l (count + 1)
+            (used + length row)) as_put
+            (subst (λ (x : G). Shows group_form source_form held first old_groups (set groups count x) old_sources
+            (take used sources ++ (list_map form row ++ drop (length row) (drop used sources))) (count + 1) (used + length row)) (sym y_is) shown);
         within = omega (arith, within);
         few = omega (arith, so_far.few, small);
       }
@@ -148,6 +166,7 @@ module _ {G S : Type 0} (group_form : Entry → G) (source_form : SourceEntry �
       → length sources ≡ length old_sources → length sources - used < n
       → IsPage group_form source_form held first old_groups groups old_sources sources page
   page_full old_groups groups old_sources sources count used address n page so_far page_is has n_is same full =
-      let next : sources_of (group_at held address) ≡ sources_of (group_in held (first + count)) = ap sources_of (place-group held address (first + count) has) in
+      let next : sources_of (group_at held address) ≡ sources_of (group_in held (first + count)) =
+      ap sources_of (place-group held address (first + count) has) in
       subst (λ (p : Page). IsPage group_form source_form held first old_groups groups old_sources sources p) (sym page_is)
       (record { shows = so_far.shows; all_that_fit = λ further room. omega (arith, n_is, next, same, full) })

@@ -10,7 +10,8 @@ pub record StandSoFar {X Y : Type 0} (f : X → Y) (from : List X) (old out : Li
   pub put : out ≡ list_map f (take i from) ++ drop i old
   pub within : i ≤ length old
 
-pub stand_more : {X Y : Type 0} (f : X → Y) (from : List X) (old out : List Y) (i : ℕ) (d : X) (y : Y) → y ≡ f (get_or from i d) → i < length from → i < length old
+pub stand_more : {X Y : Type 0} (f : X → Y) (from : List X) (old out : List Y) (i : ℕ) (d : X) (y : Y) → y ≡ f (get_or from i d) → i < length from →
+    i < length old
     → StandSoFar f from old out i → StandSoFar f from old (set out i y) (i + 1)
 stand_more f from old out i d y is within room so_far = record {
   put = ap (set out i) is ∙ one_more f from old out i d within room so_far.put;
@@ -42,7 +43,8 @@ of_numbers {K} {A} number octets_of addresses first old =
 -- of a workspace's addresses those from a place on, which may lie behind them all
 pub told_from : {K A : Type 0} (number : K → ℕ) (octets_of : ℕ → A) (addresses : List K) (changed : List ℕ) (first place : ℕ) (old new : List A)
     → list_map number addresses ≡ changed → place ≡ min first (length addresses)
-    → (let rest = take (length addresses - place) (drop place addresses) in new ≡ list_map (stored_octets number octets_of) (take (length old) rest) ++ drop (length rest) old)
+    → (let rest = take (length addresses - place) (drop place addresses) in new ≡ list_map (stored_octets number octets_of) (take (length old) rest)
+    ++ drop (length rest) old)
     → new ≡ list_map octets_of (take (length old) (drop first changed)) ++ drop (length (drop first changed)) old
 told_from {K} {A} number octets_of addresses changed first place old new changed_is place_is new_is =
     let rest_is : take (length addresses - place) (drop place addresses) ≡ drop first addresses =

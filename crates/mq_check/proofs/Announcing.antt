@@ -1,5 +1,6 @@
 -- What a capture announces, packet by packet.
-use Rattle.std.proofs.Common.{◌≡◌, ◌⊎◌, ℕ, ◌+◌, Bool, true, false, List, [], ◌∷◌, ◌++◌, Option, None, Some, Result, Ok, Err, refl, ap, sym, subst, ◌∙◌, append_assoc, append-nil, inl, inr}
+use Rattle.std.proofs.Common.{◌≡◌, ◌⊎◌, ℕ, ◌+◌, Bool, true, false, List, [], ◌∷◌, ◌++◌, Option, None, Some, Result, Ok, Err, refl, ap, sym, subst}
+use Rattle.std.proofs.Common.{◌∙◌, append_assoc, append-nil, inl, inr}
 use Rattle.std.specs.Option.{option_or}
 use Rattle.mq_pcap.specs.declared.fault.PcapFault.{PcapFault}
 use Rattle.mq_pcap.specs.declared.fault.PcapFault.TheVariants as fault
@@ -18,7 +19,8 @@ use Rattle.mq_replay.specs.Walking.{IsBrokenOff, IsEndedByFault, IsStopped, Plac
 use Rattle.mq_check.specs.declared.announced.Announced.{Announced}
 use Rattle.mq_check.specs.declared.check_fault.CheckFault.{CheckFault}
 use Rattle.mq_check.specs.declared.check_fault.CheckFault.TheVariants as answer
-use Rattle.mq_check.specs.Announced.{Announces, IsRead, IsReadBy, LooksIn, TakesLooked, announced_by, announced_first, announced_in, announced_of, by_fault, concluded, first_specific, general_in, specific_in, with_datagram, with_query}
+use Rattle.mq_check.specs.Announced.{Announces, IsRead, IsReadBy, LooksIn, TakesLooked, announced_by, announced_first, announced_in, announced_of}
+use Rattle.mq_check.specs.Announced.{by_fault, concluded, first_specific, general_in, specific_in, with_datagram, with_query}
 use Rattle.mq_check.specs.Numbered.{numbered_announced_if, numbered_answer}
 
 or_none : {X : Type 0} (o : Option X) → option_or o None ≡ o
@@ -31,7 +33,8 @@ or_assoc (Some x) b c = refl
 
 -- the interval of specific queries with one packet more
 specific-append : (family : Family) (link : LinkType) (querier : ℕ) (packets : List Captured) (packet : Captured)
-    → first_specific family link querier (packets ++ packet ∷ []) ≡ option_or (first_specific family link querier packets) (specific_in family querier (datagram_of family (carried_in link packet.bytes)))
+    → first_specific family link querier (packets ++ packet ∷ []) ≡ option_or (first_specific family link querier packets)
+    (specific_in family querier (datagram_of family (carried_in link packet.bytes)))
 unfolding first_specific
 specific-append family link querier [] packet = or_none _
 specific-append family link querier (first ∷ packets) packet =
@@ -47,12 +50,14 @@ by_general family link packets general = elim general [
 
 -- a query after the first general one
 then_one : (family : Family) (source : ℕ) (query : Query ℕ) (before : Option ℕ) (datagram : Option Datagram)
-    → Some (announced_by source query (option_or before (specific_in family source datagram))) ≡ with_datagram family datagram (Some (announced_by source query before))
+    → Some (announced_by source query (option_or before (specific_in family source datagram)))
+    ≡ with_datagram family datagram (Some (announced_by source query before))
 then_one family source query before None = ap (λ (o : Option ℕ). Some (announced_by source query o)) (or_none before)
 then_one family source query before (Some datagram) = refl
 
 -- the first packet
-first_one : (family : Family) (link : LinkType) (datagram : Option Datagram) → by_general family link [] (general_in family datagram) ≡ with_datagram family datagram None
+first_one : (family : Family) (link : LinkType) (datagram : Option Datagram) → by_general family link [] (general_in family datagram)
+    ≡ with_datagram family datagram None
 unfolding announced_in first_specific
 first_one family link None = refl
 first_one family link (Some datagram) = by_kind (general_in family (Some datagram))
@@ -63,15 +68,18 @@ first_one family link (Some datagram) = by_kind (general_in family (Some datagra
 
 -- what is announced with one packet more
 announced-append : (family : Family) (link : LinkType) (packets : List Captured) (packet : Captured)
-    → announced_in family link (packets ++ packet ∷ []) ≡ with_datagram family (datagram_of family (carried_in link packet.bytes)) (announced_in family link packets)
+    → announced_in family link (packets ++ packet ∷ []) ≡ with_datagram family (datagram_of family (carried_in link packet.bytes))
+    (announced_in family link packets)
 unfolding announced_in
 announced-append family link [] packet = first_one family link (datagram_of family (carried_in link packet.bytes))
-announced-append family link (first ∷ packets) packet = by_kind (announced-append family link packets packet) (general_in family (datagram_of family (carried_in link first.bytes)))
+announced-append family link (first ∷ packets) packet = by_kind (announced-append family link packets packet)
+    (general_in family (datagram_of family (carried_in link first.bytes)))
   where
     last : Option Datagram
     last = datagram_of family (carried_in link packet.bytes)
 
-    by_kind : announced_in family link (packets ++ packet ∷ []) ≡ with_datagram family last (announced_in family link packets) → (general : Option (ℕ × Query ℕ))
+    by_kind : announced_in family link (packets ++ packet ∷ []) ≡ with_datagram family last (announced_in family link packets) →
+        (general : Option (ℕ × Query ℕ))
         → by_general family link (packets ++ packet ∷ []) general ≡ with_datagram family last (by_general family link packets general)
     by_kind before None = before
     by_kind before (Some it) =
@@ -88,21 +96,25 @@ module _ {X : Type 0} (family : Family) (state : X → Option (Announced ℕ)) w
   takes packet x x' r = TakesLooked family packet (state x) (state x') r
 
   -- what packets announce, and those before them
-  looked_over : (link : LinkType) (at to : Place) (seen packets : List Captured) (x x' : X) → state x ≡ announced_in family link seen → StepsOver takes link at packets x to x' → state x' ≡ announced_in family link (seen ++ packets)
+  looked_over : (link : LinkType) (at to : Place) (seen packets : List Captured) (x x' : X) → state x ≡ announced_in family link seen →
+      StepsOver takes link at packets x to x' → state x' ≡ announced_in family link (seen ++ packets)
   looked_over link at to seen [] x x' is steps = ap state steps.1 ∙ is ∙ ap (announced_in family link) (sym (append-nil seen))
   looked_over link at to seen (packet ∷ packets) x x' is steps =
       let next = steps.1 ∙ ap (with_datagram family (datagram_of family (carried_in link packet.bytes))) is ∙ sym (announced-append family link seen packet) in
-      looked_over link (place_behind at packet.stamp) to (seen ++ packet ∷ []) packets steps.0 x' next steps.2 ∙ ap (announced_in family link) (append_assoc seen (packet ∷ []) packets)
+      looked_over link (place_behind at packet.stamp) to (seen ++ packet ∷ []) packets steps.0 x' next steps.2 ∙
+      ap (announced_in family link) (append_assoc seen (packet ∷ []) packets)
 
   none_looked : (link : LinkType) → None ≡ announced_in family link []
   unfolding announced_in
   none_looked link = refl
 
-  all_looked : (header : Result Form PcapFault) (packets : List Captured) (x x' : X) → state x ≡ None → StepsOverAll takes header packets x x' → state x' ≡ announced_of family header packets
+  all_looked : (header : Result Form PcapFault) (packets : List Captured) (x x' : X) → state x ≡ None → StepsOverAll takes header packets x x' →
+      state x' ≡ announced_of family header packets
   all_looked (Err f) packets x x' none same = ap state same ∙ none
   all_looked (Ok form) packets x x' none (to, steps) = looked_over form.link at_first to [] packets x x' (none ∙ none_looked form.link) steps
 
-  looks_in : (old new : InputState) (x' : X) (c : ReadCapture) (r : Result (Unit {0}) PcapFault) → Takes old new c.bytes → Captures c.bytes c.header c.packets c.end → state x' ≡ announced_of family c.header c.packets
+  looks_in : (old new : InputState) (x' : X) (c : ReadCapture) (r : Result (Unit {0}) PcapFault) → Takes old new c.bytes →
+      Captures c.bytes c.header c.packets c.end → state x' ≡ announced_of family c.header c.packets
       → IsRead c.header c.end c.bytes old new r → LooksIn family old new (state x') r
   looks_in old new x' c r takes_in captures is_found ended = record {
     bytes = c.bytes;
@@ -115,14 +127,17 @@ module _ {X : Type 0} (family : Family) (state : X → Option (Announced ℕ)) w
     ended = ended;
   }
 
-  pub looked_well : (old new : InputState) (x x' : X) (w : Walked) → state x ≡ None → Walks takes (λ f e. e ≡ f) old new x x' (Ok w) → LooksIn family old new (state x') (Ok tt)
+  pub looked_well : (old new : InputState) (x x' : X) (w : Walked) → state x ≡ None → Walks takes (λ f e. e ≡ f) old new x x' (Ok w) →
+      LooksIn family old new (state x') (Ok tt)
   looked_well old new x x' w none walks =
       let walked = walks.ended in
       let to : Place = record { first = walked.first; before = w.last; number = w.packets + 1 } in
       let all : StepsOverAll takes walks.read.header walks.read.packets x x' = rw walked.header (to, walked.steps) in
-      looks_in old new x' walks.read (Ok tt) walks.takes_in walks.capture (all_looked walks.read.header walks.read.packets x x' none all) (walked.end, walked.at_end, walked.failed)
+      looks_in old new x' walks.read (Ok tt) walks.takes_in walks.capture (all_looked walks.read.header walks.read.packets x x' none all)
+      (walked.end, walked.at_end, walked.failed)
 
-  pub looked_early : (old new : InputState) (x x' : X) (e : PcapFault) → state x ≡ None → Walks takes (λ f e. e ≡ f) old new x x' (Err e) → LooksIn family old new (state x') (Err e)
+  pub looked_early : (old new : InputState) (x x' : X) (e : PcapFault) → state x ≡ None → Walks takes (λ f e. e ≡ f) old new x x' (Err e) →
+      LooksIn family old new (state x') (Err e)
   looked_early old new x x' e none walks = by_end walks.ended
     where
       c : ReadCapture
@@ -135,7 +150,8 @@ module _ {X : Type 0} (family : Family) (state : X → Option (Announced ℕ)) w
       by_end : IsBrokenOff takes (λ f e. e ≡ f) c old new x x' e ⊎ IsStopped takes c old new x x' e → LooksIn family old new (state x') (Err e)
       by_end (inl it) =
           subst (λ (f : PcapFault). LooksIn family old new (state x') (Err f)) (sym it.given)
-          (looks_in old new x' c (Err it.fault) walks.takes_in walks.capture (all_looked c.header c.packets x x' none it.steps) (by_kind it.fault (is_read it.fault) it.ended))
+          (looks_in old new x' c (Err it.fault) walks.takes_in walks.capture (all_looked c.header c.packets x x' none it.steps)
+          (by_kind it.fault (is_read it.fault) it.ended))
       by_end (inr it) = absurd it.stops
 
 -- a fault of the result is one of the capture
@@ -160,7 +176,8 @@ of_capture {X} found (Err f) e is = by_kind (is_read f) found is
     by_kind false (Some x) is = absurd (cc is)
 
 -- the result with addresses as numbers
-numbered_concluded : {K : Type 0} (number : K → ℕ) (found : Option (Announced K)) (read : Result (Unit {0}) PcapFault) → numbered_answer number (concluded found read) ≡ concluded (numbered_announced_if number found) read
+numbered_concluded : {K : Type 0} (number : K → ℕ) (found : Option (Announced K)) (read : Result (Unit {0}) PcapFault) →
+    numbered_answer number (concluded found read) ≡ concluded (numbered_announced_if number found) read
 numbered_concluded number found (Ok done) = refl
 numbered_concluded {K} number found (Err f) = by_kind (is_read f) found
   where
@@ -169,9 +186,11 @@ numbered_concluded {K} number found (Err f) = by_kind (is_read f) found
     by_kind false None = refl
     by_kind false (Some x) = refl
 
-pub announces : {K : Type 0} (family : Family) (number : K → ℕ) (old new : InputState) (found : Option (Announced K)) (read : Result (Unit {0}) PcapFault) (r : Result (Option (Announced K)) CheckFault)
+pub announces : {K : Type 0} (family : Family) (number : K → ℕ) (old new : InputState) (found : Option (Announced K))
+    (read : Result (Unit {0}) PcapFault) (r : Result (Option (Announced K)) CheckFault)
     → LooksIn family old new (numbered_announced_if number found) read → r ≡ concluded found read → Announces family old new (numbered_answer number r)
-announces {K} family number old new found read r looks is = by_answer (numbered_answer number r) (ap (numbered_answer number) is ∙ numbered_concluded number found read)
+announces {K} family number old new found read r looks is = by_answer (numbered_answer number r)
+    (ap (numbered_answer number) is ∙ numbered_concluded number found read)
   where
     by_answer : (a : Result (Option (Announced ℕ)) CheckFault) → a ≡ concluded (numbered_announced_if number found) read → Announces family old new a
     by_answer (Ok x) is = (numbered_announced_if number found, read, looks, is)

@@ -1,5 +1,6 @@
 -- The end of a check: what is put then.
-use Rattle.std.proofs.Common.{◌≡◌, ℕ, true, false, if◌then◌else◌, List, [], ◌++◌, length, Option, Result, Ok, Err, max, unwrap_or, append_assoc, append-nil, length-append, refl, ap, sym, subst, ◌∙◌}
+use Rattle.std.proofs.Common.{◌≡◌, ℕ, true, false, if◌then◌else◌, List, [], ◌++◌, length, Option, Result, Ok, Err, max, unwrap_or, append_assoc}
+use Rattle.std.proofs.Common.{append-nil, length-append, refl, ap, sym, subst, ◌∙◌}
 use Rattle.mq_wire.specs.Family.{Family}
 use Rattle.mq_link.specs.Configuration.{Configuration}
 use Rattle.mq_text.specs.Printing.{GrowsByBeginning, OutputState, Passes}
@@ -16,41 +17,53 @@ use Rattle.mq_check.specs.Checking.{CheckingValue, told_at_end}
 use Rattle.mq_check.specs.Ending.{IsRestPut, counted_behind, end_behind, end_text, ended_behind, rest_behind}
 use Rattle.mq_check.specs.FindingLines.{finding_lines, last_lines}
 use Rattle.mq_check.specs.General.{silence_up_to}
-use Rattle.mq_check.specs.Telling.{ToldState, Tells, counted_times}
-use Rattle.mq_check.proofs.Tellings.{lines_of_both, tells_as, then_told, times_more, told_broken}
+use Rattle.mq_check.specs.Repeated.{reported, with_findings}
+use Rattle.mq_check.specs.Telling.{ToldState, Tells, counted_times, reported_by}
+use Rattle.mq_check.proofs.Repeating.{reported_of_both}
+use Rattle.mq_check.proofs.Tellings.{lines_of_both, reported_after, tells_as, then_told, times_more, told_broken}
 
 -- the same of a family that is named otherwise
-pub tells_in : {T E : Type 0} (family other : Family) (found : List (Finding ℕ)) (old new : ToldState) (a b : OutputState) (r : Result T E) → family ≡ other → Tells family found old new a b r → Tells other found old new a b r
+pub tells_in : {T E : Type 0} (family other : Family) (found : List (Finding ℕ)) (old new : ToldState) (a b : OutputState) (r : Result T E) →
+    family ≡ other → Tells family found old new a b r → Tells other found old new a b r
 tells_in {T} {E} family other found old new a b r same tells = subst (λ (f : Family). Tells {T = T} {E = E} f found old new a b r) same tells
 
 -- the same of a verdict that is named otherwise
-pub rest_as : (v w : Verdict) (before after : Option (List ℕ)) (held left : List ℕ) (r : Result Totals CheckFault) → v ≡ w → IsRestPut v before after held left r → IsRestPut w before after held left r
+pub rest_as : (v w : Verdict) (before after : Option (List ℕ)) (held left : List ℕ) (r : Result Totals CheckFault) → v ≡ w →
+    IsRestPut v before after held left r → IsRestPut w before after held left r
 rest_as v w before after held left r same put = subst (λ (x : Verdict). IsRestPut x before after held left r) same put
 
 -- the totals were put behind the findings, or not whole
-pub end_passed : {S E : Type 0} (family : Family) (found : List (Finding ℕ)) (old mid : ToldState) (a b : OutputState) (c : Option (List ℕ)) (left : List ℕ) (x : S) (totals other : Totals)
-    → Tells {E = E} family found old mid a b (Ok x) → totals ≡ other → Passes b.held c mid.held left (last_lines totals) → Passes a.held c old.held left (end_text family old.additions found other)
+pub end_passed : {S E : Type 0} (family : Family) (found : List (Finding ℕ)) (old mid : ToldState) (a b : OutputState) (c : Option (List ℕ))
+    (left : List ℕ) (x : S) (totals other : Totals)
+    → Tells {E = E} family found old mid a b (Ok x) → totals ≡ other → Passes b.held c mid.held left (last_lines totals) →
+    Passes a.held c old.held left (end_text family old.additions (reported_by old found) other)
 end_passed family found old mid a b c left x totals other tells same put =
-    subst (λ (t : Totals). Passes a.held c old.held left (finding_lines family old.additions found ++ last_lines t)) same (both_passed a.held b.held c old.held mid.held left _ _ tells.text put)
+    subst (λ (t : Totals). Passes a.held c old.held left (finding_lines family old.additions (reported_by old found) ++ last_lines t)) same
+    (both_passed a.held b.held c old.held mid.held left _ _ tells.text put)
 
-pub end_unpassed : {S E : Type 0} (family : Family) (found : List (Finding ℕ)) (old mid : ToldState) (a b : OutputState) (c : Option (List ℕ)) (x : S) (totals other : Totals)
-    → Tells {E = E} family found old mid a b (Ok x) → totals ≡ other → GrowsByBeginning b.held c (mid.held ++ last_lines totals) → GrowsByBeginning a.held c (old.held ++ end_text family old.additions found other)
+pub end_unpassed : {S E : Type 0} (family : Family) (found : List (Finding ℕ)) (old mid : ToldState) (a b : OutputState) (c : Option (List ℕ)) (x : S)
+    (totals other : Totals)
+    → Tells {E = E} family found old mid a b (Ok x) → totals ≡ other → GrowsByBeginning b.held c (mid.held ++ last_lines totals) →
+    GrowsByBeginning a.held c (old.held ++ end_text family old.additions (reported_by old found) other)
 end_unpassed family found old mid a b c x totals other tells same begun =
-    subst (λ (t : Totals). GrowsByBeginning a.held c (old.held ++ (finding_lines family old.additions found ++ last_lines t))) same (broken_behind a.held b.held c old.held mid.held _ _ tells.text begun)
+    subst (λ (t : Totals). GrowsByBeginning a.held c (old.held ++ (finding_lines family old.additions (reported_by old found) ++ last_lines t))) same
+    (broken_behind a.held b.held c old.held mid.held _ _ tells.text begun)
 
 -- a finding was not put whole
 pub end_broken : {T E : Type 0} (family : Family) (found rest : List (Finding ℕ)) (old new : ToldState) (a b : OutputState) (e : E) (totals : Totals)
-    → Tells {T = T} family found old new a b (Err e) → GrowsByBeginning a.held b.held (old.held ++ end_text family old.additions (found ++ rest) totals)
+    → Tells {T = T} family found old new a b (Err e) →
+    GrowsByBeginning a.held b.held (old.held ++ end_text family old.additions (reported_by old (found ++ rest)) totals)
 end_broken {T} family found rest old new a b e totals tells =
     let told = told_broken {T = T} family found rest old new a b e tells in
     broken_within a.held b.held old.held _ (last_lines totals) told.text
 
 pub all_broken : {T E : Type 0} (family : Family) (found : List (Finding ℕ)) (old new : ToldState) (a b : OutputState) (e : E) (totals : Totals)
-    → Tells {T = T} family found old new a b (Err e) → GrowsByBeginning a.held b.held (old.held ++ end_text family old.additions found totals)
+    → Tells {T = T} family found old new a b (Err e) → GrowsByBeginning a.held b.held (old.held ++ end_text family old.additions (reported_by old found) totals)
 all_broken family found old new a b e totals tells = broken_within a.held b.held old.held _ (last_lines totals) tells.text
 
 -- what was counted
-pub totals_counted : (general specific findings count : ℕ) (state other checking : CheckingValue) (rests : Basis) (found : List (Finding ℕ)) → state ≡ checking → other ≡ checking → general ≡ state.general → specific ≡ other.specific → findings ≡ counted_times (length found) count
+pub totals_counted : (general specific findings count : ℕ) (state other checking : CheckingValue) (rests : Basis) (found : List (Finding ℕ)) →
+    state ≡ checking → other ≡ checking → general ≡ state.general → specific ≡ other.specific → findings ≡ counted_times (length found) count
     → record { general = general; specific = specific; findings = findings; basis = rests } ≡ counted_behind count checking rests found
 totals_counted general specific findings count state other checking rests found is is_too is_general is_specific counts =
     λ i. record {
@@ -61,79 +74,120 @@ totals_counted general specific findings count state other checking rests found 
     }
 
 -- the text of the end, behind what was found up to it
-both_texts : (family : Family) (additions : Additions) (found last : List (Finding ℕ)) (totals : Totals) → end_text family additions (found ++ last) totals ≡ finding_lines family additions found ++ end_text family additions last totals
+both_texts : (family : Family) (additions : Additions) (found last : List (Finding ℕ)) (totals : Totals) →
+    end_text family additions (found ++ last) totals ≡ finding_lines family additions found ++ end_text family additions last totals
 both_texts family additions found last totals =
-    ap (λ (t : List ℕ). t ++ last_lines totals) (lines_of_both family additions found last) ∙ append_assoc (finding_lines family additions found) (finding_lines family additions last) (last_lines totals)
+    ap (λ (t : List ℕ). t ++ last_lines totals) (lines_of_both family additions found last) ∙ append_assoc (finding_lines family additions found)
+    (finding_lines family additions last) (last_lines totals)
 
-begins : (family : Family) (additions : Additions) (count number : ℕ) (c : CheckingValue) (rests : Basis) (found last : List (Finding ℕ)) → (more : List ℕ) × ((end_behind family additions count number c rests found last).text ≡ finding_lines family additions found ++ more)
-begins family additions count number c rests found last =
-    let all = counted_behind count c rests (found ++ last) in
-    let full : Verdict = record { text = finding_lines family additions found; answer = Err (answer.Waiting number) } in
-    let whole : Verdict = record { text = end_text family additions (found ++ last) all; answer = Ok all } in
-    elim c.waiting.is_full as (λ b. (more : List ℕ) × ((if◌then◌else◌ {A = Verdict} b full whole).text ≡ finding_lines family additions found ++ more)) [
-      | true ↦ ([], sym (append-nil (finding_lines family additions found)))
-      | false ↦ (end_text family additions last all, both_texts family additions found last all)
+begins : (family : Family) (told : ToldState) (number : ℕ) (c : CheckingValue) (rests : Basis) (found last : List (Finding ℕ)) → (more : List ℕ) ×
+    ((end_behind family told number c rests found last).text ≡ finding_lines family told.additions (reported_by told found) ++ more)
+begins family told number c rests found last =
+    let first = reported_by told found in
+    let more = reported told.additions.once (with_findings found told.last) last in
+    let all = reported_by told (found ++ last) in
+    let both : all ≡ first ++ more = reported_of_both told.additions.once found last told.last in
+    let totals = counted_behind told.count c rests all in
+    let full : Verdict = record { text = finding_lines family told.additions first; answer = Err (answer.Waiting number) } in
+    let whole : Verdict = record { text = end_text family told.additions all totals; answer = Ok totals } in
+    elim c.waiting.is_full as (λ b. (more : List ℕ) × ((if◌then◌else◌ {A = Verdict} b full whole).text ≡ finding_lines family told.additions first ++ more)) [
+      | true ↦ ([], sym (append-nil (finding_lines family told.additions first)))
+      | false ↦ (
+        end_text family told.additions more totals,
+        ap (λ (fs : List (Finding ℕ)). end_text family told.additions fs totals) both ∙ both_texts family told.additions first more totals,
+      )
     ]
 
 -- a finding up to the end was not put whole
-pub ended_broken : {T E : Type 0} (family : Family) (count number : ℕ) (c : CheckingValue) (rests : Basis) (found last : List (Finding ℕ)) (old new : ToldState) (a b : OutputState) (e : E)
-    → Tells {T = T} family found old new a b (Err e) → GrowsByBeginning a.held b.held (old.held ++ (end_behind family old.additions count number c rests found last).text)
-ended_broken family count number c rests found last old new a b e tells =
-    let start = begins family old.additions count number c rests found last in
+pub ended_broken : {T E : Type 0} (family : Family) (number : ℕ) (c : CheckingValue) (rests : Basis) (found last : List (Finding ℕ))
+    (old new : ToldState) (a b : OutputState) (e : E)
+    → Tells {T = T} family found old new a b (Err e) → GrowsByBeginning a.held b.held (old.held ++ (end_behind family old number c rests found last).text)
+ended_broken family number c rests found last old new a b e tells =
+    let start = begins family old number c rests found last in
     subst (λ (t : List ℕ). GrowsByBeginning a.held b.held (old.held ++ t)) (sym start.1) (broken_within a.held b.held old.held _ start.0 tells.text)
 
 -- too much waits
-pub ended_full : {E : Type 0} (family : Family) (count number : ℕ) (c : CheckingValue) (rests : Basis) (found last : List (Finding ℕ)) (old new : ToldState) (a b : OutputState) → c.waiting.is_full ≡ true
-    → Tells {T = Unit} {E = E} family found old new a b (Ok tt) → IsRestPut (end_behind family old.additions count number c rests found last) a.held b.held old.held new.held (Err (answer.Waiting number))
-ended_full family count number c rests found last old new a b is tells = rw is (refl, tells.text)
+pub ended_full : {E : Type 0} (family : Family) (number : ℕ) (c : CheckingValue) (rests : Basis) (found last : List (Finding ℕ)) (old new : ToldState)
+    (a b : OutputState) → c.waiting.is_full ≡ true
+    → Tells {T = Unit} {E = E} family found old new a b (Ok tt) →
+    IsRestPut (end_behind family old number c rests found last) a.held b.held old.held new.held (Err (answer.Waiting number))
+ended_full family number c rests found last old new a b is tells = rw is (refl, tells.text)
 
 -- what is found at the end was put behind what was found up to it
-ended_open : (family : Family) (additions : Additions) (count number counted : ℕ) (c : CheckingValue) (rests : Basis) (found last : List (Finding ℕ)) → c.waiting.is_full ≡ false → counted ≡ counted_times (length found) count
-    → end_behind family additions count number c rests found last ≡ record { text = finding_lines family additions found ++ end_text family additions last (counted_behind counted c rests last); answer = Ok (counted_behind counted c rests last) }
-ended_open family additions count number counted c rests found last is counts =
-    let findings : counted_times (length (found ++ last)) count ≡ counted_times (length last) counted =
-    ap (λ (n : ℕ). counted_times n count) (length-append found last) ∙ times_more (length found) (length last) count ∙ ap (counted_times (length last)) (sym counts) in
-    let totals : counted_behind count c rests (found ++ last) ≡ counted_behind counted c rests last = λ i. record { general = c.general; specific = c.specific; findings = findings i; basis = rests } in
+ended_open : (family : Family) (told mid : ToldState) (number : ℕ) (c : CheckingValue) (rests : Basis) (found last : List (Finding ℕ)) →
+    c.waiting.is_full ≡ false
+    → mid.additions ≡ told.additions → mid.last ≡ with_findings found told.last → mid.count ≡ counted_times (length (reported_by told found)) told.count
+    → end_behind family told number c rests found last
+    ≡ record {
+      text = finding_lines family told.additions (reported_by told found) ++ end_text family told.additions (reported_by mid last)
+          (counted_behind mid.count c rests (reported_by mid last));
+      answer = Ok (counted_behind mid.count c rests (reported_by mid last));
+    }
+ended_open family told mid number c rests found last is additions lasts counts =
+    let first = reported_by told found in
+    let more = reported_by mid last in
+    let all = reported_by told (found ++ last) in
+    let both : all ≡ first ++ more = reported_after told mid found last additions lasts in
+    let findings : counted_times (length all) told.count ≡ counted_times (length more) mid.count =
+    ap (λ (n : ℕ). counted_times n told.count) (ap length both ∙ length-append first more) ∙ times_more (length first) (length more) told.count ∙
+    ap (counted_times (length more)) (sym counts) in
+    let before = counted_behind told.count c rests all in
+    let totals : before ≡ counted_behind mid.count c rests more =
+    λ i. record { general = c.general; specific = c.specific; findings = findings i; basis = rests } in
     rw is (λ i. record {
-      text = (both_texts family additions found last (counted_behind count c rests (found ++ last)) ∙ ap (λ (t : Totals). finding_lines family additions found ++ end_text family additions last t) totals) i;
+      text = (ap (λ (fs : List (Finding ℕ)). end_text family told.additions fs before) both ∙ both_texts family told.additions first more before
+          ∙ ap (λ (t : Totals). finding_lines family told.additions first ++ end_text family told.additions more t) totals) i;
       answer = Ok (totals i);
     })
 
-pub ended_put : {E : Type 0} (family : Family) (number : ℕ) (c : CheckingValue) (rests : Basis) (found last : List (Finding ℕ)) (old mid new : ToldState) (x y z : OutputState) (totals : Totals) → c.waiting.is_full ≡ false
-    → Tells {T = Unit} {E = E} family found old mid x y (Ok tt) → totals ≡ counted_behind mid.count c rests last → Passes y.held z.held mid.held new.held (end_text family mid.additions last (counted_behind mid.count c rests last))
-    → IsRestPut (end_behind family old.additions old.count number c rests found last) x.held z.held old.held new.held (Ok totals)
+pub ended_put : {E : Type 0} (family : Family) (number : ℕ) (c : CheckingValue) (rests : Basis) (found last : List (Finding ℕ))
+    (old mid new : ToldState) (x y z : OutputState) (totals : Totals) → c.waiting.is_full ≡ false
+    → Tells {T = Unit} {E = E} family found old mid x y (Ok tt) → totals ≡ counted_behind mid.count c rests (reported_by mid last)
+    → Passes y.held z.held mid.held new.held (end_text family mid.additions (reported_by mid last) (counted_behind mid.count c rests (reported_by mid last)))
+    → IsRestPut (end_behind family old number c rests found last) x.held z.held old.held new.held (Ok totals)
 ended_put family number c rests found last old mid new x y z totals is tells counts passed =
-    let same = ended_open family old.additions old.count number mid.count c rests found last is tells.count in
-    let cited = subst (λ (additions : Additions). Passes y.held z.held mid.held new.held (end_text family additions last (counted_behind mid.count c rests last))) tells.additions passed in (
+    let more = reported_by mid last in
+    let same = ended_open family old mid number c rests found last is tells.additions tells.last tells.count in
+    let cited = subst (λ (additions : Additions). Passes y.held z.held mid.held new.held
+    (end_text family additions more (counted_behind mid.count c rests more))) tells.additions passed in (
       ap (λ (v : Verdict). v.answer) same ∙ ap Ok (sym counts),
-      subst (λ (v : Verdict). Passes x.held z.held old.held new.held v.text) (sym same) (both_passed x.held y.held z.held old.held mid.held new.held _ _ tells.text cited),
+      subst (λ (v : Verdict). Passes x.held z.held old.held new.held v.text) (sym same)
+          (both_passed x.held y.held z.held old.held mid.held new.held _ _ tells.text cited),
     )
 
-pub ended_unput : {E : Type 0} (family : Family) (number : ℕ) (c : CheckingValue) (rests : Basis) (found last : List (Finding ℕ)) (old mid : ToldState) (x y z : OutputState) → c.waiting.is_full ≡ false
-    → Tells {T = Unit} {E = E} family found old mid x y (Ok tt) → GrowsByBeginning y.held z.held (mid.held ++ end_text family mid.additions last (counted_behind mid.count c rests last))
-    → GrowsByBeginning x.held z.held (old.held ++ (end_behind family old.additions old.count number c rests found last).text)
+pub ended_unput : {E : Type 0} (family : Family) (number : ℕ) (c : CheckingValue) (rests : Basis) (found last : List (Finding ℕ))
+    (old mid : ToldState) (x y z : OutputState) → c.waiting.is_full ≡ false
+    → Tells {T = Unit} {E = E} family found old mid x y (Ok tt)
+    → GrowsByBeginning y.held z.held
+    (mid.held ++ end_text family mid.additions (reported_by mid last) (counted_behind mid.count c rests (reported_by mid last)))
+    → GrowsByBeginning x.held z.held (old.held ++ (end_behind family old number c rests found last).text)
 ended_unput family number c rests found last old mid x y z is tells begun =
-    let same = ended_open family old.additions old.count number mid.count c rests found last is tells.count in
-    let cited = subst (λ (additions : Additions). GrowsByBeginning y.held z.held (mid.held ++ end_text family additions last (counted_behind mid.count c rests last))) tells.additions begun in
-    subst (λ (v : Verdict). GrowsByBeginning x.held z.held (old.held ++ v.text)) (sym same) (broken_behind x.held y.held z.held old.held mid.held _ _ tells.text cited)
+    let more = reported_by mid last in
+    let same = ended_open family old mid number c rests found last is tells.additions tells.last tells.count in
+    let cited = subst (λ (additions : Additions). GrowsByBeginning y.held z.held
+    (mid.held ++ end_text family additions more (counted_behind mid.count c rests more))) tells.additions begun in
+    subst (λ (v : Verdict). GrowsByBeginning x.held z.held (old.held ++ v.text)) (sym same)
+    (broken_behind x.held y.held z.held old.held mid.held _ _ tells.text cited)
 
 -- the end, from a check at the end and one that has looked ahead
-abbrev end_from : Configuration → (within : ℕ) → (additions : Additions) → (moment count number : ℕ) → (found : List (Finding ℕ)) → (at left : Checked) → Verdict
-end_from config within additions moment count number found at left =
-    end_behind config.family additions count number left.checking at.basis (found ++ (looked_ahead config within moment at).found)
+abbrev end_from : Configuration → (within : ℕ) → ToldState → (moment number : ℕ) → (found : List (Finding ℕ)) → (at left : Checked) → Verdict
+end_from config within told moment number found at left =
+    end_behind config.family told number left.checking at.basis (found ++ (looked_ahead config within moment at).found)
     (told_at_end within config.timing moment (silence_up_to within config.timing moment at.checking.phase) left.checking)
 
 -- the end in the terms of the code: the check at the end, and the one that has looked ahead
-pub ended_as : (config : Configuration) (within : ℕ) (additions : Additions) (moment count number : ℕ) (r at left : Checked) → at ≡ (settled_through config within moment r).checked → left ≡ (looked_ahead config within moment at).checked
-    → ended_behind config within additions moment count number r ≡ end_from config within additions moment count number (settled_through config within moment r).found at left
+pub ended_as : (config : Configuration) (within : ℕ) (told : ToldState) (moment number : ℕ) (r at left : Checked) →
+    at ≡ (settled_through config within moment r).checked → left ≡ (looked_ahead config within moment at).checked
+    → ended_behind config within told moment number r ≡ end_from config within told moment number (settled_through config within moment r).found at left
 unfolding ended_behind
-ended_as config within additions moment count number r at left is ahead =
+ended_as config within told moment number r at left is ahead =
     let found = (settled_through config within moment r).found in
-    ap (λ (k : Checked). end_from config within additions moment count number found k (looked_ahead config within moment k).checked) (sym is)
-    ∙ ap (λ (k : Checked). end_from config within additions moment count number found at k) (sym ahead)
+    ap (λ (k : Checked). end_from config within told moment number found k (looked_ahead config within moment k).checked) (sym is)
+    ∙ ap (λ (k : Checked). end_from config within told moment number found at k) (sym ahead)
 
 -- what was told up to the end, and by the look-ahead
-told_ahead : {S T E E' : Type 0} (config : Configuration) (within end : ℕ) (r at : Checked) (o : Outcome) (family : Family) (old mid new : ToldState) (x y z : OutputState) (s : S) (answered : Result T E) → family ≡ config.family → o ≡ looked_ahead config within end at
+told_ahead : {S T E E' : Type 0} (config : Configuration) (within end : ℕ) (r at : Checked) (o : Outcome) (family : Family) (old mid new : ToldState)
+    (x y z : OutputState) (s : S) (answered : Result T E) → family ≡ config.family → o ≡ looked_ahead config within end at
     → Tells {E = E'} family (settled_through config within end r).found old mid x y (Ok s) → Tells family o.found mid new y z answered
     → Tells config.family ((settled_through config within end r).found ++ (looked_ahead config within end at).found) old new x z answered
 told_ahead config within end r at o family old mid new x y z s answered is_family is first second =
@@ -141,75 +195,115 @@ told_ahead config within end r at o family old mid new x y z s answered is_famil
     (then_told family _ _ old mid new x y z s answered first (tells_as family _ _ mid new y z answered (ap (λ (p : Outcome). p.found) is) second))
 
 -- a write failed up to the end
-pub broken_to_end : {T E : Type 0} (config : Configuration) (within end number : ℕ) (r : Checked) (family : Family) (old new : ToldState) (x y : OutputState) (e : E) → family ≡ config.family
-    → Tells {T = T} family (settled_through config within end r).found old new x y (Err e) → GrowsByBeginning x.held y.held (old.held ++ (ended_behind config within old.additions end old.count number r).text)
+pub broken_to_end : {T E : Type 0} (config : Configuration) (within end number : ℕ) (r : Checked) (family : Family) (old new : ToldState)
+    (x y : OutputState) (e : E) → family ≡ config.family
+    → Tells {T = T} family (settled_through config within end r).found old new x y (Err e) →
+    GrowsByBeginning x.held y.held (old.held ++ (ended_behind config within old end number r).text)
 broken_to_end {T} {E} config within end number r family old new x y e is_family tells =
     let done = settled_through config within end r in
     let ahead = looked_ahead config within end done.checked in
-    let here : Tells {T = T} {E = E} config.family done.found old new x y (Err e) = tells_in {T = T} family config.family _ old new x y (Err e) is_family tells in
-    subst (λ (v : Verdict). GrowsByBeginning x.held y.held (old.held ++ v.text)) (sym (ended_as config within old.additions end old.count number r done.checked ahead.checked refl refl))
-    (ended_broken {T = T} config.family old.count number ahead.checked.checking done.checked.basis (done.found ++ ahead.found) _ old new x y e (told_broken {T = T} config.family done.found ahead.found old new x y e here))
+    let here : Tells {T = T} {E = E} config.family done.found old new x y (Err e) =
+    tells_in {T = T} family config.family _ old new x y (Err e) is_family tells in
+    subst (λ (v : Verdict). GrowsByBeginning x.held y.held (old.held ++ v.text))
+    (sym (ended_as config within old end number r done.checked ahead.checked refl refl))
+    (ended_broken {T = T} config.family number ahead.checked.checking done.checked.basis (done.found ++ ahead.found) _ old new x y e
+    (told_broken {T = T} config.family done.found ahead.found old new x y e here))
 
 -- a write failed in the look-ahead
-pub broken_ahead : {S T E E' : Type 0} (config : Configuration) (within end number : ℕ) (r at : Checked) (o : Outcome) (family : Family) (old mid new : ToldState) (x y z : OutputState) (s : S) (e : E) → family ≡ config.family
+pub broken_ahead : {S T E E' : Type 0} (config : Configuration) (within end number : ℕ) (r at : Checked) (o : Outcome) (family : Family)
+    (old mid new : ToldState) (x y z : OutputState) (s : S) (e : E) → family ≡ config.family
     → at ≡ (settled_through config within end r).checked → o ≡ looked_ahead config within end at
     → Tells {E = E'} family (settled_through config within end r).found old mid x y (Ok s) → Tells {T = T} family o.found mid new y z (Err e)
-    → GrowsByBeginning x.held z.held (old.held ++ (ended_behind config within old.additions end old.count number r).text)
+    → GrowsByBeginning x.held z.held (old.held ++ (ended_behind config within old end number r).text)
 broken_ahead {T = T} config within end number r at o family old mid new x y z s e is_family is same first second =
     let left = (looked_ahead config within end at).checked in
-    subst (λ (v : Verdict). GrowsByBeginning x.held z.held (old.held ++ v.text)) (sym (ended_as config within old.additions end old.count number r at left is refl))
-    (ended_broken {T = T} config.family old.count number left.checking at.basis _ _ old new x z e (told_ahead {T = T} config within end r at o family old mid new x y z s (Err e) is_family same first second))
+    subst (λ (v : Verdict). GrowsByBeginning x.held z.held (old.held ++ v.text)) (sym (ended_as config within old end number r at left is refl))
+    (ended_broken {T = T} config.family number left.checking at.basis _ _ old new x z e
+    (told_ahead {T = T} config within end r at o family old mid new x y z s (Err e) is_family same first second))
 
 -- too much waits after the look-ahead
-pub full_at_end : {E E' : Type 0} (config : Configuration) (within end number : ℕ) (r at left : Checked) (o : Outcome) (family : Family) (old mid new : ToldState) (x y z : OutputState) → family ≡ config.family
+pub full_at_end : {E E' : Type 0} (config : Configuration) (within end number : ℕ) (r at left : Checked) (o : Outcome) (family : Family)
+    (old mid new : ToldState) (x y z : OutputState) → family ≡ config.family
     → at ≡ (settled_through config within end r).checked → o ≡ looked_ahead config within end at → left ≡ o.checked → left.checking.waiting.is_full ≡ true
-    → Tells {T = Unit} {E = E'} family (settled_through config within end r).found old mid x y (Ok tt) → Tells {T = Unit} {E = E} family o.found mid new y z (Ok tt)
-    → IsRestPut (ended_behind config within old.additions end old.count number r) x.held z.held old.held new.held (Err (answer.Waiting number))
+    → Tells {T = Unit} {E = E'} family (settled_through config within end r).found old mid x y (Ok tt) →
+    Tells {T = Unit} {E = E} family o.found mid new y z (Ok tt)
+    → IsRestPut (ended_behind config within old end number r) x.held z.held old.held new.held (Err (answer.Waiting number))
 full_at_end {E} config within end number r at left o family old mid new x y z is_family is same ahead full first second =
-    rest_as _ _ x.held z.held old.held new.held (Err (answer.Waiting number)) (sym (ended_as config within old.additions end old.count number r at left is (ahead ∙ ap (λ (p : Outcome). p.checked) same)))
-    (ended_full {E = E} config.family old.count number left.checking at.basis _ _ old new x z full (told_ahead config within end r at o family old mid new x y z tt (Ok tt) is_family same first second))
+    rest_as _ _ x.held z.held old.held new.held (Err (answer.Waiting number))
+    (sym (ended_as config within old end number r at left is (ahead ∙ ap (λ (p : Outcome). p.checked) same)))
+    (ended_full {E = E} config.family number left.checking at.basis _ _ old new x z full
+    (told_ahead config within end r at o family old mid new x y z tt (Ok tt) is_family same first second))
 
 -- the end was put whole, or not
-pub put_at_end : {E E' : Type 0} (config : Configuration) (within end number : ℕ) (r at left : Checked) (o : Outcome) (rests : Basis) (last : List (Finding ℕ)) (family : Family) (old mid near new : ToldState) (x y z w : OutputState) (totals : Totals) → family ≡ config.family
+pub put_at_end : {E E' : Type 0} (config : Configuration) (within end number : ℕ) (r at left : Checked) (o : Outcome) (rests : Basis)
+    (last : List (Finding ℕ)) (family : Family) (old mid near new : ToldState) (x y z w : OutputState) (totals : Totals) → family ≡ config.family
     → at ≡ (settled_through config within end r).checked → o ≡ looked_ahead config within end at → left ≡ o.checked → rests ≡ at.basis
-    → last ≡ told_at_end within config.timing end (silence_up_to within config.timing end at.checking.phase) left.checking → left.checking.waiting.is_full ≡ false
-    → Tells {T = Unit} {E = E'} family (settled_through config within end r).found old mid x y (Ok tt) → Tells {T = Unit} {E = E} family o.found mid near y z (Ok tt)
-    → totals ≡ counted_behind near.count left.checking rests last → Passes z.held w.held near.held new.held (end_text family near.additions last (counted_behind near.count left.checking rests last))
-    → IsRestPut (ended_behind config within old.additions end old.count number r) x.held w.held old.held new.held (Ok totals)
-put_at_end {E} config within end number r at left o rests last family old mid near new x y z w totals is_family is same ahead basis finds free first second counts passed =
+    → last ≡ told_at_end within config.timing end (silence_up_to within config.timing end at.checking.phase) left.checking →
+    left.checking.waiting.is_full ≡ false
+    → Tells {T = Unit} {E = E'} family (settled_through config within end r).found old mid x y (Ok tt) →
+    Tells {T = Unit} {E = E} family o.found mid near y z (Ok tt)
+    → totals ≡ counted_behind near.count left.checking rests (reported_by near last)
+    → Passes z.held w.held near.held new.held
+    (end_text family near.additions (reported_by near last) (counted_behind near.count left.checking rests (reported_by near last)))
+    → IsRestPut (ended_behind config within old end number r) x.held w.held old.held new.held (Ok totals)
+put_at_end {E} config within end number r at left o rests last family old mid near new x y z w totals is_family is same ahead basis finds free first
+    second counts passed =
     let final = told_at_end within config.timing end (silence_up_to within config.timing end at.checking.phase) left.checking in
-    let text : end_text family near.additions last (counted_behind near.count left.checking rests last) ≡ end_text config.family near.additions final (counted_behind near.count left.checking at.basis final) =
-    λ i. end_text (is_family i) near.additions (finds i) (counted_behind near.count left.checking (basis i) (finds i)) in
-    rest_as _ _ x.held w.held old.held new.held (Ok totals) (sym (ended_as config within old.additions end old.count number r at left is (ahead ∙ ap (λ (p : Outcome). p.checked) same)))
-    (ended_put {E = E} config.family number left.checking at.basis _ _ old near new x z w totals free (told_ahead config within end r at o family old mid near x y z tt (Ok tt) is_family same first second)
-    (counts ∙ (λ i. counted_behind near.count left.checking (basis i) (finds i))) (subst (λ (t : List ℕ). Passes z.held w.held near.held new.held t) text passed))
+    let text : end_text family near.additions (reported_by near last) (counted_behind near.count left.checking rests (reported_by near last))
+    ≡ end_text config.family near.additions (reported_by near final) (counted_behind near.count left.checking at.basis (reported_by near final)) =
+    λ i. end_text (is_family i) near.additions (reported_by near (finds i)) (counted_behind near.count left.checking (basis i) (reported_by near (finds i))) in
+    rest_as _ _ x.held w.held old.held new.held (Ok totals)
+    (sym (ended_as config within old end number r at left is (ahead ∙ ap (λ (p : Outcome). p.checked) same)))
+    (ended_put {E = E} config.family number left.checking at.basis _ _ old near new x z w totals free
+    (told_ahead config within end r at o family old mid near x y z tt (Ok tt) is_family same first second)
+    (counts ∙ (λ i. counted_behind near.count left.checking (basis i) (reported_by near (finds i))))
+    (subst (λ (t : List ℕ). Passes z.held w.held near.held new.held t) text passed))
 
-pub unput_at_end : {E E' : Type 0} (config : Configuration) (within end number : ℕ) (r at left : Checked) (o : Outcome) (rests : Basis) (last : List (Finding ℕ)) (family : Family) (old mid near : ToldState) (x y z w : OutputState) → family ≡ config.family
+pub unput_at_end : {E E' : Type 0} (config : Configuration) (within end number : ℕ) (r at left : Checked) (o : Outcome) (rests : Basis)
+    (last : List (Finding ℕ)) (family : Family) (old mid near : ToldState) (x y z w : OutputState) → family ≡ config.family
     → at ≡ (settled_through config within end r).checked → o ≡ looked_ahead config within end at → left ≡ o.checked → rests ≡ at.basis
-    → last ≡ told_at_end within config.timing end (silence_up_to within config.timing end at.checking.phase) left.checking → left.checking.waiting.is_full ≡ false
-    → Tells {T = Unit} {E = E'} family (settled_through config within end r).found old mid x y (Ok tt) → Tells {T = Unit} {E = E} family o.found mid near y z (Ok tt)
-    → GrowsByBeginning z.held w.held (near.held ++ end_text family near.additions last (counted_behind near.count left.checking rests last))
-    → GrowsByBeginning x.held w.held (old.held ++ (ended_behind config within old.additions end old.count number r).text)
+    → last ≡ told_at_end within config.timing end (silence_up_to within config.timing end at.checking.phase) left.checking →
+    left.checking.waiting.is_full ≡ false
+    → Tells {T = Unit} {E = E'} family (settled_through config within end r).found old mid x y (Ok tt) →
+    Tells {T = Unit} {E = E} family o.found mid near y z (Ok tt)
+    → GrowsByBeginning z.held w.held
+    (near.held ++ end_text family near.additions (reported_by near last) (counted_behind near.count left.checking rests (reported_by near last)))
+    → GrowsByBeginning x.held w.held (old.held ++ (ended_behind config within old end number r).text)
 unput_at_end {E} config within end number r at left o rests last family old mid near x y z w is_family is same ahead basis finds free first second begun =
     let final = told_at_end within config.timing end (silence_up_to within config.timing end at.checking.phase) left.checking in
-    let text : end_text family near.additions last (counted_behind near.count left.checking rests last) ≡ end_text config.family near.additions final (counted_behind near.count left.checking at.basis final) =
-    λ i. end_text (is_family i) near.additions (finds i) (counted_behind near.count left.checking (basis i) (finds i)) in
-    subst (λ (v : Verdict). GrowsByBeginning x.held w.held (old.held ++ v.text)) (sym (ended_as config within old.additions end old.count number r at left is (ahead ∙ ap (λ (p : Outcome). p.checked) same)))
-    (ended_unput {E = E} config.family number left.checking at.basis _ _ old near x z w free (told_ahead config within end r at o family old mid near x y z tt (Ok tt) is_family same first second)
+    let text : end_text family near.additions (reported_by near last) (counted_behind near.count left.checking rests (reported_by near last))
+    ≡ end_text config.family near.additions (reported_by near final) (counted_behind near.count left.checking at.basis (reported_by near final)) =
+    λ i. end_text (is_family i) near.additions (reported_by near (finds i)) (counted_behind near.count left.checking (basis i) (reported_by near (finds i))) in
+    subst (λ (v : Verdict). GrowsByBeginning x.held w.held (old.held ++ v.text))
+    (sym (ended_as config within old end number r at left is (ahead ∙ ap (λ (p : Outcome). p.checked) same)))
+    (ended_unput {E = E} config.family number left.checking at.basis _ _ old near x z w free
+    (told_ahead config within end r at o family old mid near x y z tt (Ok tt) is_family same first second)
     (subst (λ (t : List ℕ). GrowsByBeginning z.held w.held (near.held ++ t)) text begun))
 
 -- a gap before the end, or none
-pub rest_at_gap : (config : Configuration) (within : ℕ) (until : Option ℕ) (additions : Additions) (last count number : ℕ) (r : Checked) → is_gap last (max last (unwrap_or until 0)) ≡ true
-    → rest_behind config within until additions last count number r ≡ record { text = []; answer = Err (answer.Gap number) }
-rest_at_gap config within until additions last count number r gap =
-    ap (λ b. elim b [ true ↦ record { text = []; answer = Err (answer.Gap number) } | false ↦ ended_behind config within additions (max last (unwrap_or until 0)) count number r ]) gap
+pub rest_at_gap : (config : Configuration) (within : ℕ) (until : Option ℕ) (told : ToldState) (last number : ℕ) (r : Checked) →
+    is_gap last (max last (unwrap_or until 0)) ≡ true
+    → rest_behind config within until told last number r ≡ record { text = []; answer = Err (answer.Gap number) }
+rest_at_gap config within until told last number r gap =
+    ap (λ b. elim b [
+      | true ↦ record { text = []; answer = Err (answer.Gap number) }
+      | false ↦ ended_behind config within told
+          (max last (unwrap_or until 0)) number r
+    ]) gap
 
-pub gap_at_rest : (config : Configuration) (within : ℕ) (until : Option ℕ) (additions : Additions) (last count number : ℕ) (r : Checked) (before : Option (List ℕ)) (held : List ℕ) → is_gap last (max last (unwrap_or until 0)) ≡ true
-    → IsRestPut (rest_behind config within until additions last count number r) before before held held (Err (answer.Gap number))
-gap_at_rest config within until additions last count number r before held gap =
-    rest_as _ _ before before held held (Err (answer.Gap number)) (sym (rest_at_gap config within until additions last count number r gap)) (refl, nothing_passed before held)
+pub gap_at_rest : (config : Configuration) (within : ℕ) (until : Option ℕ) (told : ToldState) (last number : ℕ) (r : Checked)
+    (before : Option (List ℕ)) (held : List ℕ) → is_gap last (max last (unwrap_or until 0)) ≡ true
+    → IsRestPut (rest_behind config within until told last number r) before before held held (Err (answer.Gap number))
+gap_at_rest config within until told last number r before held gap =
+    rest_as _ _ before before held held (Err (answer.Gap number)) (sym (rest_at_gap config within until told last number r gap))
+    (refl, nothing_passed before held)
 
-pub rest_at_end : (config : Configuration) (within : ℕ) (until : Option ℕ) (additions : Additions) (last count number : ℕ) (r : Checked) → is_gap last (max last (unwrap_or until 0)) ≡ false
-    → rest_behind config within until additions last count number r ≡ ended_behind config within additions (max last (unwrap_or until 0)) count number r
-rest_at_end config within until additions last count number r none =
-    ap (λ b. elim b [ true ↦ record { text = []; answer = Err (answer.Gap number) } | false ↦ ended_behind config within additions (max last (unwrap_or until 0)) count number r ]) none
+pub rest_at_end : (config : Configuration) (within : ℕ) (until : Option ℕ) (told : ToldState) (last number : ℕ) (r : Checked) →
+    is_gap last (max last (unwrap_or until 0)) ≡ false
+    → rest_behind config within until told last number r ≡ ended_behind config within told (max last (unwrap_or until 0)) number r
+rest_at_end config within until told last number r none =
+    ap (λ b. elim b [
+      | true ↦ record { text = []; answer = Err (answer.Gap number) }
+      | false ↦ ended_behind config within told
+          (max last (unwrap_or until 0)) number r
+    ]) none

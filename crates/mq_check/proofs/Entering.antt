@@ -11,7 +11,9 @@ use Rattle.mq_check.specs.declared.phase.Phase.{Phase}
 use Rattle.mq_check.specs.declared.phase.Phase.TheVariants.{NotQuerier}
 use Rattle.mq_check.specs.declared.terms.Terms.{Terms}
 use Rattle.mq_check.specs.declared.waiting.Side.TheVariants.{OfWanted, OfSeen}
-use Rattle.mq_check.specs.Checking.{CheckingValue, with_wanted, with_seen, with_interval, with_silence, with_general, role_lost, role_returned, with_known, alone_after, all_blocked, one_blocked, counted_up, is_late_in, near, paired, paired_if, partner_if, partner_of}
+use Rattle.mq_check.specs.Checking.{CheckingValue, with_wanted, with_seen, with_interval, with_silence, with_general, role_lost, role_returned}
+use Rattle.mq_check.specs.Checking.{with_known, alone_after, all_blocked, one_blocked, counted_up, is_late_in, near, paired, paired_if, partner_if}
+use Rattle.mq_check.specs.Checking.{partner_of}
 use Rattle.mq_check.specs.Entries.{first_terms, may_be_left_out}
 use Rattle.mq_check.specs.General.{wrong_interval, phase_behind, phase_again, silence_up_to}
 use Rattle.mq_check.specs.Numbered.{numbered_terms_if}
@@ -24,14 +26,19 @@ has_terms number None = refl
 has_terms number (Some terms) = refl
 
 -- `knowing` is the check behind the note of the subject, and `scheduling` the one behind that of the schedule
-pub wanted_put : (moment : ℕ) (terms : Terms ℕ) (asked : Asked ℕ) (from : ℕ) (viewed scheduling knowing old : CheckingValue) (partnered put : WaitingValue) (is_optional is_found : Bool)
-    → from ≡ near moment old → viewed ≡ scheduling → scheduling ≡ record knowing { schedules = schedules_wanted moment terms asked (recent moment knowing.schedules) } → knowing ≡ record old { known = with_known moment terms asked old }
-    → is_optional ≡ may_be_left_out moment asked terms scheduling.waiting.entries → is_found ≡ is_some (first_terms (is_free OfSeen asked from) viewed.waiting.entries)
+pub wanted_put : (moment : ℕ) (terms : Terms ℕ) (asked : Asked ℕ) (from : ℕ) (viewed scheduling knowing old : CheckingValue)
+    (partnered put : WaitingValue) (is_optional is_found : Bool)
+    → from ≡ near moment old → viewed ≡ scheduling →
+    scheduling ≡ record knowing { schedules = schedules_wanted moment terms asked (recent moment knowing.schedules) } →
+    knowing ≡ record old { known = with_known moment terms asked old }
+    → is_optional ≡ may_be_left_out moment asked terms scheduling.waiting.entries →
+    is_found ≡ is_some (first_terms (is_free OfSeen asked from) viewed.waiting.entries)
     → partnered ≡ with_partner OfSeen asked from terms viewed.waiting → put ≡ with_entry (Wanted moment asked terms is_optional is_found) partnered
     → record viewed { waiting = put } ≡ with_wanted moment terms old asked
 unfolding with_wanted
 wanted_put moment terms asked from viewed scheduling knowing old partnered put is_optional is_found is_from same schedules knows optional found joined is =
-    let before : scheduling ≡ record old { known = with_known moment terms asked old; schedules = schedules_wanted moment terms asked (recent moment old.schedules) } =
+    let before : scheduling
+    ≡ record old { known = with_known moment terms asked old; schedules = schedules_wanted moment terms asked (recent moment old.schedules) } =
     schedules ∙ ap (λ (v : CheckingValue). record v { schedules = schedules_wanted moment terms asked (recent moment v.schedules) }) knows in
     let all = same ∙ before in
     let optional_too = optional ∙ ap (λ (v : CheckingValue). may_be_left_out moment asked terms v.waiting.entries) before in
@@ -40,30 +47,38 @@ wanted_put moment terms asked from viewed scheduling knowing old partnered put i
     λ i. record (all i) { waiting = (is ∙ (λ j. with_entry (Wanted moment asked terms (optional_too j) (found_too j)) (joined_too j))) i }
 
 -- `recently` is the check behind the removal of old schedules, and `pairing` the one behind the search for a partner
-pub seen_put : (moment : ℕ) (terms : Terms ℕ) (unheld : Option (Terms ℕ)) (asked : Asked ℕ) (from : ℕ) (viewed pairing recently old : CheckingValue) (put : WaitingValue) (partner : Option (Terms ℕ)) (alone : Unpaired ℕ)
+pub seen_put : (moment : ℕ) (terms : Terms ℕ) (unheld : Option (Terms ℕ)) (asked : Asked ℕ) (from : ℕ) (viewed pairing recently old : CheckingValue)
+    (put : WaitingValue) (partner : Option (Terms ℕ)) (alone : Unpaired ℕ)
     (has_partner : Bool) (scheduled : SchedulesValue)
-    → from ≡ near moment old → viewed ≡ pairing → recently ≡ record old { schedules = recent moment old.schedules } → alone ≡ alone_after moment terms unheld asked recently
+    → from ≡ near moment old → viewed ≡ pairing → recently ≡ record old { schedules = recent moment old.schedules } →
+    alone ≡ alone_after moment terms unheld asked recently
     → partner ≡ partner_if (is_late_in from moment asked recently.waiting recently.schedules) from terms asked recently.waiting
     → pairing ≡ record recently { waiting = paired_if (is_late_in from moment asked recently.waiting recently.schedules) from terms asked recently.waiting }
     → has_partner ≡ is_some partner → scheduled ≡ schedules_seen moment terms asked has_partner viewed.schedules
     → put ≡ with_entry (Seen moment asked terms partner alone) viewed.waiting
     → record viewed { waiting = put; schedules = scheduled } ≡ with_seen moment terms unheld old asked
 unfolding with_seen
-seen_put moment terms unheld asked from viewed pairing recently old put partner alone has_partner scheduled is_from same recents without found joined has follows is =
+seen_put moment terms unheld asked from viewed pairing recently old put partner alone has_partner scheduled is_from same recents without found joined
+    has follows is =
     let without_too = without ∙ ap (alone_after moment terms unheld asked) recents in
     let found_too : partner ≡ partner_of moment terms asked old =
     found ∙ (λ i. partner_if (is_late_in (is_from i) moment asked (recents i).waiting (recents i).schedules) (is_from i) terms asked (recents i).waiting) in
     let all : viewed ≡ record old { waiting = paired moment terms asked old; schedules = recent moment old.schedules } =
     same ∙ joined
-    ∙ (λ i. record (recents i) { waiting = paired_if (is_late_in (is_from i) moment asked (recents i).waiting (recents i).schedules) (is_from i) terms asked (recents i).waiting }) in
+    ∙ (λ i. record (recents i) {
+      waiting = paired_if (is_late_in (is_from i) moment asked (recents i).waiting (recents i).schedules)
+          (is_from i) terms asked (recents i).waiting;
+    }) in
     let has_too = has ∙ ap is_some found_too in
     λ i. record (all i) {
       waiting = (is ∙ (λ j. with_entry (Seen moment asked terms (found_too j) (without_too j)) (all j).waiting)) i;
       schedules = (follows ∙ (λ j. schedules_seen moment terms asked (has_too j) (all j).schedules)) i;
     }
 
-pub general_put : (within : ℕ) (configured : Timing) (moment at from : ℕ) (terms wanted : Terms ℕ) (viewed old : CheckingValue) (judged partnered put : WaitingValue) (passed : Option ℕ) (phase : Phase)
-    → viewed ≡ old → at ≡ moment → from ≡ near moment viewed → passed ≡ wrong_interval within configured moment viewed.phase → judged ≡ with_interval configured moment terms.packet passed viewed.waiting → phase ≡ phase_behind within configured moment viewed.phase
+pub general_put : (within : ℕ) (configured : Timing) (moment at from : ℕ) (terms wanted : Terms ℕ) (viewed old : CheckingValue)
+    (judged partnered put : WaitingValue) (passed : Option ℕ) (phase : Phase)
+    → viewed ≡ old → at ≡ moment → from ≡ near moment viewed → passed ≡ wrong_interval within configured moment viewed.phase →
+    judged ≡ with_interval configured moment terms.packet passed viewed.waiting → phase ≡ phase_behind within configured moment viewed.phase
     → partnered ≡ with_partner OfWanted AllGroups from terms judged → put ≡ with_entry (Seen at AllGroups terms (Some wanted) (Extra true)) partnered
     → record viewed { waiting = put; phase = phase } ≡ with_general within configured moment terms wanted old
 unfolding with_general
@@ -80,7 +95,12 @@ pub lost_put : (within : ℕ) (configured : Timing) (moment at : ℕ) (viewed ol
 unfolding role_lost
 lost_put within configured moment at viewed old put passed same now silent is =
     let here : record viewed { waiting = put; changed = Some at; phase = NotQuerier } ≡ role_lost within configured moment viewed =
-    λ i. record viewed { waiting = (is ∙ ap (λ (p : Option ℕ). with_silence configured moment p viewed.waiting) silent) i; changed = Some (now i); phase = NotQuerier } in
+    λ i. record viewed {
+      waiting = (is ∙ ap (λ (p : Option ℕ). with_silence configured moment p viewed.waiting) silent) i;
+      changed =
+          Some (now i);
+      phase = NotQuerier;
+    } in
     here ∙ ap (role_lost within configured moment) same
 
 pub returned : (within moment : ℕ) (viewed old : CheckingValue) (phase : Phase) → viewed ≡ old → phase ≡ phase_again within moment old.last_general

@@ -31,7 +31,9 @@ from_place : {X : Type 0} (place : ℕ) (xs : List X) → take (length xs - plac
 from_place place xs = take_all (length xs - place) (drop place xs) (omega (arith, length-drop place xs))
 
 -- the same with what the code of the first option has
-pub first_option_is : (kind end : ℕ) (bytes behind : List ℕ) → bytes ≡ kind ∷ behind → (kind ≡ 0 → ⊥) → (kind ≡ 1 → ⊥) → end ≡ slice_index behind 0 → 2 ≤ end → end ≤ length behind + 1 →
+pub first_option_is : (kind end : ℕ) (bytes behind : List ℕ) → bytes ≡ kind ∷ behind → (kind ≡ 0 → ⊥) → (kind ≡ 1 → ⊥) → end ≡ slice_index behind 0 →
+    2 ≤ end → end ≤ length behind + 1 →
     types_of bytes ≡ kind ∷ types_of (take (length behind - (end - 1)) (drop (end - 1) behind))
 first_option_is kind end bytes behind is other several at long fits =
-    rw (is, from_place (end - 1) behind, at) (types_of-option kind behind (ne_eqb kind 0 other) (ne_eqb kind 1 several) (omega (arith, at, long)) (omega (arith, at, fits)))
+    rw (is, from_place (end - 1) behind, at)
+    (types_of-option kind behind (ne_eqb kind 0 other) (ne_eqb kind 1 several) (omega (arith, at, long)) (omega (arith, at, fits)))

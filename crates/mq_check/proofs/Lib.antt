@@ -8,6 +8,7 @@ pub mod Excusing
 pub mod IpOptions
 pub mod LinkedSlots
 pub mod MarkedEntries
+pub mod Repeating
 pub mod Rooms
 pub mod Scheduling
 pub mod SeenQueries

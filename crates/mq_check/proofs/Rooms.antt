@@ -6,7 +6,8 @@ use Rattle.mq_check.specs.declared.check_fault.CheckFault.TheVariants as answer
 use Rattle.mq_check.specs.CheckedCaptures.{is_granted}
 
 -- what was taken stays taken with a result that isn't refused memory
-pub taken_at : {T : Type 0} {bytes old new : ℕ} (r : Result T CheckFault) → (r ≡ Err answer.Memory → ⊥) → Takes bytes old new true → Takes bytes old new (is_granted r)
+pub taken_at : {T : Type 0} {bytes old new : ℕ} (r : Result T CheckFault) → (r ≡ Err answer.Memory → ⊥) → Takes bytes old new true →
+    Takes bytes old new (is_granted r)
 taken_at (Ok x) other takes = takes
 taken_at (Err (answer.Pcap f)) other takes = takes
 taken_at (Err answer.Write) other takes = takes

@@ -7,19 +7,27 @@ use Rattle.mq_check.specs.declared.entry.Entry.{Entry}
 use Rattle.mq_check.specs.declared.entry.Entry.TheVariants.{Wanted}
 use Rattle.mq_check.specs.declared.terms.Terms.{Terms}
 use Rattle.mq_check.specs.declared.waiting.Side.TheVariants.{OfWanted}
-use Rattle.mq_check.specs.Schedules.{SchedulesValue, before_in, last_in, is_asked_again, is_next, left_after, due_after, marked_blocked, without_before, without_blocked, with_scheduled, schedules_seen, schedules_wanted, schedules_blocked, terms_of}
+use Rattle.mq_check.specs.Schedules.{SchedulesValue, before_in, last_in, is_asked_again, is_next, left_after, due_after, marked_blocked}
+use Rattle.mq_check.specs.Schedules.{without_before, without_blocked, with_scheduled, schedules_seen, schedules_wanted, schedules_blocked, terms_of}
 use Rattle.mq_check.specs.Waiting.{WaitingValue, with_entry, with_partner}
 
-pub seen_scheduled : (moment : ℕ) (terms : Terms ℕ) (asked : Asked ℕ) (has_partner : Bool) (viewed old taken passed new : SchedulesValue) (before last : Option (Entry ℕ)) (follows is_blocked is_again is_scheduled : Bool) (left due : ℕ)
-    → viewed ≡ old → before ≡ before_in asked viewed → last ≡ last_in asked viewed → follows ≡ is_next viewed.repeats moment before → left ≡ left_after viewed.repeats moment before → due ≡ due_after viewed.repeats moment
-    → is_blocked ≡ is_asked_again viewed.repeats moment last → is_again ≡ not (follows || has_partner) && is_blocked → is_scheduled ≡ follows || has_partner || is_again
-    → taken ≡ record old { sent = without_before follows terms asked old.sent } → passed ≡ record taken { sent = without_blocked is_again terms asked taken.sent }
+pub seen_scheduled : (moment : ℕ) (terms : Terms ℕ) (asked : Asked ℕ) (has_partner : Bool) (viewed old taken passed new : SchedulesValue)
+    (before last : Option (Entry ℕ)) (follows is_blocked is_again is_scheduled : Bool) (left due : ℕ)
+    → viewed ≡ old → before ≡ before_in asked viewed → last ≡ last_in asked viewed → follows ≡ is_next viewed.repeats moment before →
+    left ≡ left_after viewed.repeats moment before → due ≡ due_after viewed.repeats moment
+    → is_blocked ≡ is_asked_again viewed.repeats moment last → is_again ≡ not (follows || has_partner) && is_blocked →
+    is_scheduled ≡ follows || has_partner || is_again
+    → taken ≡ record old { sent = without_before follows terms asked old.sent } →
+    passed ≡ record taken { sent = without_blocked is_again terms asked taken.sent }
     → new ≡ record passed { sent = with_scheduled left due is_scheduled terms asked passed.sent }
     → new ≡ schedules_seen moment terms asked has_partner old
 unfolding schedules_seen
-seen_scheduled moment terms asked has_partner viewed old taken passed new before last follows is_blocked is_again is_scheduled left due same is_before is_last follow lefts is_due blocked again scheduled takes passes puts =
-    let follow_old : follows ≡ is_next old.repeats moment (before_in asked old) = follow ∙ (λ i. is_next (same i).repeats moment ((is_before ∙ ap (before_in asked) same) i)) in
-    let lefts_old : left ≡ left_after old.repeats moment (before_in asked old) = lefts ∙ (λ i. left_after (same i).repeats moment ((is_before ∙ ap (before_in asked) same) i)) in
+seen_scheduled moment terms asked has_partner viewed old taken passed new before last follows is_blocked is_again is_scheduled left due same is_before
+    is_last follow lefts is_due blocked again scheduled takes passes puts =
+    let follow_old : follows ≡ is_next old.repeats moment (before_in asked old) = follow ∙
+    (λ i. is_next (same i).repeats moment ((is_before ∙ ap (before_in asked) same) i)) in
+    let lefts_old : left ≡ left_after old.repeats moment (before_in asked old) = lefts ∙
+    (λ i. left_after (same i).repeats moment ((is_before ∙ ap (before_in asked) same) i)) in
     let due_old : due ≡ due_after old.repeats moment = is_due ∙ ap (λ (v : SchedulesValue). due_after v.repeats moment) same in
     let blocked_old : is_blocked ≡ is_asked_again old.repeats moment (last_in asked old) =
     blocked ∙ (λ i. is_asked_again (same i).repeats moment ((is_last ∙ ap (last_in asked) same) i)) in
@@ -28,10 +36,14 @@ seen_scheduled moment terms asked has_partner viewed old taken passed new before
     let scheduled_old = scheduled ∙ (λ i. follow_old i || has_partner || again_old i) in
     puts ∙ ap (λ (v : SchedulesValue). record v { sent = with_scheduled left due is_scheduled terms asked v.sent }) passes
     ∙ ap (λ (v : SchedulesValue). record v { sent = with_scheduled left due is_scheduled terms asked (without_blocked is_again terms asked v.sent) }) takes
-    ∙ (λ i. record old { sent = with_scheduled (lefts_old i) (due_old i) (scheduled_old i) terms asked (without_blocked (again_old i) terms asked (without_before (follow_old i) terms asked old.sent)) })
+    ∙ (λ i. record old {
+      sent = with_scheduled (lefts_old i) (due_old i)
+          (scheduled_old i) terms asked (without_blocked (again_old i) terms asked (without_before (follow_old i) terms asked old.sent));
+    })
 
 pub wanted_scheduled : (moment : ℕ) (terms : Terms ℕ) (asked : Asked ℕ) (viewed old : SchedulesValue) (partnered put : WaitingValue) (due : ℕ)
-    → viewed ≡ old → due ≡ due_after viewed.repeats moment → partnered ≡ with_partner OfWanted asked 0 terms viewed.sent → put ≡ with_entry (Wanted due asked terms true false) partnered
+    → viewed ≡ old → due ≡ due_after viewed.repeats moment → partnered ≡ with_partner OfWanted asked 0 terms viewed.sent →
+    put ≡ with_entry (Wanted due asked terms true false) partnered
     → record viewed { sent = put } ≡ schedules_wanted moment terms asked old
 unfolding schedules_wanted
 wanted_scheduled moment terms asked viewed old partnered put due same is_due joined is =
@@ -41,7 +53,8 @@ wanted_scheduled moment terms asked viewed old partnered put due same is_due joi
 
 -- a pending source that was blocked
 pub marked : (moment : ℕ) (terms : Terms ℕ) (asked : Asked ℕ) (viewed old : SchedulesValue) (partnered put : WaitingValue) (due : ℕ)
-    → viewed ≡ old → due ≡ due_after viewed.repeats moment → partnered ≡ with_partner OfWanted asked 0 terms viewed.sent → put ≡ with_entry (Wanted due asked terms false false) partnered
+    → viewed ≡ old → due ≡ due_after viewed.repeats moment → partnered ≡ with_partner OfWanted asked 0 terms viewed.sent →
+    put ≡ with_entry (Wanted due asked terms false false) partnered
     → record viewed { sent = put } ≡ marked_blocked moment asked (Some terms) old
 marked moment terms asked viewed old partnered put due same is_due joined is =
     let here : record viewed { sent = put } ≡ marked_blocked moment asked (Some terms) viewed =
@@ -52,14 +65,17 @@ marked moment terms asked viewed old partnered put due same is_due joined is =
 abbrev blocked_if : SchedulesValue → SchedulesValue → Bool → SchedulesValue
 blocked_if marked s b = if b then marked else s
 
-pub none_blocked : (moment : ℕ) (asked : Asked ℕ) (viewed old : SchedulesValue) → viewed ≡ old → viewed.repeats.more ≡ 0 → viewed ≡ schedules_blocked moment asked old
+pub none_blocked : (moment : ℕ) (asked : Asked ℕ) (viewed old : SchedulesValue) → viewed ≡ old → viewed.repeats.more ≡ 0 →
+    viewed ≡ schedules_blocked moment asked old
 unfolding schedules_blocked
 none_blocked moment asked viewed old same none =
     let test = le-ltb 0 viewed.repeats.more (omega (arith, none)) in
-    let here : viewed ≡ schedules_blocked moment asked viewed = sym (ap (blocked_if (marked_blocked moment asked (terms_of (last_in asked viewed)) viewed) viewed) test) in
+    let here : viewed ≡ schedules_blocked moment asked viewed =
+    sym (ap (blocked_if (marked_blocked moment asked (terms_of (last_in asked viewed)) viewed) viewed) test) in
     here ∙ ap (schedules_blocked moment asked) same
 
-pub some_blocked : (moment : ℕ) (asked : Asked ℕ) (last : Option (Terms ℕ)) (old new : SchedulesValue) → 0 < old.repeats.more → last ≡ terms_of (last_in asked old) → new ≡ marked_blocked moment asked last old
+pub some_blocked : (moment : ℕ) (asked : Asked ℕ) (last : Option (Terms ℕ)) (old new : SchedulesValue) → 0 < old.repeats.more →
+    last ≡ terms_of (last_in asked old) → new ≡ marked_blocked moment asked last old
     → new ≡ schedules_blocked moment asked old
 unfolding schedules_blocked
 some_blocked moment asked last old new more is_last is =

@@ -14,18 +14,24 @@ use Rattle.mq_check.specs.Unheld.{specific_terms, unheld}
 abbrev by_kind : CheckingValue → CheckingValue → Bool → CheckingValue
 by_kind x y b = if b then x else y
 
-pub general_came : (within : ℕ) (config : Configuration) (link : LinkState) (configured : Timing) (moment packet to : ℕ) (query : Query ℕ) (terms wanted : Terms ℕ) (c new : CheckingValue) → is_general query ≡ true → terms ≡ terms_of config.family packet to query
-    → wanted ≡ general_terms config link.election.timing → configured ≡ config.timing → new ≡ general_seen within configured moment terms wanted c → new ≡ query_came within config link moment packet to query c
+pub general_came : (within : ℕ) (config : Configuration) (link : LinkState) (configured : Timing) (moment packet to : ℕ) (query : Query ℕ)
+    (terms wanted : Terms ℕ) (c new : CheckingValue) → is_general query ≡ true → terms ≡ terms_of config.family packet to query
+    → wanted ≡ general_terms config link.election.timing → configured ≡ config.timing → new ≡ general_seen within configured moment terms wanted c →
+    new ≡ query_came within config link moment packet to query c
 unfolding query_came
 general_came within config link configured moment packet to query terms wanted c new general is_terms is_wanted is_configured is =
     let x = general_seen within config.timing moment (terms_of config.family packet to query) (general_terms config link.election.timing) c in
-    let y = specific_seen moment (terms_of config.family packet to query) (unheld config.family link.groups (specific_terms config link.election.timing query)) (asked_in query) c in
+    let y = specific_seen moment (terms_of config.family packet to query)
+    (unheld config.family link.groups (specific_terms config link.election.timing query)) (asked_in query) c in
     is ∙ (λ i. general_seen within (is_configured i) moment (is_terms i) (is_wanted i) c) ∙ ap (by_kind x y) (sym general)
 
-pub specific_came : (within : ℕ) (config : Configuration) (link : LinkState) (moment m packet to : ℕ) (query : Query ℕ) (family : Family) (terms wanted : Terms ℕ) (c new : CheckingValue) → is_general query ≡ false → family ≡ config.family → terms ≡ terms_of config.family packet to query
-    → wanted ≡ specific_terms config link.election.timing query → m ≡ moment → new ≡ specific_seen m terms (unheld family link.groups wanted) (asked_in query) c → new ≡ query_came within config link moment packet to query c
+pub specific_came : (within : ℕ) (config : Configuration) (link : LinkState) (moment m packet to : ℕ) (query : Query ℕ) (family : Family)
+    (terms wanted : Terms ℕ) (c new : CheckingValue) → is_general query ≡ false → family ≡ config.family → terms ≡ terms_of config.family packet to query
+    → wanted ≡ specific_terms config link.election.timing query → m ≡ moment → new ≡ specific_seen m terms (unheld family link.groups wanted)
+    (asked_in query) c → new ≡ query_came within config link moment packet to query c
 unfolding query_came
 specific_came within config link moment m packet to query family terms wanted c new other is_family is_terms is_wanted is_moment is =
     let x = general_seen within config.timing moment (terms_of config.family packet to query) (general_terms config link.election.timing) c in
-    let y = specific_seen moment (terms_of config.family packet to query) (unheld config.family link.groups (specific_terms config link.election.timing query)) (asked_in query) c in
+    let y = specific_seen moment (terms_of config.family packet to query)
+    (unheld config.family link.groups (specific_terms config link.election.timing query)) (asked_in query) c in
     is ∙ (λ i. specific_seen (is_moment i) (is_terms i) (unheld (is_family i) link.groups (is_wanted i)) (asked_in query) c) ∙ ap (by_kind x y) (sym other)

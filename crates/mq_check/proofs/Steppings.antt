@@ -1,5 +1,6 @@
 -- The steps of a check: a tick, a datagram, and the ticks up to a moment.
-use Rattle.std.proofs.Common.{◌≡◌, ℕ, zero, suc, ◌+◌, ◌<◌, ◌≤◌, Bool, true, false, not, List, [], ◌++◌, Result, Ok, Err, refl, ap, sym, subst, ◌∙◌, append_assoc, append-nil, arith}
+use Rattle.std.proofs.Common.{◌≡◌, ℕ, zero, suc, ◌+◌, ◌<◌, ◌≤◌, Bool, true, false, not, List, [], ◌++◌, Result, Ok, Err, refl, ap, sym, subst, ◌∙◌}
+use Rattle.std.proofs.Common.{append_assoc, append-nil, arith}
 use Rattle.std.specs.Prelude.{IfOk}
 use Rattle.std.proofs.lemmas.Bool.{lt-ltb, le-ltb}
 use Rattle.mq_wire.specs.Family.{Family}
@@ -25,8 +26,8 @@ use Rattle.mq_check.proofs.Tellings.{broken_as, tells_as, then_told, told_broken
 use Rattle.mq_check.proofs.WantedMessages.{after_messages, all_wanted, basis_kept, each_sent}
 
 -- the outlet as it begins to take what a link sends at a moment
-abbrev pub begun_at : (now : ℕ) → LinkValue → WantingValue → WantingValue
-begun_at now before old = record old { moment = now; is_returning = not (is_querier before.state.election.role) }
+abbrev pub begun_at : (now : ℕ) → (by_tick : Bool) → LinkValue → WantingValue → WantingValue
+begun_at now by_tick before old = record old { moment = now; by_tick = by_tick; is_returning = not (is_querier before.state.election.role) }
 
 -- the state that a step leaves whose messages were all sent
 step_left : (family : Family) (now : ℕ) (before after : LinkValue) (step : Step) (begun new : WantingValue) (messages : List Outgoing) (answers : List Bool)
@@ -36,17 +37,19 @@ step_left family now before after step begun new messages answers out handed =
     out.leaves ∙ ap (λ (given : List Bool). answered given step) (each_sent family begun messages answers new handed ∙ ap all_sent out.handed)
 
 -- what is wanted by a step
-step_wanted : (family : Family) (now : ℕ) (before after : LinkValue) (step : Step) (old begun new : WantingValue) (messages : List Outgoing) (answers : List Bool)
-    → family ≡ before.config.family → old.own ≡ before.config.own → begun ≡ begun_at now before old
+step_wanted : (family : Family) (now : ℕ) (by_tick : Bool) (before after : LinkValue) (step : Step) (old begun new : WantingValue)
+    (messages : List Outgoing) (answers : List Bool)
+    → family ≡ before.config.family → old.own ≡ before.config.own → begun ≡ begun_at now by_tick before old
     → HandsOut before.config step messages answers after.state → HandsOver (TakesMessage family) begun messages answers new
-    → new.checking ≡ wanted_by before.config now step (checked_in before old)
-step_wanted family now before after step old begun new messages answers is_family is_own begins out handed =
+    → new.checking ≡ wanted_by before.config now by_tick step (checked_in before old)
+step_wanted family now by_tick before after step old begun new messages answers is_family is_own begins out handed =
     let is_returning = not (is_querier before.state.election.role) in
     ap (λ (w : WantingValue). w.checking) (all_wanted family begun messages answers new handed ∙ ap (after_messages family messages) begins)
-    ∙ (λ i. with_messages (is_family i) (is_own i) now old.basis.packets is_returning (out.handed i) old.checking)
+    ∙ (λ i. with_messages (is_family i) (is_own i) now old.basis.packets by_tick is_returning (out.handed i) old.checking)
 
-pub ticked_is : (family : Family) (within now : ℕ) (before after : LinkValue) (old begun new last : WantingValue) (messages : List Outgoing) (answers : List Bool)
-    → family ≡ before.config.family → old.own ≡ before.config.own → begun ≡ begun_at now before old
+pub ticked_is : (family : Family) (within now : ℕ) (before after : LinkValue) (old begun new last : WantingValue) (messages : List Outgoing)
+    (answers : List Bool)
+    → family ≡ before.config.family → old.own ≡ before.config.own → begun ≡ begun_at now true before old
     → HandsOut before.config (tick_of before.config now before.state) messages answers after.state → HandsOver (TakesMessage family) begun messages answers new
     → last.checking ≡ role_after_tick within now (is_querier before.state.election.role) (is_querier after.state.election.role) new.checking
     → last.basis ≡ basis.role_after_tick now (is_querier before.state.election.role) (is_querier after.state.election.role) new.basis
@@ -55,7 +58,7 @@ unfolding ticked
 ticked_is family within now before after old begun new last messages answers is_family is_own begins out handed role rests =
     let step = tick_of before.config now before.state in
     let left = step_left family now before after step begun new messages answers out handed in
-    let wanted = step_wanted family now before after step old begun new messages answers is_family is_own begins out handed in
+    let wanted = step_wanted family now true before after step old begun new messages answers is_family is_own begins out handed in
     let kept : new.basis ≡ old.basis = basis_kept family begun new messages answers handed ∙ ap (λ (w : WantingValue). w.basis) begins in
     λ i. record {
       link = left i;
@@ -63,45 +66,58 @@ ticked_is family within now before after old begun new last messages answers is_
       basis = (rests ∙ (λ j. basis.role_after_tick now (is_querier before.state.election.role) (is_querier (left j).election.role) (kept j))) i;
     }
 
-pub received_is : (family : Family) (within now : ℕ) (datagram : Datagram) (before after : LinkValue) (old noted begun new last : WantingValue) (messages : List Outgoing) (answers : List Bool)
-    → family ≡ before.config.family → old.own ≡ before.config.own → noted ≡ record old { checking = all_blocked now (blocked_in before.config.family datagram) old.checking } → begun ≡ begun_at now before noted
-    → HandsOut before.config (receipt_of before.config datagram.envelope datagram.body now before.state).step messages answers after.state → HandsOver (TakesMessage family) begun messages answers new
+pub received_is : (family : Family) (within now : ℕ) (datagram : Datagram) (before after : LinkValue) (old noted begun new last : WantingValue)
+    (messages : List Outgoing) (answers : List Bool)
+    → family ≡ before.config.family → old.own ≡ before.config.own →
+    noted ≡ record old { checking = all_blocked now (blocked_in before.config.family datagram) old.checking } → begun ≡ begun_at now false before noted
+    → HandsOut before.config (receipt_of before.config datagram.envelope datagram.body now before.state).step messages answers after.state →
+    HandsOver (TakesMessage family) begun messages answers new
     → last.checking ≡ role_changed within before.config.timing now (is_querier before.state.election.role) (is_querier after.state.election.role) new.checking
-    → last.basis ≡ basis.with_other_querier before.config.family after.state.election.role (basis.role_changed now (is_querier before.state.election.role) (is_querier after.state.election.role) new.basis)
+    → last.basis ≡ basis.with_other_querier before.config.family after.state.election.role
+    (basis.role_changed now (is_querier before.state.election.role) (is_querier after.state.election.role) new.basis)
     → checked_in after last ≡ received before.config within now datagram (checked_in before old)
 unfolding received
 received_is family within now datagram before after old noted begun new last messages answers is_family is_own notes begins out handed role rests =
     let step = (receipt_of before.config datagram.envelope datagram.body now before.state).step in
     let left = step_left family now before after step begun new messages answers out handed in
     let owns = ap (λ (w : WantingValue). w.own) notes ∙ is_own in
-    let wanted = step_wanted family now before after step noted begun new messages answers is_family owns begins out handed ∙ ap (λ (w : WantingValue). wanted_by before.config now step (checked_in before w)) notes in
-    let kept : new.basis ≡ old.basis = basis_kept family begun new messages answers handed ∙ ap (λ (w : WantingValue). w.basis) begins ∙ ap (λ (w : WantingValue). w.basis) notes in
+    let wanted = step_wanted family now false before after step noted begun new messages answers is_family owns begins out handed ∙
+    ap (λ (w : WantingValue). wanted_by before.config now false step (checked_in before w)) notes in
+    let kept : new.basis ≡ old.basis = basis_kept family begun new messages answers handed ∙ ap (λ (w : WantingValue). w.basis) begins ∙
+    ap (λ (w : WantingValue). w.basis) notes in
     λ i. record {
       link = left i;
-      checking = (role ∙ (λ j. role_changed within before.config.timing now (is_querier before.state.election.role) (is_querier (left j).election.role) (wanted j))) i;
-      basis = (rests ∙ (λ j. basis.with_other_querier before.config.family (left j).election.role (basis.role_changed now (is_querier before.state.election.role) (is_querier (left j).election.role) (kept j)))) i;
+      checking = (role ∙ (λ j. role_changed within before.config.timing now (is_querier before.state.election.role)
+          (is_querier (left j).election.role) (wanted j))) i;
+      basis = (rests ∙ (λ j. basis.with_other_querier before.config.family (left j).election.role
+          (basis.role_changed now (is_querier before.state.election.role) (is_querier (left j).election.role) (kept j)))) i;
     }
 
 -- at a moment that the code names otherwise
-pub received_at : (config : Configuration) (within m n : ℕ) (datagram : Datagram) (r s : Checked) → m ≡ n → s ≡ received config within m datagram r → s ≡ received config within n datagram r
+pub received_at : (config : Configuration) (within m n : ℕ) (datagram : Datagram) (r s : Checked) → m ≡ n → s ≡ received config within m datagram r →
+    s ≡ received config within n datagram r
 received_at config within m n datagram r s same is = is ∙ ap (λ (k : ℕ). received config within k datagram r) same
 
 -- no tick is left, or one is
-pub none_within : (most : ℕ) (config : Configuration) (within limit : ℕ) (r : Checked) → limit ≤ next_of r.link → ticked_within most config within limit r ≡ quiet r
+pub none_within : (most : ℕ) (config : Configuration) (within limit : ℕ) (r : Checked) → limit ≤ next_of r.link →
+    ticked_within most config within limit r ≡ quiet r
 unfolding ticked_within
 none_within zero config within limit r reached = refl
 none_within (suc most) config within limit r reached =
     ap (λ b. elim b [
-      | true ↦ behind (told within (next_of r.link) r.checking) (ticked_within most config within limit (ticked config within (next_of r.link) (settled_at (next_of r.link) r)))
+      | true ↦ behind (told within (next_of r.link) r.checking)
+          (ticked_within most config within limit (ticked config within (next_of r.link) (settled_at (next_of r.link) r)))
       | false ↦ quiet r
     ]) (le-ltb (next_of r.link) limit reached)
 
 pub one_within : (most : ℕ) (config : Configuration) (within limit : ℕ) (r : Checked) → next_of r.link < limit
-    → ticked_within (suc most) config within limit r ≡ behind (told within (next_of r.link) r.checking) (ticked_within most config within limit (ticked config within (next_of r.link) (settled_at (next_of r.link) r)))
+    → ticked_within (suc most) config within limit r ≡ behind (told within (next_of r.link) r.checking)
+    (ticked_within most config within limit (ticked config within (next_of r.link) (settled_at (next_of r.link) r)))
 unfolding ticked_within
 one_within most config within limit r due =
     ap (λ b. elim b [
-      | true ↦ behind (told within (next_of r.link) r.checking) (ticked_within most config within limit (ticked config within (next_of r.link) (settled_at (next_of r.link) r)))
+      | true ↦ behind (told within (next_of r.link) r.checking)
+          (ticked_within most config within limit (ticked config within (next_of r.link) (settled_at (next_of r.link) r)))
       | false ↦ quiet r
     ]) (lt-ltb (next_of r.link) limit due)
 
@@ -112,54 +128,70 @@ pub record IsTickedTo (config : Configuration) (within limit : ℕ) (all : Outco
   pub enough : limit ≤ left + next_of to.link
   pub same : all ≡ behind done (ticked_within left config within limit to)
 
-pub none_ticked : (config : Configuration) (within limit : ℕ) (from : Checked) → IsTickedTo config within limit (ticked_within limit config within limit from) [] from
+pub none_ticked : (config : Configuration) (within limit : ℕ) (from : Checked) →
+    IsTickedTo config within limit (ticked_within limit config within limit from) [] from
 none_ticked config within limit from = record { left = limit; enough = omega arith; same = refl }
 
-pub all_ticked : (config : Configuration) (within limit : ℕ) (all : Outcome) (done : List (Finding ℕ)) (to : Checked) → limit ≤ next_of to.link → IsTickedTo config within limit all done to → all ≡ record { checked = to; found = done }
+pub all_ticked : (config : Configuration) (within limit : ℕ) (all : Outcome) (done : List (Finding ℕ)) (to : Checked) → limit ≤ next_of to.link →
+    IsTickedTo config within limit all done to → all ≡ record { checked = to; found = done }
 all_ticked config within limit all done to reached ticked =
     ticked.same ∙ ap (behind done) (none_within ticked.left config within limit to reached) ∙ (λ i. record { checked = to; found = append-nil done i })
 
-pub once_more : (config : Configuration) (within limit : ℕ) (all : Outcome) (done : List (Finding ℕ)) (to next : Checked) → next_of to.link < limit → next ≡ ticked config within (next_of to.link) (settled_at (next_of to.link) to)
-    → next_of to.link < next_of next.link → IsTickedTo config within limit all done to → IsTickedTo config within limit all (done ++ told within (next_of to.link) to.checking) next
+pub once_more : (config : Configuration) (within limit : ℕ) (all : Outcome) (done : List (Finding ℕ)) (to next : Checked) → next_of to.link < limit →
+    next ≡ ticked config within (next_of to.link) (settled_at (next_of to.link) to)
+    → next_of to.link < next_of next.link → IsTickedTo config within limit all done to →
+    IsTickedTo config within limit all (done ++ told within (next_of to.link) to.checking) next
 once_more config within limit all done to next due is later ticked_to = by_left ticked_to.left ticked_to.enough ticked_to.same
   where
     found : List (Finding ℕ)
     found = told within (next_of to.link) to.checking
 
-    by_left : (left : ℕ) → limit ≤ left + next_of to.link → all ≡ behind done (ticked_within left config within limit to) → IsTickedTo config within limit all (done ++ found) next
+    by_left : (left : ℕ) → limit ≤ left + next_of to.link → all ≡ behind done (ticked_within left config within limit to) →
+        IsTickedTo config within limit all (done ++ found) next
     by_left zero enough same = absurd (omega arith)
     by_left (suc n) enough same = record {
       left = n;
       enough = omega (arith, enough, later);
-      same = same ∙ ap (behind done) (one_within n config within limit to due ∙ ap (λ (r : Checked). behind found (ticked_within n config within limit r)) (sym is))
-          ∙ (λ i. record { checked = (ticked_within n config within limit next).checked; found = sym (append_assoc done found (ticked_within n config within limit next).found) i });
+      same = same ∙ ap (behind done)
+          (one_within n config within limit to due ∙ ap (λ (r : Checked). behind found (ticked_within n config within limit r)) (sym is))
+          ∙ (λ i. record {
+            checked = (ticked_within n config within limit next).checked;
+            found =
+                sym (append_assoc done found (ticked_within n config within limit next).found) i;
+          });
     }
 
 -- what is found in all begins with what was found so far and is found at the next tick
-pub found_first : (config : Configuration) (within limit : ℕ) (all : Outcome) (done : List (Finding ℕ)) (to : Checked) → next_of to.link < limit → IsTickedTo config within limit all done to
+pub found_first : (config : Configuration) (within limit : ℕ) (all : Outcome) (done : List (Finding ℕ)) (to : Checked) → next_of to.link < limit →
+    IsTickedTo config within limit all done to
     → (rest : List (Finding ℕ)) × (all.found ≡ (done ++ told within (next_of to.link) to.checking) ++ rest)
 found_first config within limit all done to due ticked_to = by_left ticked_to.left ticked_to.enough ticked_to.same
   where
     found : List (Finding ℕ)
     found = told within (next_of to.link) to.checking
 
-    by_left : (left : ℕ) → limit ≤ left + next_of to.link → all ≡ behind done (ticked_within left config within limit to) → (rest : List (Finding ℕ)) × (all.found ≡ (done ++ found) ++ rest)
+    by_left : (left : ℕ) → limit ≤ left + next_of to.link → all ≡ behind done (ticked_within left config within limit to) →
+        (rest : List (Finding ℕ)) × (all.found ≡ (done ++ found) ++ rest)
     by_left zero enough same = absurd (omega arith)
     by_left (suc n) enough same =
         let rest = (ticked_within n config within limit (ticked config within (next_of to.link) (settled_at (next_of to.link) to))).found in
         (rest, ap (λ (o : Outcome). o.found) (same ∙ ap (behind done) (one_within n config within limit to due)) ∙ sym (append_assoc done found rest))
 
 -- one tick, in the terms of the code: what is over at its moment is told first
-pub tick_next : (config : Configuration) (within moment : ℕ) (mid after : LinkValue) (queries left new : WantingValue) → mid.config ≡ config → moment ≡ next_of mid.state
-    → left.checking ≡ settled moment queries.checking → left.basis ≡ queries.basis → checked_in after new ≡ ticked mid.config within moment (checked_in mid left)
+pub tick_next : (config : Configuration) (within moment : ℕ) (mid after : LinkValue) (queries left new : WantingValue) → mid.config ≡ config →
+    moment ≡ next_of mid.state
+    → left.checking ≡ settled moment queries.checking → left.basis ≡ queries.basis →
+    checked_in after new ≡ ticked mid.config within moment (checked_in mid left)
     → checked_in after new ≡ ticked config within (next_of mid.state) (settled_at (next_of mid.state) (checked_in mid queries))
 tick_next config within moment mid after queries left new is_config is_next is kept ticks =
     let settles = is ∙ ap (λ (m : ℕ). settled m queries.checking) is_next in
     ticks ∙ (λ i. ticked (is_config i) within (is_next i) (record { link = mid.state; checking = settles i; basis = kept i }))
 
 -- all ticks were made
-pub ticks_done : {E : Type 0} (family : Family) (config : Configuration) (within limit : ℕ) (all : Outcome) (done : List (Finding ℕ)) (before after : LinkValue) (new : WantingValue) (old_told new_told : ToldState) (a b : OutputState)
-    → limit ≤ next_of after.state → after.config ≡ before.config → IsTickedTo config within limit all done (checked_in after new) → Tells {T = Unit} {E = E} family done old_told new_told a b (Ok tt)
+pub ticks_done : {E : Type 0} (family : Family) (config : Configuration) (within limit : ℕ) (all : Outcome) (done : List (Finding ℕ))
+    (before after : LinkValue) (new : WantingValue) (old_told new_told : ToldState) (a b : OutputState)
+    → limit ≤ next_of after.state → after.config ≡ before.config → IsTickedTo config within limit all done (checked_in after new) →
+    Tells {T = Unit} {E = E} family done old_told new_told a b (Ok tt)
     → Comes {T = Unit} {E = E} family all before after new old_told new_told a b (Ok tt)
 ticks_done family config within limit all done before after new old_told new_told a b reached same_config ticked_to tells =
     let is = all_ticked config within limit all done (checked_in after new) reached ticked_to in
@@ -170,24 +202,31 @@ ticks_done family config within limit all done before after new old_told new_tol
     }
 
 -- an outcome that is named otherwise
-pub comes_as : {T E : Type 0} (family : Family) (o p : Outcome) (before after : LinkValue) (new : WantingValue) (old_told new_told : ToldState) (a b : OutputState) (r : Result T E) → o ≡ p
+pub comes_as : {T E : Type 0} (family : Family) (o p : Outcome) (before after : LinkValue) (new : WantingValue) (old_told new_told : ToldState)
+    (a b : OutputState) (r : Result T E) → o ≡ p
     → Comes family o before after new old_told new_told a b r → Comes family p before after new old_told new_told a b r
-comes_as {T} {E} family o p before after new old_told new_told a b r same comes = subst (λ (q : Outcome). Comes {T = T} {E = E} family q before after new old_told new_told a b r) same comes
+comes_as {T} {E} family o p before after new old_told new_told a b r same comes =
+    subst (λ (q : Outcome). Comes {T = T} {E = E} family q before after new old_told new_told a b r) same comes
 
 -- the ticks up to a moment, and what is over then; or a write failed before
-settled_there : {T E : Type 0} (config : Configuration) (within within' moment : ℕ) (r : Checked) (after : LinkValue) (queries new : WantingValue) (outcome : Result T E) → within' ≡ within
-    → checked_in after queries ≡ (ticked_through config within moment r).checked → IfOk outcome (λ _. new.checking ≡ settled moment queries.checking) → new.basis ≡ queries.basis
+settled_there : {T E : Type 0} (config : Configuration) (within within' moment : ℕ) (r : Checked) (after : LinkValue) (queries new : WantingValue)
+    (outcome : Result T E) → within' ≡ within
+    → checked_in after queries ≡ (ticked_through config within moment r).checked → IfOk outcome (λ _. new.checking ≡ settled moment queries.checking)
+    → new.basis ≡ queries.basis
     → IfOk outcome (λ _. checked_in after new ≡ (settled_through config within moment r).checked)
 settled_there config within within' moment r after queries new (Ok x) same is settles kept =
     (λ i. record { link = after.state; checking = settles i; basis = kept i }) ∙ ap (settled_at moment) is
 settled_there config within within' moment r after queries new (Err e) same is settles kept = tt
 
-pub settles_at : {T E E' : Type 0} (family : Family) (within within' m end : ℕ) (before after : LinkValue) (old queries new : WantingValue) (first mid last : ToldState) (x y z : OutputState) (outcome : Result T E) → within' ≡ within → m ≡ end
+pub settles_at : {T E E' : Type 0} (family : Family) (within within' m end : ℕ) (before after : LinkValue) (old queries new : WantingValue)
+    (first mid last : ToldState) (x y z : OutputState) (outcome : Result T E) → within' ≡ within → m ≡ end
     → Comes {T = Unit} {E = E'} family (ticked_through before.config within m (checked_in before old)) before after queries first mid x y (Ok tt)
-    → IfOk outcome (λ _. new.checking ≡ settled m queries.checking) → new.basis ≡ queries.basis → Tells family (told within' m queries.checking) mid last y z outcome
+    → IfOk outcome (λ _. new.checking ≡ settled m queries.checking) → new.basis ≡ queries.basis →
+    Tells family (told within' m queries.checking) mid last y z outcome
     → Comes family (settled_through before.config within end (checked_in before old)) before after new first last x z outcome
 settles_at {T} {E} family within within' m end before after old queries new first mid last x y z outcome same is_end comes settles kept tells =
-    let found : told within' m queries.checking ≡ told within m (ticked_through before.config within m (checked_in before old)).checked.checking = λ i. told (same i) m (comes.checked i).checking in
+    let found : told within' m queries.checking ≡ told within m (ticked_through before.config within m (checked_in before old)).checked.checking =
+    λ i. told (same i) m (comes.checked i).checking in
     let there : Comes {T = T} {E = E} family (settled_through before.config within m (checked_in before old)) before after new first last x z outcome = record {
       same_config = comes.same_config;
       checked = settled_there before.config within within' m (checked_in before old) after queries new outcome same comes.checked settles kept;
@@ -195,7 +234,8 @@ settles_at {T} {E} family within within' m end before after old queries new firs
     } in
     comes_as family _ _ before after new first last x z outcome (ap (λ (k : ℕ). settled_through before.config within k (checked_in before old)) is_end) there
 
-pub settles_broken : {S T E E' : Type 0} (family : Family) (within m end : ℕ) (before after : LinkValue) (old new : WantingValue) (first last : ToldState) (x y : OutputState) (e : E') (e' : E) → m ≡ end
+pub settles_broken : {S T E E' : Type 0} (family : Family) (within m end : ℕ) (before after : LinkValue) (old new : WantingValue)
+    (first last : ToldState) (x y : OutputState) (e : E') (e' : E) → m ≡ end
     → Comes {T = S} family (ticked_through before.config within m (checked_in before old)) before after new first last x y (Err e)
     → Comes {T = T} family (settled_through before.config within end (checked_in before old)) before after new first last x y (Err e')
 settles_broken {S} {T} family within m end before after old new first last x y e e' is_end comes =

@@ -1,5 +1,6 @@
 -- Findings that were told, one after the other.
-use Rattle.std.proofs.Common.{◌≡◌, ℕ, zero, suc, ◌+◌, Bool, ◌||◌, List, [], ◌∷◌, ◌++◌, length, Result, Ok, Err, IfOk, is_err, append-nil, length-append, refl, ap, sym, subst, ◌∙◌, arith}
+use Rattle.std.proofs.Common.{◌≡◌, ℕ, zero, suc, ◌+◌, Bool, true, false, ◌||◌, List, [], ◌∷◌, ◌++◌, length, Result, Ok, Err, IfOk, is_err, append-nil}
+use Rattle.std.proofs.Common.{length-append, refl, ap, sym, subst, ◌∙◌, arith}
 use Rattle.std.proofs.Math.Bool.{or-false}
 use Rattle.std.proofs.lemmas.Grind.{flat_map-append}
 use Rattle.std.proofs.lemmas.List.{map-append}
@@ -14,7 +15,10 @@ use Rattle.mq_check.specs.declared.finding.Finding.TheVariants.{Differs}
 use Rattle.mq_check.specs.Checking.{counted_up}
 use Rattle.mq_check.specs.Entries.{differ_at}
 use Rattle.mq_check.specs.FindingLines.{finding_line, finding_lines}
-use Rattle.mq_check.specs.Telling.{ToldState, Tells, counted_times}
+use Rattle.mq_check.specs.declared.repeated.LastDifferences.{LastDifferences}
+use Rattle.mq_check.specs.Repeated.{is_left_out, reported, unless, with_finding, with_findings}
+use Rattle.mq_check.specs.Telling.{ToldState, Tells, counted_times, reported_by}
+use Rattle.mq_check.proofs.Repeating.{last_of_both, reported_of_both}
 
 -- a count that went up so many times, and then so many more
 pub times_more : (first more count : ℕ) → counted_times (first + more) count ≡ counted_times more (counted_times first count)
@@ -24,26 +28,44 @@ times_more first (suc n) count =
     ap (λ (k : ℕ). counted_times k count) same ∙ ap counted_up (times_more first n count)
 
 pub none_told : {T E : Type 0} (family : Family) (told : ToldState) (at : OutputState) (x : T) → Tells {E = E} family [] told told at at (Ok x)
-none_told family told at x = record { additions = refl; count = refl; text = nothing_passed at.held told.held; failed = sym (or-false at.failed) }
+none_told family told at x = record { additions = refl; last = refl; count = refl; text = nothing_passed at.held told.held; failed = sym (or-false at.failed) }
 
 -- the lines of two lists of findings
-pub lines_of_both : (family : Family) (additions : Additions) (xs ys : List (Finding ℕ)) → finding_lines family additions (xs ++ ys) ≡ finding_lines family additions xs ++ finding_lines family additions ys
+pub lines_of_both : (family : Family) (additions : Additions) (xs ys : List (Finding ℕ)) → finding_lines family additions (xs ++ ys)
+    ≡ finding_lines family additions xs ++ finding_lines family additions ys
 lines_of_both family additions xs ys = flat_map-append (finding_line family additions) xs ys
 
-both_counted : {T E : Type 0} (xs ys : List (Finding ℕ)) (old mid new : ℕ) (r : Result T E) → mid ≡ counted_times (length xs) old → IfOk r (λ _. new ≡ counted_times (length ys) mid) → IfOk r (λ _. new ≡ counted_times (length (xs ++ ys)) old)
-both_counted xs ys old mid new (Ok x) first second =
-    second ∙ ap (counted_times (length ys)) first ∙ sym (times_more (length xs) (length ys) old) ∙ ap (λ (n : ℕ). counted_times n old) (sym (length-append xs ys))
-both_counted xs ys old mid new (Err e) first second = tt
+-- the reported ones of two lists, if those of the first one were told
+pub reported_after : (told mid : ToldState) (xs ys : List (Finding ℕ)) → mid.additions ≡ told.additions → mid.last ≡ with_findings xs told.last
+    → reported_by told (xs ++ ys) ≡ reported_by told xs ++ reported_by mid ys
+reported_after told mid xs ys additions last =
+    reported_of_both told.additions.once xs ys told.last ∙ (λ i. reported_by told xs ++ reported (sym additions i).once (sym last i) ys)
+
+both_noted : {T E : Type 0} (xs ys : List (Finding ℕ)) (old mid new : LastDifferences) (r : Result T E) → mid ≡ with_findings xs old →
+    IfOk r (λ _. new ≡ with_findings ys mid) → IfOk r (λ _. new ≡ with_findings (xs ++ ys) old)
+both_noted xs ys old mid new (Ok x) first second = second ∙ ap (with_findings ys) first ∙ sym (last_of_both xs ys old)
+both_noted xs ys old mid new (Err e) first second = tt
+
+both_counted : {T E : Type 0} (xs ys all : List (Finding ℕ)) (old mid new : ℕ) (r : Result T E) → all ≡ xs ++ ys → mid ≡ counted_times (length xs) old
+    → IfOk r (λ _. new ≡ counted_times (length ys) mid) → IfOk r (λ _. new ≡ counted_times (length all) old)
+both_counted xs ys all old mid new (Ok x) both first second =
+    second ∙ ap (counted_times (length ys)) first ∙ sym (times_more (length xs) (length ys) old) ∙
+    ap (λ (n : ℕ). counted_times n old) (sym (ap length both ∙ length-append xs ys))
+both_counted xs ys all old mid new (Err e) both first second = tt
 
 -- some were told, and then others
 pub then_told : {S T E E' : Type 0} (family : Family) (xs ys : List (Finding ℕ)) (old mid new : ToldState) (a b c : OutputState) (x : S) (r : Result T E)
     → Tells {E = E'} family xs old mid a b (Ok x) → Tells family ys mid new b c r → Tells family (xs ++ ys) old new a c r
 then_told family xs ys old mid new a b c x r first second =
+    let both = reported_after old mid xs ys first.additions first.last in
+    let lines = ap (finding_lines family old.additions) both ∙ lines_of_both family old.additions (reported_by old xs) (reported_by mid ys) in
     record {
       additions = second.additions ∙ first.additions;
-      count = both_counted xs ys old.count mid.count new.count r first.count second.count;
-      text = put_as a.held c.held old.held new.held _ _ r (sym (lines_of_both family old.additions xs ys)) (then_put a.held b.held c.held old.held mid.held new.held _ _ r first.text
-          (subst (λ (additions : Additions). Puts b.held c.held mid.held new.held (finding_lines family additions ys) r) first.additions second.text));
+      last = both_noted xs ys old.last mid.last new.last r first.last second.last;
+      count = both_counted (reported_by old xs) (reported_by mid ys) (reported_by old (xs ++ ys)) old.count mid.count new.count r both first.count second.count;
+      text = put_as a.held c.held old.held new.held _ _ r (sym lines) (then_put a.held b.held c.held old.held mid.held new.held _ _ r first.text
+          (subst (λ (additions : Additions). Puts b.held c.held mid.held new.held (finding_lines family additions (reported_by mid ys)) r)
+          first.additions second.text));
       failed = second.failed ∙ ap (λ (f : Bool). f || is_err r) (first.failed ∙ or-false a.failed);
     }
 
@@ -51,40 +73,83 @@ then_told family xs ys old mid new a b c x r first second =
 pub told_broken : {T E : Type 0} (family : Family) (xs ys : List (Finding ℕ)) (old new : ToldState) (a b : OutputState) (e : E)
     → Tells {T = T} family xs old new a b (Err e) → Tells {T = T} family (xs ++ ys) old new a b (Err e)
 told_broken {T} family xs ys old new a b e first =
+    let both = reported_of_both old.additions.once xs ys old.last in
+    let lines = ap (finding_lines family old.additions) both ∙ lines_of_both family old.additions (reported_by old xs)
+    (reported old.additions.once (with_findings xs old.last) ys) in
     record {
       additions = first.additions;
+      last = tt;
       count = tt;
-      text = put_as {T = T} a.held b.held old.held new.held _ _ (Err e) (sym (lines_of_both family old.additions xs ys)) (broken_within a.held b.held old.held _ _ first.text);
+      text = put_as {T = T} a.held b.held old.held new.held _ _ (Err e) (sym lines) (broken_within a.held b.held old.held _ _ first.text);
       failed = first.failed;
     }
 
 -- the same is told whichever fault it is
 pub broken_as : {S T E E' : Type 0} (family : Family) (xs : List (Finding ℕ)) (old new : ToldState) (a b : OutputState) (e : E) (e' : E')
     → Tells {T = S} family xs old new a b (Err e) → Tells {T = T} family xs old new a b (Err e')
-broken_as family xs old new a b e e' tells = record { additions = tells.additions; count = tt; text = tells.text; failed = tells.failed }
+broken_as family xs old new a b e e' tells = record { additions = tells.additions; last = tt; count = tt; text = tells.text; failed = tells.failed }
 
 -- one was told
-pub one_told : {T E : Type 0} (family : Family) (x : Finding ℕ) (old new : ToldState) (a b : OutputState) (r : Result T E) → new.additions ≡ old.additions → IfOk r (λ _. new.count ≡ counted_up old.count)
-    → Puts a.held b.held old.held new.held (finding_line family old.additions x) r → b.failed ≡ a.failed || is_err r → Tells family (x ∷ []) old new a b r
-one_told family x old new a b r additions count text failed =
-    record { additions = additions; count = count; text = put_as a.held b.held old.held new.held _ _ r (sym (append-nil (finding_line family old.additions x))) text; failed = failed }
+noted : {T E : Type 0} (new last : LastDifferences) (r : Result T E) → new ≡ last → IfOk r (λ _. new ≡ last)
+noted new last (Ok x) is = is
+noted new last (Err e) is = tt
+
+pub one_told : {T E : Type 0} (family : Family) (x : Finding ℕ) (old new : ToldState) (a b : OutputState) (r : Result T E) →
+    is_left_out old.additions.once old.last x ≡ false → new.additions ≡ old.additions → new.last ≡ with_finding x old.last
+    → IfOk r (λ _. new.count ≡ counted_up old.count) → Puts a.held b.held old.held new.held (finding_line family old.additions x) r →
+    b.failed ≡ a.failed || is_err r → Tells family (x ∷ []) old new a b r
+one_told family x old new a b r is additions last count text failed =
+    let one : reported_by old (x ∷ []) ≡ x ∷ [] = ap (λ (b : Bool). unless b x []) is in
+    record {
+      additions = additions;
+      last = noted new.last (with_finding x old.last) r last;
+      count = subst (λ (fs : List (Finding ℕ)). IfOk r (λ _. new.count ≡ counted_times (length fs) old.count)) (sym one) count;
+      text = put_as a.held b.held old.held new.held _ _ r (sym (append-nil (finding_line family old.additions x)) ∙
+          ap (finding_lines family old.additions) (sym one)) text;
+      failed = failed;
+    }
+
+-- one was left out
+pub one_left_out : {T E : Type 0} (family : Family) (x : Finding ℕ) (old new : ToldState) (at : OutputState) (y : T) →
+    is_left_out old.additions.once old.last x ≡ true → new ≡ record old { last = with_finding x old.last }
+    → Tells {E = E} family (x ∷ []) old new at at (Ok y)
+one_left_out {T} {E} family x old new at y is same =
+    let none : reported_by old (x ∷ []) ≡ [] = ap (λ (b : Bool). unless b x []) is in
+    let left : Tells {T = T} {E = E} family (x ∷ []) old (record old { last = with_finding x old.last }) at at (Ok y) = record {
+      additions = refl;
+      last = refl;
+      count = ap (λ (fs : List (Finding ℕ)). counted_times (length fs) old.count) (sym none);
+      text = put_as {T = T} {E = E} at.held at.held old.held old.held [] _ (Ok y) (ap (finding_lines family old.additions) (sym none))
+          (nothing_passed at.held old.held);
+      failed = sym (or-false at.failed);
+    } in
+    subst (λ (t : ToldState). Tells {T = T} {E = E} family (x ∷ []) old t at at (Ok y)) (sym same) left
 
 -- fields that differ were told, and then others; or a write failed and others were not told
-pub fields_told : {S T E E' : Type 0} (family : Family) (moment packet : ℕ) (asked : Asked ℕ) (xs ys : List (Difference ℕ)) (old mid new : ToldState) (a b c : OutputState) (x : S) (r : Result T E)
-    → Tells {E = E'} family (differ_at moment packet asked xs) old mid a b (Ok x) → Tells family (differ_at moment packet asked ys) mid new b c r → Tells family (differ_at moment packet asked (xs ++ ys)) old new a c r
+pub fields_told : {S T E E' : Type 0} (family : Family) (moment packet : ℕ) (asked : Asked ℕ) (xs ys : List (Difference ℕ)) (old mid new : ToldState)
+    (a b c : OutputState) (x : S) (r : Result T E)
+    → Tells {E = E'} family (differ_at moment packet asked xs) old mid a b (Ok x) → Tells family (differ_at moment packet asked ys) mid new b c r →
+    Tells family (differ_at moment packet asked (xs ++ ys)) old new a c r
 fields_told {S} {T} {E} family moment packet asked xs ys old mid new a b c x r first second =
-    subst (λ (fs : List (Finding ℕ)). Tells {T = T} {E = E} family fs old new a c r) (sym (map-append (Differs moment packet asked) xs ys)) (then_told family _ _ old mid new a b c x r first second)
+    subst (λ (fs : List (Finding ℕ)). Tells {T = T} {E = E} family fs old new a c r) (sym (map-append (Differs moment packet asked) xs ys))
+    (then_told family _ _ old mid new a b c x r first second)
 
-pub fields_broken : {T E : Type 0} (family : Family) (moment packet : ℕ) (asked : Asked ℕ) (xs ys : List (Difference ℕ)) (old new : ToldState) (a b : OutputState) (e : E)
-    → Tells {T = T} family (differ_at moment packet asked xs) old new a b (Err e) → Tells {T = T} family (differ_at moment packet asked (xs ++ ys)) old new a b (Err e)
+pub fields_broken : {T E : Type 0} (family : Family) (moment packet : ℕ) (asked : Asked ℕ) (xs ys : List (Difference ℕ)) (old new : ToldState)
+    (a b : OutputState) (e : E)
+    → Tells {T = T} family (differ_at moment packet asked xs) old new a b (Err e) →
+    Tells {T = T} family (differ_at moment packet asked (xs ++ ys)) old new a b (Err e)
 fields_broken {T} {E} family moment packet asked xs ys old new a b e first =
-    subst (λ (fs : List (Finding ℕ)). Tells {T = T} {E = E} family fs old new a b (Err e)) (sym (map-append (Differs moment packet asked) xs ys)) (told_broken family _ _ old new a b e first)
+    subst (λ (fs : List (Finding ℕ)). Tells {T = T} {E = E} family fs old new a b (Err e)) (sym (map-append (Differs moment packet asked) xs ys))
+    (told_broken family _ _ old new a b e first)
 
 -- the same with the fields as they are named otherwise
-pub fields_as : {T E : Type 0} (family : Family) (moment packet : ℕ) (asked : Asked ℕ) (xs ys : List (Difference ℕ)) (old new : ToldState) (a b : OutputState) (r : Result T E)
+pub fields_as : {T E : Type 0} (family : Family) (moment packet : ℕ) (asked : Asked ℕ) (xs ys : List (Difference ℕ)) (old new : ToldState)
+    (a b : OutputState) (r : Result T E)
     → xs ≡ ys → Tells family (differ_at moment packet asked xs) old new a b r → Tells family (differ_at moment packet asked ys) old new a b r
-fields_as {T} {E} family moment packet asked xs ys old new a b r same tells = subst (λ (ds : List (Difference ℕ)). Tells {T = T} {E = E} family (differ_at moment packet asked ds) old new a b r) same tells
+fields_as {T} {E} family moment packet asked xs ys old new a b r same tells =
+    subst (λ (ds : List (Difference ℕ)). Tells {T = T} {E = E} family (differ_at moment packet asked ds) old new a b r) same tells
 
 -- the same with the findings as they are named otherwise
-pub tells_as : {T E : Type 0} (family : Family) (xs ys : List (Finding ℕ)) (old new : ToldState) (a b : OutputState) (r : Result T E) → xs ≡ ys → Tells family xs old new a b r → Tells family ys old new a b r
+pub tells_as : {T E : Type 0} (family : Family) (xs ys : List (Finding ℕ)) (old new : ToldState) (a b : OutputState) (r : Result T E) → xs ≡ ys →
+    Tells family xs old new a b r → Tells family ys old new a b r
 tells_as {T} {E} family xs ys old new a b r same tells = subst (λ (fs : List (Finding ℕ)). Tells {T = T} {E = E} family fs old new a b r) same tells

@@ -1,5 +1,6 @@
 -- What waits: the first entry that is free, the one that has found its partner, and what is over.
-use Rattle.std.proofs.Common.{◌≡◌, ℕ, suc, ◌+◌, ◌<◌, ◌≤◌, Bool, true, false, List, [], ◌∷◌, ◌++◌, length, take, drop, set, get_or, refl, ap, sym, ◌∙◌, append_assoc, append-nil, add-one, arith}
+use Rattle.std.proofs.Common.{◌≡◌, ℕ, suc, ◌+◌, ◌<◌, ◌≤◌, Bool, true, false, List, [], ◌∷◌, ◌++◌, length, take, drop, set, get_or, refl, ap, sym, ◌∙◌}
+use Rattle.std.proofs.Common.{append_assoc, append-nil, add-one, arith}
 use Rattle.std.specs.Option.{option_to_list}
 use Rattle.std.specs.Prelude.{Option, None, Some, IfSome, map as list_map, flat_map, take_while}
 use Rattle.std.specs.List.{list_any, prefix_len}
@@ -22,7 +23,8 @@ pub made_long : {X Y : Type 0} (f : X → Y) (xs : List X) (ys : List Y) → lis
 made_long f xs ys made = ap length (sym made) ∙ mapped_long xs f
 
 -- an element as it was read, at its place in the list of what is made of each
-pub made_at : {X Y : Type 0} (f : X → Y) (xs : List X) (ys : List Y) (place : ℕ) (x : X) → list_map f xs ≡ ys → x ≡ get_or xs place x → f x ≡ get_or ys place (f x)
+pub made_at : {X Y : Type 0} (f : X → Y) (xs : List X) (ys : List Y) (place : ℕ) (x : X) → list_map f xs ≡ ys → x ≡ get_or xs place x →
+    f x ≡ get_or ys place (f x)
 made_at f xs ys place x made is = ap f is ∙ sym (mapped_at f xs place x) ∙ ap (λ (zs : List _). get_or zs place (f x)) made
 
 -- the list from a place on
@@ -37,7 +39,8 @@ up_to_place xs place x within is = take-suc xs place x within ∙ ap (λ (y : _)
 pub record IsPassed (side : Side) (asked : Asked ℕ) (from : ℕ) (entries : List (Entry ℕ)) (place : ℕ) : Type 0 where
   pub terms : first_terms (is_free side asked from) entries ≡ first_terms (is_free side asked from) (drop place entries)
   pub entry : first_entry (is_free side asked from) entries ≡ first_entry (is_free side asked from) (drop place entries)
-  pub joined : (other : Terms ℕ) → first_joined (is_free side asked from) other entries ≡ take place entries ++ first_joined (is_free side asked from) other (drop place entries)
+  pub joined : (other : Terms ℕ) → first_joined (is_free side asked from) other entries ≡ take place entries ++
+      first_joined (is_free side asked from) other (drop place entries)
 
 pub none_passed : (side : Side) (asked : Asked ℕ) (from : ℕ) (entries : List (Entry ℕ)) → IsPassed side asked from entries 0
 none_passed side asked from entries = record { terms = refl; entry = refl; joined = λ other. refl }
@@ -52,16 +55,19 @@ skipped_entry test entry rest is = rw is refl
 found_entry : (test : Entry ℕ → Bool) (entry : Entry ℕ) (rest : List (Entry ℕ)) → test entry ≡ true → first_entry test (entry ∷ rest) ≡ Some entry
 found_entry test entry rest is = rw is refl
 
-skipped_joined : (test : Entry ℕ → Bool) (other : Terms ℕ) (entry : Entry ℕ) (rest : List (Entry ℕ)) → test entry ≡ false → first_joined test other (entry ∷ rest) ≡ entry ∷ first_joined test other rest
+skipped_joined : (test : Entry ℕ → Bool) (other : Terms ℕ) (entry : Entry ℕ) (rest : List (Entry ℕ)) → test entry ≡ false →
+    first_joined test other (entry ∷ rest) ≡ entry ∷ first_joined test other rest
 skipped_joined test other entry rest is = rw is refl
 
 found_terms : (test : Entry ℕ → Bool) (entry : Entry ℕ) (rest : List (Entry ℕ)) → test entry ≡ true → first_terms test (entry ∷ rest) ≡ terms_in entry
 found_terms test entry rest is = rw is refl
 
-found_joined : (test : Entry ℕ → Bool) (other : Terms ℕ) (entry : Entry ℕ) (rest : List (Entry ℕ)) → test entry ≡ true → first_joined test other (entry ∷ rest) ≡ joined other entry ∷ rest
+found_joined : (test : Entry ℕ → Bool) (other : Terms ℕ) (entry : Entry ℕ) (rest : List (Entry ℕ)) → test entry ≡ true →
+    first_joined test other (entry ∷ rest) ≡ joined other entry ∷ rest
 found_joined test other entry rest is = rw is refl
 
-pub one_passed : (side : Side) (asked : Asked ℕ) (from : ℕ) (entries : List (Entry ℕ)) (place : ℕ) (entry : Entry ℕ) → place < length entries → entry ≡ get_or entries place entry
+pub one_passed : (side : Side) (asked : Asked ℕ) (from : ℕ) (entries : List (Entry ℕ)) (place : ℕ) (entry : Entry ℕ) → place < length entries →
+    entry ≡ get_or entries place entry
     → is_free side asked from entry ≡ false → IsPassed side asked from entries place → IsPassed side asked from entries (place + 1)
 one_passed side asked from entries place entry within is not_free passed =
     let test = is_free side asked from in
@@ -78,7 +84,8 @@ one_passed side asked from entries place entry within is not_free passed =
     } in
     rw add-one next
 
-pub free_at : (side : Side) (asked : Asked ℕ) (from : ℕ) (entries : List (Entry ℕ)) (place : ℕ) (entry : Entry ℕ) → place < length entries → entry ≡ get_or entries place entry
+pub free_at : (side : Side) (asked : Asked ℕ) (from : ℕ) (entries : List (Entry ℕ)) (place : ℕ) (entry : Entry ℕ) → place < length entries →
+    entry ≡ get_or entries place entry
     → is_free side asked from entry ≡ true → IsPassed side asked from entries place → IsFirstFree side asked from entries place
 free_at side asked from entries place entry within is free passed =
     let test = is_free side asked from in
@@ -95,7 +102,8 @@ free_at side asked from entries place entry within is free passed =
           ∙ ap (λ (e : Entry ℕ). set entries place (joined other e)) (get_or_read entries place entry within is d);
     }
 
-pub none_free : (side : Side) (asked : Asked ℕ) (from : ℕ) (entries : List (Entry ℕ)) (place : ℕ) → place ≡ length entries → IsPassed side asked from entries place → IsNoneFree side asked from entries
+pub none_free : (side : Side) (asked : Asked ℕ) (from : ℕ) (entries : List (Entry ℕ)) (place : ℕ) → place ≡ length entries →
+    IsPassed side asked from entries place → IsNoneFree side asked from entries
 none_free side asked from entries place all passed =
     let test = is_free side asked from in
     let rest : drop place entries ≡ [] = ap (λ (n : ℕ). drop n entries) all ∙ drop-length entries in
@@ -117,14 +125,16 @@ skipped_any p entry rest is = rw is refl
 found_any : (p : Entry ℕ → Bool) (entry : Entry ℕ) (rest : List (Entry ℕ)) → p entry ≡ true → list_any p (entry ∷ rest) ≡ true
 found_any p entry rest is = rw is refl
 
-pub one_any : (p : Entry ℕ → Bool) (entries : List (Entry ℕ)) (place : ℕ) (entry : Entry ℕ) → place < length entries → entry ≡ get_or entries place entry → p entry ≡ false
+pub one_any : (p : Entry ℕ → Bool) (entries : List (Entry ℕ)) (place : ℕ) (entry : Entry ℕ) → place < length entries →
+    entry ≡ get_or entries place entry → p entry ≡ false
     → list_any p entries ≡ list_any p (drop place entries) → list_any p entries ≡ list_any p (drop (place + 1) entries)
 one_any p entries place entry within is fails passed =
     let next : list_any p entries ≡ list_any p (drop (suc place) entries) =
     passed ∙ ap (list_any p) (from_place entries place entry within is) ∙ skipped_any p entry (drop (suc place) entries) fails in
     rw add-one next
 
-pub any_at : (p : Entry ℕ → Bool) (entries : List (Entry ℕ)) (place : ℕ) (entry : Entry ℕ) → place < length entries → entry ≡ get_or entries place entry → p entry ≡ true
+pub any_at : (p : Entry ℕ → Bool) (entries : List (Entry ℕ)) (place : ℕ) (entry : Entry ℕ) → place < length entries →
+    entry ≡ get_or entries place entry → p entry ≡ true
     → list_any p entries ≡ list_any p (drop place entries) → list_any p entries ≡ true
 any_at p entries place entry within is passes passed =
     passed ∙ ap (list_any p) (from_place entries place entry within is) ∙ found_any p entry (drop (suc place) entries) passes
@@ -141,31 +151,46 @@ none_of_full keep now w full = record { told = λ within changed. rw full refl; 
 pub none_of_none : (keep now : ℕ) (w : WaitingValue) → w.is_full ≡ false → w.entries ≡ [] → IsNoneOver keep now w
 unfolding told settled
 none_of_none keep now w free none =
-    record { told = λ within changed. rw (free, none) refl; settled = rw free (λ i. record { entries = (ap (λ (es : List (Entry ℕ)). drop (prefix_len (is_over keep now) es) es) none ∙ sym none) i; is_full = false }) }
+    record {
+      told = λ within changed. rw (free, none) refl;
+      settled =
+          rw free (λ i. record { entries = (ap (λ (es : List (Entry ℕ)). drop (prefix_len (is_over keep now) es) es) none ∙ sym none) i; is_full = false });
+    }
 
-not_over_told : (keep within now : ℕ) (changed : Option ℕ) (entry : Entry ℕ) (rest : List (Entry ℕ)) → is_over keep now entry ≡ false → flat_map (findings_of within changed) (take_while (is_over keep now) (entry ∷ rest)) ≡ []
+not_over_told : (keep within now : ℕ) (changed : Option ℕ) (entry : Entry ℕ) (rest : List (Entry ℕ)) → is_over keep now entry ≡ false →
+    flat_map (findings_of within changed) (take_while (is_over keep now) (entry ∷ rest)) ≡ []
 not_over_told keep within now changed entry rest is = rw is refl
 
-not_over_settled : (keep now : ℕ) (entry : Entry ℕ) (rest : List (Entry ℕ)) → is_over keep now entry ≡ false → drop (prefix_len (is_over keep now) (entry ∷ rest)) (entry ∷ rest) ≡ entry ∷ rest
+not_over_settled : (keep now : ℕ) (entry : Entry ℕ) (rest : List (Entry ℕ)) → is_over keep now entry ≡ false →
+    drop (prefix_len (is_over keep now) (entry ∷ rest)) (entry ∷ rest) ≡ entry ∷ rest
 not_over_settled keep now entry rest is = rw is refl
 
-pub none_of_first : (keep now : ℕ) (w : WaitingValue) (entry : Entry ℕ) (rest : List (Entry ℕ)) → w.is_full ≡ false → w.entries ≡ entry ∷ rest → is_over keep now entry ≡ false → IsNoneOver keep now w
+pub none_of_first : (keep now : ℕ) (w : WaitingValue) (entry : Entry ℕ) (rest : List (Entry ℕ)) → w.is_full ≡ false → w.entries ≡ entry ∷ rest →
+    is_over keep now entry ≡ false → IsNoneOver keep now w
 unfolding told settled
 none_of_first keep now w entry rest free split is =
     record {
       told = λ within changed. rw (free, split) (not_over_told keep within now changed entry rest is);
-      settled = rw free (λ i. record { entries = (ap (λ (es : List (Entry ℕ)). drop (prefix_len (is_over keep now) es) es) split ∙ not_over_settled keep now entry rest is ∙ sym split) i; is_full = false });
+      settled = rw free (λ i. record {
+        entries = (ap (λ (es : List (Entry ℕ)). drop (prefix_len (is_over keep now) es) es) split ∙ not_over_settled keep now entry rest is ∙
+            sym split) i;
+        is_full = false;
+      });
     }
 
 over_told : (keep within now : ℕ) (changed : Option ℕ) (entry : Entry ℕ) (rest : List (Entry ℕ)) → is_over keep now entry ≡ true
-    → flat_map (findings_of within changed) (take_while (is_over keep now) (entry ∷ rest)) ≡ findings_of within changed entry ++ flat_map (findings_of within changed) (take_while (is_over keep now) rest)
-over_told keep within now changed entry rest is = let more : 1 + prefix_len (is_over keep now) rest ≡ suc (prefix_len (is_over keep now) rest) = omega arith in rw (is, more) refl
+    → flat_map (findings_of within changed) (take_while (is_over keep now) (entry ∷ rest)) ≡ findings_of within changed entry ++
+    flat_map (findings_of within changed) (take_while (is_over keep now) rest)
+over_told keep within now changed entry rest is = let more : 1 + prefix_len (is_over keep now) rest ≡ suc (prefix_len (is_over keep now) rest) =
+    omega arith in rw (is, more) refl
 
 over_settled : (keep now : ℕ) (entry : Entry ℕ) (rest : List (Entry ℕ)) → is_over keep now entry ≡ true
     → drop (prefix_len (is_over keep now) (entry ∷ rest)) (entry ∷ rest) ≡ drop (prefix_len (is_over keep now) rest) rest
-over_settled keep now entry rest is = let more : 1 + prefix_len (is_over keep now) rest ≡ suc (prefix_len (is_over keep now) rest) = omega arith in rw (is, more) refl
+over_settled keep now entry rest is = let more : 1 + prefix_len (is_over keep now) rest ≡ suc (prefix_len (is_over keep now) rest) = omega arith in
+    rw (is, more) refl
 
-pub first_over : (keep now : ℕ) (old new : WaitingValue) (entry : Entry ℕ) → old.is_full ≡ false → new.is_full ≡ false → old.entries ≡ entry ∷ new.entries → is_over keep now entry ≡ true → IsFirstOver keep now old new entry
+pub first_over : (keep now : ℕ) (old new : WaitingValue) (entry : Entry ℕ) → old.is_full ≡ false → new.is_full ≡ false →
+    old.entries ≡ entry ∷ new.entries → is_over keep now entry ≡ true → IsFirstOver keep now old new entry
 unfolding told settled
 first_over keep now old new entry free still split is =
     record {
@@ -179,7 +204,8 @@ first_over keep now old new entry free still split is =
     }
 
 -- an entry that was put behind the others, or for which there was no room
-pub entry_put : {X : Type 0} (f : X → Entry ℕ) (items more : List X) (is_full : Bool) (entry : X) (w : WaitingValue) → length items < room → record { entries = list_map f items; is_full = is_full } ≡ w → more ≡ items ++ entry ∷ []
+pub entry_put : {X : Type 0} (f : X → Entry ℕ) (items more : List X) (is_full : Bool) (entry : X) (w : WaitingValue) → length items < room →
+    record { entries = list_map f items; is_full = is_full } ≡ w → more ≡ items ++ entry ∷ []
     → record { entries = list_map f more; is_full = is_full } ≡ with_entry (f entry) w
 unfolding with_entry
 entry_put f items more is_full entry w few made behind =
@@ -189,22 +215,27 @@ entry_put f items more is_full entry w few made behind =
     rw tested (λ i. record { entries = (ap (list_map f) behind ∙ map-append f items (entry ∷ [])) i; is_full = is_full }) in
     here ∙ ap (with_entry (f entry)) made
 
-pub no_room_left : {X : Type 0} (f : X → Entry ℕ) (items : List X) (is_full : Bool) (entry : Entry ℕ) (w : WaitingValue) → room ≤ length items → record { entries = list_map f items; is_full = is_full } ≡ w
+pub no_room_left : {X : Type 0} (f : X → Entry ℕ) (items : List X) (is_full : Bool) (entry : Entry ℕ) (w : WaitingValue) → room ≤ length items →
+    record { entries = list_map f items; is_full = is_full } ≡ w
     → record { entries = list_map f items; is_full = true } ≡ with_entry entry w
 unfolding with_entry
 no_room_left f items is_full entry w many made =
     let beyond : room ≤ length (list_map f items) = omega (arith, many, made_long f items _ refl) in
     let tested = le-ltb (length (list_map f items)) room beyond in
-    let here : record { entries = list_map f items; is_full = true } ≡ with_entry entry (record { entries = list_map f items; is_full = is_full }) = rw tested refl in
+    let here : record { entries = list_map f items; is_full = true } ≡ with_entry entry (record { entries = list_map f items; is_full = is_full }) =
+    rw tested refl in
     here ∙ ap (with_entry entry) made
 
 -- no entry has found its partner, or the one at a place has
-pub partner_of_none : (side : Side) (asked : Asked ℕ) (from : ℕ) (other : Terms ℕ) (w : WaitingValue) → IsNoneFree side asked from w.entries → w ≡ with_partner side asked from other w
+pub partner_of_none : (side : Side) (asked : Asked ℕ) (from : ℕ) (other : Terms ℕ) (w : WaitingValue) → IsNoneFree side asked from w.entries →
+    w ≡ with_partner side asked from other w
 unfolding with_partner
 partner_of_none side asked from other w none = λ i. record { entries = sym (none.joined other) i; is_full = w.is_full }
 
-pub partner_joined : {X : Type 0} (f : X → Entry ℕ) (items : List X) (is_full : Bool) (w : WaitingValue) (place : ℕ) (found changed : X) (side : Side) (asked : Asked ℕ) (from : ℕ) (other : Terms ℕ)
-    → IsFirstFree side asked from w.entries place → record { entries = list_map f items; is_full = is_full } ≡ w → found ≡ get_or items place found → f changed ≡ joined other (f found)
+pub partner_joined : {X : Type 0} (f : X → Entry ℕ) (items : List X) (is_full : Bool) (w : WaitingValue) (place : ℕ) (found changed : X) (side : Side)
+    (asked : Asked ℕ) (from : ℕ) (other : Terms ℕ)
+    → IsFirstFree side asked from w.entries place → record { entries = list_map f items; is_full = is_full } ≡ w → found ≡ get_or items place found →
+    f changed ≡ joined other (f found)
     → record { entries = list_map f (set items place changed); is_full = is_full } ≡ with_partner side asked from other w
 unfolding with_partner
 partner_joined f items is_full w place found changed side asked from other first made is changes =
@@ -222,7 +253,8 @@ pub none_made : {X : Type 0} (f : X → Entry ℕ) (items : List X) (entries : L
 none_made f [] entries made none = sym made
 none_made f (x ∷ xs) entries made none = absurd (omega arith)
 
-pub popped : {X : Type 0} (f : X → Entry ℕ) (items more : List X) (is_full : Bool) (w : WaitingValue) (keep now : ℕ) (first : X) (r : Option X) → is_full ≡ false → record { entries = list_map f items; is_full = is_full } ≡ w
+pub popped : {X : Type 0} (f : X → Entry ℕ) (items more : List X) (is_full : Bool) (w : WaitingValue) (keep now : ℕ) (first : X) (r : Option X) →
+    is_full ≡ false → record { entries = list_map f items; is_full = is_full } ≡ w
     → first ≡ get_or items 0 first → is_over keep now (f first) ≡ true → items ≡ option_to_list r ++ more
     → IfSome r (λ x. IsFirstOver keep now w (record { entries = list_map f more; is_full = is_full }) (f x))
 popped f items more is_full w keep now first None free made is over split = tt

@@ -6,21 +6,32 @@ use Rattle.mq_text.specs.Printing.{OutputState, Puts}
 use Rattle.mq_text.proofs.Passing.{put_as, then_put}
 use Rattle.mq_check.specs.declared.finding.Finding.{Finding}
 use Rattle.mq_check.specs.FindingLines.{finding_lines}
-use Rattle.mq_check.specs.Telling.{ToldState, Tells, counted_times}
+use Rattle.mq_check.specs.declared.repeated.LastDifferences.{LastDifferences}
+use Rattle.mq_check.specs.Repeated.{with_findings}
+use Rattle.mq_check.specs.Telling.{ToldState, Tells, counted_times, reported_by}
 
-still_counted : {T E : Type 0} (times old mid new : ℕ) (r : Result T E) → mid ≡ counted_times times old → new ≡ mid → IfOk r (λ _. new ≡ counted_times times old)
+still_counted : {T E : Type 0} (times old mid new : ℕ) (r : Result T E) → mid ≡ counted_times times old → new ≡ mid →
+    IfOk r (λ _. new ≡ counted_times times old)
 still_counted times old mid new (Ok x) counted same = same ∙ counted
 still_counted times old mid new (Err e) counted same = tt
 
+still_noted : {T E : Type 0} (xs : List (Finding ℕ)) (old mid new : LastDifferences) (r : Result T E) → mid ≡ with_findings xs old → new ≡ mid →
+    IfOk r (λ _. new ≡ with_findings xs old)
+still_noted xs old mid new (Ok x) noted same = same ∙ noted
+still_noted xs old mid new (Err e) noted same = tt
+
 -- some were told, and then nothing more was put
 pub then_nothing : (T E : Type 0) (family : Family) (xs : List (Finding ℕ)) (old mid new : ToldState) (a b c : OutputState) (x : T) (r : Result T E)
-    → Tells {T = T} {E = E} family xs old mid a b (Ok x) → Puts b.held c.held mid.held new.held [] r → new.additions ≡ mid.additions → new.count ≡ mid.count → c.failed ≡ (b.failed || is_err r)
+    → Tells {T = T} {E = E} family xs old mid a b (Ok x) → Puts b.held c.held mid.held new.held [] r → new.additions ≡ mid.additions →
+    new.last ≡ mid.last → new.count ≡ mid.count → c.failed ≡ (b.failed || is_err r)
     → Tells {T = T} {E = E} family xs old new a c r
-then_nothing T E family xs old mid new a b c x r tells put additions count failed =
-    let text = finding_lines family old.additions xs in
+then_nothing T E family xs old mid new a b c x r tells put additions last count failed =
+    let text = finding_lines family old.additions (reported_by old xs) in
     record {
       additions = additions ∙ tells.additions;
-      count = still_counted (length xs) old.count mid.count new.count r tells.count count;
-      text = put_as a.held c.held old.held new.held (text ++ []) text r (append-nil text) (then_put a.held b.held c.held old.held mid.held new.held text [] r tells.text put);
+      last = still_noted xs old.last mid.last new.last r tells.last last;
+      count = still_counted (length (reported_by old xs)) old.count mid.count new.count r tells.count count;
+      text = put_as a.held c.held old.held new.held (text ++ []) text r (append-nil text)
+          (then_put a.held b.held c.held old.held mid.held new.held text [] r tells.text put);
       failed = failed ∙ ap (λ (f : Bool). f || is_err r) (tells.failed ∙ or-false a.failed);
     }

@@ -1,5 +1,6 @@
 -- The verdict of a capture was put: what the check comes to once what the buffer holds is written, or was not.
-use Rattle.std.proofs.Common.{◌≡◌, ◌⊎◌, ℕ, ◌+◌, Bool, true, false, if◌then◌else◌, List, [], ◌++◌, length, Option, None, Some, Result, Ok, Err, refl, ap, sym, subst, ◌∙◌, append-nil, length-append, inl, inr, arith}
+use Rattle.std.proofs.Common.{◌≡◌, ◌⊎◌, ℕ, ◌+◌, Bool, true, false, if◌then◌else◌, List, [], ◌++◌, length, Option, None, Some, Result, Ok, Err, refl}
+use Rattle.std.proofs.Common.{ap, sym, subst, ◌∙◌, append-nil, length-append, inl, inr, arith}
 use Rattle.std.proofs.KnownBytes.{Appends-nil}
 use Rattle.std.specs.Io.KnownBytes.{Appends, IsAtEnd}
 use Rattle.mq_pcap.specs.declared.fault.PcapFault.{PcapFault}
@@ -20,30 +21,39 @@ use Rattle.mq_check.specs.declared.check_terms.Additions.{Additions}
 use Rattle.mq_check.specs.declared.check_terms.CheckTerms.{CheckTerms}
 use Rattle.mq_check.specs.declared.finding.Finding.{Finding}
 use Rattle.mq_check.specs.declared.totals.Totals.{Totals}
-use Rattle.mq_check.specs.Check.{Checked, Course, Outcome, Verdict, broken_off, check_of, concluded, ended_at, last_moment, looked_ahead, settled_through, verdict_behind, with_all_packets}
-use Rattle.mq_check.specs.CheckedCaptures.{Checks, IsBrokenOffAt, IsEndedBy, IsEndedByFault, IsWrittenBy, is_failed_write, packets_text, so_far, text_by, verdict_of}
+use Rattle.mq_check.specs.Check.{Checked, Course, Outcome, Verdict, broken_off, check_of, concluded, ended_at, last_moment, looked_ahead}
+use Rattle.mq_check.specs.Check.{settled_through, verdict_behind, with_all_packets}
+use Rattle.mq_check.specs.CheckedCaptures.{Checks, IsBrokenOffAt, IsEndedBy, IsEndedByFault, IsWrittenBy, is_failed_write, packets_text, so_far}
+use Rattle.mq_check.specs.CheckedCaptures.{text_by, verdict_of}
 use Rattle.mq_check.specs.Checking.{told_at_end}
 use Rattle.mq_check.specs.Ending.{IsPutBy, PutsVerdict}
 use Rattle.mq_check.specs.General.{silence_up_to}
 use Rattle.mq_check.specs.FindingLines.{finding_lines}
+use Rattle.mq_check.specs.Repeated.{all_reported}
 
 -- what a buffer that held nothing passed on whole was written, or a beginning of it
-all_written : (before mid after : Option (List ℕ)) (left text : List ℕ) → Passes before mid [] left text → Passes mid after left [] [] → Appends before after text
+all_written : (before mid after : Option (List ℕ)) (left text : List ℕ) → Passes before mid [] left text → Passes mid after left [] [] →
+    Appends before after text
 all_written before mid after left text first second =
     let both = both_passed before mid after [] left [] text [] first second in
     subst (λ (t : List ℕ). Appends before after t) (sym (sym (append-nil text) ∙ both.parts ∙ append-nil both.written)) both.grows
 
-begun_text : (before mid after : Option (List ℕ)) (left text : List ℕ) → Passes before mid [] left text → GrowsByBeginning mid after (left ++ []) → GrowsByBeginning before after text
-begun_text before mid after left text passed begun = subst (λ (t : List ℕ). GrowsByBeginning before after t) (append-nil text) (broken_behind before mid after [] left text [] passed begun)
+begun_text : (before mid after : Option (List ℕ)) (left text : List ℕ) → Passes before mid [] left text → GrowsByBeginning mid after (left ++ []) →
+    GrowsByBeginning before after text
+begun_text before mid after left text passed begun = subst (λ (t : List ℕ). GrowsByBeginning before after t) (append-nil text)
+    (broken_behind before mid after [] left text [] passed begun)
 
 -- what was put where no write failed
-put_whole : (config : Configuration) (terms : CheckTerms) (c : ReadCapture) (new : InputState) (before mid : Option (List ℕ)) (held left : List ℕ) (r : Result Totals CheckFault) → held ≡ [] → is_failed_write r ≡ false
+put_whole : (config : Configuration) (terms : CheckTerms) (c : ReadCapture) (new : InputState) (before mid : Option (List ℕ)) (held left : List ℕ)
+    (r : Result Totals CheckFault) → held ≡ [] → is_failed_write r ≡ false
     → IsPutBy (is_failed_write r) config terms c new before mid held left r → Passes before mid [] left (text_by config terms c r)
 put_whole config terms c new before mid held left r none unlike put =
-    subst (λ (h : List ℕ). Passes before mid h left (text_by config terms c r)) none (subst (λ (b : Bool). IsPutBy b config terms c new before mid held left r) unlike put)
+    subst (λ (h : List ℕ). Passes before mid h left (text_by config terms c r)) none
+    (subst (λ (b : Bool). IsPutBy b config terms c new before mid held left r) unlike put)
 
 -- the verdict was put and the rest of it written
-pub flushed : (config : Configuration) (terms : CheckTerms) (old new : InputState) (before mid after : Option (List ℕ)) (held left rest : List ℕ) (r : Result Totals CheckFault) → held ≡ [] → rest ≡ [] → is_failed_write r ≡ false
+pub flushed : (config : Configuration) (terms : CheckTerms) (old new : InputState) (before mid after : Option (List ℕ)) (held left rest : List ℕ)
+    (r : Result Totals CheckFault) → held ≡ [] → rest ≡ [] → is_failed_write r ≡ false
     → PutsVerdict config terms old new before mid held left r → Passes mid after left rest [] → Checks config terms old new before after r
 flushed config terms old new before mid after held left rest r none empty unlike puts passed =
     record {
@@ -57,7 +67,8 @@ flushed config terms old new before mid after held left rest r none empty unlike
     }
 
 -- a write failed before the end of the verdict
-pub not_put : (config : Configuration) (terms : CheckTerms) (old new : InputState) (before after : Option (List ℕ)) (held left : List ℕ) (r : Result Totals CheckFault) → held ≡ [] → is_failed_write r ≡ true
+pub not_put : (config : Configuration) (terms : CheckTerms) (old new : InputState) (before after : Option (List ℕ)) (held left : List ℕ)
+    (r : Result Totals CheckFault) → held ≡ [] → is_failed_write r ≡ true
     → PutsVerdict config terms old new before after held left r → Checks config terms old new before after r
 not_put config terms old new before after held left r none is puts =
     record {
@@ -66,7 +77,8 @@ not_put config terms old new before after held left r none is puts =
       capture = puts.capture;
       ended = puts.ended;
       written = subst (λ (b : Bool). IsWrittenBy b config terms puts.read new before after r) (sym is)
-          (subst (λ (h : List ℕ). IsPutBy true config terms puts.read new before after h left r) none (subst (λ (b : Bool). IsPutBy b config terms puts.read new before after held left r) is puts.put));
+          (subst (λ (h : List ℕ). IsPutBy true config terms puts.read new before after h left r) none
+          (subst (λ (b : Bool). IsPutBy b config terms puts.read new before after held left r) is puts.put));
     }
 
 abbrev either : Bool → Verdict → Verdict → Verdict
@@ -79,7 +91,8 @@ one_of b x y = elim b [ true ↦ x | false ↦ y ]
 abbrev IsFaultText : (number : ℕ) → (end : Option PcapFault) → (packets : List ℕ) → Verdict → CheckFault → Type 0
 IsFaultText number end packets v e = (v.text ≡ packets) ⊎ ((end ≡ None) × (e ≡ answer.Waiting number))
 
-fault_of_end : (config : Configuration) (within : ℕ) (additions : Additions) (moment number : ℕ) (found : List (Finding ℕ)) (r : Checked) (packets : List ℕ) (e : CheckFault) → (ended_at config within additions moment number found r).answer ≡ Err e
+fault_of_end : (config : Configuration) (within : ℕ) (additions : Additions) (moment number : ℕ) (found : List (Finding ℕ)) (r : Checked)
+    (packets : List ℕ) (e : CheckFault) → (ended_at config within additions moment number found r).answer ≡ Err e
     → IsFaultText number None packets (ended_at config within additions moment number found r) e
 unfolding ended_at
 fault_of_end config within additions moment number found r packets e is = by_room ahead.checked.checking.waiting.is_full is
@@ -96,14 +109,17 @@ fault_of_end config within additions moment number found r packets e is = by_roo
     whole : Verdict
     whole =
         concluded config additions ahead.checked.checking done.checked.basis
-        (found ++ done.found ++ ahead.found ++ told_at_end within config.timing moment (silence_up_to within config.timing moment done.checked.checking.phase) ahead.checked.checking)
+        (found ++ done.found ++ ahead.found ++
+        told_at_end within config.timing moment (silence_up_to within config.timing moment done.checked.checking.phase) ahead.checked.checking)
 
     by_room : (b : Bool) → (either b broken whole).answer ≡ Err e → IsFaultText number None packets (either b broken whole) e
     by_room true is = inr (refl, sym (cc is))
     by_room false is = absurd (cc is)
 
-fault_behind : (config : Configuration) (within : ℕ) (until : Option ℕ) (additions : Additions) (number : ℕ) (end : Option PcapFault) (fault : Option CheckFault) (course : Course) (e : CheckFault) → (verdict_behind config within until additions number end fault course).answer ≡ Err e
-    → IsFaultText number end (finding_lines config.family additions course.found) (verdict_behind config within until additions number end fault course) e
+fault_behind : (config : Configuration) (within : ℕ) (until : Option ℕ) (additions : Additions) (number : ℕ) (end : Option PcapFault)
+    (fault : Option CheckFault) (course : Course) (e : CheckFault) → (verdict_behind config within until additions number end fault course).answer ≡ Err e
+    → IsFaultText number end (finding_lines config.family additions (all_reported additions course.found))
+    (verdict_behind config within until additions number end fault course) e
 fault_behind config within until additions number end (Some f) course e is = inl refl
 fault_behind config within until additions number (Some f) None course e is = inl refl
 fault_behind config within until additions number None None course e is = by_gap (is_gap course.moment (last_moment until course)) is
@@ -114,22 +130,28 @@ fault_behind config within until additions number None None course e is = by_gap
     whole : Verdict
     whole = ended_at config within additions (last_moment until course) number course.found course.checked
 
-    by_gap : (b : Bool) → (one_of b broken whole).answer ≡ Err e → IsFaultText number None (finding_lines config.family additions course.found) (one_of b broken whole) e
+    by_gap : (b : Bool) → (one_of b broken whole).answer ≡ Err e →
+        IsFaultText number None (finding_lines config.family additions (all_reported additions course.found)) (one_of b broken whole) e
     by_gap true is = inl refl
-    by_gap false is = fault_of_end config within additions (last_moment until course) number course.found course.checked (finding_lines config.family additions course.found) e is
+    by_gap false is = fault_of_end config within additions (last_moment until course) number course.found course.checked
+        (finding_lines config.family additions (all_reported additions course.found)) e is
 
-fault_text : (config : Configuration) (terms : CheckTerms) (c : ReadCapture) (e : CheckFault) → (verdict_of config terms c).answer ≡ Err e → IsFaultText (length c.packets + 1) c.end (packets_text config terms c) (verdict_of config terms c) e
+fault_text : (config : Configuration) (terms : CheckTerms) (c : ReadCapture) (e : CheckFault) → (verdict_of config terms c).answer ≡ Err e →
+    IsFaultText (length c.packets + 1) c.end (packets_text config terms c) (verdict_of config terms c) e
 fault_text config terms c e is = by_header c.header is
   where
     by_header : (header : Result Form PcapFault) → (check_of config terms.within terms.until terms.additions terms.strict header c.packets c.end).answer ≡ Err e
-        → IsFaultText (length c.packets + 1) c.end (so_far config terms header c.packets) (check_of config terms.within terms.until terms.additions terms.strict header c.packets c.end) e
+        → IsFaultText (length c.packets + 1) c.end (so_far config terms header c.packets)
+        (check_of config terms.within terms.until terms.additions terms.strict header c.packets c.end) e
     by_header (Err f) is = inl refl
     by_header (Ok form) is =
         let course = with_all_packets config terms.within terms.strict form c.packets in
         fault_behind config terms.within terms.until terms.additions (length c.packets + 1) c.end course.fault course e is
 
 -- one that ends with totals is that of a file without a fault
-whole_behind : (config : Configuration) (within : ℕ) (until : Option ℕ) (additions : Additions) (number : ℕ) (end : Option PcapFault) (fault : Option CheckFault) (course : Course) (totals : Totals) → (verdict_behind config within until additions number end fault course).answer ≡ Ok totals → end ≡ None
+whole_behind : (config : Configuration) (within : ℕ) (until : Option ℕ) (additions : Additions) (number : ℕ) (end : Option PcapFault)
+    (fault : Option CheckFault) (course : Course) (totals : Totals) → (verdict_behind config within until additions number end fault course).answer
+    ≡ Ok totals → end ≡ None
 whole_behind config within until additions number end (Some f) course totals is = absurd (cc is)
 whole_behind config within until additions number (Some f) None course totals is = absurd (cc is)
 whole_behind config within until additions number None None course totals is = refl
@@ -137,7 +159,8 @@ whole_behind config within until additions number None None course totals is = r
 whole_end : (config : Configuration) (terms : CheckTerms) (c : ReadCapture) (totals : Totals) → (verdict_of config terms c).answer ≡ Ok totals → c.end ≡ None
 whole_end config terms c totals is = by_header c.header is
   where
-    by_header : (header : Result Form PcapFault) → (check_of config terms.within terms.until terms.additions terms.strict header c.packets c.end).answer ≡ Ok totals → c.end ≡ None
+    by_header : (header : Result Form PcapFault) →
+        (check_of config terms.within terms.until terms.additions terms.strict header c.packets c.end).answer ≡ Ok totals → c.end ≡ None
     by_header (Err f) is = absurd (cc is)
     by_header (Ok form) is =
         let course = with_all_packets config terms.within terms.strict form c.packets in
@@ -145,10 +168,12 @@ whole_end config terms c totals is = by_header c.header is
 
 -- of no text a part is left
 none_begun : (before after : Option (List ℕ)) → GrowsByBeginning before after [] → ⊥
-none_begun before after begun = let some = begun.some_left in let parts = ap length begun.parts ∙ length-append begun.written begun.left in omega (arith, some, parts)
+none_begun before after begun = let some = begun.some_left in let parts = ap length begun.parts ∙ length-append begun.written begun.left in
+    omega (arith, some, parts)
 
 -- the verdict was put, and the rest of it was not written whole
-begun_of : (config : Configuration) (terms : CheckTerms) (c : ReadCapture) (old new : InputState) (before after : Option (List ℕ)) (r : Result Totals CheckFault) → is_failed_write r ≡ false
+begun_of : (config : Configuration) (terms : CheckTerms) (c : ReadCapture) (old new : InputState) (before after : Option (List ℕ))
+    (r : Result Totals CheckFault) → is_failed_write r ≡ false
     → IsEndedBy config terms c old new r → GrowsByBeginning before after (text_by config terms c r) → IsWrittenBy true config terms c new before after r
 begun_of config terms c old new before after (Ok totals) unlike ended begun = inr (whole_end config terms c totals ended.0, ended.1, begun)
 begun_of config terms c old new before after (Err answer.Write) unlike ended begun = absurd (cc unlike)
@@ -169,7 +194,9 @@ begun_of config terms c old new before after (Err (answer.Waiting number)) unlik
     at_end is (inr ends) = ends
 begun_of config terms c old new before after (Err (answer.Pcap f)) unlike ended begun = by_kind (is_read f) ended begun
   where
-    by_kind : (b : Bool) → IsEndedByFault b config terms c old new f → GrowsByBeginning before after (if b then packets_text config terms c else (verdict_of config terms c).text) → IsWrittenBy true config terms c new before after (Err (answer.Pcap f))
+    by_kind : (b : Bool) → IsEndedByFault b config terms c old new f →
+        GrowsByBeginning before after (if b then packets_text config terms c else (verdict_of config terms c).text) →
+        IsWrittenBy true config terms c new before after (Err (answer.Pcap f))
     by_kind true ended begun = inl begun
     by_kind false ended begun =
         elim (fault_text config terms c (answer.Pcap f) ended.0) [
@@ -177,8 +204,10 @@ begun_of config terms c old new before after (Err (answer.Pcap f)) unlike ended 
           | inr waits ↦ absurd (cc waits.1)
         ]
 
-pub not_flushed : (config : Configuration) (terms : CheckTerms) (old new : InputState) (before mid after : Option (List ℕ)) (held left : List ℕ) (r : Result Totals CheckFault) → held ≡ [] → is_failed_write r ≡ false
-    → PutsVerdict config terms old new before mid held left r → GrowsByBeginning mid after (left ++ []) → Checks config terms old new before after (Err answer.Write)
+pub not_flushed : (config : Configuration) (terms : CheckTerms) (old new : InputState) (before mid after : Option (List ℕ)) (held left : List ℕ)
+    (r : Result Totals CheckFault) → held ≡ [] → is_failed_write r ≡ false
+    → PutsVerdict config terms old new before mid held left r → GrowsByBeginning mid after (left ++ []) →
+    Checks config terms old new before after (Err answer.Write)
 not_flushed config terms old new before mid after held left r none unlike puts begun =
     record {
       read = puts.read;
@@ -190,7 +219,8 @@ not_flushed config terms old new before mid after held left r none unlike puts b
     }
 
 -- nothing was taken and nothing written
-pub nothing_checked : (config : Configuration) (terms : CheckTerms) (s : InputState) (before : Option (List ℕ)) → Checks config terms s s before before (Err answer.Memory)
+pub nothing_checked : (config : Configuration) (terms : CheckTerms) (s : InputState) (before : Option (List ℕ)) →
+    Checks config terms s s before before (Err answer.Memory)
 nothing_checked config terms s before =
     record {
       read = record { bytes = []; header = Err (fault.CutHeader 0); packets = []; end = Some (fault.CutHeader 0) };

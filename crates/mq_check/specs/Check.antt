@@ -35,6 +35,7 @@ use Rattle.mq_check.specs.FindingLines.{finding_lines, last_lines}
 use Rattle.mq_check.specs.General.{silence_up_to}
 use Rattle.mq_check.specs.Headers.{faults_if, faults_of, has_reserved_bits, headers4_in, is_broken_query, is_own_query}
 use Rattle.mq_check.specs.Queries.{query_seen}
+use Rattle.mq_check.specs.Repeated.{all_reported}
 
 -- A check in progress: the link, its treatment of queries, and the basis of the verdict.
 pub record Checked : Type 0 where
@@ -67,12 +68,12 @@ behind found o = record o { found = found ++ o.found }
 abbrev pub settled_at : (moment : ℕ) → Checked → Checked
 settled_at moment r = record r { checking = settled moment r.checking }
 
--- The treatment of queries after those of one step of the link became wanted. The basis has the number of packets so far,
--- which is the number of the last packet.
-abbrev pub wanted_by : Configuration → (moment : ℕ) → Step → Checked → CheckingValue
-wanted_by config moment step r =
+-- The treatment of queries after those of one step of the link became wanted, by a tick or a datagram. The basis has the
+-- number of packets so far, which is the number of the last packet.
+abbrev pub wanted_by : Configuration → (moment : ℕ) → (by_tick : Bool) → Step → Checked → CheckingValue
+wanted_by config moment by_tick step r =
     let is_returning = not (is_querier r.link.election.role) in
-    with_messages config.family config.own moment r.basis.packets is_returning (outgoing_of config step) r.checking
+    with_messages config.family config.own moment r.basis.packets by_tick is_returning (outgoing_of config step) r.checking
 
 -- the check after a tick, by which the router may become querier again
 unfoldable pub ticked : Configuration → (within moment : ℕ) → Checked → Checked
@@ -82,7 +83,7 @@ ticked config within moment r =
       link = answered (all_sent (outgoing_of config step)) step;
       checking =
           role_after_tick within moment (is_querier r.link.election.role) (is_querier step.state.election.role)
-          (wanted_by config moment step r);
+          (wanted_by config moment true step r);
       basis =
           basis.role_after_tick moment (is_querier r.link.election.role) (is_querier step.state.election.role) r.basis;
     }
@@ -160,7 +161,7 @@ received config within moment datagram r =
       link = answered (all_sent (outgoing_of config step)) step;
       checking =
           role_changed within config.timing moment (is_querier r.link.election.role) (is_querier step.state.election.role)
-          (wanted_by config moment step (noting_blocked config moment datagram r));
+          (wanted_by config moment false step (noting_blocked config moment datagram r));
       basis =
           with_other_querier config.family step.state.election.role
           (basis.role_changed moment (is_querier r.link.election.role) (is_querier step.state.election.role) r.basis);
@@ -240,6 +241,7 @@ pub record Verdict : Type 0 where
   pub text : List ℕ
   pub answer : Result Totals CheckFault
 
+-- the totals of a check with these reported findings
 abbrev pub totals_of : CheckingValue → Basis → List (Finding ℕ) → Totals
 totals_of c basis found = record {
   general = c.general;
@@ -249,14 +251,19 @@ totals_of c basis found = record {
 }
 
 abbrev pub broken_off : Configuration → (additions : Additions) → CheckFault → List (Finding ℕ) → Verdict
-broken_off config additions fault found = record { text = finding_lines config.family additions found; answer = Err fault }
+broken_off config additions fault found = record {
+  text = finding_lines config.family additions (all_reported additions found);
+  answer = Err fault;
+}
 
 -- the verdict at the end of a capture
 abbrev pub concluded : Configuration → (additions : Additions) → CheckingValue → Basis → List (Finding ℕ) → Verdict
-concluded config additions c basis found = record {
-  text = finding_lines config.family additions found ++ last_lines (totals_of c basis found);
-  answer = Ok (totals_of c basis found);
-}
+concluded config additions c basis found =
+    let told = all_reported additions found in
+    record {
+      text = finding_lines config.family additions told ++ last_lines (totals_of c basis told);
+      answer = Ok (totals_of c basis told);
+    }
 
 -- The verdict after a check up to and including a moment, with the earlier findings first. The link is ticked further,
 -- so that each seen query can find its partner. The basis and the silence are those of the moment.

@@ -15,6 +15,7 @@ use Rattle.mq_check.specs.declared.check_terms.CheckTerms.{CheckTerms}
 use Rattle.mq_check.specs.declared.totals.Totals.{Totals}
 use Rattle.mq_check.specs.Check.{Verdict, check_of, with_all_packets}
 use Rattle.mq_check.specs.FindingLines.{finding_lines}
+use Rattle.mq_check.specs.Repeated.{all_reported}
 
 -- the verdict of a capture
 abbrev pub verdict_of : Configuration → CheckTerms → ReadCapture → Verdict
@@ -24,7 +25,8 @@ verdict_of config terms c = check_of config terms.within terms.until terms.addit
 abbrev pub so_far : Configuration → CheckTerms → Result Form PcapFault → List Captured → List ℕ
 so_far config terms (Err fault) packets = []
 so_far config terms (Ok form) packets =
-    finding_lines config.family terms.additions (with_all_packets config terms.within terms.strict form packets).found
+    finding_lines config.family terms.additions
+    (all_reported terms.additions (with_all_packets config terms.within terms.strict form packets).found)
 
 abbrev pub packets_text : Configuration → CheckTerms → ReadCapture → List ℕ
 packets_text config terms c = so_far config terms c.header c.packets

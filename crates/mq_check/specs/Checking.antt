@@ -22,7 +22,7 @@ use Rattle.mq_check.specs.declared.waiting.Side.TheVariants.{OfWanted, OfSeen}
 use Rattle.mq_check.specs.Entries.{moment_of, first_terms, may_be_left_out, excused_if, findings_of}
 use Rattle.mq_check.specs.General.{phase_at_start, wrong_interval, phase_behind, silence_up_to, phase_again}
 use Rattle.mq_check.specs.Unheld.{specific_terms, unheld}
-use Rattle.mq_check.specs.Schedules.{SchedulesValue, schedules_at_start, schedules_seen, schedules_wanted, schedules_blocked, recent, allowed_by, as_seen, before_in, is_next}
+use Rattle.mq_check.specs.Schedules.{SchedulesValue, schedules_at_start, schedules_seen, schedules_wanted, schedules_blocked, recent, allowed_by, as_seen, before_in, is_next, terms_wanted}
 use Rattle.mq_link.specs.Configuration.{Configuration}
 use Rattle.mq_link.specs.Sent.{Outgoing}
 use Rattle.mq_link.specs.State.{LinkState}
@@ -110,6 +110,10 @@ with_wanted moment terms c asked =
       known = with_known moment terms asked c;
       schedules = schedules_wanted moment terms asked (recent moment c.schedules);
     }
+
+-- the check after the link sent a query about a subject; `is_again` is set if a tick sent it again
+abbrev pub subject_wanted : (moment : ℕ) → (is_again : Bool) → Terms ℕ → CheckingValue → Asked ℕ → CheckingValue
+subject_wanted moment is_again terms c asked = with_wanted moment (terms_wanted is_again terms asked c.schedules) c asked
 
 -- A seen query if it finds no partner. It is allowed if the router is querier, and its subject may be held since before
 -- the capture, or it belongs to an earlier schedule. `unheld` has the terms of such a query if the link doesn't hold the
@@ -230,26 +234,26 @@ query_came within config link moment packet to query c =
 
 -- The check after a query that the link sends. A general query is wanted at its moment only if the router becomes
 -- querier again (RFC 3376 section 6.6.2, RFC 3810 section 7.6.2). `packet` is the number of the last packet before. If a
--- datagram causes the query, it is the packet with this datagram.
-abbrev pub one_wanted : Family → (moment packet : ℕ) → (is_returning : Bool) → (to : ℕ) → Query ℕ → CheckingValue → CheckingValue
-one_wanted family moment packet is_returning to query c =
+-- datagram causes the query, it is the packet with this datagram. A tick sends each other query again.
+abbrev pub one_wanted : Family → (moment packet : ℕ) → (by_tick is_returning : Bool) → (to : ℕ) → Query ℕ → CheckingValue → CheckingValue
+one_wanted family moment packet by_tick is_returning to query c =
     if is_general query && not is_returning
     then c
-    else fold (with_wanted moment (terms_of family packet to query)) c (asked_in query)
+    else fold (subject_wanted moment (by_tick && not (is_general query)) (terms_of family packet to query)) c (asked_in query)
 
-abbrev pub query_wanted : Family → (moment packet : ℕ) → (is_returning : Bool) → (to : ℕ) → Option (Query ℕ) → CheckingValue → CheckingValue
-query_wanted family moment packet is_returning to None c = c
-query_wanted family moment packet is_returning to (Some query) c =
-    one_wanted family moment packet is_returning to query c
+abbrev pub query_wanted : Family → (moment packet : ℕ) → (by_tick is_returning : Bool) → (to : ℕ) → Option (Query ℕ) → CheckingValue → CheckingValue
+query_wanted family moment packet by_tick is_returning to None c = c
+query_wanted family moment packet by_tick is_returning to (Some query) c =
+    one_wanted family moment packet by_tick is_returning to query c
 
 -- the check after one message of the link with this own address, and after all messages of a step
-unfoldable pub with_message : Family → (own moment packet : ℕ) → (is_returning : Bool) → CheckingValue → Outgoing → CheckingValue
-with_message family own moment packet is_returning c message =
-    query_wanted family moment packet is_returning message.to (query_sent family own message) c
+unfoldable pub with_message : Family → (own moment packet : ℕ) → (by_tick is_returning : Bool) → CheckingValue → Outgoing → CheckingValue
+with_message family own moment packet by_tick is_returning c message =
+    query_wanted family moment packet by_tick is_returning message.to (query_sent family own message) c
 
-abbrev pub with_messages : Family → (own moment packet : ℕ) → (is_returning : Bool) → List Outgoing → CheckingValue → CheckingValue
-with_messages family own moment packet is_returning messages c =
-    fold (with_message family own moment packet is_returning) c messages
+abbrev pub with_messages : Family → (own moment packet : ℕ) → (by_tick is_returning : Bool) → List Outgoing → CheckingValue → CheckingValue
+with_messages family own moment packet by_tick is_returning messages c =
+    fold (with_message family own moment packet by_tick is_returning) c messages
 
 -- The check after the role was lost, from which no general query is wanted, or after the role returned.
 unfoldable pub role_lost : (within : ℕ) → (configured : Timing) → (moment : ℕ) → CheckingValue → CheckingValue

@@ -20,7 +20,7 @@ use Rattle.mq_check.specs.CheckedCaptures.{IsEndedBy, is_failed_write, packets_t
 use Rattle.mq_check.specs.Checking.{CheckingValue, told_at_end}
 use Rattle.mq_check.specs.FindingLines.{finding_lines, last_lines}
 use Rattle.mq_check.specs.General.{silence_up_to}
-use Rattle.mq_check.specs.Telling.{counted_times}
+use Rattle.mq_check.specs.Telling.{ToldState, counted_times, reported_by}
 
 -- The text of the result was put. If a write failed, a prefix of the text of the packets was written, or a prefix of
 -- the verdict's if the file had ended.
@@ -42,7 +42,7 @@ pub record PutsVerdict (config : Configuration) (terms : CheckTerms) (old new : 
   pub ended : IsEndedBy config terms read old new r
   pub put : IsVerdictPut config terms read new before after held left r
 
--- the totals, after `count` earlier findings
+-- the totals of a check with these reported findings, after `count` earlier ones
 abbrev pub counted_behind : (count : ℕ) → CheckingValue → Basis → List (Finding ℕ) → Totals
 counted_behind count c basis found = record {
   general = c.general;
@@ -55,32 +55,33 @@ counted_behind count c basis found = record {
 abbrev pub end_text : Family → (additions : Additions) → List (Finding ℕ) → Totals → List ℕ
 end_text family additions found totals = finding_lines family additions found ++ last_lines totals
 
--- The verdict up to and including a moment, after `count` earlier findings.
-abbrev pub end_behind : Family → (additions : Additions) → (count number : ℕ) → CheckingValue → Basis → (found last : List (Finding ℕ)) → Verdict
-end_behind family additions count number c basis found last =
+-- The verdict up to and including a moment, after earlier findings.
+abbrev pub end_behind : Family → ToldState → (number : ℕ) → CheckingValue → Basis → (found last : List (Finding ℕ)) → Verdict
+end_behind family told number c basis found last =
+    let all = reported_by told (found ++ last) in
     if c.waiting.is_full
-    then record { text = finding_lines family additions found; answer = Err (answer.Waiting number) }
+    then record { text = finding_lines family told.additions (reported_by told found); answer = Err (answer.Waiting number) }
     else record {
-      text = end_text family additions (found ++ last) (counted_behind count c basis (found ++ last));
-      answer = Ok (counted_behind count c basis (found ++ last));
+      text = end_text family told.additions all (counted_behind told.count c basis all);
+      answer = Ok (counted_behind told.count c basis all);
     }
 
-unfoldable pub ended_behind : Configuration → (within : ℕ) → (additions : Additions) → (moment count number : ℕ) → Checked → Verdict
-ended_behind config within additions moment count number r =
+unfoldable pub ended_behind : Configuration → (within : ℕ) → ToldState → (moment number : ℕ) → Checked → Verdict
+ended_behind config within told moment number r =
     let done = settled_through config within moment r in
     let ahead = looked_ahead config within moment done.checked in
     let silence = silence_up_to within config.timing moment done.checked.checking.phase in
-    end_behind config.family additions count number ahead.checked.checking done.checked.basis (done.found ++ ahead.found)
+    end_behind config.family told number ahead.checked.checking done.checked.basis (done.found ++ ahead.found)
     (told_at_end within config.timing moment silence ahead.checked.checking)
 
--- The verdict on the time after the packets of a file that has ended, after `count` earlier findings. `last` is the
--- moment of the last packet, and `number` is that of the next packet.
-abbrev pub rest_behind : Configuration → (within : ℕ) → (until : Option ℕ) → (additions : Additions) → (last count number : ℕ) → Checked → Verdict
-rest_behind config within until additions last count number r =
+-- The verdict on the time after the packets of a file that has ended, after earlier findings. `last` is the moment of the
+-- last packet, and `number` is that of the next packet.
+abbrev pub rest_behind : Configuration → (within : ℕ) → (until : Option ℕ) → ToldState → (last number : ℕ) → Checked → Verdict
+rest_behind config within until told last number r =
     let end = max last (unwrap_or until 0) in
     elim (is_gap last end) [
       | true ↦ record { text = []; answer = Err (answer.Gap number) }
-      | false ↦ ended_behind config within additions end count number r
+      | false ↦ ended_behind config within told end number r
     ]
 
 -- the verdict was put, or a prefix of it was written

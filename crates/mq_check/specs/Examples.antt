@@ -1,9 +1,13 @@
 -- The data of the worked examples: a query for the group 5 of a querier with the default variables. It is wanted and
 -- seen in either order, and expired entries are removed before the second. Or it is only seen, and the link doesn't hold
 -- the group. Or it is wanted and seen several times. Its packet is always the seventh.
-use Rattle.std.specs.Prelude.{ℕ, Bool, true, false, None, Some}
+use Rattle.std.specs.Prelude.{ℕ, Bool, true, false, List, map as list_map, None, Some}
 use Rattle.mq_table.specs.declared.timing.Timing.{Timing}
+use Rattle.mq_check.specs.declared.asked.Asked.{Asked}
 use Rattle.mq_check.specs.declared.asked.Asked.TheVariants.{Group}
+use Rattle.mq_check.specs.declared.finding.Difference.TheVariants.{Robustness}
+use Rattle.mq_check.specs.declared.finding.Finding.{Finding}
+use Rattle.mq_check.specs.declared.finding.Finding.TheVariants.{Differs}
 use Rattle.mq_check.specs.declared.terms.Terms.{Terms}
 use Rattle.mq_check.specs.Checking.{CheckingValue, checking_at_start, settled, with_general, with_seen, with_wanted}
 
@@ -59,3 +63,7 @@ abbrev pub two_general : (first second : ℕ) → CheckingValue
 two_general first second =
     with_general 100 timing second a_query a_query
     (settled second (with_general 100 timing first a_query a_query (checking_at_start 100 timing true)))
+
+-- the findings of queries on a subject with these QRVs, if 2 is wanted
+abbrev pub robustness_found : Asked ℕ → (seen : List ℕ) → List (Finding ℕ)
+robustness_found asked seen = list_map (λ (robustness : ℕ). Differs 1000 7 asked (Robustness robustness 2)) seen

@@ -14,6 +14,7 @@ pub mod Headers
 pub mod Numbered
 pub mod Places
 pub mod Queries
+pub mod Repeated
 pub mod Schedules
 pub mod Sizes
 pub mod Slots

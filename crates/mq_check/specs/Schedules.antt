@@ -172,6 +172,16 @@ abbrev pub terms_of : Option (Entry ℕ) → Option (Terms ℕ)
 terms_of None = None
 terms_of (Some query) = terms_in query
 
+-- The fields of a wanted query with the number of its packet. If a tick sends the query again, this is the packet that
+-- started its schedule. The last wanted query on the subject has its number.
+abbrev pub with_packet_of : Option (Terms ℕ) → Terms ℕ → Terms ℕ
+with_packet_of None terms = terms
+with_packet_of (Some last) terms = record terms { packet = last.packet }
+
+abbrev pub terms_wanted : (is_again : Bool) → Terms ℕ → Asked ℕ → SchedulesValue → Terms ℕ
+terms_wanted false terms asked s = terms
+terms_wanted true terms asked s = with_packet_of (terms_of (last_in asked s)) terms
+
 -- The schedules after a host blocked a source. If a query for it was wanted in the last interval, the source is pending.
 abbrev pub marked_blocked : (moment : ℕ) → Asked ℕ → (last : Option (Terms ℕ)) → SchedulesValue → SchedulesValue
 marked_blocked moment asked None s = s

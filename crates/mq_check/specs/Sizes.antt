@@ -9,9 +9,9 @@ use Rattle.mq_check.specs.Waiting.{room}
 abbrev pub slots : ℕ
 slots = 65522
 
--- the bytes of the links of a slot's entries: a slot and a link for each entry, the start and the end of each slot
+-- the bytes of the links of a slot's entries: a slot and two links for each entry, two starts and the end of each slot
 unfoldable pub bytes_of_trails : ℕ
-bytes_of_trails = bytes_for 4 room + bytes_for 8 room + bytes_for 8 slots + bytes_for 8 slots
+bytes_of_trails = bytes_for 4 room + bytes_for 8 room + bytes_for 8 room + bytes_for 8 slots + bytes_for 8 slots + bytes_for 8 slots
 
 -- the bytes of pending entries of this size, with their links and a moment for each slot
 unfoldable pub bytes_of_entries : (entry_size : ℕ) → ℕ

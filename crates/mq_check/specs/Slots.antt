@@ -9,8 +9,8 @@ use Rattle.mq_check.specs.declared.entry.Entry.TheVariants.{Wanted, Seen, Interv
 use Rattle.mq_check.specs.declared.terms.Terms.{Terms}
 use Rattle.mq_check.specs.declared.waiting.Side.{Side}
 use Rattle.mq_check.specs.declared.waiting.Side.TheVariants.{OfWanted, OfSeen}
-use Rattle.mq_check.specs.Trails.{TrailsValue, Reaches}
-use Rattle.mq_check.specs.Waiting.{is_open}
+use Rattle.mq_check.specs.Trails.{TrailsValue, IsNear, Reaches}
+use Rattle.mq_check.specs.Waiting.{is_free, is_open}
 
 -- a number into which bytes are mixed, in order
 abbrev pub mixed : (n : ℕ) → (bytes : List ℕ) → ℕ
@@ -53,11 +53,17 @@ slot_in width (Packet moment number fault) = unused
 abbrev pub entry_at : List (Entry ℕ) → (place : ℕ) → Entry ℕ
 entry_at entries place = slice_index_or entries place (Interval 0 0 0 0)
 
--- each entry without a partner is in its slot, and a search of the slot reaches it
-pub record AreMarked (width : ℕ) (entries : List (Entry ℕ)) (t : TrailsValue) : Type 0 where
+-- Each entry without a partner is in its slot, and a search of the slot reaches it. If it isn't before the moment
+-- `horizon`, a search from the near start reaches it.
+pub record AreMarked (width horizon : ℕ) (entries : List (Entry ℕ)) (t : TrailsValue) : Type 0 where
   pub long : length t.slots ≡ length entries
   pub slot : (place : ℕ) (side : Side) (asked : Asked ℕ) → place < length entries → is_open side asked (entry_at entries place) ≡ true → slice_index t.slots place ≡ slot_of width side asked
   pub reached : (place : ℕ) (side : Side) (asked : Asked ℕ) → place < length entries → is_open side asked (entry_at entries place) ≡ true → Reaches t place
+  pub near : (place : ℕ) (side : Side) (asked : Asked ℕ) → place < length entries → is_free side asked horizon (entry_at entries place) ≡ true → IsNear t place
+
+-- no entry of this slot before a place is free from a moment on
+pub record AreNoneOf (width slot from : ℕ) (entries : List (Entry ℕ)) (place : ℕ) : Type 0 where
+  pub none : (side : Side) (asked : Asked ℕ) (k : ℕ) → slot ≡ slot_of width side asked → k < place → k < length entries → is_free side asked from (entry_at entries k) ≡ false
 
 -- the slot and the moment of a wanted query
 abbrev pub wanted_slot : (width : ℕ) → Entry ℕ → ℕ

@@ -1,26 +1,38 @@
 -- Buffered output of findings, as contracts see it.
-use Rattle.std.specs.Prelude.{◌≡◌, ℕ, zero, suc, ◌||◌, List, length, Result, IfOk, is_err}
+use Rattle.std.specs.Prelude.{◌≡◌, ℕ, zero, suc, ◌||◌, List, [], length, Result, IfOk, is_err}
 use Rattle.mq_wire.specs.Family.{Family}
 use Rattle.mq_text.specs.Printing.{OutputState, Puts}
 use Rattle.mq_check.specs.declared.check_terms.Additions.{Additions}
 use Rattle.mq_check.specs.declared.finding.Finding.{Finding}
+use Rattle.mq_check.specs.declared.repeated.LastDifferences.{LastDifferences}
 use Rattle.mq_check.specs.Checking.{counted_up}
 use Rattle.mq_check.specs.FindingLines.{finding_lines}
+use Rattle.mq_check.specs.Repeated.{no_differences, reported, with_findings}
 
--- the text that isn't written yet, the additions to lines of findings, and the number of reported findings
+-- the unwritten text, the additions to lines of findings, the last differences, and the number of reported findings
 pub record ToldState : Type 0 where
   pub held : List ℕ
   pub additions : Additions
+  pub last : LastDifferences
   pub count : ℕ
+
+-- the state before the first finding
+abbrev pub nothing_told : Additions → ToldState
+nothing_told additions = record { held = []; additions = additions; last = no_differences; count = 0 }
+
+-- the reported ones of these findings
+abbrev pub reported_by : ToldState → List (Finding ℕ) → List (Finding ℕ)
+reported_by told findings = reported told.additions.once told.last findings
 
 -- a count after `times` increments
 abbrev pub counted_times : (times count : ℕ) → ℕ
 counted_times zero count = count
 counted_times (suc n) count = counted_up (counted_times n count)
 
--- these findings were reported in order, or a write failed
+-- the reported ones of these findings were printed in order, or a write failed
 pub record Tells {T E : Type 0} (family : Family) (findings : List (Finding ℕ)) (old new : ToldState) (before after : OutputState) (r : Result T E) : Type 0 where
   pub additions : new.additions ≡ old.additions
-  pub count : IfOk r (λ _. new.count ≡ counted_times (length findings) old.count)
-  pub text : Puts before.held after.held old.held new.held (finding_lines family old.additions findings) r
+  pub last : IfOk r (λ _. new.last ≡ with_findings findings old.last)
+  pub count : IfOk r (λ _. new.count ≡ counted_times (length (reported_by old findings)) old.count)
+  pub text : Puts before.held after.held old.held new.held (finding_lines family old.additions (reported_by old findings)) r
   pub failed : after.failed ≡ before.failed || is_err r

@@ -1,6 +1,6 @@
 //! The check of a capture.
 
-ghost use Rattle.std.specs.Prelude.{◌≡◌, ◌+◌, ◌≤◌, ◌^◌, ◌||◌, [], Err, IfSome, length};
+ghost use Rattle.std.specs.Prelude.{◌≡◌, ◌+◌, ◌≤◌, ◌^◌, ◌||◌, Err, IfSome, length};
 ghost use Rattle.std.specs.contracts.vec.Vec as page;
 ghost use denote.Builtin.{u16};
 ghost use Rattle.mq_arena.specs.Vectors.{Takes, bytes_for};
@@ -13,6 +13,7 @@ ghost use Rattle.mq_check.specs.CheckedCaptures as spec;
 ghost use Rattle.mq_check.specs.Coming.{checked_in};
 ghost use Rattle.mq_check.specs.Ending.{PutsVerdict};
 ghost use Rattle.mq_check.specs.Sizes.{bytes_of_checking};
+ghost use Rattle.mq_check.specs.Telling.{nothing_told};
 
 use crate::check_fault::{CheckFault, is_failed_write};
 use crate::check_terms::CheckTerms;
@@ -119,7 +120,7 @@ where
     requires room { most_bytes ≤ length packet.old }
     requires in_range { IfSome check.old.terms.until (λ ms. ms ≤ 2 ^ 53) }
     requires starts { checked_in check.old.link check.old.queries ≡ at_the_start check.old.link.config check.old.terms.within check.old.terms.strict }
-    requires told { check.old.told ≡ record { held = []; additions = check.old.terms.additions; count = 0 } }
+    requires told { check.old.told ≡ nothing_told check.old.terms.additions }
     ensures checks { spec.Checks check.old.link.config check.old.terms
         (input_of R.remaining reader.old) (input_of R.remaining reader.new)
         (W.contents (inner_of writer.old)) (W.contents (inner_of writer.new))
@@ -148,7 +149,7 @@ where
     requires room { most_bytes ≤ length packet.old }
     requires in_range { IfSome check.old.terms.until (λ ms. ms ≤ 2 ^ 53) }
     requires starts { checked_in check.old.link check.old.queries ≡ at_the_start check.old.link.config check.old.terms.within check.old.terms.strict }
-    requires told { check.old.told ≡ record { held = []; additions = check.old.terms.additions; count = 0 } }
+    requires told { check.old.told ≡ nothing_told check.old.terms.additions }
     ensures puts { PutsVerdict check.old.link.config check.old.terms
         (input_of R.remaining reader.old) (input_of R.remaining reader.new)
         (W.contents (inner_of writer.old)) (W.contents (inner_of writer.new))

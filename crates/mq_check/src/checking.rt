@@ -17,7 +17,7 @@ use crate::entry::Entry;
 use crate::general::query_interval;
 use crate::phase::Phase;
 use crate::schedules::Schedules;
-use crate::settling::{settle, tell_rest};
+use crate::settling::{Expiry, settle, tell_rest};
 use crate::since::Since;
 use crate::stamp::Stamp;
 use crate::told::Told;
@@ -260,12 +260,15 @@ where
         ensures tells { Tells F.Address.family (spec.told within now self.old) told.old told.new
             (output_of W.contents writer.old) (output_of W.contents writer.new) result }
     {
+        let expiry = Expiry {
+            keep: self.schedules.keep(),
+            moment: now,
+        };
         settle::<F, A, W>(
             &mut self.waiting,
-            self.schedules.keep(),
+            &expiry,
             Span::from_ms(within),
             &self.changed,
-            now,
             told,
             writer,
         )

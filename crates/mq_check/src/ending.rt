@@ -7,7 +7,7 @@ ghost use Rattle.mq_check.specs.CheckedCaptures as spec;
 ghost use Rattle.mq_check.specs.Checking.{silence_found, told_at_end};
 ghost use Rattle.mq_check.specs.Coming.{checked_in};
 ghost use Rattle.mq_check.specs.Ending.{IsRestPut, counted_behind, end_text, ended_behind, rest_behind};
-ghost use Rattle.mq_check.specs.Telling.{Tells};
+ghost use Rattle.mq_check.specs.Telling.{Tells, reported_by};
 
 use crate::basis::Basis;
 use crate::check_fault::CheckFault;
@@ -53,7 +53,7 @@ where
     ) -> Result<Totals, CheckFault>
         requires in_range { IfSome self.old.terms.until (λ ms. ms ≤ 2 ^ 53) }
         ensures rest { IsRestPut
-            (rest_behind self.old.link.config self.old.terms.within self.old.terms.until self.old.told.additions last self.old.told.count number (checked_in self.old.link self.old.queries))
+            (rest_behind self.old.link.config self.old.terms.within self.old.terms.until self.old.told last number (checked_in self.old.link self.old.queries))
             (W.contents (inner_of writer.old)) (W.contents (inner_of writer.new))
             self.old.told.held self.new.told.held result }
         ensures failed { has_failed writer.new ≡ has_failed writer.old || spec.is_failed_write result }
@@ -76,7 +76,7 @@ where
         writer: &mut Watched<W>,
     ) -> Result<Totals, CheckFault>
         ensures rest { IsRestPut
-            (ended_behind self.old.link.config self.old.terms.within self.old.told.additions end self.old.told.count number (checked_in self.old.link self.old.queries))
+            (ended_behind self.old.link.config self.old.terms.within self.old.told end number (checked_in self.old.link self.old.queries))
             (W.contents (inner_of writer.old)) (W.contents (inner_of writer.new))
             self.old.told.held self.new.told.held result }
         ensures failed { has_failed writer.new ≡ has_failed writer.old || spec.is_failed_write result }
@@ -105,11 +105,11 @@ where
         rests_on: Basis,
         writer: &mut Watched<W>,
     ) -> Result<Totals, LineFault>
-        ensures text { let found = told_at_end self.old.terms.within self.old.link.config.timing end passed self.old.queries.checking in Puts
+        ensures text { let found = reported_by self.old.told (told_at_end self.old.terms.within self.old.link.config.timing end passed self.old.queries.checking) in Puts
             (W.contents (inner_of writer.old)) (W.contents (inner_of writer.new))
             self.old.told.held self.new.told.held
             (end_text F.Address.family self.old.told.additions found (counted_behind self.old.told.count self.old.queries.checking rests_on found)) result }
-        ensures totals { let found = told_at_end self.old.terms.within self.old.link.config.timing end passed self.old.queries.checking in
+        ensures totals { let found = reported_by self.old.told (told_at_end self.old.terms.within self.old.link.config.timing end passed self.old.queries.checking) in
             IfOk result (λ totals. totals ≡ counted_behind self.old.told.count self.old.queries.checking rests_on found) }
         ensures failed { has_failed writer.new ≡ has_failed writer.old || is_err result }
     {

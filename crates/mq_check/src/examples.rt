@@ -1,17 +1,18 @@
 //! Worked examples of the definitions, each computed by the check. No function here has an effect: its contract is the
 //! example. The tolerance is 100 ms.
 
-ghost use Rattle.std.specs.Prelude.{◌≡◌, ℕ, Bool, List, [], ◌∷◌, true, false, Err, Option};
+ghost use Rattle.std.specs.Prelude.{◌≡◌, ℕ, Bool, List, [], ◌∷◌, ◌++◌, true, false, Err, Option};
 ghost use Rattle.mq_pcap.specs.declared.fault.PcapFault.{PcapFault};
 ghost use Rattle.mq_pcap.specs.Capture.{Captured};
 ghost use Rattle.mq_link.specs.Configuration.{Configuration};
 ghost use Rattle.mq_check.specs.declared.check_fault.CheckFault.TheVariants.{Pcap};
 ghost use Rattle.mq_check.specs.declared.check_terms.Additions.{Additions};
 ghost use Rattle.mq_check.specs.Check.{check_of};
-ghost use Rattle.mq_check.specs.declared.asked.Asked.TheVariants.{Group};
+ghost use Rattle.mq_check.specs.declared.asked.Asked.TheVariants.{AllGroups, Group};
 ghost use Rattle.mq_check.specs.declared.finding.Finding.TheVariants.{Missing, Extra, Interval};
-ghost use Rattle.mq_check.specs.Examples.{both_schedules, seen_again, seen_first, seen_unheld, third_query, two_general, wanted_first};
+ghost use Rattle.mq_check.specs.Examples.{both_schedules, robustness_found, seen_again, seen_first, seen_unheld, third_query, two_general, wanted_first};
 ghost use Rattle.mq_check.specs.Checking.{told};
+ghost use Rattle.mq_check.specs.Repeated.{no_differences, reported};
 
 /// Shows that a query that is late by the tolerance has no finding.
 pub fn late_by_the_tolerance()
@@ -69,6 +70,17 @@ pub fn a_schedule_that_goes_on()
 /// Shows that a third query, an interval after the last one of the first schedule, is extra.
 pub fn a_third_query_of_a_schedule()
     ensures { told 100 5000 third_query ≡ Extra 3000 7 (Group 5) true ∷ [] }
+{}
+
+/// Shows queries with QRV 3, 3, 4, 3 and 3 if 2 is wanted. Each change is reported once, and again in queries of the other
+/// kind. Without `once` each query has its finding.
+pub fn each_change_once()
+    ensures once { reported true no_differences (robustness_found AllGroups (3 ∷ 3 ∷ 4 ∷ 3 ∷ 3 ∷ []))
+        ≡ robustness_found AllGroups (3 ∷ 4 ∷ 3 ∷ []) }
+    ensures each_kind { reported true no_differences (robustness_found AllGroups (3 ∷ []) ++ robustness_found (Group 5) (3 ∷ 3 ∷ []))
+        ≡ robustness_found AllGroups (3 ∷ []) ++ robustness_found (Group 5) (3 ∷ []) }
+    ensures each_query { reported false no_differences (robustness_found AllGroups (3 ∷ 3 ∷ []))
+        ≡ robustness_found AllGroups (3 ∷ 3 ∷ []) }
 {}
 
 /// Shows that a file whose header has a fault has no text.

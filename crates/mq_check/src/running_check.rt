@@ -1,10 +1,11 @@
 //! A check in progress, as one object.
 
-ghost use Rattle.std.specs.Prelude.{◌≡◌, []};
+ghost use Rattle.std.specs.Prelude.{◌≡◌};
 ghost use Rattle.mq_link.specs.State.{link_at};
 ghost use Rattle.mq_check.specs.Check.{at_the_start};
 ghost use Rattle.mq_check.specs.Checking.{checking_at_start};
 ghost use Rattle.mq_check.specs.Coming.{checked_in};
+ghost use Rattle.mq_check.specs.Telling.{nothing_told};
 
 use crate::check_fault::CheckFault;
 use crate::check_terms::CheckTerms;
@@ -44,7 +45,7 @@ where
         ensures link { result.link ≡ link }
         ensures terms { result.terms ≡ terms }
         ensures starts { checked_in result.link result.queries ≡ at_the_start result.link.config result.terms.within result.terms.strict }
-        ensures told { result.told ≡ record { held = []; additions = result.terms.additions; count = 0 } }
+        ensures told { result.told ≡ nothing_told result.terms.additions }
     {
         link.config().is_faultless();
         let own = link.config().own();

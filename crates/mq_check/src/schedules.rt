@@ -267,6 +267,23 @@ fn terms_of<K: WireKey>(query: &Option<Entry<K>>) -> Option<Terms<K>>
     }
 }
 
+/// Returns terms with the packet of other ones, if there are any.
+fn with_packet_of<K: WireKey>(last: Option<Terms<K>>, terms: Terms<K>) -> Terms<K>
+    ensures { numbered_terms K.number result
+        ≡ spec.with_packet_of (numbered_terms_if K.number last) (numbered_terms K.number terms) }
+{
+    match last {
+        Some(last) => Terms {
+            version: terms.version,
+            response: terms.response,
+            querier: terms.querier,
+            to: terms.to,
+            packet: last.packet,
+        },
+        None => terms,
+    }
+}
+
 /// Returns the first of two terms.
 fn first_of<K: WireKey>(a: Option<Terms<K>>, b: Option<Terms<K>>) -> Option<Terms<K>>
     ensures { numbered_terms_if K.number result ≡ spec.first_of (numbered_terms_if K.number a) (numbered_terms_if K.number b) }
@@ -410,6 +427,23 @@ impl<F: Family, A: Allocator> Schedules<F, A> {
             let alone = Unpaired::Scheduled(left);
             self.sent.put(Entry::Seen(due, asked, terms, None, alone));
         }
+    }
+
+    /// Returns the terms of a wanted query. If a tick sends it again, it has the packet that started its schedule.
+    pub(crate) fn terms_wanted(
+        &self,
+        is_again: bool,
+        terms: Terms<F::Address>,
+        asked: Asked<F::Address>,
+    ) -> Terms<F::Address>
+        ensures { numbered_terms F.Address.number result
+            ≡ spec.terms_wanted is_again (numbered_terms F.Address.number terms) (numbered_asked F.Address.number asked) self.now }
+    {
+        if !is_again {
+            return terms;
+        }
+        let last = self.sent.first(Side::OfWanted, asked);
+        with_packet_of(terms_of(&last), terms)
     }
 
     /// Handles a query that becomes wanted.

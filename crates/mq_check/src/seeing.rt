@@ -30,6 +30,22 @@ use mq_table::Timing;
 use mq_wire::{Query, Sources, WireKey};
 use std::alloc::Allocator;
 
+/// A packet with a query: its stamp, its number, and its destination.
+#[derive(Clone, Copy)]
+pub(crate) struct SeenPacket<K: WireKey> {
+    pub(crate) stamp: Stamp,
+    pub(crate) number: u64,
+    pub(crate) to: K,
+}
+
+/// A seen query: its moment, its terms, and those of a query that the link would send.
+#[derive(Clone, Copy)]
+struct SeenQuery<K: WireKey> {
+    moment: Moment,
+    terms: Terms<K>,
+    wanted: Terms<K>,
+}
+
 /// Returns the verdict on a seen query without a partner, which is allowed if it has terms.
 fn allowed_if<K: WireKey>(is_querier: bool, wanted: Option<Terms<K>>) -> Unpaired<K>
     ensures { numbered_unpaired K.number result ≡ spec.allowed_if is_querier (numbered_terms_if K.number wanted) }
@@ -120,6 +136,7 @@ impl<F: Family, A: Allocator> Checking<F, A> {
               from.now (numbered_terms F.Address.number terms) (numbered_asked F.Address.number asked) self.old.waiting;
         } }
     {
+        self.waiting.approach(Side::OfWanted, asked, from);
         if !self.is_late(moment, from, asked) {
             return self.waiting.join(Side::OfWanted, asked, from, terms);
         }
@@ -144,47 +161,43 @@ impl<F: Family, A: Allocator> Checking<F, A> {
         allowed_if(is_querier, either_of(is_unknown, unheld, earlier))
     }
 
-    /// Adds a seen query for each subject of a query. `wanted` has the terms of such a query.
+    /// Adds a seen query for each subject of a query.
     fn see_all(
         &mut self,
-        moment: Moment,
-        terms: Terms<F::Address>,
+        seen: SeenQuery<F::Address>,
         link: &Link<F, A>,
-        wanted: Terms<F::Address>,
         query: &Query<'_, F::Address>,
     )
-        requires in_range { moment ≤ 2 ^ 53 }
-        ensures { self.new ≡ fold (spec.one_seen moment (numbered_terms F.Address.number terms) (unheld.unheld F.FAMILY link.now.state.groups (numbered_terms F.Address.number wanted)))
+        requires in_range { seen.moment ≤ 2 ^ 53 }
+        ensures { self.new ≡ fold (spec.one_seen seen.moment (numbered_terms F.Address.number seen.terms) (unheld.unheld F.FAMILY link.now.state.groups (numbered_terms F.Address.number seen.wanted)))
             self.old (queries.asked_in (numbered_query F.Address.number query.now)) }
     {
         let sources = sources_of(&query.version);
         if sources.is_empty() {
             let asked = asked_without_sources::<F>(query.group);
-            let held = unheld(link, wanted, asked);
-            self.see(moment, terms, held, asked);
+            let held = unheld(link, seen.wanted, asked);
+            self.see(seen.moment, seen.terms, held, asked);
             return;
         }
-        self.see_sources(moment, terms, link, wanted, query.group, sources);
+        self.see_sources(seen, link, query.group, sources);
     }
 
     /// Adds a seen query for each of some sources of a group.
     fn see_sources(
         &mut self,
-        moment: Moment,
-        terms: Terms<F::Address>,
+        seen: SeenQuery<F::Address>,
         link: &Link<F, A>,
-        wanted: Terms<F::Address>,
         group: F::Address,
         sources: Sources<'_, F::Address>,
     )
-        requires in_range { moment ≤ 2 ^ 53 }
-        ensures { self.new ≡ fold (spec.one_seen moment (numbered_terms F.Address.number terms) (unheld.unheld F.FAMILY link.now.state.groups (numbered_terms F.Address.number wanted)))
+        requires in_range { seen.moment ≤ 2 ^ 53 }
+        ensures { self.new ≡ fold (spec.one_seen seen.moment (numbered_terms F.Address.number seen.terms) (unheld.unheld F.FAMILY link.now.state.groups (numbered_terms F.Address.number seen.wanted)))
             self.old (list_map (Source (F.Address.number group)) sources.entry) }
     {
         for source in sources {
             let asked = Asked::Source(group, source);
-            let held = unheld(link, wanted, asked);
-            self.see(moment, terms, held, asked);
+            let held = unheld(link, seen.wanted, asked);
+            self.see(seen.moment, seen.terms, held, asked);
         }
     }
 
@@ -251,17 +264,15 @@ impl<F: Family, A: Allocator> Checking<F, A> {
     /// Handles a query for a group or for sources that is seen, and counts it.
     fn see_specific(
         &mut self,
-        moment: Moment,
-        terms: Terms<F::Address>,
+        seen: SeenQuery<F::Address>,
         link: &Link<F, A>,
-        wanted: Terms<F::Address>,
         query: &Query<'_, F::Address>,
     )
-        requires in_range { moment ≤ 2 ^ 53 }
-        ensures { self.new ≡ spec.specific_seen moment (numbered_terms F.Address.number terms) (unheld.unheld F.FAMILY link.now.state.groups (numbered_terms F.Address.number wanted))
+        requires in_range { seen.moment ≤ 2 ^ 53 }
+        ensures { self.new ≡ spec.specific_seen seen.moment (numbered_terms F.Address.number seen.terms) (unheld.unheld F.FAMILY link.now.state.groups (numbered_terms F.Address.number seen.wanted))
             (queries.asked_in (numbered_query F.Address.number query.now)) self.old }
     {
-        self.see_all(moment, terms, link, wanted, query);
+        self.see_all(seen, link, query);
         self.specific = self.specific.saturating_add(1);
     }
 
@@ -307,24 +318,27 @@ where
         &mut self,
         within: u32,
         link: &Link<F, A>,
-        stamp: Stamp,
-        packet: u64,
-        to: F::Address,
+        packet: SeenPacket<F::Address>,
         query: &Query<'_, F::Address>,
     )
-        ensures { self.new ≡ spec.query_came within link.now.config link.now.state stamp packet (F.Address.number to) (numbered_query F.Address.number query.now) self.old }
+        ensures { self.new ≡ spec.query_came within link.now.config link.now.state packet.stamp packet.number (F.Address.number packet.to) (numbered_query F.Address.number query.now) self.old }
     {
         let config = link.config();
         config.is_faultless();
-        let terms = terms_of(packet, to, query);
+        let terms = terms_of(packet.number, packet.to, query);
         let configured = config.timing();
         let in_force = link.timing();
         if is_general::<F>(query) {
             let wanted = general_terms(config, in_force);
-            self.see_general(within, configured, stamp, terms, wanted);
+            self.see_general(within, configured, packet.stamp, terms, wanted);
             return;
         }
         let wanted = specific_terms(config, in_force, query);
-        self.see_specific(stamp.moment(), terms, link, wanted, query);
+        let seen = SeenQuery {
+            moment: packet.stamp.moment(),
+            terms,
+            wanted,
+        };
+        self.see_specific(seen, link, query);
     }
 }

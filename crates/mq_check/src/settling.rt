@@ -18,26 +18,31 @@ use mq_text::LineFault;
 use std::alloc::Allocator;
 use std::io::Write;
 
-/// Removes the entries that have expired at a moment, and reports their findings. An entry expires after the time `keep`.
-/// `changed` is the last change of the role.
+/// The time after which an entry expires, and the moment at which expired entries are removed.
+#[derive(Drop)]
+pub(crate) struct Expiry {
+    pub(crate) keep: Span,
+    pub(crate) moment: Moment,
+}
+
+/// Removes the entries that have expired, and reports their findings. `changed` is the last change of the role.
 pub(crate) fn settle<F: Family, A: Allocator, W: Write>(
     waiting: &mut Waiting<F, A>,
-    keep: Span,
+    expiry: &Expiry,
     within: Span,
     changed: &Option<Moment>,
-    now: Moment,
     told: &mut Told,
     writer: &mut Watched<W>,
 ) -> Result<(), LineFault>
 where
     F::Address: LineKey,
-    requires in_range { now ≤ 2 ^ 53 }
+    requires in_range { expiry.now.moment ≤ 2 ^ 53 }
     requires changed_in_range { IfSome changed.now (λ moment. moment ≤ 2 ^ 53) }
-    ensures settled { IfOk result (λ _. waiting.new ≡ waits.settled keep now waiting.old) }
-    ensures tells { Tells F.Address.family (waits.told keep within now changed.now waiting.old) told.old told.new
+    ensures settled { IfOk result (λ _. waiting.new ≡ waits.settled expiry.now.keep expiry.now.moment waiting.old) }
+    ensures tells { Tells F.Address.family (waits.told expiry.now.keep within expiry.now.moment changed.now waiting.old) told.old told.new
         (output_of W.contents writer.old) (output_of W.contents writer.new) result }
 {
-    while let Some(entry) = waiting.pop_over(keep, now) {
+    while let Some(entry) = waiting.pop_over(expiry.keep, expiry.moment) {
         tell_entry::<F, W>(&entry, within, changed, told, writer)?;
     }
     Ok(())

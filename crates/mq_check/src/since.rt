@@ -2,6 +2,7 @@
 
 ghost use Rattle.std.specs.Prelude.{◌≡◌, ◌+◌, ◌-◌, ◌≤◌, ◌^◌, nat_le};
 
+use crate::stamp::Stamp;
 use mq_count::{Meter, Moment, Span};
 use std::marker::Model;
 
@@ -50,6 +51,26 @@ impl Since {
         ensures { result ≡ now - within }
     {
         Since { within, at: now }
+    }
+
+    /// Returns a copy.
+    pub(crate) fn copied(&self) -> Since
+        ensures { result ≡ self.now }
+    {
+        Since {
+            within: self.within,
+            at: self.at,
+        }
+    }
+
+    /// Returns whether this moment isn't after another.
+    pub(crate) fn is_by(&self, other: &Since) -> bool
+        ensures { result ≡ nat_le self.now other.now }
+    {
+        let start = Stamp::of(0).moment();
+        let mut meter = Meter::new();
+        meter.reached(self.at, start.after(self.within))
+            || meter.reached(self.at.after(other.within), other.at.after(self.within))
     }
 
     /// Returns whether a moment isn't before this one.

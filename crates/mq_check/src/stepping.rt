@@ -46,7 +46,7 @@ where
     {
         self.link.config().is_faultless();
         let was_querier = self.link.is_querier();
-        self.queries.begin(now, !was_querier);
+        self.queries.begin(now, true, !was_querier);
         self.link.tick(now, &mut self.queries);
         if was_querier {
             return;
@@ -70,7 +70,7 @@ where
         let was_querier = self.link.is_querier();
         let now = stamp.moment();
         self.queries.block_all(now, datagram);
-        self.queries.begin(now, !was_querier);
+        self.queries.begin(now, false, !was_querier);
         self.link
             .receive(&datagram.envelope, datagram.body, now, &mut self.queries);
         let stays_querier = self.link.is_querier();

@@ -24,7 +24,8 @@ pub struct Terms<K: WireKey> {
     pub querier: Option<QuerierTerms>,
     /// The destination of its packet.
     pub to: K,
-    /// The number of its packet, which no comparison reads. For a wanted query, it is that of the last packet before.
+    /// The number of its packet, which no comparison reads. A wanted query has that of the packet which makes the link send
+    /// it, or which started its schedule.
     pub packet: u64,
 }
 

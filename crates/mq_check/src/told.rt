@@ -2,10 +2,12 @@
 
 ghost use Rattle.std.specs.Prelude.{◌≡◌, ◌+◌, ◌-◌, ◌^◌, ◌||◌, [], ◌∷◌, ◌++◌, IfOk, is_err, min};
 ghost use Rattle.mq_count.specs.Streams.{inner_of, has_failed};
-ghost use Rattle.mq_text.specs.Printing.{Puts};
+ghost use Rattle.mq_text.specs.Printing.{Puts, output_of};
 ghost use Rattle.mq_check.specs.FindingLines.{additions_text, finding_line, finding_text, last_lines, packets_line, querier_line, totals_line};
 ghost use Rattle.mq_check.specs.Numbered.{numbered_finding};
 ghost use Rattle.mq_check.specs.Checking.{counted_up};
+ghost use Rattle.mq_check.specs.Repeated.{is_left_out, with_finding};
+ghost use Rattle.mq_check.specs.Telling.{Tells, nothing_told};
 
 use crate::basis::Basis;
 use crate::check_terms::Additions;
@@ -13,19 +15,22 @@ use crate::finding::Finding;
 use crate::finding_lines::{
     put_citation, put_finding, put_packet, put_packets, put_querier_line, put_totals,
 };
+use crate::repeated::LastDifferences;
 use crate::totals::Totals;
 use mq_count::Watched;
 use mq_lines::LineKey;
 use mq_link::Family;
 use mq_text::{LineFault, Text, flush, make_room};
+use mq_wire::WireKey;
 use std::io::Write;
 use std::marker::Model;
 
-/// The text of findings that isn't written yet, the additions to their lines, and the number of reported findings.
+/// The unwritten text of findings, their additions, the last differences, and the number of reported findings.
 #[derive(Drop)]
 pub(crate) struct Told {
     buffer: Text,
     additions: Additions,
+    last: LastDifferences,
     count: u64,
 }
 
@@ -34,17 +39,18 @@ impl Model for Told {
 
     ghost Value = { ToldState };
 
-    ghost view = { λ t. record { held = t.buffer.items; additions = t.additions; count = t.count } };
+    ghost view = { λ t. record { held = t.buffer.items; additions = t.additions; last = t.last; count = t.count } };
 }
 
 impl Told {
     /// Returns a state without text or findings.
     pub(crate) fn new(additions: Additions) -> Told
-        ensures { result ≡ record { held = []; additions = additions; count = 0 } }
+        ensures { result ≡ nothing_told additions }
     {
         Told {
             buffer: Text::new(),
             additions,
+            last: LastDifferences::new(),
             count: 0,
         }
     }
@@ -56,8 +62,41 @@ impl Told {
         self.count
     }
 
-    /// Reports a finding.
+    /// Reports a finding, unless it is left out because it repeats the last one of its variable.
     pub(crate) fn tell<F: Family, W: Write>(
+        &mut self,
+        finding: Finding<F::Address>,
+        writer: &mut Watched<W>,
+    ) -> Result<(), LineFault>
+    where
+        F::Address: LineKey,
+        ensures { Tells F.Address.family (numbered_finding F.Address.number finding ∷ []) self.old self.new
+            (output_of W.contents writer.old) (output_of W.contents writer.new) result }
+    {
+        let is_left_out = self.leaves_out(finding);
+        self.note(finding);
+        if is_left_out {
+            return Ok(());
+        }
+        self.put_line::<F, W>(finding, writer)
+    }
+
+    /// Returns whether a finding is left out because it repeats the last one of its variable.
+    fn leaves_out<K: WireKey>(&self, finding: Finding<K>) -> bool
+        ensures { result ≡ is_left_out self.now.additions.once self.now.last (numbered_finding K.number finding) }
+    {
+        self.last.repeats(finding) && self.additions.once
+    }
+
+    /// Notes a finding, reported or left out.
+    fn note<K: WireKey>(&mut self, finding: Finding<K>)
+        ensures { self.new ≡ record self.old { last = with_finding (numbered_finding K.number finding) self.old.last } }
+    {
+        self.last = self.last.with(finding);
+    }
+
+    /// Puts and counts the line of a finding.
+    fn put_line<F: Family, W: Write>(
         &mut self,
         finding: Finding<F::Address>,
         writer: &mut Watched<W>,
@@ -68,6 +107,7 @@ impl Told {
             (W.contents (inner_of writer.old)) (W.contents (inner_of writer.new))
             self.old.held self.new.held (finding_line F.Address.family self.old.additions (numbered_finding F.Address.number finding)) result }
         ensures additions { self.new.additions ≡ self.old.additions }
+        ensures last { self.new.last ≡ self.old.last }
         ensures count { IfOk result (λ _. self.new.count ≡ counted_up self.old.count) }
         ensures failed { has_failed writer.new ≡ has_failed writer.old || is_err result }
     {
@@ -89,6 +129,7 @@ impl Told {
             (W.contents (inner_of writer.old)) (W.contents (inner_of writer.new))
             self.old.held self.new.held (finding_text F.Address.family (numbered_finding F.Address.number finding)) result }
         ensures additions { self.new.additions ≡ self.old.additions }
+        ensures last { self.new.last ≡ self.old.last }
         ensures count { self.new.count ≡ self.old.count }
         ensures failed { has_failed writer.new ≡ has_failed writer.old || is_err result }
     {
@@ -109,6 +150,7 @@ impl Told {
             (W.contents (inner_of writer.old)) (W.contents (inner_of writer.new))
             self.old.held self.new.held (additions_text F.Address.family self.old.additions (numbered_finding F.Address.number finding)) result }
         ensures additions { self.new.additions ≡ self.old.additions }
+        ensures last { self.new.last ≡ self.old.last }
         ensures count { self.new.count ≡ self.old.count }
         ensures failed { has_failed writer.new ≡ has_failed writer.old || is_err result }
     {
@@ -192,6 +234,7 @@ impl Told {
             (W.contents (inner_of writer.old)) (W.contents (inner_of writer.new))
             self.old.held self.new.held [] result }
         ensures additions { self.new.additions ≡ self.old.additions }
+        ensures last { self.new.last ≡ self.old.last }
         ensures count { self.new.count ≡ self.old.count }
         ensures failed { has_failed writer.new ≡ has_failed writer.old || is_err result }
     {

@@ -8,6 +8,7 @@ ghost use Rattle.mq_check.specs.Entries as spec;
 ghost use Rattle.mq_check.specs.Numbered.{numbered_asked, numbered_entry, numbered_entry_if, numbered_terms, numbered_terms_if};
 ghost use Rattle.mq_check.specs.Places.{IsFirstFree, IsFirstOver, IsNoneFree, IsNoneOver};
 ghost use Rattle.mq_check.specs.Sizes.{bytes_of_waiting};
+ghost use Rattle.mq_check.specs.Slots.{AreNoneOf};
 ghost use Rattle.mq_check.specs.Waiting as waits;
 
 use crate::asked::{Asked, is_same};
@@ -40,6 +41,8 @@ pub enum Side {
 pub(crate) struct Waiting<F: Family, A: Allocator> {
     entries: VecDeque<Entry<F::Address>, A>,
     trails: Trails<A>,
+    // The latest moment from which an entry was searched.
+    horizon: Since,
     // For each slot, an upper bound of the moments of its wanted queries.
     latest: Vec<Moment, A>,
     // The number of the last wanted query for a group.
@@ -59,7 +62,7 @@ impl<F: Family, A: Allocator> Model for Waiting<F, A> {
     ghost view = { λ w. record { entries = list_map (numbered_entry F.Address.number) w.entries.items; is_full = w.is_full } };
 
     ghost invariant = { λ w. (deque_capacity w.entries ≡ room)
-        × AreMarked F.Address.WIDTH (list_map (numbered_entry F.Address.number) w.entries.items) w.trails
+        × AreMarked F.Address.WIDTH w.horizon (list_map (numbered_entry F.Address.number) w.entries.items) w.trails
         × AreBounded F.Address.WIDTH (list_map (numbered_entry F.Address.number) w.entries.items) w.latest.items
         × (length w.latest.items ≡ 65522) };
 }
@@ -164,6 +167,7 @@ impl<F: Family, A: Allocator> Waiting<F, A> {
         Ok(Waiting {
             entries: VecDeque::from_vec(memory.with_capacity(ROOM)?),
             trails: Trails::new(memory)?,
+            horizon: Since::start(),
             latest: filled(memory, Stamp::of(0).moment(), SLOTS)?,
             last_group: 0,
             is_full: false,
@@ -198,6 +202,23 @@ impl<F: Family, A: Allocator> Waiting<F, A> {
 
     /// Pairs the first entry of a side with this subject that has no partner and isn't before `from`, and returns its terms.
     pub(crate) fn join(
+        &mut self,
+        side: Side,
+        asked: Asked<F::Address>,
+        from: &Since,
+        other: Terms<F::Address>,
+    ) -> Option<Terms<F::Address>>
+        ensures terms { numbered_terms_if F.Address.number result
+            ≡ spec.first_terms (waits.is_free side (numbered_asked F.Address.number asked) from.now) self.old.entries }
+        ensures joined { self.new
+            ≡ waits.with_partner side (numbered_asked F.Address.number asked) from.now (numbered_terms F.Address.number other) self.old }
+    {
+        self.approach(side, asked, from);
+        self.join_first(side, asked, from, other)
+    }
+
+    /// Pairs such an entry, and returns its terms.
+    fn join_first(
         &mut self,
         side: Side,
         asked: Asked<F::Address>,
@@ -259,13 +280,49 @@ impl<F: Family, A: Allocator> Waiting<F, A> {
         }
     }
 
+    /// Notes that the next searches for this subject are from a moment on. So none passes the same earlier entries again.
+    pub(crate) fn approach(&mut self, side: Side, asked: Asked<F::Address>, from: &Since)
+        ensures { self.new ≡ self.old }
+    {
+        if self.horizon.is_by(from) {
+            let slot = slot_of(side, asked);
+            let place = self.near_place(slot, from);
+            self.trails.come_near(slot, place);
+            self.horizon = from.copied();
+        }
+    }
+
+    /// Returns the place of the first entry of a slot that isn't before `from`, or that of another entry before it.
+    fn near_place(&self, slot: usize, from: &Since) -> usize
+        requires slot { slot < 65522 }
+        ensures { AreNoneOf F.Address.WIDTH slot from.now self.now.entries result }
+    {
+        let mut place = self.start(slot, from);
+        while place < self.entries.len() && !from.is_reached(self.entries[place].moment()) {
+            place = self.trails.next(place, slot);
+        }
+        place
+    }
+
+    /// Returns a place before which no entry of a slot is free from a moment on.
+    fn start(&self, slot: usize, from: &Since) -> usize
+        requires slot { slot < 65522 }
+        ensures { AreNoneOf F.Address.WIDTH slot from.now self.now.entries result }
+    {
+        if self.horizon.is_by(from) {
+            self.trails.near_start(slot)
+        } else {
+            self.trails.start(slot)
+        }
+    }
+
     /// Returns the place of the first entry of a side with this subject that has no partner and isn't before `from`.
     fn place_of(&self, side: Side, asked: Asked<F::Address>, from: &Since) -> Option<usize>
         ensures none { IfNone result (IsNoneFree side (numbered_asked F.Address.number asked) from.now self.now.entries) }
         ensures some { IfSome result (IsFirstFree side (numbered_asked F.Address.number asked) from.now self.now.entries) }
     {
         let slot = slot_of(side, asked);
-        let mut place = self.trails.start(slot);
+        let mut place = self.start(slot, from);
         while place < self.entries.len() {
             if is_free::<F>(side, asked, from, &self.entries[place]) {
                 return Some(place);

@@ -15,6 +15,7 @@ use crate::basis::Basis;
 use crate::checked_family::CheckedFamily;
 use crate::checking::Checking;
 use crate::headers::Headers;
+use crate::seeing::SeenPacket;
 use crate::seen_queries::query_spelled;
 use crate::stamp::Stamp;
 use crate::told::Told;
@@ -41,6 +42,7 @@ where
     basis: Basis,
     own: F::Address,
     moment: Moment,
+    by_tick: bool,
     is_returning: bool,
 }
 
@@ -53,7 +55,7 @@ where
 
     ghost Value = { WantingValue };
 
-    ghost view = { λ w. record { checking = w.checking; basis = w.basis; own = F.Address.number w.own; moment = w.moment; is_returning = w.is_returning } };
+    ghost view = { λ w. record { checking = w.checking; basis = w.basis; own = F.Address.number w.own; moment = w.moment; by_tick = w.by_tick; is_returning = w.is_returning } };
 
     ghost invariant = { λ w. w.moment ≤ 2 ^ 53 };
 }
@@ -69,23 +71,26 @@ where
         moment: Moment,
     ) -> WantedQueries<F, A>
         requires { moment ≡ 0 }
-        ensures { result ≡ record { checking = checking; basis = basis.basis_at_start (basis.named F.FAMILY (F.Address.number own)); own = F.Address.number own; moment = moment; is_returning = false } }
+        ensures { result ≡ record { checking = checking; basis = basis.basis_at_start (basis.named F.FAMILY (F.Address.number own)); own = F.Address.number own; moment = moment; by_tick = false; is_returning = false } }
     {
         WantedQueries {
             checking,
             basis: Basis::at_start(F::named(own), F::named(own), moment),
             own,
             moment,
+            by_tick: false,
             is_returning: false,
         }
     }
 
-    /// Sets the moment of the next queries. General queries are wanted if the router may become querier again.
-    pub(crate) fn begin(&mut self, moment: Moment, is_returning: bool)
+    /// Sets the moment of the next queries, and whether a tick makes the link send them. General queries are wanted if the
+    /// router may become querier again.
+    pub(crate) fn begin(&mut self, moment: Moment, by_tick: bool, is_returning: bool)
         requires in_range { moment ≤ 2 ^ 53 }
-        ensures { self.new ≡ record self.old { moment = moment; is_returning = is_returning } }
+        ensures { self.new ≡ record self.old { moment = moment; by_tick = by_tick; is_returning = is_returning } }
     {
         self.moment = moment;
+        self.by_tick = by_tick;
         self.is_returning = is_returning;
     }
 
@@ -247,21 +252,30 @@ where
               spec.query_came within link.now.config link.now.state stamp self.old.basis.packets (F.Address.number to) (numbered_query F.Address.number query.now) self.old.checking;
         } }
     {
-        let packet = self.basis.packets;
-        self.checking
-            .query_seen(within, link, stamp, packet, to, query);
+        let packet = SeenPacket {
+            stamp,
+            number: self.basis.packets,
+            to,
+        };
+        self.checking.query_seen(within, link, packet, query);
     }
 
     /// Handles a query that the link sends.
     fn want(&mut self, to: F::Address, query: &Query<'_, F::Address>)
         ensures { self.new ≡ record self.old {
           checking =
-              spec.one_wanted F.FAMILY self.old.moment self.old.basis.packets self.old.is_returning (F.Address.number to) (numbered_query F.Address.number query.now) self.old.checking;
+              spec.one_wanted F.FAMILY self.old.moment self.old.basis.packets self.old.by_tick self.old.is_returning (F.Address.number to) (numbered_query F.Address.number query.now) self.old.checking;
         } }
     {
         let packet = self.basis.packets;
-        self.checking
-            .query_wanted(self.moment, packet, self.is_returning, to, query);
+        self.checking.query_wanted(
+            self.moment,
+            packet,
+            self.by_tick,
+            self.is_returning,
+            to,
+            query,
+        );
     }
 }
 

@@ -103,32 +103,55 @@ impl<F: Family, A: Allocator> Checking<F, A> {
         }
     }
 
-    /// Adds a wanted query for each subject of a query.
-    fn want_all(&mut self, moment: Moment, terms: Terms<F::Address>, query: &Query<'_, F::Address>)
+    /// Adds a wanted query for a subject of a query. `is_again` is set if a tick sends the query again.
+    fn want_subject(
+        &mut self,
+        moment: Moment,
+        is_again: bool,
+        terms: Terms<F::Address>,
+        asked: Asked<F::Address>,
+    )
         requires in_range { moment ≤ 2 ^ 53 }
-        ensures { self.new ≡ fold (spec.with_wanted moment (numbered_terms F.Address.number terms)) self.old (queries.asked_in (numbered_query F.Address.number query.now)) }
+        ensures { self.new ≡ spec.subject_wanted moment is_again (numbered_terms F.Address.number terms) self.old (numbered_asked F.Address.number asked) }
+    {
+        let wanted = self.schedules.terms_wanted(is_again, terms, asked);
+        self.want(moment, wanted, asked);
+    }
+
+    /// Adds a wanted query for each subject of a query. `is_again` is set if a tick sends the query again.
+    fn want_all(
+        &mut self,
+        moment: Moment,
+        is_again: bool,
+        terms: Terms<F::Address>,
+        query: &Query<'_, F::Address>,
+    )
+        requires in_range { moment ≤ 2 ^ 53 }
+        ensures { self.new ≡ fold (spec.subject_wanted moment is_again (numbered_terms F.Address.number terms)) self.old (queries.asked_in (numbered_query F.Address.number query.now)) }
     {
         let sources = sources_of(&query.version);
         if sources.is_empty() {
-            self.want(moment, terms, asked_without_sources::<F>(query.group));
+            let asked = asked_without_sources::<F>(query.group);
+            self.want_subject(moment, is_again, terms, asked);
             return;
         }
-        self.want_sources(moment, terms, query.group, sources);
+        self.want_sources(moment, is_again, terms, query.group, sources);
     }
 
-    /// Adds a wanted query for each of some sources of a group.
+    /// Adds a wanted query for each of some sources of a group. `is_again` is set if a tick sends the query again.
     fn want_sources(
         &mut self,
         moment: Moment,
+        is_again: bool,
         terms: Terms<F::Address>,
         group: F::Address,
         sources: Sources<'_, F::Address>,
     )
         requires in_range { moment ≤ 2 ^ 53 }
-        ensures { self.new ≡ fold (spec.with_wanted moment (numbered_terms F.Address.number terms)) self.old (list_map (Source (F.Address.number group)) sources.entry) }
+        ensures { self.new ≡ fold (spec.subject_wanted moment is_again (numbered_terms F.Address.number terms)) self.old (list_map (Source (F.Address.number group)) sources.entry) }
     {
         for source in sources {
-            self.want(moment, terms, Asked::Source(group, source));
+            self.want_subject(moment, is_again, terms, Asked::Source(group, source));
         }
     }
 }
@@ -138,21 +161,24 @@ where
     F::Address: LineKey,
 {
     /// Handles a query that the link sends after a packet. A general query is wanted only if the router becomes querier
-    /// again.
+    /// again. A tick sends each other query again.
     pub(crate) fn query_wanted(
         &mut self,
         moment: Moment,
         packet: u64,
+        by_tick: bool,
         is_returning: bool,
         to: F::Address,
         query: &Query<'_, F::Address>,
     )
         requires in_range { moment ≤ 2 ^ 53 }
-        ensures { self.new ≡ spec.one_wanted F.FAMILY moment packet is_returning (F.Address.number to) (numbered_query F.Address.number query.now) self.old }
+        ensures { self.new ≡ spec.one_wanted F.FAMILY moment packet by_tick is_returning (F.Address.number to) (numbered_query F.Address.number query.now) self.old }
     {
-        if is_general::<F>(query) && !is_returning {
+        let is_general = is_general::<F>(query);
+        if is_general && !is_returning {
             return;
         }
-        self.want_all(moment, terms_of(packet, to, query), query);
+        let terms = terms_of(packet, to, query);
+        self.want_all(moment, by_tick && !is_general, terms, query);
     }
 }

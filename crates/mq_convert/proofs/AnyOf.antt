@@ -11,7 +11,8 @@ pub made_long : {X Y : Type 0} (f : X → Y) (xs : List X) (ys : List Y) → lis
 made_long f xs ys made = ap length (sym made) ∙ mapped_long xs f
 
 -- an element as it was read, at its place in the list of what is made of each
-pub made_at : {X Y : Type 0} (f : X → Y) (xs : List X) (ys : List Y) (place : ℕ) (x : X) → list_map f xs ≡ ys → x ≡ get_or xs place x → f x ≡ get_or ys place (f x)
+pub made_at : {X Y : Type 0} (f : X → Y) (xs : List X) (ys : List Y) (place : ℕ) (x : X) → list_map f xs ≡ ys → x ≡ get_or xs place x →
+    f x ≡ get_or ys place (f x)
 made_at f xs ys place x made is = ap f is ∙ sym (mapped_at f xs place x) ∙ ap (λ (zs : List _). get_or zs place (f x)) made
 
 from_place : {X : Type 0} (xs : List X) (place : ℕ) (x : X) → place < length xs → x ≡ get_or xs place x → drop place xs ≡ x ∷ drop (suc place) xs
@@ -26,7 +27,8 @@ found_any p x rest is = rw is refl
 pub one_any : {X : Type 0} (p : X → Bool) (xs : List X) (place : ℕ) (x : X) → place < length xs → x ≡ get_or xs place x → p x ≡ false
     → list_any p xs ≡ list_any p (drop place xs) → list_any p xs ≡ list_any p (drop (place + 1) xs)
 one_any p xs place x within is fails passed =
-    let next : list_any p xs ≡ list_any p (drop (suc place) xs) = passed ∙ ap (list_any p) (from_place xs place x within is) ∙ skipped_any p x (drop (suc place) xs) fails in
+    let next : list_any p xs ≡ list_any p (drop (suc place) xs) = passed ∙ ap (list_any p) (from_place xs place x within is) ∙
+    skipped_any p x (drop (suc place) xs) fails in
     rw add-one next
 
 pub any_at : {X : Type 0} (p : X → Bool) (xs : List X) (place : ℕ) (x : X) → place < length xs → x ≡ get_or xs place x → p x ≡ true

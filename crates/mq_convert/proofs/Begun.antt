@@ -9,7 +9,8 @@ use Rattle.mq_convert.specs.Files.{EndsBy, endless, outer_fault}
 use Rattle.mq_convert.specs.Reading.{IsBegun}
 use Rattle.mq_convert.specs.Sizes.{head_size, is_start}
 
-by_number : (number : ℕ) (context : ContextState) (bytes : List ℕ) → (nat_lt (length bytes) 1 && not (is_start context.kind)) ≡ false → IsBegun context.kind bytes
+by_number : (number : ℕ) (context : ContextState) (bytes : List ℕ) → (nat_lt (length bytes) 1 && not (is_start context.kind)) ≡ false →
+    IsBegun context.kind bytes
     → (few : Bool) → nat_lt number endless ≡ few → (end : Option BlockFault) × EndsBy number context bytes end
 unfolding outer_fault
 by_number number context bytes all begun false is = (Some fault.Endless, inl (rw (all, is) refl))
@@ -20,11 +21,13 @@ by_number number context bytes all (inr (size, whole, says, short)) true is =
     let cut = lt-ltb (length bytes) size short in
     (Some fault.Cut, inl (rw (all, is, long, says, cut) refl))
 
-by_start : (number : ℕ) (context : ContextState) → IsBegun context.kind [] → (start : Bool) → is_start context.kind ≡ start → (end : Option BlockFault) × EndsBy number context [] end
+by_start : (number : ℕ) (context : ContextState) → IsBegun context.kind [] → (start : Bool) → is_start context.kind ≡ start →
+    (end : Option BlockFault) × EndsBy number context [] end
 by_start number context begun false is = (None, (refl, is))
 by_start number context begun true is = by_number number context [] (rw is refl) begun (nat_lt number endless) refl
 
-pub begun_ends : (number : ℕ) (context : ContextState) (bytes : List ℕ) → IsBegun context.kind bytes → (end : Option BlockFault) × EndsBy number context bytes end
+pub begun_ends : (number : ℕ) (context : ContextState) (bytes : List ℕ) → IsBegun context.kind bytes → (end : Option BlockFault) ×
+    EndsBy number context bytes end
 begun_ends number context [] begun = by_start number context begun (is_start context.kind) refl
 begun_ends number context (byte ∷ bytes) begun =
     let some = le-ltb (length (byte ∷ bytes)) 1 (omega arith) in

@@ -18,7 +18,8 @@ use Rattle.mq_convert.specs.Records.{written_of}
 use Rattle.mq_convert.proofs.Begun.{begun_ends}
 use Rattle.mq_convert.proofs.NextBlocks.{some_head}
 
-put_passed : (before after : Option (List ℕ)) (held left text : List ℕ) (r : Result ConvertCounts ConvertFault) → is_failed_write r ≡ false → IsPut before after held left text r → Passes before after held left text
+put_passed : (before after : Option (List ℕ)) (held left text : List ℕ) (r : Result ConvertCounts ConvertFault) → is_failed_write r ≡ false →
+    IsPut before after held left text r → Passes before after held left text
 put_passed before after held left text (Ok counts) unlike put = put
 put_passed before after held left text (Err answer.Read) unlike put = put
 put_passed before after held left text (Err answer.Write) unlike put = absurd (cc)
@@ -26,7 +27,8 @@ put_passed before after held left text (Err answer.Memory) unlike put = put
 put_passed before after held left text (Err (answer.Block number f)) unlike put = put
 
 -- the rest was not written whole
-pub not_flushed : (choice : Choice) (old new : InputState) (before mid after : Option (List ℕ)) (held left : List ℕ) (r : Result ConvertCounts ConvertFault) → held ≡ [] → is_failed_write r ≡ false
+pub not_flushed : (choice : Choice) (old new : InputState) (before mid after : Option (List ℕ)) (held left : List ℕ)
+    (r : Result ConvertCounts ConvertFault) → held ≡ [] → is_failed_write r ≡ false
     → PutsCapture choice old new before mid held left r → GrowsByBeginning mid after (left ++ []) → Converts choice old new before after (Err answer.Write)
 not_flushed choice old new before mid after held left r none unlike puts begun =
     let text = written_of choice puts.blocks in
@@ -46,7 +48,8 @@ all_written : (before after : Option (List ℕ)) (text : List ℕ) → Passes be
 all_written before after text passed =
     subst (λ (t : List ℕ). Appends before after t) (sym (passed.parts ∙ append-nil passed.written)) passed.grows
 
-by_answer : (before after : Option (List ℕ)) (text : List ℕ) (r : Result ConvertCounts ConvertFault) → is_failed_write r ≡ false → (r ≡ Err answer.Memory → ⊥) → Appends before after text → IsWritten before after text r
+by_answer : (before after : Option (List ℕ)) (text : List ℕ) (r : Result ConvertCounts ConvertFault) → is_failed_write r ≡ false →
+    (r ≡ Err answer.Memory → ⊥) → Appends before after text → IsWritten before after text r
 by_answer before after text (Ok counts) unlike some grows = grows
 by_answer before after text (Err answer.Read) unlike some grows = grows
 by_answer before after text (Err answer.Write) unlike some grows = absurd (cc)
@@ -54,7 +57,8 @@ by_answer before after text (Err answer.Memory) unlike some grows = absurd (some
 by_answer before after text (Err (answer.Block number f)) unlike some grows = grows
 
 -- the rest was written
-pub flushed : (choice : Choice) (old new : InputState) (before mid after : Option (List ℕ)) (held left rest : List ℕ) (r : Result ConvertCounts ConvertFault) → held ≡ [] → rest ≡ [] → is_failed_write r ≡ false → (r ≡ Err answer.Memory → ⊥)
+pub flushed : (choice : Choice) (old new : InputState) (before mid after : Option (List ℕ)) (held left rest : List ℕ)
+    (r : Result ConvertCounts ConvertFault) → held ≡ [] → rest ≡ [] → is_failed_write r ≡ false → (r ≡ Err answer.Memory → ⊥)
     → PutsCapture choice old new before mid held left r → Passes mid after left rest [] → Converts choice old new before after r
 flushed choice old new before mid after held left rest r none empty unlike some puts passed =
     let text = written_of choice puts.blocks in

@@ -35,7 +35,8 @@ front buffer part n size more within fits =
     let joined = take-append-add (take n buffer) (part ++ post_of n size buffer) more in
     (rw first at joined) ∙ ap (λ (xs : List ℕ). take n buffer ++ xs) (take-append-le more part (post_of n size buffer) fits)
 
-pub filled_more : (old mid new : InputState) (before buffer part : List ℕ) (from n to more : ℕ) → to ≤ length before → length part ≡ length (mid_of n (to - n) buffer) → more ≤ length part →
+pub filled_more : (old mid new : InputState) (before buffer part : List ℕ) (from n to more : ℕ) → to ≤ length before →
+    length part ≡ length (mid_of n (to - n) buffer) → more ≤ length part →
     IsFilledFrom old mid before buffer from n to → Takes mid new (take more part) → new.failed ≡ mid.failed →
     IsFilledFrom old new before (put_mid n (to - n) buffer part) from (n + more) to
 filled_more old mid new before buffer part from n to more room same_length fits filled takes failed =

@@ -1,16 +1,9 @@
 pub mod AnyOf
-pub mod AsItWas
 pub mod Begun
 pub mod Converted
-pub mod FaultsStay
 pub mod Filled
-pub mod KeptBytes
-pub mod KeptHeader
-pub mod KeptRecords
-pub mod Lost
 pub mod Named
 pub mod NextBlocks
-pub mod OneFile
 pub mod Options
 pub mod Passed
 pub mod Powers
@@ -22,5 +15,4 @@ pub mod SoFar
 pub mod StoredDrops
 pub mod TagWalk
 pub mod Tallied
-pub mod WholeFiles
 pub mod WrittenEarly

@@ -1,5 +1,6 @@
 -- What reading the next block comes to, step by step.
-use Rattle.std.proofs.Common.{◌≡◌, ℕ, ◌<◌, ◌≤◌, ◌||◌, Bool, true, false, List, [], ◌∷◌, ◌++◌, length, take, Some, None, Result, Ok, Err, refl, ap, sym, ◌∙◌, inl, inr, arith, append-nil, length-append}
+use Rattle.std.proofs.Common.{◌≡◌, ℕ, ◌<◌, ◌≤◌, ◌||◌, Bool, true, false, List, [], ◌∷◌, ◌++◌, length, take, Some, None, Result, Ok, Err, refl, ap}
+use Rattle.std.proofs.Common.{sym, ◌∙◌, inl, inr, arith, append-nil, length-append}
 use Rattle.std.specs.Prelude.{nat_lt, not, ◌&&◌}
 use Rattle.std.proofs.lemmas.Bool.{lt-ltb, le-ltb}
 use Rattle.std.proofs.lemmas.List.{take_all, take-append-le}
@@ -46,7 +47,8 @@ there kind [] all = rw (all refl) refl
 there kind (x ∷ xs) all = let some = le-ltb (length (x ∷ xs)) 1 (omega arith) in rw some refl
 
 pub endless_next : (kind : Kind) (number : ℕ) (old new : InputState) (before block : List ℕ) (count : ℕ) → (count ≡ 0 → is_start kind ≡ true) → endless ≤ number
-    → FillsFrom {E = ConvertFault} old new before block 0 (head_size kind) (Ok count) → NextBlock kind number old new block (Err (answer.Block number fault.Endless))
+    → FillsFrom {E = ConvertFault} old new before block 0 (head_size kind) (Ok count) →
+    NextBlock kind number old new block (Err (answer.Block number fault.Endless))
 unfolding outer_fault
 endless_next kind number old new before block count some many filled =
     let size = filled.fills.1 in
@@ -59,8 +61,10 @@ endless_next kind number old new before block count some many filled =
       failed = filled.failed;
     }
 
-pub head_cut : (kind : Kind) (number : ℕ) (old new : InputState) (before block : List ℕ) (count : ℕ) → (count ≡ 0 → is_start kind ≡ true) → number < endless → count < head_size kind
-    → FillsFrom {E = ConvertFault} old new before block 0 (head_size kind) (Ok count) → NextBlock kind number old new block (Err (answer.Block number fault.Cut))
+pub head_cut : (kind : Kind) (number : ℕ) (old new : InputState) (before block : List ℕ) (count : ℕ) → (count ≡ 0 → is_start kind ≡ true) →
+    number < endless → count < head_size kind
+    → FillsFrom {E = ConvertFault} old new before block 0 (head_size kind) (Ok count) →
+    NextBlock kind number old new block (Err (answer.Block number fault.Cut))
 unfolding outer_fault
 head_cut kind number old new before block count some few short filled =
     let size = filled.fills.1 in
@@ -105,9 +109,11 @@ head_there kind old mid before block count whole filled =
     }
 
 -- the size that the first bytes say, whatever follows
-size_then : (kind : Kind) (old mid : InputState) (block more : List ℕ) (r : Result ℕ BlockFault) (h : IsHead kind old mid block) → r ≡ size_in kind (take (head_size kind) block) → size_of kind (h.bytes ++ more) ≡ r
+size_then : (kind : Kind) (old mid : InputState) (block more : List ℕ) (r : Result ℕ BlockFault) (h : IsHead kind old mid block) →
+    r ≡ size_in kind (take (head_size kind) block) → size_of kind (h.bytes ++ more) ≡ r
 size_then kind old mid block more r h says =
-    ap (size_in kind) (take-append-le (head_size kind) h.bytes more (let size = h.size in omega (arith, size)) ∙ take_all (head_size kind) h.bytes (let size = h.size in omega (arith, size)) ∙ sym h.front) ∙ sym says
+    ap (size_in kind) (take-append-le (head_size kind) h.bytes more (let size = h.size in omega (arith, size)) ∙
+    take_all (head_size kind) h.bytes (let size = h.size in omega (arith, size)) ∙ sym h.front) ∙ sym says
 
 -- they are there, and no block is too many
 begun : (kind : Kind) (old mid : InputState) (block more : List ℕ) (number : ℕ) (h : IsHead kind old mid block) → number < endless
@@ -135,7 +141,8 @@ size_faulty kind number old mid block f h few says uncut =
     }
 
 pub body_failed : (kind : Kind) (number : ℕ) (old mid new : InputState) (block after : List ℕ) (size : ℕ) (e : ConvertFault) → IsHead kind old mid block
-    → Ok size ≡ size_in kind (take (head_size kind) block) → FillsSeen {E = ConvertFault} mid new block after (head_size kind) size (Err e) → NextBlock kind number old new after (Err answer.Read)
+    → Ok size ≡ size_in kind (take (head_size kind) block) → FillsSeen {E = ConvertFault} mid new block after (head_size kind) size (Err e) →
+    NextBlock kind number old new after (Err answer.Read)
 body_failed kind number old mid new block after size e h says filled =
     let known = size_then kind old mid block filled.bytes (Ok size) h says in
     let short = filled.passes in

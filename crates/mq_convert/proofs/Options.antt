@@ -18,7 +18,8 @@ one_more order most n bytes true is same = rw is refl
 one_more order most n bytes false is same = let rest = same refl in rw (is, rest) refl
 
 -- as many options as there are bytes are all of them
-enough : (order : Endian) (most n : ℕ) (bytes : List ℕ) → length bytes ≤ most → length bytes ≤ n → options_within order most bytes ≡ options_within order n bytes
+enough : (order : Endian) (most n : ℕ) (bytes : List ℕ) → length bytes ≤ most → length bytes ≤ n →
+    options_within order most bytes ≡ options_within order n bytes
 enough order zero zero bytes a b = refl
 enough order zero (suc n) bytes a b = let short = lt-ltb (length bytes) 4 (omega arith) in rw short refl
 enough order (suc most) zero bytes a b = let short = lt-ltb (length bytes) 4 (omega arith) in rw short refl
@@ -43,7 +44,8 @@ options_of-option order (byte ∷ rest) whole other fits =
     rw (a, b, c, same) refl
 
 -- the same with what the code of the first option has
-pub first_option_is : (order : Endian) (bytes : List ℕ) (code size place : ℕ) → 4 ≤ length bytes → code ≡ field order 0 2 bytes → size ≡ field order 2 2 bytes → (code ≡ 0 → ⊥) → 4 + size ≤ length bytes
+pub first_option_is : (order : Endian) (bytes : List ℕ) (code size place : ℕ) → 4 ≤ length bytes → code ≡ field order 0 2 bytes →
+    size ≡ field order 2 2 bytes → (code ≡ 0 → ⊥) → 4 + size ≤ length bytes
     → place ≡ min (length bytes) (filled_up (4 + size)) →
     options_of order bytes ≡ (code, take (4 + size - 4) (drop 4 bytes)) ∷ options_of order (take (length bytes - place) (drop place bytes))
 first_option_is order bytes code size place whole is_code is_size other fits is_place =

@@ -9,15 +9,19 @@ print_puts T E b c held text (Ok x) none printed = rw none (record { written = t
 print_puts T E b c held text (Err e) none printed = rw none printed
 
 -- what the buffer held was written, and then a text
-pub printed_behind : (T E : Type 0) (a b c : Option (List ℕ)) (held mid text : List ℕ) (r : Result T E) → mid ≡ [] → Passes a b held mid [] → Prints b c text r → Puts a c held mid text r
+pub printed_behind : (T E : Type 0) (a b c : Option (List ℕ)) (held mid text : List ℕ) (r : Result T E) → mid ≡ [] → Passes a b held mid [] →
+    Prints b c text r → Puts a c held mid text r
 printed_behind T E a b c held mid text r none passed printed = then_put a b c held mid mid [] text r passed (print_puts T E b c mid text r none printed)
 
 -- a text was put, and then more
-pub head_put : (T E : Type 0) (a b c : Option (List ℕ)) (held mid more left text behind : List ℕ) (r : Result T E) → Passes a b held mid [] → more ≡ mid ++ text → Puts b c more left behind r → Puts a c held left (text ++ behind) r
-head_put T E a b c held mid more left text behind r passed is put = then_put a b c held more left text behind r (held_more a b held mid more [] text passed is) put
+pub head_put : (T E : Type 0) (a b c : Option (List ℕ)) (held mid more left text behind : List ℕ) (r : Result T E) → Passes a b held mid [] →
+    more ≡ mid ++ text → Puts b c more left behind r → Puts a c held left (text ++ behind) r
+head_put T E a b c held mid more left text behind r passed is put =
+    then_put a b c held more left text behind r (held_more a b held mid more [] text passed is) put
 
 -- the same of a text in three parts
-pub frame_put : (T E : Type 0) (a b c : Option (List ℕ)) (held mid more left header addresses kind payload : List ℕ) (r : Result T E) → Passes a b held mid [] → more ≡ ((mid ++ header) ++ addresses) ++ kind → Puts b c more left payload r
+pub frame_put : (T E : Type 0) (a b c : Option (List ℕ)) (held mid more left header addresses kind payload : List ℕ) (r : Result T E) →
+    Passes a b held mid [] → more ≡ ((mid ++ header) ++ addresses) ++ kind → Puts b c more left payload r
     → Puts a c held left (header ++ ((addresses ++ kind) ++ payload)) r
 frame_put T E a b c held mid more left header addresses kind payload r passed is put =
     let same : ((header ++ addresses) ++ kind) ++ payload ≡ header ++ ((addresses ++ kind) ++ payload) = simp append_assoc in

@@ -1,13 +1,12 @@
 -- What is seen of a block that was read in parts.
-use Rattle.std.proofs.Common.{◌≡◌, ◌≤◌, ◌<◌, ◌+◌, ◌-◌, ◌||◌, ℕ, Bool, true, false, min, List, ◌++◌, length, take, drop, Result, Ok, Err, refl, arith, ◌∙◌, ap, sym, length-append, append_assoc}
+use Rattle.std.proofs.Common.{◌≡◌, ◌≤◌, ◌<◌, ◌+◌, ◌-◌, ◌||◌, ℕ, Bool, true, false, min, List, ◌++◌, length, take, drop, Result, Ok, Err, refl, arith}
+use Rattle.std.proofs.Common.{◌∙◌, ap, sym, length-append, append_assoc}
 use Rattle.std.proofs.lemmas.Bool.{le-ltb, lt-ltb}
 use Rattle.std.proofs.lemmas.List.{length-take-le, take_at}
 use Rattle.std.proofs.Math.Bool.{or-false}
 use Rattle.std.proofs.Math.Seq.{drop-append_seam}
 use Rattle.mq_pcap.specs.Filling.{InputState, Takes}
 use Rattle.mq_pcap.proofs.Filled.{Takes-trans}
-use Rattle.mq_convert.specs.Blocks.{block_in, seen_in}
-use Rattle.mq_convert.specs.Contexts.{ContextState}
 use Rattle.mq_convert.specs.Filling.{FillsFrom, FillsSeen, PassesOver}
 use Rattle.mq_convert.specs.Sizes.{most_seen, seen_of}
 
@@ -16,10 +15,6 @@ pub all_seen : (block : List ℕ) → length block ≤ most_seen → seen_of blo
 unfolding seen_of
 all_seen block short = let fits = le-ltb most_seen (length block) short in rw fits refl
 
--- so it comes to what its bytes come to
-pub whole_seen : (context : ContextState) (block : List ℕ) → length block ≤ most_seen → block_in context block ≡ seen_in context (length block) block
-whole_seen context block short = ap (seen_in context (length block)) (all_seen block short)
-
 -- of a longer one the first bytes and the last 4
 parts_seen : (first mid last : List ℕ) → length first ≡ most_seen - 4 → length last ≡ 4 → 0 < length mid → seen_of ((first ++ mid) ++ last) ≡ first ++ last
 unfolding seen_of
@@ -27,9 +22,11 @@ parts_seen first mid last size four some =
     let a = length-append first mid in
     let b = length-append (first ++ mid) last in
     let long = lt-ltb most_seen (length ((first ++ mid) ++ last)) (omega (arith, a, b, size, four, some)) in
-    let front : take (most_seen - 4) ((first ++ mid) ++ last) ≡ first = ap (take (most_seen - 4)) (append_assoc first mid last) ∙ take_at first (mid ++ last) (most_seen - 4) size in
+    let front : take (most_seen - 4) ((first ++ mid) ++ last) ≡ first = ap (take (most_seen - 4)) (append_assoc first mid last) ∙
+    take_at first (mid ++ last) (most_seen - 4) size in
     let seam : length ((first ++ mid) ++ last) - 4 ≡ length (first ++ mid) = omega (arith, b, four) in
-    let end : drop (length ((first ++ mid) ++ last) - 4) ((first ++ mid) ++ last) ≡ last = ap (λ n. drop n ((first ++ mid) ++ last)) seam ∙ drop-append_seam (first ++ mid) last in
+    let end : drop (length ((first ++ mid) ++ last) - 4) ((first ++ mid) ++ last) ≡ last = ap (λ n. drop n ((first ++ mid) ++ last)) seam ∙
+    drop-append_seam (first ++ mid) last in
     rw (long, front, end) refl
 
 -- it was read at once
@@ -44,7 +41,8 @@ short_filled E old new before after from size (Ok n) head short filled =
       bytes = filled.bytes;
       takes = filled.takes;
       passes = (place, filled.fills.2, filled.fills.3);
-      shows = λ is. all_seen (take from before ++ filled.bytes) (omega (arith, is, place, all, first, short)) ∙ sym filled.fills.0 ∙ ap (λ k. take k after) (is ∙ sym fits);
+      shows = λ is. all_seen (take from before ++ filled.bytes) (omega (arith, is, place, all, first, short)) ∙ sym filled.fills.0 ∙
+          ap (λ k. take k after) (is ∙ sym fits);
       failed = filled.failed;
       size = filled.size;
     }
@@ -96,7 +94,8 @@ first_there E old mid before block from count whole filled =
     }
 
 -- the file ended among those that are passed over, or a read failed
-pub middle_cut : (E : Type 0) (old mid new : InputState) (before block : List ℕ) (from size count : ℕ) → most_seen < size → count < size - 4 → IsFirst old mid before block from
+pub middle_cut : (E : Type 0) (old mid new : InputState) (before block : List ℕ) (from size count : ℕ) → most_seen < size → count < size - 4 →
+    IsFirst old mid before block from
     → PassesOver {E = E} mid new (most_seen - 4) (size - 4) (Ok count) → FillsSeen {E = E} old new before block from size (Ok count)
 middle_cut E old mid new before block from size count long short first passed =
     let place = first.place in
@@ -110,7 +109,8 @@ middle_cut E old mid new before block from size count long short first passed =
       size = first.size;
     }
 
-pub middle_failed : (E : Type 0) (old mid new : InputState) (before block : List ℕ) (from size : ℕ) (e : E) → most_seen < size → IsFirst old mid before block from
+pub middle_failed : (E : Type 0) (old mid new : InputState) (before block : List ℕ) (from size : ℕ) (e : E) → most_seen < size →
+    IsFirst old mid before block from
     → PassesOver {E = E} mid new (most_seen - 4) (size - 4) (Err e) → FillsSeen {E = E} old new before block from size (Err e)
 middle_failed E old mid new before block from size e long first passed =
     let place = first.place in
@@ -135,7 +135,8 @@ pub record IsPassed (old mid : InputState) (before block : List ℕ) (from size 
   pub failed : mid.failed ≡ old.failed
   pub same : length block ≡ length before
 
-pub middle_there : (E : Type 0) (old mid new : InputState) (before block : List ℕ) (from size count : ℕ) → most_seen < size → size - 4 ≤ count → IsFirst old mid before block from
+pub middle_there : (E : Type 0) (old mid new : InputState) (before block : List ℕ) (from size count : ℕ) → most_seen < size → size - 4 ≤ count →
+    IsFirst old mid before block from
     → PassesOver {E = E} mid new (most_seen - 4) (size - 4) (Ok count) → IsPassed old new before block from size
 middle_there E old mid new before block from size count long whole first passed =
     let more = passed.passes.0 in
@@ -152,8 +153,10 @@ middle_there E old mid new before block from size count long whole first passed 
     }
 
 -- the last ones were read, or some of them
-pub last_filled : (E : Type 0) (old mid new : InputState) (before block after : List ℕ) (from size count : ℕ) → from ≤ length before → most_seen < size → IsPassed old mid before block from size
-    → FillsFrom {E = E} mid new block after (most_seen - 4) most_seen (Ok count) → FillsSeen {E = E} old new before after from size (Ok (size - most_seen + count))
+pub last_filled : (E : Type 0) (old mid new : InputState) (before block after : List ℕ) (from size count : ℕ) → from ≤ length before →
+    most_seen < size → IsPassed old mid before block from size
+    → FillsFrom {E = E} mid new block after (most_seen - 4) most_seen (Ok count) →
+    FillsSeen {E = E} old new before after from size (Ok (size - most_seen + count))
 last_filled E old mid new before block after from size count head long passed filled =
     let place = filled.fills.1 in
     let within = filled.fills.2 in
@@ -165,7 +168,8 @@ last_filled E old mid new before block after from size count head long passed fi
     let front = begin ++ passed.first in
     let front_size : length front ≡ most_seen - 4 = omega (arith, first, length-take-le from before head, length-append begin passed.first) in
     let joined : begin ++ ((passed.first ++ passed.middle) ++ filled.bytes) ≡ (front ++ passed.middle) ++ filled.bytes =
-    sym (append_assoc begin (passed.first ++ passed.middle) filled.bytes) ∙ ap (λ xs. xs ++ filled.bytes) (sym (append_assoc begin passed.first passed.middle)) in
+    sym (append_assoc begin (passed.first ++ passed.middle) filled.bytes) ∙
+    ap (λ xs. xs ++ filled.bytes) (sym (append_assoc begin passed.first passed.middle)) in
     let room : most_seen ≡ min size most_seen = omega (arith, long) in
     record {
       bytes = (passed.first ++ passed.middle) ++ filled.bytes;
@@ -180,7 +184,8 @@ last_filled E old mid new before block after from size count head long passed fi
       size = filled.size ∙ passed.same;
     }
 
-pub last_failed : (E : Type 0) (old mid new : InputState) (before block after : List ℕ) (from size : ℕ) (e : E) → most_seen < size → IsPassed old mid before block from size
+pub last_failed : (E : Type 0) (old mid new : InputState) (before block after : List ℕ) (from size : ℕ) (e : E) → most_seen < size →
+    IsPassed old mid before block from size
     → FillsFrom {E = E} mid new block after (most_seen - 4) most_seen (Err e) → FillsSeen {E = E} old new before after from size (Err e)
 last_failed E old mid new before block after from size e long passed filled =
     let short = filled.fills in

@@ -21,7 +21,8 @@ unread_links-more choice packets more =
     ∙ flat_map-append (unread_link choice) (going_out choice [] packets) (going_out choice (gone_behind choice [] packets) more)
 
 -- whether a packet is chosen, by its interface's number and its tag as they were read
-pub chosen_is : (choice : Choice) (packet : Captured) (number : ℕ) (tag : Option ℕ) (chosen : Bool) → number ≡ number_of packet → tag ≡ tag_of (frame_of packet.link packet.bytes)
+pub chosen_is : (choice : Choice) (packet : Captured) (number : ℕ) (tag : Option ℕ) (chosen : Bool) → number ≡ number_of packet →
+    tag ≡ tag_of (frame_of packet.link packet.bytes)
     → chosen ≡ is_chosen choice number packet.name tag → is_chosen_packet choice packet ≡ chosen
 chosen_is choice packet number tag chosen numbered tagged is =
     sym (is ∙ ap (λ (n : ℕ). is_chosen choice n packet.name tag) numbered ∙ ap (λ (t : Option ℕ). is_chosen choice (number_of packet) packet.name t) tagged)
@@ -52,7 +53,8 @@ sifted_other sieve packet is =
     (rw is (other_packet sieve.choice.once (packet.original == length packet.bytes && is_short (frame_out packet))))
 
 -- a packet that is whole and chosen is compared if its frame is short
-pub sifted_whole : (old new : SieveState) (packet : Captured) (left : Bool) → old.choice.once ≡ true → is_chosen_packet old.choice packet ≡ true → (packet.original == length packet.bytes) ≡ true
+pub sifted_whole : (old new : SieveState) (packet : Captured) (left : Bool) → old.choice.once ≡ true → is_chosen_packet old.choice packet ≡ true →
+    (packet.original == length packet.bytes) ≡ true
     → SiftsFrame old new (is_short (frame_out packet)) packet.moment (frame_out packet) left → Sifts old new packet left
 unfolding is_compared
 sifted_whole old new packet left once chosen whole sifts =
@@ -65,7 +67,8 @@ unfolding is_compared
 sifted_none sieve packet is = kept_so sieve (is_compared sieve.choice packet) packet.moment (frame_out packet) (rw is refl)
 
 -- nothing came
-pub nothing_sieved : (choice : Choice) (sieve : SieveState) → sieve.choice ≡ choice → sieve.gone ≡ [] → Tallies [] sieve.counts.unread → sieve.counts.repeated ≡ 0 → HasSieved choice [] sieve
+pub nothing_sieved : (choice : Choice) (sieve : SieveState) → sieve.choice ≡ choice → sieve.gone ≡ [] → Tallies [] sieve.counts.unread →
+    sieve.counts.repeated ≡ 0 → HasSieved choice [] sieve
 nothing_sieved choice sieve is none tallied zero = record { chosen = is; gone = none; counts = record { unread = tallied; repeated = zero } }
 
 -- no packet came
@@ -73,39 +76,46 @@ pub no_more : (choice : Choice) (packets : List Captured) (sieve : SieveState) �
 no_more choice packets sieve has = rw (append-nil packets) has
 
 -- whether a packet comes again, where what is known is of other packets
-again_so : (choice : Choice) (packets : List Captured) (old : SieveState) (packet : Captured) (left : Bool) → HasSieved choice packets old → left ≡ comes_again old.choice old.gone packet
+again_so : (choice : Choice) (packets : List Captured) (old : SieveState) (packet : Captured) (left : Bool) → HasSieved choice packets old →
+    left ≡ comes_again old.choice old.gone packet
     → comes_again choice (gone_behind choice [] packets) packet ≡ left
 again_so choice packets old packet left has is =
     let chosen : comes_again choice old.gone packet ≡ left = subst (λ (asked : Choice). comes_again asked old.gone packet ≡ left) has.chosen (sym is) in
     subst (λ (gone : List Gone). comes_again choice gone packet ≡ left) has.gone chosen
 
-gone_so : (choice : Choice) (packets : List Captured) (old : SieveState) (packet : Captured) (gone : List Gone) → HasSieved choice packets old → gone ≡ gone_after old.choice old.gone packet
+gone_so : (choice : Choice) (packets : List Captured) (old : SieveState) (packet : Captured) (gone : List Gone) → HasSieved choice packets old →
+    gone ≡ gone_after old.choice old.gone packet
     → gone ≡ gone_behind choice [] (packets ++ (packet ∷ []))
 gone_so choice packets old packet gone has is =
     let chosen : gone ≡ gone_after choice old.gone packet = subst (λ (asked : Choice). gone ≡ gone_after asked old.gone packet) has.chosen is in
-    let so : gone ≡ gone_after choice (gone_behind choice [] packets) packet = subst (λ (before : List Gone). gone ≡ gone_after choice before packet) has.gone chosen in
+    let so : gone ≡ gone_after choice (gone_behind choice [] packets) packet =
+    subst (λ (before : List Gone). gone ≡ gone_after choice before packet) has.gone chosen in
     so ∙ sym (gone_behind-more choice [] packets (packet ∷ []))
 
 -- a packet came that is left out
-pub left_more : (choice : Choice) (packets : List Captured) (old new : SieveState) (packet : Captured) → HasSieved choice packets old → Sifts old new packet true → HasSieved choice (packets ++ (packet ∷ [])) new
+pub left_more : (choice : Choice) (packets : List Captured) (old new : SieveState) (packet : Captured) → HasSieved choice packets old →
+    Sifts old new packet true → HasSieved choice (packets ++ (packet ∷ [])) new
 left_more choice packets old new packet has sifts =
     let again = again_so choice packets old packet true has sifts.is_left in
     let links : unread_links choice [] (packets ++ (packet ∷ [])) ≡ unread_links choice [] packets =
     unread_links-more choice packets (packet ∷ []) ∙ rw again (append-nil (unread_links choice [] packets)) in
-    let lefts : left_out choice [] (packets ++ (packet ∷ [])) ≡ left_out choice [] packets ++ (packet ∷ []) = left_out-more choice [] packets (packet ∷ []) ∙ rw again refl in
+    let lefts : left_out choice [] (packets ++ (packet ∷ [])) ≡ left_out choice [] packets ++
+    (packet ∷ []) = left_out-more choice [] packets (packet ∷ []) ∙ rw again refl in
     let was = has.counts.repeated in
     let more = sifts.repeated in
     record {
       chosen = sifts.same ∙ has.chosen;
       gone = gone_so choice packets old packet new.gone has sifts.gone;
       counts = record {
-        unread = subst (λ (xs : List ℕ). Tallies xs new.counts.unread) (sym links) (subst (λ (unread : Unread). Tallies (unread_links choice [] packets) unread) (sym sifts.unread) has.counts.unread);
+        unread = subst (λ (xs : List ℕ). Tallies xs new.counts.unread) (sym links)
+            (subst (λ (unread : Unread). Tallies (unread_links choice [] packets) unread) (sym sifts.unread) has.counts.unread);
         repeated = omega (arith, was, more, ap (λ (xs : List Captured). length xs) lefts, length-append (left_out choice [] packets) (packet ∷ []));
       };
     }
 
 -- a packet came that is not left out, and was counted
-pub counted_more : (choice : Choice) (packets : List Captured) (old mid new : SieveState) (packet : Captured) → HasSieved choice packets old → Sifts old mid packet false
+pub counted_more : (choice : Choice) (packets : List Captured) (old mid new : SieveState) (packet : Captured) → HasSieved choice packets old →
+    Sifts old mid packet false
     → new.choice ≡ mid.choice → new.gone ≡ mid.gone → new.counts.repeated ≡ mid.counts.repeated
     → ((links : List ℕ) → Tallies links mid.counts.unread → Tallies (links ++ unread_link mid.choice packet) new.counts.unread)
     → HasSieved choice (packets ++ (packet ∷ [])) new
@@ -113,11 +123,15 @@ counted_more choice packets old mid new packet has sifts same gone repeated tall
     let again = again_so choice packets old packet false has sifts.is_left in
     let is = sifts.same ∙ has.chosen in
     let links : unread_links choice [] (packets ++ (packet ∷ [])) ≡ unread_links choice [] packets ++ unread_link choice packet =
-    unread_links-more choice packets (packet ∷ []) ∙ ap (λ (xs : List ℕ). unread_links choice [] packets ++ xs) (rw again (append-nil (unread_link choice packet))) in
-    let lefts : left_out choice [] (packets ++ (packet ∷ [])) ≡ left_out choice [] packets = left_out-more choice [] packets (packet ∷ []) ∙ rw again (append-nil (left_out choice [] packets)) in
-    let before : Tallies (unread_links choice [] packets) mid.counts.unread = subst (λ (unread : Unread). Tallies (unread_links choice [] packets) unread) (sym sifts.unread) has.counts.unread in
+    unread_links-more choice packets (packet ∷ []) ∙ ap (λ (xs : List ℕ). unread_links choice [] packets ++ xs)
+    (rw again (append-nil (unread_link choice packet))) in
+    let lefts : left_out choice [] (packets ++ (packet ∷ [])) ≡ left_out choice [] packets = left_out-more choice [] packets (packet ∷ []) ∙
+    rw again (append-nil (left_out choice [] packets)) in
+    let before : Tallies (unread_links choice [] packets) mid.counts.unread =
+    subst (λ (unread : Unread). Tallies (unread_links choice [] packets) unread) (sym sifts.unread) has.counts.unread in
     let behind : Tallies (unread_links choice [] packets ++ unread_link choice packet) new.counts.unread =
-    subst (λ (asked : Choice). Tallies (unread_links choice [] packets ++ unread_link asked packet) new.counts.unread) is (tally (unread_links choice [] packets) before) in
+    subst (λ (asked : Choice). Tallies (unread_links choice [] packets ++ unread_link asked packet) new.counts.unread) is
+    (tally (unread_links choice [] packets) before) in
     let was = has.counts.repeated in
     let more = sifts.repeated in
     record {

@@ -1,5 +1,6 @@
 -- What is known of a file of which some blocks were read, and whose packets were put.
-use Rattle.std.proofs.Common.{◌≡◌, ℕ, ◌+◌, ◌≤◌, min, List, [], ◌∷◌, ◌++◌, length, take, Option, Some, None, Result, Ok, Err, refl, ap, sym, subst, ◌∙◌, inl, inr, arith, append-nil, append_assoc, length-append}
+use Rattle.std.proofs.Common.{◌≡◌, ℕ, ◌+◌, ◌≤◌, min, List, [], ◌∷◌, ◌++◌, length, take, Option, Some, None, Result, Ok, Err, refl, ap, sym, subst}
+use Rattle.std.proofs.Common.{◌∙◌, inl, inr, arith, append-nil, append_assoc, length-append}
 use Rattle.std.specs.Prelude.{option_to_list}
 use Rattle.std.specs.List.{flat_map}
 use Rattle.std.proofs.lemmas.Grind.{flat_map-append}
@@ -50,7 +51,8 @@ packets_of-more blocks held =
     flat_map-append option_to_list blocks (held ∷ []) ∙ ap (λ (xs : List Captured). packets_of blocks ++ xs) (append-nil (option_to_list held))
 
 converted-more : (choice : Choice) (blocks : List (Option Captured)) (held : Option Captured)
-    → converted choice (packets_of (blocks ++ (held ∷ []))) ≡ converted choice (packets_of blocks) ++ records_of choice (gone_behind choice [] (packets_of blocks)) held
+    → converted choice (packets_of (blocks ++ (held ∷ []))) ≡ converted choice (packets_of blocks) ++
+    records_of choice (gone_behind choice [] (packets_of blocks)) held
 converted-more choice blocks held =
     let before = packets_of blocks in
     let more = going_out choice (gone_behind choice [] before) (option_to_list held) in
@@ -61,7 +63,8 @@ converted-more choice blocks held =
 
 written_of-more : (choice : Choice) (blocks : List (Option Captured)) (held : Option Captured)
     → written_of choice (blocks ++ (held ∷ [])) ≡ written_of choice blocks ++ block_text choice (gone_behind choice [] (packets_of blocks)) (length blocks) held
-written_of-more choice [] held = ap (λ (xs : List Captured). file_header ++ flat_map (record_of choice) (going_out choice [] xs)) (append-nil (option_to_list held))
+written_of-more choice [] held = ap (λ (xs : List Captured). file_header ++ flat_map (record_of choice) (going_out choice [] xs))
+    (append-nil (option_to_list held))
 written_of-more choice (block ∷ blocks) held = converted-more choice (block ∷ blocks) held
 
 -- what is written of a block, where this is known of the packets before it
@@ -80,10 +83,12 @@ pub record IsReadTo (choice : Choice) (old new : InputState) (context : ContextS
   pub sieved : HasSieved choice (packets_of blocks) sieve
 
 -- the text of what was read
-abbrev pub text_of : (choice : Choice) (old new : InputState) (context : ContextState) (number : ℕ) (sieve : SieveState) → IsReadTo choice old new context number sieve → List ℕ
+abbrev pub text_of : (choice : Choice) (old new : InputState) (context : ContextState) (number : ℕ) (sieve : SieveState) →
+    IsReadTo choice old new context number sieve → List ℕ
 text_of choice old new context number sieve r = written_of choice r.blocks
 
-abbrev pub nothing_read : (choice : Choice) (s : InputState) (context : ContextState) (sieve : SieveState) → context ≡ at_start → HasSieved choice [] sieve → IsReadTo choice s s context 0 sieve
+abbrev pub nothing_read : (choice : Choice) (s : InputState) (context : ContextState) (sieve : SieveState) → context ≡ at_start →
+    HasSieved choice [] sieve → IsReadTo choice s s context 0 sieve
 nothing_read choice s context sieve is sieved = record {
   bytes = [];
   blocks = [];
@@ -94,14 +99,17 @@ nothing_read choice s context sieve is sieved = record {
 }
 
 -- what a block comes to is what its size and what is seen of it come to
-is_seen : (context : ContextState) (number size count : ℕ) (mid new : InputState) (buffer : List ℕ) → (next : NextBlock context.kind number mid new buffer (Ok (Some size))) → count ≡ min size most_seen
+is_seen : (context : ContextState) (number size count : ℕ) (mid new : InputState) (buffer : List ℕ) →
+    (next : NextBlock context.kind number mid new buffer (Ok (Some size))) → count ≡ min size most_seen
     → block_in context next.bytes ≡ seen_in context size (take count buffer)
 is_seen context number size count mid new buffer next is =
     ap (λ n. seen_in context n (seen_of next.bytes)) next.answers.2 ∙ ap (seen_in context size) (next.answers.1 ∙ ap (λ n. take n buffer) (sym is))
 
 -- a block more was read and put
-next_read : (choice : Choice) (old mid new : InputState) (context after : ContextState) (number size count : ℕ) (sieve more : SieveState) (buffer : List ℕ) (held : Option Captured)
-    → (r : IsReadTo choice old mid context number sieve) → NextBlock context.kind number mid new buffer (Ok (Some size)) → count ≡ min size most_seen → seen_in context size (take count buffer) ≡ Ok (after, held)
+next_read : (choice : Choice) (old mid new : InputState) (context after : ContextState) (number size count : ℕ) (sieve more : SieveState)
+    (buffer : List ℕ) (held : Option Captured)
+    → (r : IsReadTo choice old mid context number sieve) → NextBlock context.kind number mid new buffer (Ok (Some size)) →
+    count ≡ min size most_seen → seen_in context size (take count buffer) ≡ Ok (after, held)
     → ((asked : Choice) (packets : List Captured) → HasSieved asked packets sieve → HasSieved asked (packets ++ option_to_list held) more)
     → (s : IsReadTo choice old new after (number + 1) more) × (s.blocks ≡ r.blocks ++ (held ∷ []))
 next_read choice old mid new context after number size count sieve more buffer held r next front is sieved = (
@@ -109,7 +117,8 @@ next_read choice old mid new context after number size count sieve more buffer h
     bytes = r.bytes ++ next.bytes;
     blocks = r.blocks ++ (held ∷ []);
     takes = Takes-trans old mid new r.bytes next.bytes r.takes next.takes;
-    are_blocks = AreBlocks-more at_start context after r.bytes next.bytes r.blocks held r.are_blocks next.answers.5 (is_seen context number size count mid new buffer next front ∙ is);
+    are_blocks = AreBlocks-more at_start context after r.bytes next.bytes r.blocks held r.are_blocks next.answers.5
+        (is_seen context number size count mid new buffer next front ∙ is);
     count = let count = r.count in omega (arith, count, length-append r.blocks (held ∷ []));
     sieved = rw packets_of-more (sieved choice (packets_of r.blocks) r.sieved);
   },
@@ -117,8 +126,10 @@ next_read choice old mid new context after number size count sieve more buffer h
 )
 
 -- what the packets that were read come to, where a call ends
-ended_with : (choice : Choice) (old mid new : InputState) (before after : Option (List ℕ)) (held left : List ℕ) (context : ContextState) (number : ℕ) (sieve : SieveState) (r : IsReadTo choice old mid context number sieve)
-    → (bytes : List ℕ) → Takes mid new bytes → number ≤ endless → (end : Option BlockFault) → EndsBy number context bytes end → (it : Result ConvertCounts ConvertFault)
+ended_with : (choice : Choice) (old mid new : InputState) (before after : Option (List ℕ)) (held left : List ℕ) (context : ContextState) (number : ℕ)
+    (sieve : SieveState) (r : IsReadTo choice old mid context number sieve)
+    → (bytes : List ℕ) → Takes mid new bytes → number ≤ endless → (end : Option BlockFault) → EndsBy number context bytes end →
+    (it : Result ConvertCounts ConvertFault)
     → IsEndedBy choice context.dropped r.blocks end (r.bytes ++ bytes) old new it → IsPut before after held left (written_of choice r.blocks) it
     → PutsCapture choice old new before after held left it
 ended_with choice old mid new before after held left context number sieve r bytes takes few end ends it ended put = record {
@@ -156,11 +167,14 @@ ended_well choice old mid new before after held left context number sieve buffer
     ) passed
 
 -- a read failed, or the next block has a fault by its size
-pub ended_faulty : (choice : Choice) (old mid new : InputState) (before after : Option (List ℕ)) (held left : List ℕ) (context : ContextState) (number : ℕ) (sieve : SieveState) (buffer : List ℕ) (e : ConvertFault) (r : IsReadTo choice old mid context number sieve)
-    → Passes before after held left (written_of choice r.blocks) → mid.failed ≡ old.failed → number ≤ endless → NextBlock context.kind number mid new buffer (Err e) → PutsCapture choice old new before after held left (Err e)
+pub ended_faulty : (choice : Choice) (old mid new : InputState) (before after : Option (List ℕ)) (held left : List ℕ) (context : ContextState)
+    (number : ℕ) (sieve : SieveState) (buffer : List ℕ) (e : ConvertFault) (r : IsReadTo choice old mid context number sieve)
+    → Passes before after held left (written_of choice r.blocks) → mid.failed ≡ old.failed → number ≤ endless →
+    NextBlock context.kind number mid new buffer (Err e) → PutsCapture choice old new before after held left (Err e)
 ended_faulty choice old mid new before after held left context number sieve buffer answer.Read r passed same few next =
     let begun = begun_ends number context next.bytes next.answers in
-    ended_with choice old mid new before after held left context number sieve r next.bytes next.takes few begun.0 begun.1 (Err answer.Read) (next.failed ∙ or-true mid.failed) passed
+    ended_with choice old mid new before after held left context number sieve r next.bytes next.takes few begun.0 begun.1 (Err answer.Read)
+    (next.failed ∙ or-true mid.failed) passed
 ended_faulty choice old mid new before after held left context number sieve buffer answer.Write r passed same few next = absurd next.answers
 ended_faulty choice old mid new before after held left context number sieve buffer answer.Memory r passed same few next = absurd next.answers
 ended_faulty choice old mid new before after held left context number sieve buffer (answer.Block n f) r passed same few next =
@@ -168,8 +182,10 @@ ended_faulty choice old mid new before after held left context number sieve buff
     (refl, next.answers.0 ∙ r.count, next.answers.2, next.failed ∙ or-false mid.failed ∙ same) passed
 
 -- the next block was read, and what it holds has a fault
-pub ended_within : (choice : Choice) (old mid new : InputState) (before after : Option (List ℕ)) (held left : List ℕ) (context now : ContextState) (number size count : ℕ) (sieve : SieveState) (buffer : List ℕ) (e : ConvertFault) (r : IsReadTo choice old mid context number sieve)
-    → Passes before after held left (written_of choice r.blocks) → mid.failed ≡ old.failed → NextBlock context.kind number mid new buffer (Ok (Some size)) → count ≡ min size most_seen → ReadsBlock number context now size (take count buffer) (Err e)
+pub ended_within : (choice : Choice) (old mid new : InputState) (before after : Option (List ℕ)) (held left : List ℕ) (context now : ContextState)
+    (number size count : ℕ) (sieve : SieveState) (buffer : List ℕ) (e : ConvertFault) (r : IsReadTo choice old mid context number sieve)
+    → Passes before after held left (written_of choice r.blocks) → mid.failed ≡ old.failed →
+    NextBlock context.kind number mid new buffer (Ok (Some size)) → count ≡ min size most_seen → ReadsBlock number context now size (take count buffer) (Err e)
     → PutsCapture choice old new before after held left (Err e)
 ended_within choice old mid new before after held left context now number size count sieve buffer answer.Read r passed same next front reads = absurd reads
 ended_within choice old mid new before after held left context now number size count sieve buffer answer.Write r passed same next front reads = absurd reads
@@ -177,27 +193,37 @@ ended_within choice old mid new before after held left context now number size c
 ended_within choice old mid new before after held left context now number size count sieve buffer (answer.Block n f) r passed same next front reads =
     let few = next.answers.0 in
     ended_with choice old mid new before after held left context number sieve r next.bytes next.takes (omega (arith, few)) (Some f)
-    (inr (next.bytes, [], sym (append-nil next.bytes), few, next.answers.5, is_seen context number size count mid new buffer next front ∙ reads.1)) (Err (answer.Block n f))
+    (inr (next.bytes, [], sym (append-nil next.bytes), few, next.answers.5, is_seen context number size count mid new buffer next front ∙ reads.1))
+    (Err (answer.Block n f))
     (refl, reads.0 ∙ r.count, λ cut. absurd (cc (cut, reads.2)), next.failed ∙ or-false mid.failed ∙ same) passed
 
 -- the next block was read, and what it holds put
-pub next_put : (T E : Type 0) (choice : Choice) (old mid new : InputState) (before now after : Option (List ℕ)) (held more left : List ℕ) (context behind : ContextState) (number size count : ℕ) (sieve more_sieve : SieveState) (buffer : List ℕ) (packet : Option Packet) (it : T)
-    → (r : IsReadTo choice old mid context number sieve) → Passes before now held more (written_of choice r.blocks) → NextBlock context.kind number mid new buffer (Ok (Some size)) → count ≡ min size most_seen
-    → ReadsBlock number context behind size (take count buffer) (Ok packet) → Puts {T = T} {E = E} now after more left (block_text sieve.choice sieve.gone number (held_of (take count buffer) packet)) (Ok it)
-    → ((asked : Choice) (packets : List Captured) → HasSieved asked packets sieve → HasSieved asked (packets ++ option_to_list (held_of (take count buffer) packet)) more_sieve)
+pub next_put : (T E : Type 0) (choice : Choice) (old mid new : InputState) (before now after : Option (List ℕ)) (held more left : List ℕ)
+    (context behind : ContextState) (number size count : ℕ) (sieve more_sieve : SieveState) (buffer : List ℕ) (packet : Option Packet) (it : T)
+    → (r : IsReadTo choice old mid context number sieve) → Passes before now held more (written_of choice r.blocks) →
+    NextBlock context.kind number mid new buffer (Ok (Some size)) → count ≡ min size most_seen
+    → ReadsBlock number context behind size (take count buffer) (Ok packet) →
+    Puts {T = T} {E = E} now after more left (block_text sieve.choice sieve.gone number (held_of (take count buffer) packet)) (Ok it)
+    → ((asked : Choice) (packets : List Captured) → HasSieved asked packets sieve →
+    HasSieved asked (packets ++ option_to_list (held_of (take count buffer) packet)) more_sieve)
     → (s : IsReadTo choice old new behind (number + 1) more_sieve) × Passes before after held left (written_of choice s.blocks)
-next_put T E choice old mid new before now after held more left context behind number size count sieve more_sieve buffer packet it r passed next front reads put sieved =
+next_put T E choice old mid new before now after held more left context behind number size count sieve more_sieve buffer packet it r passed next front
+    reads put sieved =
     let found = held_of (take count buffer) packet in
     let s = next_read choice old mid new context behind number size count sieve more_sieve buffer found r next front reads.0 sieved in
     let text = block_text choice (gone_behind choice [] (packets_of r.blocks)) number found in
-    let put_so = subst (λ (t : List ℕ). Puts {T = T} {E = E} now after more left t (Ok it)) (text_so choice (packets_of r.blocks) sieve number found r.sieved) put in
+    let put_so = subst (λ (t : List ℕ). Puts {T = T} {E = E} now after more left t (Ok it))
+    (text_so choice (packets_of r.blocks) sieve number found r.sieved) put in
     let both = both_passed before now after held more left (written_of choice r.blocks) text passed put_so in
     (s.0, rw (s.1, written_of-more choice r.blocks found, ← r.count) both)
 
 -- it was read, and what it holds was not put whole
-pub next_broken : (T E : Type 0) (choice : Choice) (old mid new : InputState) (before now after : Option (List ℕ)) (held more left : List ℕ) (context behind : ContextState) (number size count : ℕ) (sieve : SieveState) (buffer : List ℕ) (packet : Option Packet) (e : E)
-    → (r : IsReadTo choice old mid context number sieve) → Passes before now held more (written_of choice r.blocks) → NextBlock context.kind number mid new buffer (Ok (Some size)) → count ≡ min size most_seen
-    → ReadsBlock number context behind size (take count buffer) (Ok packet) → Puts {T = T} {E = E} now after more left (block_text sieve.choice sieve.gone number (held_of (take count buffer) packet)) (Err e)
+pub next_broken : (T E : Type 0) (choice : Choice) (old mid new : InputState) (before now after : Option (List ℕ)) (held more left : List ℕ)
+    (context behind : ContextState) (number size count : ℕ) (sieve : SieveState) (buffer : List ℕ) (packet : Option Packet) (e : E)
+    → (r : IsReadTo choice old mid context number sieve) → Passes before now held more (written_of choice r.blocks) →
+    NextBlock context.kind number mid new buffer (Ok (Some size)) → count ≡ min size most_seen
+    → ReadsBlock number context behind size (take count buffer) (Ok packet) →
+    Puts {T = T} {E = E} now after more left (block_text sieve.choice sieve.gone number (held_of (take count buffer) packet)) (Err e)
     → PutsCapture choice old new before after held left (Err answer.Write)
 next_broken T E choice old mid new before now after held more left context behind number size count sieve buffer packet e r passed next front reads put =
     let found = held_of (take count buffer) packet in
@@ -205,7 +231,8 @@ next_broken T E choice old mid new before now after held more left context behin
     let reached : number + 1 ≡ length (r.blocks ++ (found ∷ [])) = let count = r.count in omega (arith, count, length-append r.blocks (found ∷ [])) in
     let few = next.answers.0 in
     let text = block_text choice (gone_behind choice [] (packets_of r.blocks)) number found in
-    let put_so = subst (λ (t : List ℕ). Puts {T = T} {E = E} now after more left t (Err e)) (text_so choice (packets_of r.blocks) sieve number found r.sieved) put in
+    let put_so = subst (λ (t : List ℕ). Puts {T = T} {E = E} now after more left t (Err e))
+    (text_so choice (packets_of r.blocks) sieve number found r.sieved) put in
     let broken = broken_behind before now after held more (written_of choice r.blocks) text passed put_so in
     record {
       bytes = r.bytes ++ next.bytes;
@@ -217,7 +244,8 @@ next_broken T E choice old mid new before now after held more left context behin
         rest = [];
         context = behind;
         parts = sym (append-nil (r.bytes ++ next.bytes));
-        are_blocks = AreBlocks-more at_start context behind r.bytes next.bytes r.blocks found r.are_blocks next.answers.5 (is_seen context number size count mid new buffer next front ∙ reads.0);
+        are_blocks = AreBlocks-more at_start context behind r.bytes next.bytes r.blocks found r.are_blocks next.answers.5
+            (is_seen context number size count mid new buffer next front ∙ reads.0);
         few = omega (arith, few, reached);
         ends = rw (← reached) begun.1;
       };

@@ -1,9 +1,9 @@
 -- Walking over tags: one step of the walk takes one tag off.
-use Rattle.std.proofs.Common.{◌≡◌, ◌≤◌, ◌<◌, ◌-◌, ℕ, true, false, List, [], ◌∷◌, length, take, drop, refl, arith}
+use Rattle.std.proofs.Common.{◌≡◌, ◌≤◌, ◌<◌, ◌-◌, ℕ, true, List, [], ◌∷◌, length, take, drop, refl, arith}
 use Rattle.mq_pcap.specs.declared.form.Endian.TheVariants.{Big}
 use Rattle.mq_pcap.specs.Capture.{field}
 use Rattle.mq_pcap.proofs.Walk.{from_place}
-use Rattle.mq_convert.specs.Frames.{Whole, Cut, is_tag, behind_tags}
+use Rattle.mq_convert.specs.Frames.{Cut, is_tag, behind_tags}
 
 -- a tag and what stands behind it
 pub tag_off : (addresses : List ℕ) (kind : ℕ) (payload : List ℕ) → is_tag kind ≡ true → 4 ≤ length payload
@@ -21,11 +21,3 @@ tag_cut addresses kind [] tag short = rw tag refl
 tag_cut addresses kind (a ∷ []) tag short = rw tag refl
 tag_cut addresses kind (a ∷ (b ∷ [])) tag short = rw tag refl
 tag_cut addresses kind (a ∷ (b ∷ (c ∷ []))) tag short = rw tag refl
-
--- no tag
-pub no_tag : (addresses : List ℕ) (kind : ℕ) (payload : List ℕ) → is_tag kind ≡ false → behind_tags addresses kind payload ≡ Whole addresses kind payload
-no_tag addresses kind (a ∷ (b ∷ (c ∷ (d ∷ rest)))) tag = rw tag refl
-no_tag addresses kind [] tag = rw tag refl
-no_tag addresses kind (a ∷ []) tag = rw tag refl
-no_tag addresses kind (a ∷ (b ∷ [])) tag = rw tag refl
-no_tag addresses kind (a ∷ (b ∷ (c ∷ []))) tag = rw tag refl

@@ -1,5 +1,6 @@
 -- One packet more of a link type that isn't read.
-use Rattle.std.proofs.Common.{◌≡◌, ◌≤◌, ◌<◌, ◌+◌, ℕ, zero, suc, Bool, true, false, List, [], ◌∷◌, ◌++◌, length, refl, arith, sym, ◌∙◌, ap, add_assoc, length-append}
+use Rattle.std.proofs.Common.{◌≡◌, ◌≤◌, ◌<◌, ◌+◌, ℕ, zero, suc, Bool, true, false, List, [], ◌∷◌, ◌++◌, length, refl, arith, sym, ◌∙◌, ap, add_assoc}
+use Rattle.std.proofs.Common.{length-append}
 use Rattle.std.specs.Prelude.{nat_lt, not, ◌||◌, ◌==◌, if◌then◌else◌, map}
 use Rattle.std.specs.List.{All, list_any}
 use Rattle.std.proofs.lemmas.Bool.{eq-eqb, eqb-true, lt-ltb}
@@ -19,7 +20,8 @@ first_links-more : (seen links : List ℕ) (link : ℕ) → first_links seen (li
 first_links-more seen [] link = refl
 first_links-more seen (x ∷ links) link = first_links-more (with_link seen x) links link
 
-times-more : (link : ℕ) (links : List ℕ) (other : ℕ) (is : Bool) → (link == other) ≡ is → times link (links ++ (other ∷ [])) ≡ times link links + (if is then 1 else 0)
+times-more : (link : ℕ) (links : List ℕ) (other : ℕ) (is : Bool) → (link == other) ≡ is → times link (links ++ (other ∷ []))
+    ≡ times link links + (if is then 1 else 0)
 times-more link [] other true e = rw e refl
 times-more link [] other false e = rw e refl
 times-more link (x ∷ links) other is e =
@@ -58,7 +60,8 @@ gets_row seen x few false e =
     rw (e, room, list_any-append (λ other. other == x) seen (x ∷ []), e, eq-eqb x x refl) refl
 
 -- so where there is room, and a link type has no row, there was no packet of it
-other_first : (link x : ℕ) (seen links : List ℕ) → seen_in link (first_links (with_link seen x) links) ≡ false → seen_in x (first_links (with_link seen x) links) ≡ true
+other_first : (link x : ℕ) (seen links : List ℕ) → seen_in link (first_links (with_link seen x) links) ≡ false →
+    seen_in x (first_links (with_link seen x) links) ≡ true
     → (b : Bool) → (link == x) ≡ b → times link links ≡ 0 → times link (x ∷ links) ≡ 0
 other_first link x seen links none row true e later =
     let same = eqb-true link x e in
@@ -89,7 +92,8 @@ seen-kinds : (link : ℕ) (rows : List LinkCount) → seen_in link (map (λ row.
 seen-kinds link [] = refl
 seen-kinds link (row ∷ rows) = ap (λ b. (row.link == link) || b) (seen-kinds link rows)
 
-row-raised : (link : ℕ) (links : List ℕ) (row : LinkCount) → row.count ≡ counted (times row.link links) → (raised link row).count ≡ counted (times (raised link row).link (links ++ (link ∷ [])))
+row-raised : (link : ℕ) (links : List ℕ) (row : LinkCount) → row.count ≡ counted (times row.link links) →
+    (raised link row).count ≡ counted (times (raised link row).link (links ++ (link ∷ [])))
 row-raised link links row is = by_test (row.link == link) refl
   where
     by_test : (b : Bool) → (row.link == link) ≡ b → (raised link row).count ≡ counted (times (raised link row).link (links ++ (link ∷ [])))
@@ -131,7 +135,8 @@ tallied_known links link old new t known count rows =
 
 -- a row is new
 pub tallied_new : (links : List ℕ) (link : ℕ) (old new : Unread) → Tallies links old → is_known link old.links.items ≡ false
-    → new.count ≡ counted (old.count + 1) → new.links.items ≡ map (raised link) old.links.items ++ (record { link = link; count = 1 } ∷ []) → Tallies (links ++ (link ∷ [])) new
+    → new.count ≡ counted (old.count + 1) → new.links.items ≡ map (raised link) old.links.items ++ (record { link = link; count = 1 } ∷ []) →
+    Tallies (links ++ (link ∷ [])) new
 tallied_new links link old new t unknown count rows =
     let parts = unknown_row (list_any (is_of link) old.links.items) (length old.links.items) unknown in
     let other = parts.0 in
@@ -148,7 +153,9 @@ tallied_new links link old new t unknown count rows =
     let one : row.count ≡ counted (times row.link (links ++ (link ∷ []))) = omega (arith, none, more) in
     record {
       count = count ∙ count-more links link old.count t.count;
-      kinds = ap (map (λ row. row.link)) rows ∙ map-append (λ (row : LinkCount). row.link) (map (raised link) rows') (row ∷ []) ∙ ap (λ kinds. kinds ++ (link ∷ [])) (kinds-raised link rows' ∙ t.kinds) ∙ sym added ∙ sym (first_links-more [] links link);
-      each = rw rows (All-append (λ row. row.count ≡ counted (times row.link (links ++ (link ∷ [])))) (map (raised link) rows') (row ∷ []) (each-raised link links rows' t.each)
+      kinds = ap (map (λ row. row.link)) rows ∙ map-append (λ (row : LinkCount). row.link) (map (raised link) rows') (row ∷ []) ∙
+          ap (λ kinds. kinds ++ (link ∷ [])) (kinds-raised link rows' ∙ t.kinds) ∙ sym added ∙ sym (first_links-more [] links link);
+      each = rw rows (All-append (λ row. row.count ≡ counted (times row.link (links ++ (link ∷ [])))) (map (raised link) rows') (row ∷ [])
+          (each-raised link links rows' t.each)
           (one_element (λ row. row.count ≡ counted (times row.link (links ++ (link ∷ [])))) row one));
     }

@@ -8,9 +8,7 @@ pub mod Files
 pub mod Filling
 pub mod Frames
 pub mod Interfaces
-pub mod Laws
 pub mod Moments
-pub mod Plain
 pub mod Putting
 pub mod Reading
 pub mod Records

@@ -23,7 +23,6 @@ mod filling;
 mod frames;
 mod interfaces;
 mod kept;
-pub mod laws;
 mod moments;
 mod next_block;
 mod packet;

@@ -15,7 +15,8 @@ pub Spends-within : {low high old new : ℕ} (lower higher : ℕ) → Spends low
 Spends-within lower higher counted below above = record { at_least = omega arith; at_most = omega arith }
 
 -- two counts, one after the other, within wider bounds
-pub Spends-join_within : {a b c d old mid new : ℕ} (lower higher : ℕ) → Spends a b old mid → Spends c d mid new → lower ≤ a + c → b + d ≤ higher → Spends lower higher old new
+pub Spends-join_within : {a b c d old mid new : ℕ} (lower higher : ℕ) → Spends a b old mid → Spends c d mid new → lower ≤ a + c → b + d ≤ higher →
+    Spends lower higher old new
 Spends-join_within lower higher first second below above =
     Spends-within lower higher (Spends-join first second) below above
 

@@ -1,12 +1,14 @@
 -- The moments of one item more.
-use Rattle.std.proofs.Common.{◌≡◌, ℕ, zero, suc, ◌+◌, ◌<◌, ◌≤◌, min, refl, List, [], ◌∷◌, ◌++◌, take, get_or, length, length-append, Option, None, Some, sym, ap, subst, ◌∙◌, append-nil, arith}
+use Rattle.std.proofs.Common.{◌≡◌, ℕ, zero, suc, ◌+◌, ◌<◌, ◌≤◌, min, refl, List, [], ◌∷◌, ◌++◌, take, get_or, length, length-append, Option, None}
+use Rattle.std.proofs.Common.{Some, sym, ap, subst, ◌∙◌, append-nil, arith}
 use Rattle.std.specs.Option.{option_to_list}
 use Rattle.std.proofs.lemmas.List.{take_more}
 use Rattle.std.proofs.lemmas.List.Concat.{flat_map-append}
 use Rattle.mq_count.specs.Spending.{Spends}
 use Rattle.mq_count.specs.Timed.{compared, compared_at, least, moments_by}
 
-pub moments-more : {T : Type 0} (moment_of : T → Option ℕ) (items : List T) (i : ℕ) (x : T) → i < length items → x ≡ get_or items i x → moments_by moment_of (take (i + 1) items) ≡ moments_by moment_of (take i items) ++ option_to_list (moment_of x)
+pub moments-more : {T : Type 0} (moment_of : T → Option ℕ) (items : List T) (i : ℕ) (x : T) → i < length items → x ≡ get_or items i x →
+    moments_by moment_of (take (i + 1) items) ≡ moments_by moment_of (take i items) ++ option_to_list (moment_of x)
 moments-more moment_of items i x within here =
     ap (moments_by moment_of) (take_more items i x within ∙ ap (λ y. take i items ++ y ∷ []) (sym here))
     ∙ flat_map-append (λ y. option_to_list (moment_of y)) (take i items) (x ∷ [])
@@ -32,7 +34,8 @@ moments-few moment_of (x ∷ items) =
     at_most_one (Some n) = omega arith
 
 -- the comparisons at the place of an item, and behind the last
-pub compared-here : {T : Type 0} (moment_of : T → Option ℕ) (items : List T) (place : ℕ) (x : T) → place < length items → x ≡ get_or items place x → compared_at moment_of items place ≡ compared (moment_of x)
+pub compared-here : {T : Type 0} (moment_of : T → Option ℕ) (items : List T) (place : ℕ) (x : T) → place < length items → x ≡ get_or items place x →
+    compared_at moment_of items place ≡ compared (moment_of x)
 compared-here moment_of [] place x within here = absurd (omega (arith, within))
 compared-here moment_of (y ∷ items) zero x within here = ap (λ z. compared (moment_of z)) (sym here)
 compared-here moment_of (y ∷ items) (suc place) x within here = compared-here moment_of items place x (omega (arith, within)) here

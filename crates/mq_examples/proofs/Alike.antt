@@ -31,7 +31,9 @@ the_rest s ss each q is = each q (or_later (eq_by_cmp nat_cmp q s) (named_in ss 
 
 find-each : (timer : SourceTimer) (ss : List ℕ) (q : ℕ) → find nat_cmp q (each_as timer ss) ≡ cond (named_in ss q) (Some timer) None
 find-each timer [] q = refl
-find-each timer (s ∷ ss) q = elim (eq_by_cmp nat_cmp q s) as (λ b. cond b (Some timer) (find nat_cmp q (each_as timer ss)) ≡ cond (b || named_in ss q) (Some timer) None) [ true ↦ refl | false ↦ find-each timer ss q ]
+find-each timer (s ∷ ss) q =
+    elim (eq_by_cmp nat_cmp q s) as (λ b. cond b (Some timer) (find nat_cmp q (each_as timer ss)) ≡ cond (b || named_in ss q) (Some timer) None)
+    [ true ↦ refl | false ↦ find-each timer ss q ]
 
 -- the timer of each
 pub timer-each : (timer : SourceTimer) (ss : List ℕ) → Each (λ s. find nat_cmp s (each_as timer ss) ≡ Some timer) ss
@@ -57,7 +59,8 @@ count-each timer ss ascend = ap length (in_order (each_as timer ss) (ascend time
     mapped [] = refl
     mapped (s ∷ ss) = ap (λ n. suc n) (mapped ss)
 
-entries_by-each : (rule : ℕ → Option SourceTimer) (timer : SourceTimer) (ss : List ℕ) → Each (λ s. rule s ≡ Some timer) ss → entries_by rule ss ≡ each_as timer ss
+entries_by-each : (rule : ℕ → Option SourceTimer) (timer : SourceTimer) (ss : List ℕ) → Each (λ s. rule s ≡ Some timer) ss →
+    entries_by rule ss ≡ each_as timer ss
 entries_by-each rule timer [] each = refl
 entries_by-each rule timer (s ∷ ss) each = λ i. with_entry s (the_first s ss each i) (entries_by-each rule timer ss (the_rest s ss each) i)
 
@@ -66,12 +69,14 @@ entries_by-none rule [] each = refl
 entries_by-none rule (s ∷ ss) each = λ i. with_entry s (the_first s ss each i) (entries_by-none rule ss (the_rest s ss each) i)
 
 -- what is done to each
-pub kept-each : (f : ℕ → SourceTimer → Option SourceTimer) (before after : SourceTimer) (ss : List ℕ) → Ascend ss → Each (λ s. f s before ≡ Some after) ss → kept_in f (each_as before ss) ≡ each_as after ss
+pub kept-each : (f : ℕ → SourceTimer → Option SourceTimer) (before after : SourceTimer) (ss : List ℕ) → Ascend ss →
+    Each (λ s. f s before ≡ Some after) ss → kept_in f (each_as before ss) ≡ each_as after ss
 kept-each f before after ss ascend each =
     ap (entries_by (λ s. option_and_then (f s) (find nat_cmp s (each_as before ss)))) (ascending-each before ss ascend)
     ∙ entries_by-each _ after ss (λ s is. ap (option_and_then (f s)) (timer-each before ss s is) ∙ each s is)
 
-pub kept-none : (f : ℕ → SourceTimer → Option SourceTimer) (before : SourceTimer) (ss : List ℕ) → Ascend ss → Each (λ s. f s before ≡ None) ss → kept_in f (each_as before ss) ≡ []
+pub kept-none : (f : ℕ → SourceTimer → Option SourceTimer) (before : SourceTimer) (ss : List ℕ) → Ascend ss → Each (λ s. f s before ≡ None) ss →
+    kept_in f (each_as before ss) ≡ []
 kept-none f before ss ascend each =
     ap (entries_by (λ s. option_and_then (f s) (find nat_cmp s (each_as before ss)))) (ascending-each before ss ascend)
     ∙ entries_by-none _ ss (λ s is. ap (option_and_then (f s)) (timer-each before ss s is) ∙ each s is)
@@ -84,30 +89,35 @@ same_named ss s = list_any-append (eq_by_cmp nat_cmp s) ss ss ∙ twice (named_i
     twice true = refl
     twice false = refl
 
-pub ruled_anew : (rule : ℕ → Option SourceTimer) (timer : SourceTimer) (ss : List ℕ) → Ascend ss → Each (λ s. rule s ≡ Some timer) ss → ordered (entries_by rule ss) ≡ each_as timer ss
+pub ruled_anew : (rule : ℕ → Option SourceTimer) (timer : SourceTimer) (ss : List ℕ) → Ascend ss → Each (λ s. rule s ≡ Some timer) ss →
+    ordered (entries_by rule ss) ≡ each_as timer ss
 unfolding Ascend
 ruled_anew rule timer ss ascend each = ap ordered (entries_by-each rule timer ss each) ∙ in_order (each_as timer ss) (ascend timer)
 
-pub ruled_again : (rule : ℕ → Option SourceTimer) (before after : SourceTimer) (ss : List ℕ) → Ascend ss → Each (λ s. rule s ≡ Some after) ss → ordered (entries_by rule (keys_of (each_as before ss) ++ ss)) ≡ each_as after ss
+pub ruled_again : (rule : ℕ → Option SourceTimer) (before after : SourceTimer) (ss : List ℕ) → Ascend ss → Each (λ s. rule s ≡ Some after) ss →
+    ordered (entries_by rule (keys_of (each_as before ss) ++ ss)) ≡ each_as after ss
 unfolding Ascend
 ruled_again rule before after ss ascend each =
     ap (λ ks. ordered (entries_by rule (ks ++ ss))) (keys-each before ss)
     ∙ ap ordered (entries_by-each rule after (ss ++ ss) (λ s is. each s (sym (same_named ss s) ∙ is)))
-    ∙ same_entries nat_cmp nat_cmp_total nat_cmp-IsAntisymmetric (ordered (each_as after (ss ++ ss))) (each_as after ss) (sorted-ordered (each_as after (ss ++ ss))) (ascend after) (λ q.
+    ∙ same_entries nat_cmp nat_cmp_total nat_cmp-IsAntisymmetric (ordered (each_as after (ss ++ ss))) (each_as after ss)
+    (sorted-ordered (each_as after (ss ++ ss))) (ascend after) (λ q.
     find-ordered (each_as after (ss ++ ss)) q
     ∙ find-each after (ss ++ ss) q
     ∙ ap (λ b. cond b (Some after) None) (same_named ss q)
     ∙ sym (find-each after ss q))
 
 -- tests of them
-pub any-first : (test : ℕ → Bool) (timer : SourceTimer) (s : ℕ) (ss : List ℕ) → Ascend (s ∷ ss) → test s ≡ true → list_any test (ascending (each_as timer (s ∷ ss))) ≡ true
+pub any-first : (test : ℕ → Bool) (timer : SourceTimer) (s : ℕ) (ss : List ℕ) → Ascend (s ∷ ss) → test s ≡ true →
+    list_any test (ascending (each_as timer (s ∷ ss))) ≡ true
 any-first test timer s ss ascend is = ap (list_any test) (ascending-each timer (s ∷ ss) ascend) ∙ ap (λ b. b || list_any test ss) is
 
 no_one : (test : ℕ → Bool) (ss : List ℕ) → Each (λ s. test s ≡ false) ss → list_any test ss ≡ false
 no_one test [] each = refl
 no_one test (s ∷ ss) each = λ i. the_first s ss each i || no_one test ss (the_rest s ss each) i
 
-pub any-none : (test : ℕ → Bool) (timer : SourceTimer) (ss : List ℕ) → Ascend ss → Each (λ s. test s ≡ false) ss → list_any test (ascending (each_as timer ss)) ≡ false
+pub any-none : (test : ℕ → Bool) (timer : SourceTimer) (ss : List ℕ) → Ascend ss → Each (λ s. test s ≡ false) ss →
+    list_any test (ascending (each_as timer ss)) ≡ false
 any-none test timer ss ascend each = ap (list_any test) (ascending-each timer ss ascend) ∙ no_one test ss each
 
 all_pass : (test : ℕ → Bool) (ss : List ℕ) → Each (λ s. test s ≡ true) ss → filter test ss ≡ ss
@@ -118,8 +128,10 @@ none_pass : (test : ℕ → Bool) (ss : List ℕ) → Each (λ s. test s ≡ fal
 none_pass test [] each = refl
 none_pass test (s ∷ ss) each = λ i. cond (the_first s ss each i) (s ∷ none_pass test ss (the_rest s ss each) i) (none_pass test ss (the_rest s ss each) i)
 
-pub filter-all : (test : ℕ → Bool) (timer : SourceTimer) (ss : List ℕ) → Ascend ss → Each (λ s. test s ≡ true) ss → filter test (ascending (each_as timer ss)) ≡ ss
+pub filter-all : (test : ℕ → Bool) (timer : SourceTimer) (ss : List ℕ) → Ascend ss → Each (λ s. test s ≡ true) ss →
+    filter test (ascending (each_as timer ss)) ≡ ss
 filter-all test timer ss ascend each = ap (filter test) (ascending-each timer ss ascend) ∙ all_pass test ss each
 
-pub filter-none : (test : ℕ → Bool) (timer : SourceTimer) (ss : List ℕ) → Ascend ss → Each (λ s. test s ≡ false) ss → filter test (ascending (each_as timer ss)) ≡ []
+pub filter-none : (test : ℕ → Bool) (timer : SourceTimer) (ss : List ℕ) → Ascend ss → Each (λ s. test s ≡ false) ss →
+    filter test (ascending (each_as timer ss)) ≡ []
 filter-none test timer ss ascend each = ap (filter test) (ascending-each timer ss ascend) ∙ none_pass test ss each

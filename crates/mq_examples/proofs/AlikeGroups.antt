@@ -1,5 +1,6 @@
 -- Groups whose sources all have one timer: what a record, a round and the end of timers make of them.
-use Rattle.std.proofs.Common.{◌≡◌, ℕ, ◌+◌, ◌-◌, Bool, true, false, cond, not, ◌&&◌, refl, List, [], ◌∷◌, ◌++◌, length, Option, None, Some, ap, ◌∙◌, ltb, leb, eqb, suc, arith}
+use Rattle.std.proofs.Common.{◌≡◌, ℕ, ◌+◌, ◌-◌, Bool, true, false, cond, not, ◌&&◌, refl, List, [], ◌∷◌, ◌++◌, length, Option, None, Some, ap, ◌∙◌}
+use Rattle.std.proofs.Common.{ltb, leb, eqb, suc, arith}
 use Rattle.std.specs.{Prelude.filter, Ordering.nat_cmp, List.list_any, FinMap.find}
 use Rattle.std.proofs.lemmas.Bool.Decides.{nat_tests}
 use Rattle.mq_table.specs.declared.kind.Kind.TheVariants.{Allow, Block}
@@ -9,9 +10,11 @@ use Rattle.mq_table.specs.{Group.is_running, Group.is_ahead, Group.deadline_of, 
 use Rattle.mq_sched.specs.{Schedule.no_schedule, Sending.sources_queries}
 use Rattle.mq_examples.specs.ManySources.{each_as}
 use Rattle.mq_link.proofs.Known.{Entries, kept_in}
-use Rattle.mq_examples.proofs.KnownGroups.{Known, nothing_known, timer_in, ascending, any_sending, settled_in, is_empty, expired_in, named_in, rule_of, change_in}
+use Rattle.mq_examples.proofs.KnownGroups.{Known, nothing_known, timer_in, ascending, any_sending, settled_in, is_empty, expired_in, named_in}
+use Rattle.mq_examples.proofs.KnownGroups.{rule_of, change_in}
 use Rattle.mq_examples.proofs.KnownSendings.{asked_in, changed_in, sent_in, round_in}
-use Rattle.mq_examples.proofs.Alike.{Ascend, Each, the_first, timer-each, count-each, kept-each, kept-none, ruled_anew, ruled_again, any-first, any-none, filter-all, filter-none}
+use Rattle.mq_examples.proofs.Alike.{Ascend, Each, the_first, timer-each, count-each, kept-each, kept-none, ruled_anew, ruled_again, any-first}
+use Rattle.mq_examples.proofs.Alike.{any-none, filter-all, filter-none}
 
 -- INCLUDE of these sources, all with this timer, which are due at a moment or not at all
 abbrev pub all_as : SourceTimer → Option ℕ → List ℕ → Known
@@ -24,7 +27,8 @@ all_as timer due ss = record {
 }
 
 -- whether one of them has a sending to go
-pub any_sending-each : (deadline sendings s : ℕ) (ss : List ℕ) → Ascend (s ∷ ss) → (let es = each_as (Running deadline sendings) (s ∷ ss) in any_sending (ascending es) (timer_in es) ≡ ltb 0 sendings)
+pub any_sending-each : (deadline sendings s : ℕ) (ss : List ℕ) → Ascend (s ∷ ss) →
+    (let es = each_as (Running deadline sendings) (s ∷ ss) in any_sending (ascending es) (timer_in es) ≡ ltb 0 sendings)
 any_sending-each deadline sendings s ss ascend = by_test (ltb 0 sendings) refl
   where
     has : ℕ → Bool
@@ -41,30 +45,51 @@ pub some_left : (n : ℕ) → eqb (suc n) 0 ≡ false
 some_left n = grind (arith, nat_tests)
 
 -- The end of timers that run on leaves the group, and it drops a moment for which there is nothing to send.
-pub stays : (now deadline sendings : ℕ) (due : Option ℕ) (s : ℕ) (ss : List ℕ) → Ascend (s ∷ ss) → ltb now deadline ≡ true → expired_in now (all_as (Running deadline sendings) due (s ∷ ss)) ≡ Some (all_as (Running deadline sendings) (cond (ltb 0 sendings) due None) (s ∷ ss))
+pub stays : (now deadline sendings : ℕ) (due : Option ℕ) (s : ℕ) (ss : List ℕ) → Ascend (s ∷ ss) → ltb now deadline ≡ true →
+    expired_in now (all_as (Running deadline sendings) due (s ∷ ss)) ≡ Some (all_as (Running deadline sendings) (cond (ltb 0 sendings) due None) (s ∷ ss))
 stays now deadline sendings due s ss ascend ahead =
-    ap left (kept-each (λ q. source_expired Include now) (Running deadline sendings) (Running deadline sendings) (s ∷ ss) ascend (λ q named. ap (λ b. cond b (Some (Running deadline sendings)) None) ahead))
-    ∙ (λ i. cond (eqb (count-each (Running deadline sendings) (s ∷ ss) ascend i) 0) None (Some (all_as (Running deadline sendings) (cond (any_sending-each deadline sendings s ss ascend i) due None) (s ∷ ss))))
+    ap left (kept-each (λ q. source_expired Include now) (Running deadline sendings) (Running deadline sendings)
+    (s ∷ ss) ascend (λ q named. ap (λ b. cond b (Some (Running deadline sendings)) None) ahead))
+    ∙ (λ i. cond (eqb (count-each (Running deadline sendings) (s ∷ ss) ascend i) 0) None
+    (Some (all_as (Running deadline sendings) (cond (any_sending-each deadline sendings s ss ascend i) due None) (s ∷ ss))))
     ∙ ap (λ b. cond b None (Some (all_as (Running deadline sendings) (cond (ltb 0 sendings) due None) (s ∷ ss)))) (some_left (length ss))
   where
     left : Entries SourceTimer → Option Known
     left es =
-        let k : Known = record { mode = Include; sources = es; v1 = None; v2 = None; schedule = settled_in Include es (record { group_query = None; sources_due = due }) } in
+        let k : Known = record {
+          mode = Include;
+          sources = es;
+          v1 = None;
+          v2 = None;
+          schedule =
+              settled_in Include es (record { group_query = None; sources_due = due });
+        } in
         cond (is_empty k) None (Some k)
 
 -- Where they have run out, the group goes.
-pub goes : (now deadline sendings : ℕ) (due : Option ℕ) (ss : List ℕ) → Ascend ss → ltb now deadline ≡ false → expired_in now (all_as (Running deadline sendings) due ss) ≡ None
+pub goes : (now deadline sendings : ℕ) (due : Option ℕ) (ss : List ℕ) → Ascend ss → ltb now deadline ≡ false →
+    expired_in now (all_as (Running deadline sendings) due ss) ≡ None
 goes now deadline sendings due ss ascend over =
-    ap left (kept-none (λ q. source_expired Include now) (Running deadline sendings) ss ascend (λ q named. ap (λ b. cond b (Some (Running deadline sendings)) None) over))
+    ap left (kept-none (λ q. source_expired Include now) (Running deadline sendings) ss ascend
+    (λ q named. ap (λ b. cond b (Some (Running deadline sendings)) None) over))
   where
     left : Entries SourceTimer → Option Known
     left es =
-        let k : Known = record { mode = Include; sources = es; v1 = None; v2 = None; schedule = settled_in Include es (record { group_query = None; sources_due = due }) } in
+        let k : Known = record {
+          mode = Include;
+          sources = es;
+          v1 = None;
+          v2 = None;
+          schedule =
+              settled_in Include es (record { group_query = None; sources_due = due });
+        } in
         cond (is_empty k) None (Some k)
 
 -- A round that is due sends them all with S clear, where they don't run for longer than the last member query time, and
 -- counts each down.
-pub sends : (per_query now group deadline sendings due : ℕ) (ss : List ℕ) → Ascend ss → leb due now ≡ true → ltb 0 sendings ≡ true → ltb (lowered_to default_timing now) deadline ≡ false → sent_in per_query default_timing now group (all_as (Running deadline sendings) (Some due) ss) ≡ sources_queries per_query group false ss
+pub sends : (per_query now group deadline sendings due : ℕ) (ss : List ℕ) → Ascend ss → leb due now ≡ true → ltb 0 sendings ≡ true →
+    ltb (lowered_to default_timing now) deadline ≡ false →
+    sent_in per_query default_timing now group (all_as (Running deadline sendings) (Some due) ss) ≡ sources_queries per_query group false ss
 sends per_query now group deadline sendings due ss ascend is_due to_go low =
     ap (λ b. cond b (sources_queries per_query group true suppressing ++ sources_queries per_query group false clear) []) is_due
     ∙ (λ i. sources_queries per_query group true (none i) ++ sources_queries per_query group false (all i))
@@ -82,15 +107,23 @@ sends per_query now group deadline sendings due ss ascend is_due to_go low =
     clear = filter (λ q. ltb 0 (sendings_of (timer q)) && not (is_above q)) (ascending (each_as (Running deadline sendings) ss))
 
     none : suppressing ≡ []
-    none = filter-none _ (Running deadline sendings) ss ascend (λ q named. (λ i. ltb 0 (sendings_of (timer-each (Running deadline sendings) ss q named i)) && is_ahead (lowered_to default_timing now) (deadline_of (timer-each (Running deadline sendings) ss q named i))) ∙ (λ i. to_go i && low i))
+    none = filter-none _ (Running deadline sendings) ss ascend
+        (λ q named. (λ i. ltb 0 (sendings_of (timer-each (Running deadline sendings) ss q named i)) && is_ahead (lowered_to default_timing now)
+        (deadline_of (timer-each (Running deadline sendings) ss q named i))) ∙ (λ i. to_go i && low i))
 
     all : clear ≡ ss
-    all = filter-all _ (Running deadline sendings) ss ascend (λ q named. (λ i. ltb 0 (sendings_of (timer-each (Running deadline sendings) ss q named i)) && not (is_ahead (lowered_to default_timing now) (deadline_of (timer-each (Running deadline sendings) ss q named i)))) ∙ (λ i. to_go i && not (low i)))
+    all = filter-all _ (Running deadline sendings) ss ascend
+        (λ q named. (λ i. ltb 0 (sendings_of (timer-each (Running deadline sendings) ss q named i)) && not
+        (is_ahead (lowered_to default_timing now) (deadline_of (timer-each (Running deadline sendings) ss q named i)))) ∙ (λ i. to_go i && not (low i)))
 
-pub counts : (now deadline sendings due s : ℕ) (ss : List ℕ) → Ascend (s ∷ ss) → leb due now ≡ true → round_in default_timing now (all_as (Running deadline sendings) (Some due) (s ∷ ss)) ≡ all_as (Running deadline (sendings - 1)) (cond (ltb 0 (sendings - 1)) (Some (now + 1000)) None) (s ∷ ss)
+pub counts : (now deadline sendings due s : ℕ) (ss : List ℕ) → Ascend (s ∷ ss) → leb due now ≡ true →
+    round_in default_timing now (all_as (Running deadline sendings) (Some due) (s ∷ ss)) ≡ all_as (Running deadline (sendings - 1))
+    (cond (ltb 0 (sendings - 1)) (Some (now + 1000)) None) (s ∷ ss)
 counts now deadline sendings due s ss ascend is_due =
-    ap (λ b. cond b (left (kept_in (λ q timer. Some (source_counted timer)) (each_as (Running deadline sendings) (s ∷ ss)))) (all_as (Running deadline sendings) (Some due) (s ∷ ss))) is_due
-    ∙ ap left (kept-each (λ q timer. Some (source_counted timer)) (Running deadline sendings) (Running deadline (sendings - 1)) (s ∷ ss) ascend (λ q named. refl))
+    ap (λ b. cond b (left (kept_in (λ q timer. Some (source_counted timer)) (each_as (Running deadline sendings) (s ∷ ss))))
+    (all_as (Running deadline sendings) (Some due) (s ∷ ss))) is_due
+    ∙ ap left (kept-each (λ q timer. Some (source_counted timer)) (Running deadline sendings) (Running deadline (sendings - 1))
+    (s ∷ ss) ascend (λ q named. refl))
     ∙ ap (λ b. all_as (Running deadline (sendings - 1)) (cond b (Some (now + 1000)) None) (s ∷ ss)) (any_sending-each deadline (sendings - 1) s ss ascend)
   where
     left : Entries SourceTimer → Known
@@ -104,19 +137,31 @@ counts now deadline sendings due s ss ascend is_due =
 
 -- what a querier asks of a group that a change has left
 asked_after : ℕ → (query : Set) → Entries SourceTimer → Known
-asked_after now query es = asked_in default_timing now query (record { mode = Include; sources = es; v1 = None; v2 = None; schedule = settled_in Include es no_schedule })
+asked_after now query es =
+    asked_in default_timing now query (record { mode = Include; sources = es; v1 = None; v2 = None; schedule = settled_in Include es no_schedule })
 
 -- Where a record blocks them all, each is lowered and asked for.
-pub blocked : (now deadline s : ℕ) (ss : List ℕ) → Ascend (s ∷ ss) → ltb (lowered_to default_timing now) deadline ≡ true → changed_in true default_timing now (change_in default_timing now (all_as (Running deadline 0) None (s ∷ ss)) Block (s ∷ ss)) no_schedule ≡ all_as (Running (lowered_to default_timing now) 2) (Some now) (s ∷ ss)
+pub blocked : (now deadline s : ℕ) (ss : List ℕ) → Ascend (s ∷ ss) → ltb (lowered_to default_timing now) deadline ≡ true →
+    changed_in true default_timing now (change_in default_timing now (all_as (Running deadline 0) None (s ∷ ss)) Block (s ∷ ss)) no_schedule
+    ≡ all_as (Running (lowered_to default_timing now) 2) (Some now) (s ∷ ss)
 unfolding asked_after
 blocked now deadline s ss ascend above =
-    ap (asked_after now query) (ruled_again rule (Running deadline 0) (Running deadline 0) (s ∷ ss) ascend (λ q named. ap (λ (t : Option SourceTimer). rule_of default_timing now Include Block (λ _. t) (named_in (s ∷ ss)) q) (timer-each (Running deadline 0) (s ∷ ss) q named)))
+    ap (asked_after now query)
+    (ruled_again rule (Running deadline 0) (Running deadline 0)
+    (s ∷ ss) ascend (λ q named. ap (λ (t : Option SourceTimer). rule_of default_timing now Include Block (λ _. t) (named_in (s ∷ ss)) q)
+    (timer-each (Running deadline 0) (s ∷ ss) q named)))
     ∙ (λ i. record {
       mode = Include;
-      sources = kept-each (λ q timer. Some (cond (query q) (source_asked (lowered_to default_timing now) 2 timer) timer)) (Running deadline 0) (Running (lowered_to default_timing now) 2) (s ∷ ss) ascend each_asked i;
+      sources = kept-each (λ q timer. Some (cond (query q) (source_asked (lowered_to default_timing now) 2 timer) timer)) (Running deadline 0)
+          (Running (lowered_to default_timing now) 2) (s ∷ ss) ascend each_asked i;
       v1 = None;
       v2 = None;
-      schedule = record { group_query = None; sources_due = cond (any-first (λ q. query q && is_ahead (lowered_to default_timing now) (deadline_of (timer q))) (Running deadline 0) s ss ascend (the_first s ss each_above) i) (Some now) (cond (any_sending-each deadline 0 s ss ascend i) None None) };
+      schedule = record {
+        group_query = None;
+        sources_due =
+            cond (any-first (λ q. query q && is_ahead (lowered_to default_timing now) (deadline_of (timer q)))
+            (Running deadline 0) s ss ascend (the_first s ss each_above) i) (Some now) (cond (any_sending-each deadline 0 s ss ascend i) None None);
+      };
     })
   where
     timer : ℕ → Option SourceTimer
@@ -131,23 +176,35 @@ blocked now deadline s ss ascend above =
     is_asked : Each (λ q. query q ≡ true) (s ∷ ss)
     is_asked q named = λ i. is_running (timer-each (Running deadline 0) (s ∷ ss) q named i) && named i
 
-    each_asked : Each (λ q. ◌≡◌ {A = Option SourceTimer} (Some (cond (query q) (source_asked (lowered_to default_timing now) 2 (Running deadline 0)) (Running deadline 0))) (Some (Running (lowered_to default_timing now) 2))) (s ∷ ss)
-    each_asked q named = λ i. Some (cond (is_asked q named i) (cond (above i) (Running (lowered_to default_timing now) 2) (Running deadline 0)) (Running deadline 0))
+    each_asked : Each (λ q. ◌≡◌ {A = Option SourceTimer}
+        (Some (cond (query q) (source_asked (lowered_to default_timing now) 2 (Running deadline 0)) (Running deadline 0)))
+        (Some (Running (lowered_to default_timing now) 2))) (s ∷ ss)
+    each_asked q named =
+        λ i. Some (cond (is_asked q named i) (cond (above i) (Running (lowered_to default_timing now) 2) (Running deadline 0)) (Running deadline 0))
 
     each_above : Each (λ q. (query q && is_ahead (lowered_to default_timing now) (deadline_of (timer q))) ≡ true) (s ∷ ss)
-    each_above q named = (λ i. is_asked q named i && is_ahead (lowered_to default_timing now) (deadline_of (timer-each (Running deadline 0) (s ∷ ss) q named i))) ∙ above
+    each_above q named =
+        (λ i. is_asked q named i && is_ahead (lowered_to default_timing now) (deadline_of (timer-each (Running deadline 0) (s ∷ ss) q named i))) ∙ above
 
 -- Where a record allows them all, and none was there, each runs for a group membership interval.
-pub allowed : (now s : ℕ) (ss : List ℕ) → Ascend (s ∷ ss) → changed_in true default_timing now (change_in default_timing now nothing_known Allow (s ∷ ss)) no_schedule ≡ all_as (Running (now + 260000) 0) None (s ∷ ss)
+pub allowed : (now s : ℕ) (ss : List ℕ) → Ascend (s ∷ ss) →
+    changed_in true default_timing now (change_in default_timing now nothing_known Allow (s ∷ ss)) no_schedule ≡ all_as (Running (now + 260000) 0) None (s ∷ ss)
 unfolding asked_after
 allowed now s ss ascend =
-    ap (asked_after now (λ _. false)) (ruled_anew rule (Running (now + 260000) 0) (s ∷ ss) ascend (λ q named. ap (λ (b : Bool). rule_of default_timing now Include Allow (timer_in []) (λ _. b) q) named))
+    ap (asked_after now (λ _. false))
+    (ruled_anew rule (Running (now + 260000) 0)
+    (s ∷ ss) ascend (λ q named. ap (λ (b : Bool). rule_of default_timing now Include Allow (timer_in []) (λ _. b) q) named))
     ∙ (λ i. record {
       mode = Include;
       sources = kept-each (λ q timer. Some timer) (Running (now + 260000) 0) (Running (now + 260000) 0) (s ∷ ss) ascend (λ q named. refl) i;
       v1 = None;
       v2 = None;
-      schedule = record { group_query = None; sources_due = cond (any-none (λ q. false) (Running (now + 260000) 0) (s ∷ ss) ascend (λ q named. refl) i) (Some now) (cond (any_sending-each (now + 260000) 0 s ss ascend i) None None) };
+      schedule = record {
+        group_query = None;
+        sources_due =
+            cond (any-none (λ q. false) (Running (now + 260000) 0) (s ∷ ss) ascend (λ q named. refl) i) (Some now)
+            (cond (any_sending-each (now + 260000) 0 s ss ascend i) None None);
+      };
     })
   where
     rule : ℕ → Option SourceTimer

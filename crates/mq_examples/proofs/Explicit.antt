@@ -10,7 +10,8 @@ use Rattle.mq_examples.specs.{Groups.naming, Schedules.Sends, Schedules.per_quer
 use Rattle.mq_table.proofs.Maps.{keys-from_entries, kept-from_entries}
 use Rattle.mq_table.specs.Sendings.{source_asked, source_counted, sendings_counted}
 use Rattle.mq_sched.specs.{declared.queries.QuerySchedule.QuerySchedule, Examples.the_group, Schedule.ScheduleState, Schedule.ScheduledGroup, Schedule.settled}
-use Rattle.mq_sched.specs.Sending.{SentQuery, GroupQuery, sources_asked, group_asked, after_change, is_due, group_due, sources_queries, messages_due, group_counted, sources_due_next, after_round}
+use Rattle.mq_sched.specs.Sending.{SentQuery, GroupQuery, sources_asked, group_asked, after_change, is_due, group_due, sources_queries, messages_due}
+use Rattle.mq_sched.specs.Sending.{group_counted, sources_due_next, after_round}
 use Rattle.std.specs.FinMap as map
 use Rattle.std.specs.FinSet as set
 
@@ -34,12 +35,14 @@ settled_by mode schedule keys timer = record {
   sources_due = cond (any_sending keys timer) schedule.sources_due None;
 }
 
-pub settled-known : (mode : FilterMode) (es : Sources) (v1 v2 : Option ℕ) (schedule : ScheduleState) → T (is_sorted nat_cmp es) → settled (known mode es v1 v2) schedule ≡ settled_by mode schedule (keys_of es) (λ s. find nat_cmp s es)
+pub settled-known : (mode : FilterMode) (es : Sources) (v1 v2 : Option ℕ) (schedule : ScheduleState) → T (is_sorted nat_cmp es) →
+    settled (known mode es v1 v2) schedule ≡ settled_by mode schedule (keys_of es) (λ s. find nat_cmp s es)
 settled-known mode es v1 v2 schedule sorted = λ i. settled_by mode schedule (keys-from_entries es sorted i) (λ s. map.get-from_entries nat_cmp_total es s i)
 
 -- what asking for sources makes of a group
 abbrev pub asked_sources : Timing → ℕ → Set → Sources → Sources
-asked_sources timing now asked es = list_map (λ (e : ℕ × SourceTimer). (e.0, cond (asked e.0) (source_asked (lowered_to timing now) (last_member_count timing) e.1) e.1)) es
+asked_sources timing now asked es =
+    list_map (λ (e : ℕ × SourceTimer). (e.0, cond (asked e.0) (source_asked (lowered_to timing now) (last_member_count timing) e.1) e.1)) es
 
 abbrev pub asked_by : Timing → ℕ → Set → ScheduleState → List ℕ → (ℕ → Option SourceTimer) → ScheduleState
 asked_by timing now asked schedule keys timer = record {
@@ -47,9 +50,21 @@ asked_by timing now asked schedule keys timer = record {
   sources_due = cond (list_any (λ s. asked s && is_ahead (lowered_to timing now) (deadline_of (timer s))) keys) (Some now) schedule.sources_due;
 }
 
-pub sources_asked-known : (timing : Timing) (now : ℕ) (asked : Set) (mode : FilterMode) (es : Sources) (v1 v2 : Option ℕ) (schedule : ScheduleState) → T (is_sorted nat_cmp es) → sources_asked timing now asked (record { group = known mode es v1 v2; schedule = schedule }) ≡ record { group = known mode (asked_sources timing now asked es) v1 v2; schedule = asked_by timing now asked schedule (keys_of es) (λ s. find nat_cmp s es) }
+pub sources_asked-known : (timing : Timing) (now : ℕ) (asked : Set) (mode : FilterMode) (es : Sources) (v1 v2 : Option ℕ) (schedule : ScheduleState) →
+    T (is_sorted nat_cmp es) → sources_asked timing now asked (record { group = known mode es v1 v2; schedule = schedule })
+    ≡ record {
+      group = known mode (asked_sources timing now asked es) v1 v2;
+      schedule = asked_by timing now asked schedule (keys_of es)
+          (λ s. find nat_cmp s es);
+    }
 sources_asked-known timing now asked mode es v1 v2 schedule sorted = λ i. record {
-  group = record { mode = mode; sources = kept-from_entries (λ s timer. cond (asked s) (source_asked (lowered_to timing now) (last_member_count timing) timer) timer) es i; v1 = v1; v2 = v2 };
+  group = record {
+    mode = mode;
+    sources =
+        kept-from_entries (λ s timer. cond (asked s) (source_asked (lowered_to timing now) (last_member_count timing) timer) timer) es i;
+    v1 = v1;
+    v2 = v2;
+  };
   schedule = asked_by timing now asked schedule (keys-from_entries es sorted i) (λ s. map.get-from_entries nat_cmp_total es s i);
 }
 
@@ -63,7 +78,10 @@ group_asked_by timing now asks mode schedule = record {
   sources_due = schedule.sources_due;
 }
 
-group_asked-known : (timing : Timing) (now : ℕ) (asks : Bool) (mode : FilterMode) (es : Sources) (v1 v2 : Option ℕ) (schedule : ScheduleState) → cond asks (group_asked timing now (record { group = known mode es v1 v2; schedule = schedule })) (record { group = known mode es v1 v2; schedule = schedule }) ≡ record { group = known (mode_asked timing now asks mode) es v1 v2; schedule = group_asked_by timing now asks mode schedule }
+group_asked-known : (timing : Timing) (now : ℕ) (asks : Bool) (mode : FilterMode) (es : Sources) (v1 v2 : Option ℕ) (schedule : ScheduleState) →
+    cond asks (group_asked timing now (record { group = known mode es v1 v2; schedule = schedule }))
+    (record { group = known mode es v1 v2; schedule = schedule })
+    ≡ record { group = known (mode_asked timing now asks mode) es v1 v2; schedule = group_asked_by timing now asks mode schedule }
 group_asked-known timing now asks mode es v1 v2 schedule = grind arith
 
 -- what goes in a round
@@ -72,11 +90,15 @@ sent_by n timing now mode schedule keys timer =
     cond (is_due now (group_due schedule.group_query)) (GroupQuery the_group (is_ahead (lowered_to timing now) (group_deadline mode)) ∷ []) []
     ++ cond (is_due now schedule.sources_due)
     (sources_queries n the_group true (filter (λ s. nat_lt 0 (sendings_of (timer s)) && is_ahead (lowered_to timing now) (deadline_of (timer s))) keys)
-    ++ sources_queries n the_group false (filter (λ s. nat_lt 0 (sendings_of (timer s)) && not (is_ahead (lowered_to timing now) (deadline_of (timer s)))) keys))
+    ++ sources_queries n the_group false
+    (filter (λ s. nat_lt 0 (sendings_of (timer s)) && not (is_ahead (lowered_to timing now) (deadline_of (timer s)))) keys))
     []
 
-pub sent-known : (n : ℕ) (timing : Timing) (now : ℕ) (mode : FilterMode) (es : Sources) (v1 v2 : Option ℕ) (schedule : ScheduleState) → T (is_sorted nat_cmp es) → messages_due n timing now the_group (record { group = known mode es v1 v2; schedule = schedule }) ≡ sent_by n timing now mode schedule (keys_of es) (λ s. find nat_cmp s es)
-sent-known n timing now mode es v1 v2 schedule sorted = λ i. sent_by n timing now mode schedule (keys-from_entries es sorted i) (λ s. map.get-from_entries nat_cmp_total es s i)
+pub sent-known : (n : ℕ) (timing : Timing) (now : ℕ) (mode : FilterMode) (es : Sources) (v1 v2 : Option ℕ) (schedule : ScheduleState) →
+    T (is_sorted nat_cmp es) → messages_due n timing now the_group (record { group = known mode es v1 v2; schedule = schedule })
+    ≡ sent_by n timing now mode schedule (keys_of es) (λ s. find nat_cmp s es)
+sent-known n timing now mode es v1 v2 schedule sorted = λ i. sent_by n timing now mode schedule (keys-from_entries es sorted i)
+    (λ s. map.get-from_entries nat_cmp_total es s i)
 
 -- and what it leaves
 abbrev pub counted : Sources → Sources
@@ -92,51 +114,92 @@ next_by timing now keys timer = cond (any_sending keys timer) (Some (now + timin
 abbrev pub left_by : Timing → ℕ → FilterMode → Sources → Option ℕ → Option ℕ → ScheduleState → ScheduledGroup
 left_by timing now mode es v1 v2 schedule =
     cond (is_due now schedule.sources_due)
-    (left_with mode (counted es) v1 v2 (group_counted timing now schedule.group_query) (next_by timing now (keys_of (counted es)) (λ s. find nat_cmp s (counted es))))
+    (left_with mode (counted es) v1 v2 (group_counted timing now schedule.group_query)
+    (next_by timing now (keys_of (counted es)) (λ s. find nat_cmp s (counted es))))
     (left_with mode es v1 v2 (group_counted timing now schedule.group_query) schedule.sources_due)
 
-left-cases : (timing : Timing) (now : ℕ) (mode : FilterMode) (es : Sources) (v1 v2 : Option ℕ) (q : Option QuerySchedule) (d : Option ℕ) → T (is_sorted nat_cmp (counted es)) → (due : Bool) → ◌≡◌ {A = ScheduledGroup} (record { group = cond due (sendings_counted (known mode es v1 v2)) (known mode es v1 v2); schedule = record { group_query = q; sources_due = cond due (sources_due_next timing now (cond due (sendings_counted (known mode es v1 v2)) (known mode es v1 v2))) d } }) (cond due (left_with mode (counted es) v1 v2 q (next_by timing now (keys_of (counted es)) (λ s. find nat_cmp s (counted es)))) (left_with mode es v1 v2 q d))
+left-cases : (timing : Timing) (now : ℕ) (mode : FilterMode) (es : Sources) (v1 v2 : Option ℕ) (q : Option QuerySchedule) (d : Option ℕ) →
+    T (is_sorted nat_cmp (counted es)) → (due : Bool) →
+    ◌≡◌ {A = ScheduledGroup}
+    (record {
+      group = cond due (sendings_counted (known mode es v1 v2)) (known mode es v1 v2);
+      schedule =
+          record {
+            group_query = q;
+            sources_due =
+                cond due (sources_due_next timing now (cond due (sendings_counted (known mode es v1 v2)) (known mode es v1 v2))) d;
+          };
+    }) (cond due (left_with mode (counted es) v1 v2 q (next_by timing now (keys_of (counted es)) (λ s. find nat_cmp s (counted es))))
+    (left_with mode es v1 v2 q d))
 left-cases timing now mode es v1 v2 q d sorted true =
     ap (λ m. state m) (kept-from_entries (λ _. source_counted) es)
-    ∙ (λ i. left_with mode (counted es) v1 v2 q (next_by timing now (keys-from_entries (counted es) sorted i) (λ s. map.get-from_entries nat_cmp_total (counted es) s i)))
+    ∙ (λ i. left_with mode (counted es) v1 v2 q
+    (next_by timing now (keys-from_entries (counted es) sorted i) (λ s. map.get-from_entries nat_cmp_total (counted es) s i)))
   where
     state : map.FinMap nat_cmp SourceTimer → ScheduledGroup
-    state m = record { group = record { mode = mode; sources = m; v1 = v1; v2 = v2 }; schedule = record { group_query = q; sources_due = next_by timing now (map.keys m) (map.get m) } }
+    state m = record {
+      group = record { mode = mode; sources = m; v1 = v1; v2 = v2 };
+      schedule =
+          record { group_query = q; sources_due = next_by timing now (map.keys m) (map.get m) };
+    }
 left-cases timing now mode es v1 v2 q d sorted false = refl
 
-pub left-known : (timing : Timing) (now : ℕ) (mode : FilterMode) (es : Sources) (v1 v2 : Option ℕ) (schedule : ScheduleState) → T (is_sorted nat_cmp (counted es)) → after_round timing now (record { group = known mode es v1 v2; schedule = schedule }) ≡ left_by timing now mode es v1 v2 schedule
-left-known timing now mode es v1 v2 schedule sorted = left-cases timing now mode es v1 v2 (group_counted timing now schedule.group_query) schedule.sources_due sorted (is_due now schedule.sources_due)
+pub left-known : (timing : Timing) (now : ℕ) (mode : FilterMode) (es : Sources) (v1 v2 : Option ℕ) (schedule : ScheduleState) →
+    T (is_sorted nat_cmp (counted es)) → after_round timing now (record { group = known mode es v1 v2; schedule = schedule })
+    ≡ left_by timing now mode es v1 v2 schedule
+left-known timing now mode es v1 v2 schedule sorted =
+    left-cases timing now mode es v1 v2 (group_counted timing now schedule.group_query) schedule.sources_due sorted (is_due now schedule.sources_due)
 
 -- the test for one of these numbers
 abbrev pub those : List ℕ → Set
 those numbers s = list_any (λ y. nat_eq y s) numbers
 
-pub change_is : (change : GroupChange) (g : GroupState) (query_group : Bool) (query : List ℕ) → change.group ≡ g → ((s : ℕ) → change.query s ≡ set.contains (naming query) s) → change.query_group ≡ query_group → change ≡ record { group = g; query = those query; query_group = query_group }
-change_is change g query_group query group_is query_is asks = λ i. record { group = group_is i; query = λ s. (query_is s ∙ set.contains-from_list_nat query s) i; query_group = asks i }
+pub change_is : (change : GroupChange) (g : GroupState) (query_group : Bool) (query : List ℕ) → change.group ≡ g →
+    ((s : ℕ) → change.query s ≡ set.contains (naming query) s) → change.query_group ≡ query_group →
+    change ≡ record { group = g; query = those query; query_group = query_group }
+change_is change g query_group query group_is query_is asks =
+    λ i. record { group = group_is i; query = λ s. (query_is s ∙ set.contains-from_list_nat query s) i; query_group = asks i }
 
 -- what is known of a state holds of one that equals it
-pub sends_as : {now : ℕ} {e known : ScheduledGroup} {queries : List SentQuery} {after : ScheduledGroup} → e ≡ known → Sends now known queries after → Sends now e queries after
+pub sends_as : {now : ℕ} {e known : ScheduledGroup} {queries : List SentQuery} {after : ScheduledGroup} → e ≡ known → Sends now known queries after →
+    Sends now e queries after
 sends_as {now = now} {queries = queries} {after = after} is sends = subst (λ e. Sends now e queries after) (sym is) sends
 
 -- the schedule after a change, which asks for these
 abbrev pub schedule_after : Timing → ℕ → FilterMode → Sources → Bool → Set → ScheduleState → ScheduleState
 schedule_after timing now mode es asks asked schedule =
-    asked_by timing now asked (group_asked_by timing now asks mode (settled_by mode schedule (keys_of es) (λ s. find nat_cmp s es))) (keys_of es) (λ s. find nat_cmp s es)
+    asked_by timing now asked (group_asked_by timing now asks mode (settled_by mode schedule (keys_of es) (λ s. find nat_cmp s es))) (keys_of es)
+    (λ s. find nat_cmp s es)
 
-pub change-known : (timing : Timing) (now : ℕ) (mode : FilterMode) (es : Sources) (v1 v2 : Option ℕ) (asks : Bool) (asked : Set) (schedule : ScheduleState) → T (is_sorted nat_cmp es) → after_change true timing now (record { group = known mode es v1 v2; query = asked; query_group = asks }) schedule ≡ record { group = known (mode_asked timing now asks mode) (asked_sources timing now asked es) v1 v2; schedule = schedule_after timing now mode es asks asked schedule }
+pub change-known : (timing : Timing) (now : ℕ) (mode : FilterMode) (es : Sources) (v1 v2 : Option ℕ) (asks : Bool) (asked : Set)
+    (schedule : ScheduleState) → T (is_sorted nat_cmp es) →
+    after_change true timing now (record { group = known mode es v1 v2; query = asked; query_group = asks }) schedule
+    ≡ record {
+      group = known (mode_asked timing now asks mode) (asked_sources timing now asked es) v1 v2;
+      schedule =
+          schedule_after timing now mode es asks asked schedule;
+    }
 change-known timing now mode es v1 v2 asks asked schedule sorted =
-    ap (λ x. sources_asked timing now asked (cond asks (group_asked timing now (record { group = known mode es v1 v2; schedule = x })) (record { group = known mode es v1 v2; schedule = x }))) (settled-known mode es v1 v2 schedule sorted)
+    ap (λ x. sources_asked timing now asked (cond asks (group_asked timing now (record { group = known mode es v1 v2; schedule = x }))
+    (record { group = known mode es v1 v2; schedule = x }))) (settled-known mode es v1 v2 schedule sorted)
     ∙ ap (sources_asked timing now asked) (group_asked-known timing now asks mode es v1 v2 (settled_by mode schedule (keys_of es) (λ s. find nat_cmp s es)))
-    ∙ sources_asked-known timing now asked (mode_asked timing now asks mode) es v1 v2 (group_asked_by timing now asks mode (settled_by mode schedule (keys_of es) (λ s. find nat_cmp s es))) sorted
+    ∙ sources_asked-known timing now asked (mode_asked timing now asks mode) es v1 v2
+    (group_asked_by timing now asks mode (settled_by mode schedule (keys_of es) (λ s. find nat_cmp s es))) sorted
 
 -- What a change leaves of a group and its schedule. The change is known source by source; the rest is
 -- computed of the list of sources.
-pub change_leaves : (now : ℕ) (change : GroupChange) (schedule : ScheduleState) (mode : FilterMode) (es : Sources) (asks : Bool) (query : List ℕ) {v1 v2 : Option ℕ}
+pub change_leaves : (now : ℕ) (change : GroupChange) (schedule : ScheduleState) (mode : FilterMode) (es : Sources) (asks : Bool)
+    (query : List ℕ) {v1 v2 : Option ℕ}
     → change.group ≡ known mode es v1 v2
     → ((s : ℕ) → change.query s ≡ set.contains (naming query) s)
     → change.query_group ≡ asks
     → T (is_sorted nat_cmp es)
-    → after_change true default_timing now change schedule ≡ record { group = known (mode_asked default_timing now asks mode) (asked_sources default_timing now (those query) es) v1 v2; schedule = schedule_after default_timing now mode es asks (those query) schedule }
+    → after_change true default_timing now change schedule
+    ≡ record {
+      group = known (mode_asked default_timing now asks mode) (asked_sources default_timing now (those query) es) v1 v2;
+      schedule =
+          schedule_after default_timing now mode es asks (those query) schedule;
+    }
 change_leaves now change schedule mode es asks query {v1 = v1} {v2 = v2} group_is query_is asks_is sorted =
     ap (λ x. after_change true default_timing now x schedule) (change_is change (known mode es v1 v2) asks query group_is query_is asks_is)
     ∙ change-known default_timing now mode es v1 v2 asks (those query) schedule sorted
@@ -153,16 +216,21 @@ known_sends now mode es v1 v2 schedule sorted counted_sorted sent left = record 
 }
 
 -- What goes at once after a change, and what that leaves.
-pub change_sends : (now : ℕ) (change : GroupChange) (schedule : ScheduleState) (mode : FilterMode) (es : Sources) (asks : Bool) (query : List ℕ) {v1 v2 : Option ℕ} {queries : List SentQuery} {after : ScheduledGroup}
+pub change_sends : (now : ℕ) (change : GroupChange) (schedule : ScheduleState) (mode : FilterMode) (es : Sources) (asks : Bool)
+    (query : List ℕ) {v1 v2 : Option ℕ} {queries : List SentQuery} {after : ScheduledGroup}
     → change.group ≡ known mode es v1 v2
     → ((s : ℕ) → change.query s ≡ set.contains (naming query) s)
     → change.query_group ≡ asks
     → T (is_sorted nat_cmp es)
     → T (is_sorted nat_cmp (asked_sources default_timing now (those query) es))
     → T (is_sorted nat_cmp (counted (asked_sources default_timing now (those query) es)))
-    → sent_by per_query default_timing now (mode_asked default_timing now asks mode) (schedule_after default_timing now mode es asks (those query) schedule) (keys_of (asked_sources default_timing now (those query) es)) (λ s. find nat_cmp s (asked_sources default_timing now (those query) es)) ≡ queries
-    → left_by default_timing now (mode_asked default_timing now asks mode) (asked_sources default_timing now (those query) es) v1 v2 (schedule_after default_timing now mode es asks (those query) schedule) ≡ after
+    → sent_by per_query default_timing now (mode_asked default_timing now asks mode)
+    (schedule_after default_timing now mode es asks (those query) schedule) (keys_of (asked_sources default_timing now (those query) es))
+    (λ s. find nat_cmp s (asked_sources default_timing now (those query) es)) ≡ queries
+    → left_by default_timing now (mode_asked default_timing now asks mode) (asked_sources default_timing now (those query) es) v1 v2
+    (schedule_after default_timing now mode es asks (those query) schedule) ≡ after
     → Sends now (after_change true default_timing now change schedule) queries after
 change_sends now change schedule mode es asks query {v1 = v1} {v2 = v2} group_is query_is asks_is sorted asked_sorted counted_sorted sent left =
     sends_as (change_leaves now change schedule mode es asks query group_is query_is asks_is sorted)
-    (known_sends now (mode_asked default_timing now asks mode) (asked_sources default_timing now (those query) es) v1 v2 (schedule_after default_timing now mode es asks (those query) schedule) asked_sorted counted_sorted sent left)
+    (known_sends now (mode_asked default_timing now asks mode) (asked_sources default_timing now (those query) es) v1 v2
+    (schedule_after default_timing now mode es asks (those query) schedule) asked_sorted counted_sorted sent left)

@@ -42,19 +42,24 @@ module _ (before after : KnownGroups) (group : ℕ) where
   changed_at s is =
       let k = group_in before group in
       let m = group_in after group in
-      known ∙ changes-at (as_held k).group (as_held m).group s ((λ i. not (beq (names k.mode (map.get-from_entries nat_cmp_total k.sources s i)) (names m.mode (map.get-from_entries nat_cmp_total m.sources s i)))) ∙ is)
+      known ∙ changes-at (as_held k).group (as_held m).group s
+      ((λ i. not (beq (names k.mode (map.get-from_entries nat_cmp_total k.sources s i))
+      (names m.mode (map.get-from_entries nat_cmp_total m.sources s i)))) ∙ is)
 
   stays : filter_known (group_in before group) ≡ filter_known (group_in after group) → changes (as_groups before) (as_groups after) group ≡ false
   stays same =
       let k = as_held (group_in before group) in
       let m = as_held (group_in after group) in
-      known ∙ alike_after k.group m.group k.group (filter-known (group_in after group) ∙ sym same ∙ sym (filter-known (group_in before group))) ∙ unchanged k.group
+      known ∙ alike_after k.group m.group k.group (filter-known (group_in after group) ∙ sym same ∙ sym (filter-known (group_in before group))) ∙
+      unchanged k.group
 
 -- what the examples cite: a tick, and a Report with one record at whose moment a tick changes nothing
-tick_is : (config : Configuration) (now : ℕ) (l : KnownLink) (group : ℕ) → changed_by_tick config now (as_link l) group ≡ changes (as_groups l.groups) (as_groups (tick_in config now l).link.groups) group
+tick_is : (config : Configuration) (now : ℕ) (l : KnownLink) (group : ℕ) → changed_by_tick config now (as_link l) group ≡ changes (as_groups l.groups)
+    (as_groups (tick_in config now l).link.groups) group
 tick_is config now l group = ap (λ s. changes (as_groups l.groups) s.state.groups group) (tick-known config now l)
 
-pub tick_names : (config : Configuration) (now : ℕ) (l : KnownLink) (group s : ℕ) → apart_at (group_in l.groups group) (group_in (tick_in config now l).link.groups group) s ≡ true → Names config (Tick now) l group true
+pub tick_names : (config : Configuration) (now : ℕ) (l : KnownLink) (group s : ℕ) →
+    apart_at (group_in l.groups group) (group_in (tick_in config now l).link.groups group) s ≡ true → Names config (Tick now) l group true
 tick_names config now l group s is = record { named = tick_is config now l group ∙ changed_at l.groups (tick_in config now l).link.groups group s is }
 
 module _ (config : Configuration) (envelope : Envelope) (bytes : List ℕ) (now : ℕ) (l : KnownLink) (group : ℕ) (r : RecordView ℕ) where
@@ -70,9 +75,11 @@ module _ (config : Configuration) (envelope : Envelope) (bytes : List ℕ) (now 
     pub taken : drop_reason config envelope (Ok (ReportMessage (r ∷ []))) ≡ None
     pub quiet : filter_known (group_in l.groups group) ≡ filter_known (group_in left.groups group)
 
-  named_by : Reports → (answer : Bool) → changes (as_groups left.groups) (as_groups then) group ≡ answer → Names config (Datagram envelope bytes now) l group answer
+  named_by : Reports → (answer : Bool) → changes (as_groups left.groups) (as_groups then) group ≡ answer →
+      Names config (Datagram envelope bytes now) l group answer
   named_by h answer is =
-      let by = λ (state : LinkState) (m : Result (Message ℕ) WireFault). changed_by_read (setting_of config state) m (drop_reason config envelope m) state.groups group in
+      let by = λ (state : LinkState) (m : Result (Message ℕ) WireFault). changed_by_read (setting_of config state) m
+      (drop_reason config envelope m) state.groups group in
       record {
         named =
             (λ i. (tick_is config now l group ∙ stays l.groups left.groups group h.quiet) i || by (tick-known config now l i).state (h.read i))
@@ -86,8 +93,10 @@ module _ (config : Configuration) (envelope : Envelope) (bytes : List ℕ) (now 
       or_nothing true = refl
       or_nothing false = refl
 
-  pub record_names : (s : ℕ) → Reports → apart_at (group_in left.groups group) (group_in then group) s ≡ true → Names config (Datagram envelope bytes now) l group true
+  pub record_names : (s : ℕ) → Reports → apart_at (group_in left.groups group) (group_in then group) s ≡ true →
+      Names config (Datagram envelope bytes now) l group true
   record_names s h is = named_by h true (changed_at left.groups then group s is)
 
-  pub record_leaves : Reports → filter_known (group_in left.groups group) ≡ filter_known (group_in then group) → Names config (Datagram envelope bytes now) l group false
+  pub record_leaves : Reports → filter_known (group_in left.groups group) ≡ filter_known (group_in then group) →
+      Names config (Datagram envelope bytes now) l group false
   record_leaves h same = named_by h false (stays left.groups then group same)

@@ -40,7 +40,8 @@ settled_by mode schedule keys timer = record {
 abbrev pub settled_in : FilterMode → Entries SourceTimer → ScheduleState → ScheduleState
 settled_in mode es schedule = settled_by mode schedule (ascending es) (timer_in es)
 
-pub settled-known : (mode : FilterMode) (es : Entries SourceTimer) (v1 v2 : Option ℕ) (schedule : ScheduleState) → settled (record { mode = mode; sources = map.from_entries es; v1 = v1; v2 = v2 }) schedule ≡ settled_in mode es schedule
+pub settled-known : (mode : FilterMode) (es : Entries SourceTimer) (v1 v2 : Option ℕ) (schedule : ScheduleState) →
+    settled (record { mode = mode; sources = map.from_entries es; v1 = v1; v2 = v2 }) schedule ≡ settled_in mode es schedule
 settled-known mode es v1 v2 schedule = λ i. settled_by mode schedule (keys-known es i) (λ s. map.get-from_entries nat_cmp_total es s i)
 
 -- the end of timers
@@ -65,20 +66,26 @@ expired_in now k = let left = left_of now k in cond (is_empty left) None (Some l
 pub is_empty-known : (k : Known) → is_vacant (group_of k) ≡ is_empty k
 is_empty-known k = ap (λ n. is_include k.mode && eqb n 0) (len-known k.sources)
 
-ended : (g : GroupState) (schedule : ScheduleState) → if_held (let h = held_or_vacant g in record { group = h; schedule = settled h schedule }) ≡ cond (is_vacant g) None (Some (record { group = g; schedule = settled g schedule }))
-ended g schedule = elim (is_vacant g) as (λ b. is_vacant g ≡ b → if_held (let h = cond b vacant g in record { group = h; schedule = settled h schedule }) ≡ cond b None (Some (record { group = g; schedule = settled g schedule }))) [
-  | true ↦ λ _. ap (λ n. cond (eqb n 0) None (Some (record { group = vacant; schedule = settled vacant schedule }))) (map.len-empty nat_cmp _)
-  | false ↦ λ e. ap (λ b. cond b None (Some (record { group = g; schedule = settled g schedule }))) e
-] refl
+ended : (g : GroupState) (schedule : ScheduleState) → if_held (let h = held_or_vacant g in record { group = h; schedule = settled h schedule })
+    ≡ cond (is_vacant g) None (Some (record { group = g; schedule = settled g schedule }))
+ended g schedule = elim (is_vacant g) as
+    (λ b. is_vacant g ≡ b → if_held (let h = cond b vacant g in record { group = h; schedule = settled h schedule })
+    ≡ cond b None (Some (record { group = g; schedule = settled g schedule }))) [
+      | true ↦ λ _. ap (λ n. cond (eqb n 0) None (Some (record { group = vacant; schedule = settled vacant schedule }))) (map.len-empty nat_cmp _)
+      | false ↦ λ e. ap (λ b. cond b None (Some (record { group = g; schedule = settled g schedule }))) e
+    ] refl
 
 mapped : {X Y : Type 0} (f : X → Y) (b : Bool) (x : X) → cond b None (Some (f x)) ≡ option_map f (cond b None (Some x))
 mapped f b x = grind arith
 
 pub expired-known : (now : ℕ) (k : Known) → if_held (group_expired now (as_held k)) ≡ option_map as_held (expired_in now k)
 expired-known now k =
-    ap (λ sources. if_held (let h = held_or_vacant (record { mode = mode; sources = sources; v1 = option_and_then (ahead now) k.v1; v2 = option_and_then (ahead now) k.v2 }) in record { group = h; schedule = settled h k.schedule })) (kept-known (λ s. source_expired mode now) k.sources)
+    ap (λ sources. if_held
+    (let h = held_or_vacant (record { mode = mode; sources = sources; v1 = option_and_then (ahead now) k.v1; v2 = option_and_then (ahead now) k.v2 })
+    in record { group = h; schedule = settled h k.schedule })) (kept-known (λ s. source_expired mode now) k.sources)
     ∙ ended (group_of left) k.schedule
-    ∙ (λ i. cond (is_empty-known left i) None (Some (record { group = group_of left; schedule = settled-known mode (sources_expired now k) left.v1 left.v2 k.schedule i })))
+    ∙ (λ i. cond (is_empty-known left i) None
+    (Some (record { group = group_of left; schedule = settled-known mode (sources_expired now k) left.v1 left.v2 k.schedule i })))
     ∙ mapped as_held (is_empty left) left
   where
     mode : FilterMode
@@ -120,10 +127,16 @@ change_in timing now k kind named =
       query_group = l.query_group;
     }
 
-pub change-known : (timing : Timing) (now : ℕ) (k : Known) (kind : Kind) (named : List ℕ) → change_of timing now (group_of k) kind (set.from_list named) ≡ as_change (change_in timing now k kind named)
+pub change-known : (timing : Timing) (now : ℕ) (k : Known) (kind : Kind) (named : List ℕ) →
+    change_of timing now (group_of k) kind (set.from_list named) ≡ as_change (change_in timing now k kind named)
 change-known timing now k kind named =
     (λ i. changed (λ s. map.get-from_entries nat_cmp_total k.sources s i) (λ s. set.contains-from_list nat_cmp_total named s i))
-    ∙ ap (λ sources. record { group = record { mode = l.mode; sources = sources; v1 = k.v1; v2 = k.v2 }; query = l.query; query_group = l.query_group }) (by_rule-known k.sources named (rule_of timing now k.mode kind (timer_in k.sources) (named_in named)))
+    ∙ ap (λ sources. record {
+      group = record { mode = l.mode; sources = sources; v1 = k.v1; v2 = k.v2 };
+      query = l.query;
+      query_group =
+          l.query_group;
+    }) (by_rule-known k.sources named (rule_of timing now k.mode kind (timer_in k.sources) (named_in named)))
   where
     changed : (ℕ → Option SourceTimer) → Set → GroupChange
     changed timer names = record {
@@ -151,9 +164,12 @@ translated_in mutes false hosts IsEx named = Some (IsEx, named)
 translated_in mutes false hosts Allow named = Some (Allow, named)
 
 abbrev pub translated_change_in : (v1_mutes_leave muted : Bool) → Timing → ℕ → Known → Kind → List ℕ → Option KnownChange
-translated_change_in mutes muted timing now k kind named = option_map (λ (r : Kind × List ℕ). change_in timing now k r.0 r.1) (translated_in mutes muted (hosts_of (group_of k) now) kind named)
+translated_change_in mutes muted timing now k kind named = option_map (λ (r : Kind × List ℕ). change_in timing now k r.0 r.1)
+    (translated_in mutes muted (hosts_of (group_of k) now) kind named)
 
-pub translated-known : (mutes muted : Bool) (timing : Timing) (now : ℕ) (k : Known) (kind : Kind) (named : List ℕ) → translated_change mutes muted timing now (group_of k) kind (set.from_list named) ≡ option_map as_change (translated_change_in mutes muted timing now k kind named)
+pub translated-known : (mutes muted : Bool) (timing : Timing) (now : ℕ) (k : Known) (kind : Kind) (named : List ℕ) →
+    translated_change mutes muted timing now (group_of k) kind (set.from_list named)
+    ≡ option_map as_change (translated_change_in mutes muted timing now k kind named)
 translated-known mutes muted timing now k kind named = by_kind muted (hosts_of (group_of k) now) kind
   where
     change : Kind × set.FinSet nat_cmp → GroupChange
@@ -162,15 +178,18 @@ translated-known mutes muted timing now k kind named = by_kind muted (hosts_of (
     known : Kind × List ℕ → KnownChange
     known r = change_in timing now k r.0 r.1
 
-    by_test : (b : Bool) (kind : Kind) → option_map change (cond b None (Some (kind, set.from_list named))) ≡ option_map as_change (option_map known (cond b None (Some (kind, named))))
+    by_test : (b : Bool) (kind : Kind) → option_map change (cond b None (Some (kind, set.from_list named)))
+        ≡ option_map as_change (option_map known (cond b None (Some (kind, named))))
     by_test true kind = refl
     by_test false kind = ap Some (change-known timing now k kind named)
 
-    emptied : (b : Bool) → option_map change (cond b (Some (ToEx, set.empty)) (Some (ToEx, set.from_list named))) ≡ option_map as_change (option_map known (cond b (Some (ToEx, [])) (Some (ToEx, named))))
+    emptied : (b : Bool) → option_map change (cond b (Some (ToEx, set.empty)) (Some (ToEx, set.from_list named)))
+        ≡ option_map as_change (option_map known (cond b (Some (ToEx, [])) (Some (ToEx, named))))
     emptied true = ap Some (change-known timing now k ToEx [])
     emptied false = ap Some (change-known timing now k ToEx named)
 
-    by_kind : (muted : Bool) (hosts : Hosts) (kind : Kind) → option_map change (translated mutes muted hosts kind (set.from_list named)) ≡ option_map as_change (option_map known (translated_in mutes muted hosts kind named))
+    by_kind : (muted : Bool) (hosts : Hosts) (kind : Kind) → option_map change (translated mutes muted hosts kind (set.from_list named))
+        ≡ option_map as_change (option_map known (translated_in mutes muted hosts kind named))
     by_kind true hosts kind = refl
     by_kind false hosts Block = by_test (hosts.v1 || hosts.v2) Block
     by_kind false hosts ToEx = emptied (hosts.v1 || hosts.v2)

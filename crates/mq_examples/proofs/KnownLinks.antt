@@ -16,20 +16,24 @@ pub groups_expired-known : (now : ℕ) (gs : KnownGroups) → groups_expired now
 unfolding groups_expired
 groups_expired-known now gs = kept_as as_held (λ _ e. if_held (group_expired now e)) (λ _. expired_in now) (λ _. expired-known now) gs
 
-pub groups_after_round-known : (timing : Timing) (now : ℕ) (gs : KnownGroups) → groups_after_round timing now (as_groups gs) ≡ as_groups (kept_in (λ _ k. Some (round_in timing now k)) gs)
+pub groups_after_round-known : (timing : Timing) (now : ℕ) (gs : KnownGroups) → groups_after_round timing now (as_groups gs)
+    ≡ as_groups (kept_in (λ _ k. Some (round_in timing now k)) gs)
 unfolding groups_after_round
 groups_after_round-known timing now gs = kept_as as_held _ (λ _ k. Some (round_in timing now k)) (λ _ k. ap Some (round-known timing now k)) gs
 
 abbrev pub sent_from : Family → Timing → ℕ → KnownGroups → List SentQuery
 sent_from family timing now gs = flat_map (λ (e : ℕ × Known). sent_in (per_query family) timing now e.0 e.1) (ordered gs)
 
-pub queries_due-known : (family : Family) (timing : Timing) (now : ℕ) (gs : KnownGroups) → queries_due family timing now (as_groups gs) ≡ sent_from family timing now gs
+pub queries_due-known : (family : Family) (timing : Timing) (now : ℕ) (gs : KnownGroups) → queries_due family timing now (as_groups gs)
+    ≡ sent_from family timing now gs
 unfolding queries_due
 queries_due-known family timing now gs =
-    ap (flat_map (λ (e : ℕ × ScheduledGroup). messages_due (per_query family) timing now e.0 e.1)) (entries-known (with_values as_held gs) ∙ ordered-with_values as_held gs)
+    ap (flat_map (λ (e : ℕ × ScheduledGroup). messages_due (per_query family) timing now e.0 e.1))
+    (entries-known (with_values as_held gs) ∙ ordered-with_values as_held gs)
     ∙ each (ordered gs)
   where
-    each : (es : KnownGroups) → flat_map (λ (e : ℕ × ScheduledGroup). messages_due (per_query family) timing now e.0 e.1) (with_values as_held es) ≡ flat_map (λ (e : ℕ × Known). sent_in (per_query family) timing now e.0 e.1) es
+    each : (es : KnownGroups) → flat_map (λ (e : ℕ × ScheduledGroup). messages_due (per_query family) timing now e.0 e.1) (with_values as_held es)
+        ≡ flat_map (λ (e : ℕ × Known). sent_in (per_query family) timing now e.0 e.1) es
     each [] = refl
     each (e ∷ es) = λ i. sent-known (per_query family) timing now e.0 e.1 i ++ each es i
 
@@ -59,8 +63,10 @@ tick_in config now l =
 
 pub tick-known : (config : Configuration) (now : ℕ) (l : KnownLink) → tick_of config now (as_link l) ≡ as_step (tick_in config now l)
 tick-known config now l =
-    ap (λ groups. stepped (groups_after_round election.timing moment groups) (queries_due config.family election.timing moment groups)) (groups_expired-known moment l.groups)
-    ∙ (λ i. stepped (groups_after_round-known election.timing moment (kept_in (λ _. expired_in moment) l.groups) i) (queries_due-known config.family election.timing moment (kept_in (λ _. expired_in moment) l.groups) i))
+    ap (λ groups. stepped (groups_after_round election.timing moment groups) (queries_due config.family election.timing moment groups))
+    (groups_expired-known moment l.groups)
+    ∙ (λ i. stepped (groups_after_round-known election.timing moment (kept_in (λ _. expired_in moment) l.groups) i)
+    (queries_due-known config.family election.timing moment (kept_in (λ _. expired_in moment) l.groups) i))
   where
     moment : ℕ
     moment = max l.last now

@@ -30,7 +30,8 @@ next_in l = least (next_moment l.election.role) (flat_map moments_known (values_
 next-known : (l : KnownLink) → next_of (as_link l) ≡ next_in l
 next-known l = ap (least (next_moment l.election.role)) (in_groups l.groups)
   where
-    each : (es : KnownGroups) → flat_map moments_of (list_map (λ (e : ℕ × ScheduledGroup). e.1) (with_values as_held es)) ≡ flat_map moments_known (list_map (λ (e : ℕ × Known). e.1) es)
+    each : (es : KnownGroups) → flat_map moments_of (list_map (λ (e : ℕ × ScheduledGroup). e.1) (with_values as_held es))
+        ≡ flat_map moments_known (list_map (λ (e : ℕ × Known). e.1) es)
     each [] = refl
     each (e ∷ es) = λ i. same_moments e.1 i ++ each es i
 
@@ -39,7 +40,8 @@ next-known l = ap (least (next_moment l.election.role)) (in_groups l.groups)
         ap (λ es. flat_map moments_of (list_map (λ (e : ℕ × ScheduledGroup). e.1) es)) (entries-known (with_values as_held gs) ∙ ordered-with_values as_held gs)
         ∙ each (ordered gs)
 
-forwards-known : (l : KnownLink) (group source : ℕ) → (let k = group_in l.groups group in forwards (as_link l) group source ≡ wants k.mode (find nat_cmp source k.sources))
+forwards-known : (l : KnownLink) (group source : ℕ) →
+    (let k = group_in l.groups group in forwards (as_link l) group source ≡ wants k.mode (find nat_cmp source k.sources))
 forwards-known l group source =
     let k = group_in l.groups group in
     ap (λ e. forwards_in e.group source) (group-known l.groups group)
@@ -49,5 +51,6 @@ forwards-known l group source =
 pub next_is : (l : KnownLink) (moment : ℕ) → next_in l ≡ moment → NextIs l moment
 next_is l moment is = record { next = next-known l ∙ is }
 
-pub forwards_so : (l : KnownLink) (group source : ℕ) (answer : Bool) → (let k = group_in l.groups group in wants k.mode (find nat_cmp source k.sources) ≡ answer) → Forwards l group source answer
+pub forwards_so : (l : KnownLink) (group source : ℕ) (answer : Bool) →
+    (let k = group_in l.groups group in wants k.mode (find nat_cmp source k.sources) ≡ answer) → Forwards l group source answer
 forwards_so l group source answer is = record { forwarded = forwards-known l group source ∙ is }

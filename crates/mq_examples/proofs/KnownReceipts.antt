@@ -4,9 +4,11 @@ use Rattle.mq_wire.specs.declared.message.{Message.Message, WireFault.WireFault}
 use Rattle.mq_wire.specs.declared.message.Message.TheVariants.{Query as QueryMessage, OldReport, Leave as LeaveMessage, Report as ReportMessage}
 use Rattle.mq_link.specs.declared.answers.{DropReason.DropReason, Received.Received, Received.TheVariants.Dropped}
 use Rattle.mq_link.specs.{Configuration.Configuration, Tick.tick_of, Record.Setting, Record.alone, Counters.count_dropped, Counters.count_verdicts}
-use Rattle.mq_link.specs.Receive.{Envelope, Receipt, taken, with_outcomes, with_state, taken_in, count_read, reason_of_fault, taken_or_dropped, drop_reason, receipt_after}
+use Rattle.mq_link.specs.Receive.{Envelope, Receipt, taken, with_outcomes, with_state, taken_in, count_read, reason_of_fault, taken_or_dropped}
+use Rattle.mq_link.specs.Receive.{drop_reason, receipt_after}
 use Rattle.mq_examples.proofs.KnownLinks.{KnownLink, as_link, KnownStep, as_step, tick_in, tick-known}
-use Rattle.mq_examples.proofs.KnownRecords.{Join, Leave, KnownOutcome, stated_known, stated-known, KnownOutcomes, all_judged_known, all_judged-known, heard_in, heard-known}
+use Rattle.mq_examples.proofs.KnownRecords.{Join, Leave, KnownOutcome, stated_known, stated-known, KnownOutcomes, all_judged_known, all_judged-known}
+use Rattle.mq_examples.proofs.KnownRecords.{heard_in, heard-known}
 
 pub record KnownReceipt : Type 0 where
   pub step : KnownStep
@@ -46,11 +48,15 @@ taken_known config envelope (LeaveMessage group) s =
 taken_known config envelope (ReportMessage records) s =
     with_known_outcomes s (all_judged_known (setting_in config s.link) [] records s.link.groups)
 
-taken-known : (config : Configuration) (envelope : Envelope) (message : Message ℕ) (s : KnownStep) → taken_in config envelope message (as_step s) ≡ as_receipt (taken_known config envelope message s)
+taken-known : (config : Configuration) (envelope : Envelope) (message : Message ℕ) (s : KnownStep) → taken_in config envelope message (as_step s)
+    ≡ as_receipt (taken_known config envelope message s)
 unfolding taken_in
-taken-known config envelope (QueryMessage query) s = ap (λ state. with_state (as_step s) state (taken [])) (heard-known config s.link.last envelope.source query s.link)
-taken-known config envelope (OldReport version group) s = ap (λ o. with_outcomes (as_step s) (alone o)) (stated-known (setting_in config s.link) group (Join version) s.link.groups)
-taken-known config envelope (LeaveMessage group) s = ap (λ o. with_outcomes (as_step s) (alone o)) (stated-known (setting_in config s.link) group Leave s.link.groups)
+taken-known config envelope (QueryMessage query) s = ap (λ state. with_state (as_step s) state (taken []))
+    (heard-known config s.link.last envelope.source query s.link)
+taken-known config envelope (OldReport version group) s = ap (λ o. with_outcomes (as_step s) (alone o))
+    (stated-known (setting_in config s.link) group (Join version) s.link.groups)
+taken-known config envelope (LeaveMessage group) s = ap (λ o. with_outcomes (as_step s) (alone o))
+    (stated-known (setting_in config s.link) group Leave s.link.groups)
 taken-known config envelope (ReportMessage records) s = ap (with_outcomes (as_step s)) (all_judged-known (setting_in config s.link) [] records s.link.groups)
 
 abbrev pub dropped_known : DropReason → KnownStep → KnownReceipt
@@ -72,7 +78,8 @@ taken_or_dropped_known config envelope s read (Some reason) = dropped_known reas
 taken_or_dropped_known config envelope s (Err fault) None = dropped_known (reason_of_fault fault) (counting_known (Err fault) s)
 taken_or_dropped_known config envelope s (Ok message) None = taken_known config envelope message (counting_known (Ok message) s)
 
-taken_or_dropped-known : (config : Configuration) (envelope : Envelope) (s : KnownStep) (read : Result (Message ℕ) WireFault) (reason : Option DropReason) → taken_or_dropped config envelope (as_step s) read reason ≡ as_receipt (taken_or_dropped_known config envelope s read reason)
+taken_or_dropped-known : (config : Configuration) (envelope : Envelope) (s : KnownStep) (read : Result (Message ℕ) WireFault)
+    (reason : Option DropReason) → taken_or_dropped config envelope (as_step s) read reason ≡ as_receipt (taken_or_dropped_known config envelope s read reason)
 taken_or_dropped-known config envelope s read (Some reason) = refl
 taken_or_dropped-known config envelope s (Err fault) None = refl
 taken_or_dropped-known config envelope s (Ok message) None = taken-known config envelope message (counting_known (Ok message) s)
@@ -81,7 +88,8 @@ abbrev pub receipt_known : Configuration → Envelope → Result (Message ℕ) W
 receipt_known config envelope read now l = taken_or_dropped_known config envelope (tick_in config now l) read (drop_reason config envelope read)
 
 -- What was read at a link that is known.
-pub receipt-known : (config : Configuration) (envelope : Envelope) (read : Result (Message ℕ) WireFault) (now : ℕ) (l : KnownLink) → receipt_after config envelope read (tick_of config now (as_link l)) ≡ as_receipt (receipt_known config envelope read now l)
+pub receipt-known : (config : Configuration) (envelope : Envelope) (read : Result (Message ℕ) WireFault) (now : ℕ) (l : KnownLink) →
+    receipt_after config envelope read (tick_of config now (as_link l)) ≡ as_receipt (receipt_known config envelope read now l)
 receipt-known config envelope read now l =
     ap (receipt_after config envelope read) (tick-known config now l)
     ∙ taken_or_dropped-known config envelope (tick_in config now l) read (drop_reason config envelope read)

@@ -1,5 +1,6 @@
 -- What records and queries do to links whose groups are known one by one, for the worked examples.
-use Rattle.std.proofs.Common.{◌≡◌, ℕ, ◌+◌, Bool, true, false, cond, not, ◌&&◌, refl, List, [], ◌∷◌, ◌++◌, length, Option, None, Some, sym, ap, ◌∙◌, leb, eqb, suc, arith}
+use Rattle.std.proofs.Common.{◌≡◌, ℕ, ◌+◌, Bool, true, false, cond, not, ◌&&◌, refl, List, [], ◌∷◌, ◌++◌, length, Option, None, Some, sym, ap, ◌∙◌}
+use Rattle.std.proofs.Common.{leb, eqb, suc, arith}
 use Rattle.std.specs.{Prelude.map as list_map, Cmp.nat_cmp_total, Option.option_map, Option.unwrap_or, Option.is_some}
 use Rattle.std.specs.{List.sum_by, FinMap.find, Ordering.nat_cmp, Ordering.eq_by_cmp}
 use Rattle.std.proofs.lemmas.List.Sums.{sum_by-cons}
@@ -13,11 +14,16 @@ use Rattle.mq_link.specs.declared.{configuration.Limits.Limits, answers.Refusal.
 use Rattle.mq_link.specs.{Family.v1_mutes_leave, Family.per_query, Configuration.Configuration}
 use Rattle.mq_link.specs.Counters.{Verdict, Applied, Ignored, Refused}
 use Rattle.mq_link.specs.State.{Groups, LinkState, unheld, group_at, with_group, sources_of, schedules_of, one_if}
-use Rattle.mq_link.specs.Record.{Statement, RecordOf, OlderJoin, OlderLeave, change_stated, limit_passed_by, limit_passed, Outcome, Setting, leaving, unless_passed, sent_at_once, after_sending, changed_or_refused, is_muted, asking_nothing, stated, Seen, met, Entrance, Stops, GoesOn, entrance, seen_by, judged_from, judged, Outcomes, and_then, all_judged}
+use Rattle.mq_link.specs.Record.{Statement, RecordOf, OlderJoin, OlderLeave, change_stated, limit_passed_by, limit_passed, Outcome, Setting, leaving}
+use Rattle.mq_link.specs.Record.{unless_passed, sent_at_once, after_sending, changed_or_refused, is_muted, asking_nothing, stated, Seen, met}
+use Rattle.mq_link.specs.Record.{Entrance, Stops, GoesOn, entrance, seen_by, judged_from, judged, Outcomes, and_then, all_judged}
 use Rattle.mq_link.specs.Heard.{election_after, suppresses, some_named, asked_by, groups_cleared, group_lowered, groups_lowered, query_heard}
-use Rattle.mq_link.proofs.Known.{Entries, ordered, ordered-known, entries-known, len-known, kept_in, kept_as, without, remove-known, with_values, find-with_values, ordered-with_values}
-use Rattle.mq_examples.proofs.KnownGroups.{Known, KnownChange, as_held, as_change, group_of, nothing_known, is_empty, is_empty-known, named_in, change_in as table_in, change-known, translated_change_in, translated-known}
-use Rattle.mq_examples.proofs.KnownSendings.{changed_in, changed-known, sent_in, sent-known, round_in, round-known, cleared_in, cleared-known, lowered_in, lowered-known}
+use Rattle.mq_link.proofs.Known.{Entries, ordered, ordered-known, entries-known, len-known, kept_in, kept_as, without, remove-known, with_values}
+use Rattle.mq_link.proofs.Known.{find-with_values, ordered-with_values}
+use Rattle.mq_examples.proofs.KnownGroups.{Known, KnownChange, as_held, as_change, group_of, nothing_known, is_empty, is_empty-known, named_in}
+use Rattle.mq_examples.proofs.KnownGroups.{change_in as table_in, change-known, translated_change_in, translated-known}
+use Rattle.mq_examples.proofs.KnownSendings.{changed_in, changed-known, sent_in, sent-known, round_in, round-known, cleared_in, cleared-known}
+use Rattle.mq_examples.proofs.KnownSendings.{lowered_in, lowered-known}
 use Rattle.mq_examples.proofs.KnownLinks.{KnownGroups, as_groups, KnownLink, as_link}
 use Rattle.std.specs.FinMap as map
 use Rattle.std.specs.FinSet as set
@@ -57,7 +63,9 @@ without-values : (group : ℕ) (gs : KnownGroups) → without group (with_values
 without-values group [] = refl
 without-values group (e ∷ gs) = at_front (not (eq_by_cmp nat_cmp group e.0)) (without-values group gs)
   where
-    at_front : (b : Bool) → without group (with_values as_held gs) ≡ with_values as_held (without group gs) → cond b ((e.0, as_held e.1) ∷ without group (with_values as_held gs)) (without group (with_values as_held gs)) ≡ with_values as_held (cond b (e ∷ without group gs) (without group gs))
+    at_front : (b : Bool) → without group (with_values as_held gs) ≡ with_values as_held (without group gs) →
+        cond b ((e.0, as_held e.1) ∷ without group (with_values as_held gs)) (without group (with_values as_held gs))
+        ≡ with_values as_held (cond b (e ∷ without group gs) (without group gs))
     at_front true is = ap (λ rest. (e.0, as_held e.1) ∷ rest) is
     at_front false is = is
 
@@ -66,7 +74,8 @@ with_group-known gs group k =
     (λ i. cond (is_empty-known k i) (map.remove (as_groups gs) group) (map.insert (as_groups gs) group (as_held k)))
     ∙ by_test (is_empty k)
   where
-    by_test : (b : Bool) → cond b (map.remove (as_groups gs) group) (map.insert (as_groups gs) group (as_held k)) ≡ as_groups (cond b (ordered (without group gs)) (ordered ((group, k) ∷ gs)))
+    by_test : (b : Bool) → cond b (map.remove (as_groups gs) group) (map.insert (as_groups gs) group (as_held k))
+        ≡ as_groups (cond b (ordered (without group gs)) (ordered ((group, k) ∷ gs)))
     by_test true = remove-known (with_values as_held gs) group ∙ ap map.from_entries (without-values group gs) ∙ sym (ordered_groups (without group gs))
     by_test false = sym (ordered_groups ((group, k) ∷ gs))
 
@@ -80,7 +89,8 @@ size_in k = length (ordered k.sources)
 abbrev pub scheduled_in : Known → ℕ
 scheduled_in k = one_if (is_some k.schedule.group_query) + one_if (is_some k.schedule.sources_due)
 
-sum-known : (f : ScheduledGroup → ℕ) (g : Known → ℕ) → ((k : Known) → f (as_held k) ≡ g k) → (gs : KnownGroups) → sum_by f (map.values (as_groups gs)) ≡ sum_by g (values_of (ordered gs))
+sum-known : (f : ScheduledGroup → ℕ) (g : Known → ℕ) → ((k : Known) → f (as_held k) ≡ g k) → (gs : KnownGroups) → sum_by f (map.values (as_groups gs))
+    ≡ sum_by g (values_of (ordered gs))
 sum-known f g is gs = ap (λ es. sum_by f (values_of es)) (entries-known (with_values as_held gs) ∙ ordered-with_values as_held gs) ∙ each (ordered gs)
   where
     each : (es : KnownGroups) → sum_by f (values_of (with_values as_held es)) ≡ sum_by g (values_of es)
@@ -100,7 +110,8 @@ count-known gs = len-known (with_values as_held gs) ∙ ap length (ordered-with_
 
 passed-known : (limits : Limits) (gs : KnownGroups) (k : Known) → limit_passed limits (as_groups gs) (as_held k) ≡ passed_in limits gs k
 passed-known limits gs k =
-    λ i. limit_passed_by limits (count-known gs i) (len-known k.sources i) (sum-known sources_of size_in (λ k. len-known k.sources) gs i) (sum-known schedules_of scheduled_in (λ k. refl) gs i)
+    λ i. limit_passed_by limits (count-known gs i) (len-known k.sources i) (sum-known sources_of size_in (λ k. len-known k.sources) gs i)
+    (sum-known schedules_of scheduled_in (λ k. refl) gs i)
 
 -- what is said, with the sources named as a list
 pub data KnownStatement : Type 0 where
@@ -123,10 +134,12 @@ stated_in mutes muted timing now (Join version) k =
     cond muted None (Some (record { after = joined_in version timing now (table_in timing now k IsEx []).after; query = ∅; query_group = false }))
 stated_in mutes muted timing now Leave k = translated_change_in mutes muted timing now k ToIn []
 
-joined-known : (version : OlderVersion) (timing : Timing) (now : ℕ) (k : Known) → older_host version timing now (group_of k) ≡ group_of (joined_in version timing now k)
+joined-known : (version : OlderVersion) (timing : Timing) (now : ℕ) (k : Known) → older_host version timing now (group_of k)
+    ≡ group_of (joined_in version timing now k)
 joined-known version timing now k = grind arith
 
-change_stated-known : (mutes muted : Bool) (timing : Timing) (now : ℕ) (st : KnownStatement) (k : Known) → change_stated mutes muted timing now (as_statement st) (group_of k) ≡ option_map as_change (stated_in mutes muted timing now st k)
+change_stated-known : (mutes muted : Bool) (timing : Timing) (now : ℕ) (st : KnownStatement) (k : Known) →
+    change_stated mutes muted timing now (as_statement st) (group_of k) ≡ option_map as_change (stated_in mutes muted timing now st k)
 change_stated-known mutes muted timing now (Record kind named) k = translated-known mutes muted timing now k kind named
 change_stated-known mutes true timing now (Join version) k = refl
 change_stated-known mutes false timing now (Join version) k =
@@ -155,17 +168,25 @@ changed_by_known at group gs (Some change) =
     let after = with_known gs group left in
     passed_or_not (passed_in at.config.limits after left) gs after (sent_in (per_query at.config.family) at.election.timing at.now group e)
 
-unless_passed-known : (name : Option Refusal) (before after : KnownGroups) (queries : List SentQuery) → unless_passed name (as_groups before) (as_groups after) queries ≡ as_outcome (passed_or_not name before after queries)
+unless_passed-known : (name : Option Refusal) (before after : KnownGroups) (queries : List SentQuery) →
+    unless_passed name (as_groups before) (as_groups after) queries ≡ as_outcome (passed_or_not name before after queries)
 unless_passed-known name before after queries = grind arith
 
-changed_or_refused-known : (at : Setting) (group : ℕ) (gs : KnownGroups) (change : Option KnownChange) → changed_or_refused at group (as_groups gs) (option_map as_change change) ≡ as_outcome (changed_by_known at group gs change)
+changed_or_refused-known : (at : Setting) (group : ℕ) (gs : KnownGroups) (change : Option KnownChange) → changed_or_refused at group (as_groups gs)
+    (option_map as_change change) ≡ as_outcome (changed_by_known at group gs change)
 changed_or_refused-known at group gs None = refl
 changed_or_refused-known at group gs (Some change) =
-    ap judged_so (ap (λ s. after_change (is_querier at.election.role) at.election.timing at.now (as_change change) s.schedule) (group-known gs group) ∙ changed-known (is_querier at.election.role) at.election.timing at.now change (group_in gs group).schedule)
-    ∙ (λ i. unless_passed (limit_passed at.config.limits (with_group (as_groups gs) group (round-known at.election.timing at.now e i)) (round-known at.election.timing at.now e i)) (as_groups gs) (with_group (as_groups gs) group (round-known at.election.timing at.now e i)) (sent-known (per_query at.config.family) at.election.timing at.now group e i))
-    ∙ (λ i. unless_passed (limit_passed at.config.limits (with_group-known gs group left i) (as_held left)) (as_groups gs) (with_group-known gs group left i) (sent_in (per_query at.config.family) at.election.timing at.now group e))
-    ∙ (λ i. unless_passed (passed-known at.config.limits (with_known gs group left) left i) (as_groups gs) (as_groups (with_known gs group left)) (sent_in (per_query at.config.family) at.election.timing at.now group e))
-    ∙ unless_passed-known (passed_in at.config.limits (with_known gs group left) left) gs (with_known gs group left) (sent_in (per_query at.config.family) at.election.timing at.now group e)
+    ap judged_so (ap (λ s. after_change (is_querier at.election.role) at.election.timing at.now (as_change change) s.schedule) (group-known gs group)
+    ∙ changed-known (is_querier at.election.role) at.election.timing at.now change (group_in gs group).schedule)
+    ∙ (λ i. unless_passed (limit_passed at.config.limits (with_group (as_groups gs) group (round-known at.election.timing at.now e i))
+    (round-known at.election.timing at.now e i)) (as_groups gs) (with_group (as_groups gs) group (round-known at.election.timing at.now e i))
+    (sent-known (per_query at.config.family) at.election.timing at.now group e i))
+    ∙ (λ i. unless_passed (limit_passed at.config.limits (with_group-known gs group left i) (as_held left)) (as_groups gs)
+    (with_group-known gs group left i) (sent_in (per_query at.config.family) at.election.timing at.now group e))
+    ∙ (λ i. unless_passed (passed-known at.config.limits (with_known gs group left) left i) (as_groups gs) (as_groups (with_known gs group left))
+    (sent_in (per_query at.config.family) at.election.timing at.now group e))
+    ∙ unless_passed-known (passed_in at.config.limits (with_known gs group left) left) gs (with_known gs group left)
+    (sent_in (per_query at.config.family) at.election.timing at.now group e)
   where
     e : Known
     e = changed_in (is_querier at.election.role) at.election.timing at.now change (group_in gs group).schedule
@@ -179,9 +200,12 @@ changed_or_refused-known at group gs (Some change) =
         unless_passed (limit_passed at.config.limits after (after_sending at x)) (as_groups gs) after (sent_at_once at group x)
 
 abbrev pub stated_known : Setting → ℕ → KnownStatement → KnownGroups → KnownOutcome
-stated_known at group st gs = changed_by_known at group gs (stated_in (v1_mutes_leave at.config.family) (is_muted at.config group (as_statement st)) at.election.timing at.now st (group_in gs group))
+stated_known at group st gs =
+    changed_by_known at group gs
+    (stated_in (v1_mutes_leave at.config.family) (is_muted at.config group (as_statement st)) at.election.timing at.now st (group_in gs group))
 
-pub stated-known : (at : Setting) (group : ℕ) (st : KnownStatement) (gs : KnownGroups) → stated at group (as_statement st) (as_groups gs) ≡ as_outcome (stated_known at group st gs)
+pub stated-known : (at : Setting) (group : ℕ) (st : KnownStatement) (gs : KnownGroups) → stated at group (as_statement st) (as_groups gs)
+    ≡ as_outcome (stated_known at group st gs)
 unfolding stated
 stated-known at group st gs =
     ap (λ e. changed_or_refused at group (as_groups gs) (change_stated mutes muted at.election.timing at.now (as_statement st) e.group)) (group-known gs group)
@@ -211,7 +235,8 @@ abbrev pub seen_in : Entrance → ℕ → KnownGroups → Entries ℕ → Entrie
 seen_in (Stops verdict) group gs es = es
 seen_in (GoesOn kind) group gs es = cond (is_some (find nat_cmp group gs)) ((group, met_in es group + 1) ∷ es) es
 
-seen-known : (entered : Entrance) (group : ℕ) (gs : KnownGroups) (es : Entries ℕ) → seen_by entered group (as_groups gs) (as_seen es) ≡ as_seen (seen_in entered group gs es)
+seen-known : (entered : Entrance) (group : ℕ) (gs : KnownGroups) (es : Entries ℕ) → seen_by entered group (as_groups gs) (as_seen es)
+    ≡ as_seen (seen_in entered group gs es)
 seen-known (Stops verdict) group gs es = refl
 seen-known (GoesOn kind) group gs es =
     (λ i. cond (held-known gs group i) (map.insert (as_seen es) group (met-known es group i + 1)) (as_seen es))
@@ -230,18 +255,22 @@ judged_from_known at es r gs (GoesOn kind) =
 abbrev pub judged_known : Setting → Entries ℕ → RecordView ℕ → KnownGroups → KnownOutcome
 judged_known at es r gs = judged_from_known at es r gs (entrance at.config r)
 
-pub judged-known : (at : Setting) (es : Entries ℕ) (r : RecordView ℕ) (gs : KnownGroups) → judged at (as_seen es) r (as_groups gs) ≡ as_outcome (judged_known at es r gs)
+pub judged-known : (at : Setting) (es : Entries ℕ) (r : RecordView ℕ) (gs : KnownGroups) → judged at (as_seen es) r (as_groups gs)
+    ≡ as_outcome (judged_known at es r gs)
 unfolding judged
 judged-known at es r gs = by_entrance (entrance at.config r)
   where
-    by_test : (b : Bool) (kind : Kind) → cond b (leaving (as_groups gs) (Refused Repeated)) (stated at r.group (RecordOf kind (set.from_list r.sources)) (as_groups gs)) ≡ as_outcome (cond b (record { verdict = Refused Repeated; groups = gs; queries = [] }) (stated_known at r.group (Record kind r.sources) gs))
+    by_test : (b : Bool) (kind : Kind) → cond b (leaving (as_groups gs) (Refused Repeated))
+        (stated at r.group (RecordOf kind (set.from_list r.sources)) (as_groups gs))
+        ≡ as_outcome (cond b (record { verdict = Refused Repeated; groups = gs; queries = [] }) (stated_known at r.group (Record kind r.sources) gs))
     by_test true kind = refl
     by_test false kind = stated-known at r.group (Record kind r.sources) gs
 
     by_entrance : (entered : Entrance) → judged_from at (as_seen es) r (as_groups gs) entered ≡ as_outcome (judged_from_known at es r gs entered)
     by_entrance (Stops verdict) = refl
     by_entrance (GoesOn kind) =
-        (λ i. cond (held-known gs r.group i && leb 4 (met-known es r.group i)) (leaving (as_groups gs) (Refused Repeated)) (stated at r.group (RecordOf kind (set.from_list r.sources)) (as_groups gs)))
+        (λ i. cond (held-known gs r.group i && leb 4 (met-known es r.group i)) (leaving (as_groups gs) (Refused Repeated))
+        (stated at r.group (RecordOf kind (set.from_list r.sources)) (as_groups gs)))
         ∙ by_test (repeated_in gs es r.group) kind
 
 pub record KnownOutcomes : Type 0 where
@@ -259,11 +288,13 @@ all_judged_known at es (r ∷ rs) gs =
     let rest = all_judged_known at (seen_in (entrance at.config r) r.group gs es) rs first.groups in
     record { verdicts = first.verdict ∷ rest.verdicts; groups = rest.groups; queries = first.queries ++ rest.queries }
 
-pub all_judged-known : (at : Setting) (es : Entries ℕ) (rs : List (RecordView ℕ)) (gs : KnownGroups) → all_judged at (as_seen es) rs (as_groups gs) ≡ as_outcomes (all_judged_known at es rs gs)
+pub all_judged-known : (at : Setting) (es : Entries ℕ) (rs : List (RecordView ℕ)) (gs : KnownGroups) → all_judged at (as_seen es) rs (as_groups gs)
+    ≡ as_outcomes (all_judged_known at es rs gs)
 all_judged-known at es [] gs = refl
 all_judged-known at es (r ∷ rs) gs =
     (λ i. and_then (judged-known at es r gs i) (all_judged at (seen-known (entrance at.config r) r.group gs es i) rs (judged-known at es r gs i).groups))
-    ∙ ap (and_then (as_outcome (judged_known at es r gs))) (all_judged-known at (seen_in (entrance at.config r) r.group gs es) rs (judged_known at es r gs).groups)
+    ∙ ap (and_then (as_outcome (judged_known at es r gs)))
+    (all_judged-known at (seen_in (entrance at.config r) r.group gs es) rs (judged_known at es r gs).groups)
 
 -- the sources that a query asks for, as a test that is computed
 abbrev pub some_in : List ℕ → Option Set
@@ -289,17 +320,25 @@ lowered_by timing now query group k = Some (cond (eqb group query.group) (lowere
 abbrev pub lowered_at : Timing → ℕ → Query ℕ → KnownGroups → KnownGroups
 lowered_at timing now query gs = kept_in (lowered_by timing now query) gs
 
-groups_lowered-known : (timing : Timing) (now : ℕ) (query : Query ℕ) (gs : KnownGroups) → groups_lowered timing now query (as_groups gs) ≡ as_groups (lowered_at timing now query gs)
+groups_lowered-known : (timing : Timing) (now : ℕ) (query : Query ℕ) (gs : KnownGroups) → groups_lowered timing now query (as_groups gs)
+    ≡ as_groups (lowered_at timing now query gs)
 unfolding groups_lowered
 groups_lowered-known timing now query gs = kept_as as_held _ (lowered_by timing now query) at_group gs
   where
-    by_test : (b : Bool) (k : Known) → ◌≡◌ {A = Option ScheduledGroup} (Some (cond b (group_lowered timing now query.version (as_held k)) (as_held k))) (option_map as_held (Some (cond b (lowered_in timing now (suppresses query.version) (asked_of query.version) k) k)))
+    by_test : (b : Bool) (k : Known) →
+        ◌≡◌ {A = Option ScheduledGroup} (Some (cond b (group_lowered timing now query.version (as_held k)) (as_held k)))
+        (option_map as_held (Some (cond b (lowered_in timing now (suppresses query.version) (asked_of query.version) k) k)))
     by_test true k =
-        (λ i. Some (record { group = lowered_by_query timing now (suppresses query.version) (asked-known query.version i) (group_of k); schedule = k.schedule }))
+        (λ i. Some (record {
+          group = lowered_by_query timing now (suppresses query.version) (asked-known query.version i) (group_of k);
+          schedule =
+              k.schedule;
+        }))
         ∙ ap Some (lowered-known timing now (suppresses query.version) (asked_of query.version) k)
     by_test false k = refl
 
-    at_group : (group : ℕ) (k : Known) → Some (cond (eqb group query.group) (group_lowered timing now query.version (as_held k)) (as_held k)) ≡ option_map as_held (lowered_by timing now query group k)
+    at_group : (group : ℕ) (k : Known) → Some (cond (eqb group query.group) (group_lowered timing now query.version (as_held k)) (as_held k))
+        ≡ option_map as_held (lowered_by timing now query group k)
     at_group group k = by_test (eqb group query.group) k
 
 groups_cleared-known : (gs : KnownGroups) → groups_cleared (as_groups gs) ≡ as_groups (kept_in (λ _ k. Some (cleared_in k)) gs)
@@ -315,7 +354,8 @@ heard_in config now source query l =
     let groups = cleared_if (loses_role config.own source l.election.role) l.groups in
     record { groups = lowered_at election.timing now query groups; election = election; last = l.last; counters = l.counters }
 
-pub heard-known : (config : Configuration) (now source : ℕ) (query : Query ℕ) (l : KnownLink) → query_heard config now source query (as_link l) ≡ as_link (heard_in config now source query l)
+pub heard-known : (config : Configuration) (now source : ℕ) (query : Query ℕ) (l : KnownLink) → query_heard config now source query (as_link l)
+    ≡ as_link (heard_in config now source query l)
 heard-known config now source query l =
     ap (λ groups. left (groups_lowered election.timing now query groups)) (by_loss (loses_role config.own source l.election.role))
     ∙ ap left (groups_lowered-known election.timing now query (cleared_if (loses_role config.own source l.election.role) l.groups))

@@ -1,5 +1,6 @@
 -- What a replay comes to where the groups of its link are known one by one, for the worked examples.
-use Rattle.std.proofs.Common.{◌≡◌, ℕ, zero, suc, ◌+◌, true, false, refl, List, [], ◌∷◌, ◌++◌, length, Option, None, Some, Ok, Err, unwrap_or, append-nil, ap, ◌∙◌}
+use Rattle.std.proofs.Common.{◌≡◌, ℕ, zero, suc, ◌+◌, true, false, refl, List, [], ◌∷◌, ◌++◌, length, Option, None, Some, Ok, Err, unwrap_or}
+use Rattle.std.proofs.Common.{append-nil, ap, ◌∙◌}
 use Rattle.std.specs.{Prelude.max, Prelude.nat_lt, Prelude.map as list_map, List.flat_map, Option.option_to_list}
 use Rattle.mq_pcap.specs.declared.{fault.PcapFault.PcapFault, form.Form.Form, link_type.LinkType.LinkType}
 use Rattle.mq_pcap.specs.{Capture.Captured, Frame.Carried, Frame.carried_in}
@@ -15,8 +16,11 @@ use Rattle.mq_examples.proofs.{KnownLinks.KnownStep, KnownLinks.tick_in, KnownLi
 use Rattle.mq_lines.specs.Text.{line_of}
 use Rattle.mq_replay.specs.declared.replay_fault.ReplayFault.{ReplayFault, TheVariants.Pcap, TheVariants.Gap}
 use Rattle.mq_replay.specs.Listing.{moment_of}
-use Rattle.mq_replay.specs.ReplayLines.{query_lines, receipt_line, skip_line, end_line, counts_line, timer_text, group_start, older_hosts_text, group_line, group_lines, end_lines}
-use Rattle.mq_replay.specs.Report.{Replayed, all_sent, after_step, changed_at, those_among, with_changes, ticked_at, ticked_within, Datagram, datagram_of, received_at, taken_or_skipped, with_packet, is_gap, Course, with_packets, Report, ended_at, broken_off, reported, report_of}
+use Rattle.mq_replay.specs.ReplayLines.{query_lines, receipt_line, skip_line, end_line, counts_line, timer_text, group_start, older_hosts_text}
+use Rattle.mq_replay.specs.ReplayLines.{group_line, group_lines, end_lines}
+use Rattle.mq_replay.specs.Report.{Replayed, all_sent, after_step, changed_at, those_among, with_changes, ticked_at, ticked_within, Datagram}
+use Rattle.mq_replay.specs.Report.{datagram_of, received_at, taken_or_skipped, with_packet, is_gap, Course, with_packets, Report, ended_at}
+use Rattle.mq_replay.specs.Report.{broken_off, reported, report_of}
 use Rattle.std.specs.FinMap as map
 
 -- the next moment
@@ -26,17 +30,21 @@ moments_known k =
     ++ flat_map (λ timer. option_to_list (deadline_of (Some timer))) (list_map (λ (e : ℕ × SourceTimer). e.1) (ordered k.sources))
 
 moments_of-known : (k : ListedGroup) → moments_of (as_held k) ≡ moments_known k
-moments_of-known k = ap (λ (es : Entries SourceTimer). those_of (group_deadline k.mode ∷ k.v1 ∷ k.v2 ∷ group_due k.schedule.group_query ∷ k.schedule.sources_due ∷ []) ++ flat_map (λ timer. option_to_list (deadline_of (Some timer))) (list_map (λ (e : ℕ × SourceTimer). e.1) es)) (entries-known k.sources)
+moments_of-known k =
+    ap (λ (es : Entries SourceTimer). those_of (group_deadline k.mode ∷ k.v1 ∷ k.v2 ∷ group_due k.schedule.group_query ∷ k.schedule.sources_due ∷ [])
+    ++ flat_map (λ timer. option_to_list (deadline_of (Some timer))) (list_map (λ (e : ℕ × SourceTimer). e.1) es)) (entries-known k.sources)
 
 abbrev pub all_moments_known : ListedGroups → List ℕ
 all_moments_known gs = flat_map (λ (e : ℕ × ListedGroup). moments_known e.1) (ordered gs)
 
 moments_in-known : (gs : ListedGroups) → moments_in (as_groups gs) ≡ all_moments_known gs
 moments_in-known gs =
-    ap (λ (es : Entries ScheduledGroup). flat_map moments_of (list_map (λ (e : ℕ × ScheduledGroup). e.1) es)) (entries-known (with_values as_held gs) ∙ ordered-with_values as_held gs)
+    ap (λ (es : Entries ScheduledGroup). flat_map moments_of (list_map (λ (e : ℕ × ScheduledGroup). e.1) es))
+    (entries-known (with_values as_held gs) ∙ ordered-with_values as_held gs)
     ∙ each (ordered gs)
   where
-    each : (es : ListedGroups) → flat_map moments_of (list_map (λ (e : ℕ × ScheduledGroup). e.1) (with_values as_held es)) ≡ flat_map (λ (e : ℕ × ListedGroup). moments_known e.1) es
+    each : (es : ListedGroups) → flat_map moments_of (list_map (λ (e : ℕ × ScheduledGroup). e.1) (with_values as_held es))
+        ≡ flat_map (λ (e : ℕ × ListedGroup). moments_known e.1) es
     each [] = refl
     each (e ∷ es) = λ i. moments_of-known e.1 i ++ each es i
 
@@ -74,7 +82,8 @@ ticked_known config moment k = after_known config moment (tick_in config moment 
 ticked-known : (config : Configuration) (moment : ℕ) (k : KnownReplayed) → ticked_at config moment (as_replayed k) ≡ as_replayed (ticked_known config moment k)
 unfolding ticked_at
 ticked-known config moment k =
-    none_added config moment (those_among (changed_by_tick config moment (as_link k.link)) (map.keys (as_groups k.link.groups))) (after_step config moment (tick_of config moment (as_link k.link)) (as_replayed k)).link _
+    none_added config moment (those_among (changed_by_tick config moment (as_link k.link)) (map.keys (as_groups k.link.groups)))
+    (after_step config moment (tick_of config moment (as_link k.link)) (as_replayed k)).link _
     ∙ ap (λ s. after_step config moment s (as_replayed k)) (tick-known config moment k.link)
 
 unfoldable pub within_known : (most : ℕ) → Configuration → (limit : ℕ) → KnownReplayed → KnownReplayed
@@ -82,15 +91,18 @@ within_known zero config limit k = k
 within_known (suc most) config limit k =
     elim (nat_lt (next_in k.link) limit) [ true ↦ within_known most config limit (ticked_known config (next_in k.link) k) | false ↦ k ]
 
-within-known : (most : ℕ) (config : Configuration) (limit : ℕ) (k : KnownReplayed) → ticked_within most config limit (as_replayed k) ≡ as_replayed (within_known most config limit k)
+within-known : (most : ℕ) (config : Configuration) (limit : ℕ) (k : KnownReplayed) → ticked_within most config limit (as_replayed k)
+    ≡ as_replayed (within_known most config limit k)
 unfolding ticked_within within_known
 within-known zero config limit k = refl
 within-known (suc most) config limit k =
-    ap (λ (n : ℕ). elim (nat_lt n limit) [ true ↦ ticked_within most config limit (ticked_at config n (as_replayed k)) | false ↦ as_replayed k ]) (next-known k.link)
+    ap (λ (n : ℕ). elim (nat_lt n limit) [ true ↦ ticked_within most config limit (ticked_at config n (as_replayed k)) | false ↦ as_replayed k ])
+    (next-known k.link)
     ∙ elim (nat_lt (next_in k.link) limit) as (λ b.
     elim b [ true ↦ ticked_within most config limit (ticked_at config (next_in k.link) (as_replayed k)) | false ↦ as_replayed k ]
     ≡ as_replayed (elim b [ true ↦ within_known most config limit (ticked_known config (next_in k.link) k) | false ↦ k ])) [
-      | true ↦ ap (ticked_within most config limit) (ticked-known config (next_in k.link) k) ∙ within-known most config limit (ticked_known config (next_in k.link) k)
+      | true ↦ ap (ticked_within most config limit) (ticked-known config (next_in k.link) k) ∙
+          within-known most config limit (ticked_known config (next_in k.link) k)
       | false ↦ refl
     ]
 
@@ -105,18 +117,21 @@ received_known config moment number datagram k =
       text = after.text ++ receipt_line config.family moment number datagram.envelope.source receipt.answer;
     }
 
-received-known : (config : Configuration) (moment number : ℕ) (datagram : Datagram) (k : KnownReplayed) → received_at config moment number datagram (as_replayed k) ≡ as_replayed (received_known config moment number datagram k)
+received-known : (config : Configuration) (moment number : ℕ) (datagram : Datagram) (k : KnownReplayed) →
+    received_at config moment number datagram (as_replayed k) ≡ as_replayed (received_known config moment number datagram k)
 unfolding received_at
 received-known config moment number datagram k =
     none_added config moment (changed_at config moment datagram (as_link k.link)) _ _
-    ∙ ap (λ receipt. let after = after_step config moment receipt.step (as_replayed k) in record after { text = after.text ++ receipt_line config.family moment number datagram.envelope.source receipt.answer })
+    ∙ ap (λ receipt. let after = after_step config moment receipt.step (as_replayed k) in
+    record after { text = after.text ++ receipt_line config.family moment number datagram.envelope.source receipt.answer })
     (receipt-known config datagram.envelope (read_of config.family (pseudo_of config.family datagram.envelope datagram.body) datagram.body) moment k.link)
 
 abbrev pub taken_known : Configuration → (moment number : ℕ) → Carried → Option Datagram → KnownReplayed → KnownReplayed
 taken_known config moment number carried (Some datagram) k = received_known config moment number datagram k
 taken_known config moment number carried None k = record { link = k.link; text = k.text ++ skip_line moment number carried }
 
-taken-known : (config : Configuration) (moment number : ℕ) (carried : Carried) (datagram : Option Datagram) (k : KnownReplayed) → taken_or_skipped config moment number carried datagram (as_replayed k) ≡ as_replayed (taken_known config moment number carried datagram k)
+taken-known : (config : Configuration) (moment number : ℕ) (carried : Carried) (datagram : Option Datagram) (k : KnownReplayed) →
+    taken_or_skipped config moment number carried datagram (as_replayed k) ≡ as_replayed (taken_known config moment number carried datagram k)
 taken-known config moment number carried (Some datagram) k = received-known config moment number datagram k
 taken-known config moment number carried None k = refl
 
@@ -124,7 +139,8 @@ abbrev pub packet_known : Configuration → (moment number : ℕ) → Carried �
 packet_known config moment number carried k =
     taken_known config moment number carried (datagram_of config.family carried) (within_known moment config moment k)
 
-packet-known : (config : Configuration) (moment number : ℕ) (carried : Carried) (k : KnownReplayed) → with_packet config moment number carried (as_replayed k) ≡ as_replayed (packet_known config moment number carried k)
+packet-known : (config : Configuration) (moment number : ℕ) (carried : Carried) (k : KnownReplayed) →
+    with_packet config moment number carried (as_replayed k) ≡ as_replayed (packet_known config moment number carried k)
 unfolding with_packet
 packet-known config moment number carried k =
     ap (taken_or_skipped config moment number carried (datagram_of config.family carried)) (within-known moment config moment k)
@@ -150,23 +166,28 @@ packets_known config link first before number (packet ∷ packets) k =
           (packet_known config moment number (carried_in link packet.bytes) k)
     ]
 
-packets-known : (config : Configuration) (link : LinkType) (first : Option ℕ) (before number : ℕ) (packets : List Captured) (k : KnownReplayed) → with_packets config link first before number packets (as_replayed k) ≡ as_course (packets_known config link first before number packets k)
+packets-known : (config : Configuration) (link : LinkType) (first : Option ℕ) (before number : ℕ) (packets : List Captured) (k : KnownReplayed) →
+    with_packets config link first before number packets (as_replayed k) ≡ as_course (packets_known config link first before number packets k)
 unfolding with_packets packets_known
 packets-known config link first before number [] k = refl
 packets-known config link first before number (packet ∷ packets) k =
     elim (is_gap before (moment_of first before packet.stamp)) as (λ b.
     elim b [
       | true ↦ record { replayed = as_replayed k; moment = before; gap = Some number }
-      | false ↦ with_packets config link (Some (unwrap_or first packet.stamp)) (moment_of first before packet.stamp) (number + 1) packets (with_packet config (moment_of first before packet.stamp) number (carried_in link packet.bytes) (as_replayed k))
+      | false ↦ with_packets config link (Some (unwrap_or first packet.stamp)) (moment_of first before packet.stamp)
+          (number + 1) packets (with_packet config (moment_of first before packet.stamp) number (carried_in link packet.bytes) (as_replayed k))
     ]
     ≡ as_course (elim b [
       | true ↦ record { replayed = k; moment = before; gap = Some number }
-      | false ↦ packets_known config link (Some (unwrap_or first packet.stamp)) (moment_of first before packet.stamp) (number + 1) packets (packet_known config (moment_of first before packet.stamp) number (carried_in link packet.bytes) k)
+      | false ↦ packets_known config link (Some (unwrap_or first packet.stamp)) (moment_of first before packet.stamp)
+          (number + 1) packets (packet_known config (moment_of first before packet.stamp) number (carried_in link packet.bytes) k)
     ])) [
       | true ↦ refl
       | false ↦
-          ap (with_packets config link (Some (unwrap_or first packet.stamp)) (moment_of first before packet.stamp) (number + 1) packets) (packet-known config (moment_of first before packet.stamp) number (carried_in link packet.bytes) k)
-          ∙ packets-known config link (Some (unwrap_or first packet.stamp)) (moment_of first before packet.stamp) (number + 1) packets (packet_known config (moment_of first before packet.stamp) number (carried_in link packet.bytes) k)
+          ap (with_packets config link (Some (unwrap_or first packet.stamp)) (moment_of first before packet.stamp) (number + 1) packets)
+          (packet-known config (moment_of first before packet.stamp) number (carried_in link packet.bytes) k)
+          ∙ packets-known config link (Some (unwrap_or first packet.stamp)) (moment_of first before packet.stamp)
+          (number + 1) packets (packet_known config (moment_of first before packet.stamp) number (carried_in link packet.bytes) k)
     ]
 
 -- the end
@@ -177,7 +198,8 @@ group_line_known family group k =
 
 group_line-known : (family : Family) (group : ℕ) (k : ListedGroup) → group_line family group (as_held k).group ≡ group_line_known family group k
 group_line-known family group k =
-    ap (λ (es : Entries SourceTimer). group_start family group k.mode ++ (flat_map (λ (e : ℕ × SourceTimer). timer_text family e.0 e.1) es ++ line_of (older_hosts_text k.v1 k.v2)))
+    ap (λ (es : Entries SourceTimer). group_start family group k.mode ++
+    (flat_map (λ (e : ℕ × SourceTimer). timer_text family e.0 e.1) es ++ line_of (older_hosts_text k.v1 k.v2)))
     (entries-known k.sources)
 
 abbrev pub group_lines_known : Family → ListedGroups → List ℕ
@@ -188,7 +210,8 @@ group_lines-known family gs =
     ap (flat_map (λ (e : ℕ × ScheduledGroup). group_line family e.0 e.1.group)) (entries-known (with_values as_held gs) ∙ ordered-with_values as_held gs)
     ∙ each (ordered gs)
   where
-    each : (es : ListedGroups) → flat_map (λ (e : ℕ × ScheduledGroup). group_line family e.0 e.1.group) (with_values as_held es) ≡ flat_map (λ (e : ℕ × ListedGroup). group_line_known family e.0 e.1) es
+    each : (es : ListedGroups) → flat_map (λ (e : ℕ × ScheduledGroup). group_line family e.0 e.1.group) (with_values as_held es)
+        ≡ flat_map (λ (e : ℕ × ListedGroup). group_line_known family e.0 e.1) es
     each [] = refl
     each (e ∷ es) = λ i. group_line-known family e.0 e.1 i ++ each es i
 
@@ -227,7 +250,8 @@ reported_known config until number None None k =
       | false ↦ ended_known config (max k.moment (unwrap_or until 0)) k.replayed
     ]
 
-reported-known : (config : Configuration) (until : Option ℕ) (number : ℕ) (end : Option PcapFault) (gap : Option ℕ) (k : KnownCourse) → reported config (up_to until) number end gap (as_course k) ≡ reported_known config until number end gap k
+reported-known : (config : Configuration) (until : Option ℕ) (number : ℕ) (end : Option PcapFault) (gap : Option ℕ) (k : KnownCourse) →
+    reported config (up_to until) number end gap (as_course k) ≡ reported_known config until number end gap k
 reported-known config until number end (Some gap) k = refl
 reported-known config until number (Some fault) None k = refl
 reported-known config until number None None k =
@@ -248,7 +272,9 @@ report_known config until form packets end =
     let k = packets_known config form.link None 0 1 packets (start_known config) in
     reported_known config until (length packets + 1) end k.gap k
 
-pub report-known : (config : Configuration) (until : Option ℕ) (form : Form) (packets : List Captured) (end : Option PcapFault) → report_of config (up_to until) (Ok form) packets end ≡ report_known config until form packets end
+pub report-known : (config : Configuration) (until : Option ℕ) (form : Form) (packets : List Captured) (end : Option PcapFault) →
+    report_of config (up_to until) (Ok form) packets end ≡ report_known config until form packets end
 report-known config until form packets end =
-    ap (λ (course : Course). reported config (up_to until) (length packets + 1) end course.gap course) (packets-known config form.link None 0 1 packets (start_known config))
+    ap (λ (course : Course). reported config (up_to until) (length packets + 1) end course.gap course)
+    (packets-known config form.link None 0 1 packets (start_known config))
     ∙ (let k = packets_known config form.link None 0 1 packets (start_known config) in reported-known config until (length packets + 1) end k.gap k)

@@ -7,7 +7,8 @@ use Rattle.mq_table.specs.Lowering.{lowered_to, mode_lowered, source_lowered, lo
 use Rattle.mq_table.specs.Sendings.{source_cleared, source_asked, source_counted, sendings_counted}
 use Rattle.mq_sched.specs.declared.queries.QuerySchedule.{QuerySchedule}
 use Rattle.mq_sched.specs.Schedule.{ScheduleState, ScheduledGroup, no_schedule, cleared}
-use Rattle.mq_sched.specs.Sending.{SentQuery, GroupQuery, sources_asked, acted, after_change, is_due, group_due, sources_queries, messages_due, group_counted, sources_due_next, after_round}
+use Rattle.mq_sched.specs.Sending.{SentQuery, GroupQuery, sources_asked, acted, after_change, is_due, group_due, sources_queries, messages_due}
+use Rattle.mq_sched.specs.Sending.{group_counted, sources_due_next, after_round}
 use Rattle.mq_link.proofs.Known.{Entries, keys-known, kept_in, kept-known}
 use Rattle.mq_examples.proofs.KnownGroups.{Known, KnownChange, as_held, as_change, group_of, timer_in, ascending, any_sending, settled_in, settled-known}
 use Rattle.std.specs.FinMap as map
@@ -30,7 +31,13 @@ asked_in timing now asked k = record {
 
 asked-known : (timing : Timing) (now : ℕ) (asked : Set) (k : Known) → sources_asked timing now asked (as_held k) ≡ as_held (asked_in timing now asked k)
 asked-known timing now asked k = λ i. record {
-  group = record { mode = k.mode; sources = kept-known (λ s timer. Some (cond (asked s) (source_asked (lowered_to timing now) (last_member_count timing) timer) timer)) k.sources i; v1 = k.v1; v2 = k.v2 };
+  group = record {
+    mode = k.mode;
+    sources =
+        kept-known (λ s timer. Some (cond (asked s) (source_asked (lowered_to timing now) (last_member_count timing) timer) timer)) k.sources i;
+    v1 = k.v1;
+    v2 = k.v2;
+  };
   schedule = asked_by timing now asked k.schedule (keys-known k.sources i) (λ s. map.get-from_entries nat_cmp_total k.sources s i);
 }
 
@@ -51,7 +58,8 @@ abbrev pub acted_in : (is_querier : Bool) → Timing → ℕ → (query_group : 
 acted_in false timing now query_group query k = k
 acted_in true timing now query_group query k = asked_in timing now query (cond query_group (group_asked_in timing now k) k)
 
-acted-known : (is_querier : Bool) (timing : Timing) (now : ℕ) (query_group : Bool) (query : Set) (k : Known) → acted is_querier timing now query_group query (as_held k) ≡ as_held (acted_in is_querier timing now query_group query k)
+acted-known : (is_querier : Bool) (timing : Timing) (now : ℕ) (query_group : Bool) (query : Set) (k : Known) →
+    acted is_querier timing now query_group query (as_held k) ≡ as_held (acted_in is_querier timing now query_group query k)
 acted-known false timing now query_group query k = refl
 acted-known true timing now true query k = asked-known timing now query (group_asked_in timing now k)
 acted-known true timing now false query k = asked-known timing now query k
@@ -65,9 +73,11 @@ settled_change c schedule =
 abbrev pub changed_in : (is_querier : Bool) → Timing → ℕ → KnownChange → ScheduleState → Known
 changed_in is_querier timing now c schedule = acted_in is_querier timing now c.query_group c.query (settled_change c schedule)
 
-pub changed-known : (is_querier : Bool) (timing : Timing) (now : ℕ) (c : KnownChange) (schedule : ScheduleState) → after_change is_querier timing now (as_change c) schedule ≡ as_held (changed_in is_querier timing now c schedule)
+pub changed-known : (is_querier : Bool) (timing : Timing) (now : ℕ) (c : KnownChange) (schedule : ScheduleState) →
+    after_change is_querier timing now (as_change c) schedule ≡ as_held (changed_in is_querier timing now c schedule)
 changed-known is_querier timing now c schedule =
-    (λ i. acted is_querier timing now c.query_group c.query (record { group = group_of c.after; schedule = settled-known c.after.mode c.after.sources c.after.v1 c.after.v2 schedule i }))
+    (λ i. acted is_querier timing now c.query_group c.query
+    (record { group = group_of c.after; schedule = settled-known c.after.mode c.after.sources c.after.v1 c.after.v2 schedule i }))
     ∙ acted-known is_querier timing now c.query_group c.query (settled_change c schedule)
 
 -- what goes in a round
@@ -83,7 +93,8 @@ abbrev pub sent_in : ℕ → Timing → ℕ → ℕ → Known → List SentQuery
 sent_in n timing now group k = sent_by n timing now group k.mode k.schedule (ascending k.sources) (timer_in k.sources)
 
 pub sent-known : (n : ℕ) (timing : Timing) (now group : ℕ) (k : Known) → messages_due n timing now group (as_held k) ≡ sent_in n timing now group k
-sent-known n timing now group k = λ i. sent_by n timing now group k.mode k.schedule (keys-known k.sources i) (λ s. map.get-from_entries nat_cmp_total k.sources s i)
+sent-known n timing now group k = λ i. sent_by n timing now group k.mode k.schedule (keys-known k.sources i)
+    (λ s. map.get-from_entries nat_cmp_total k.sources s i)
 
 -- and what it leaves
 abbrev pub counted_in : Known → Entries SourceTimer
@@ -120,12 +131,25 @@ round-known timing now k = by_due (is_due now k.schedule.sources_due)
     q = group_counted timing now k.schedule.group_query
 
     counted : FinMap nat_cmp SourceTimer → Option ℕ → ScheduledGroup
-    counted sources due = record { group = record { mode = k.mode; sources = sources; v1 = k.v1; v2 = k.v2 }; schedule = record { group_query = q; sources_due = due } }
+    counted sources due =
+        record { group = record { mode = k.mode; sources = sources; v1 = k.v1; v2 = k.v2 }; schedule = record { group_query = q; sources_due = due } }
 
-    by_due : (due : Bool) → ◌≡◌ {A = ScheduledGroup} (let g = cond due (sendings_counted (group_of k)) (group_of k) in record { group = g; schedule = record { group_query = q; sources_due = cond due (sources_due_next timing now g) k.schedule.sources_due } }) (as_held (cond due (record { mode = k.mode; sources = counted_in k; v1 = k.v1; v2 = k.v2; schedule = record { group_query = q; sources_due = next_by timing now (ascending (counted_in k)) (timer_in (counted_in k)) } }) (record { mode = k.mode; sources = k.sources; v1 = k.v1; v2 = k.v2; schedule = record { group_query = q; sources_due = k.schedule.sources_due } })))
+    by_due : (due : Bool) →
+        ◌≡◌ {A = ScheduledGroup}
+        (let g = cond due (sendings_counted (group_of k)) (group_of k) in
+        record { group = g; schedule = record { group_query = q; sources_due = cond due (sources_due_next timing now g) k.schedule.sources_due } })
+        (as_held (cond due (record {
+          mode = k.mode;
+          sources = counted_in k;
+          v1 = k.v1;
+          v2 = k.v2;
+          schedule =
+              record { group_query = q; sources_due = next_by timing now (ascending (counted_in k)) (timer_in (counted_in k)) };
+        }) (record { mode = k.mode; sources = k.sources; v1 = k.v1; v2 = k.v2; schedule = record { group_query = q; sources_due = k.schedule.sources_due } })))
     by_due true =
         ap (λ m. counted m (next_by timing now (map.keys m) (map.get m))) (kept-known (λ s timer. Some (source_counted timer)) k.sources)
-        ∙ (λ i. counted (map.from_entries (counted_in k)) (next_by timing now (keys-known (counted_in k) i) (λ s. map.get-from_entries nat_cmp_total (counted_in k) s i)))
+        ∙ (λ i. counted (map.from_entries (counted_in k))
+        (next_by timing now (keys-known (counted_in k) i) (λ s. map.get-from_entries nat_cmp_total (counted_in k) s i)))
     by_due false = refl
 
 -- dropping all
@@ -133,12 +157,14 @@ abbrev pub cleared_in : Known → Known
 cleared_in k = record { mode = k.mode; sources = kept_in (λ s timer. Some (source_cleared timer)) k.sources; v1 = k.v1; v2 = k.v2; schedule = no_schedule }
 
 pub cleared-known : (k : Known) → cleared (as_held k) ≡ as_held (cleared_in k)
-cleared-known k = ap (λ m. record { group = record { mode = k.mode; sources = m; v1 = k.v1; v2 = k.v2 }; schedule = no_schedule }) (kept-known (λ s timer. Some (source_cleared timer)) k.sources)
+cleared-known k = ap (λ m. record { group = record { mode = k.mode; sources = m; v1 = k.v1; v2 = k.v2 }; schedule = no_schedule })
+    (kept-known (λ s timer. Some (source_cleared timer)) k.sources)
 
 -- lowering by a query that is heard
 abbrev pub lowered_in : Timing → ℕ → (s : Bool) → Option Set → Known → Known
 lowered_in timing now true asked k = k
-lowered_in timing now false None k = record { mode = mode_lowered (lowered_to timing now) k.mode; sources = k.sources; v1 = k.v1; v2 = k.v2; schedule = k.schedule }
+lowered_in timing now false None k =
+    record { mode = mode_lowered (lowered_to timing now) k.mode; sources = k.sources; v1 = k.v1; v2 = k.v2; schedule = k.schedule }
 lowered_in timing now false (Some asked) k = record {
   mode = k.mode;
   sources = kept_in (λ s timer. Some (cond (asked s) (source_lowered (lowered_to timing now) timer) timer)) k.sources;
@@ -147,7 +173,11 @@ lowered_in timing now false (Some asked) k = record {
   schedule = k.schedule;
 }
 
-pub lowered-known : (timing : Timing) (now : ℕ) (s : Bool) (asked : Option Set) (k : Known) → ◌≡◌ {A = ScheduledGroup} (record { group = lowered_by_query timing now s asked (group_of k); schedule = k.schedule }) (as_held (lowered_in timing now s asked k))
+pub lowered-known : (timing : Timing) (now : ℕ) (s : Bool) (asked : Option Set) (k : Known) →
+    ◌≡◌ {A = ScheduledGroup} (record { group = lowered_by_query timing now s asked (group_of k); schedule = k.schedule })
+    (as_held (lowered_in timing now s asked k))
 lowered-known timing now true asked k = refl
 lowered-known timing now false None k = refl
-lowered-known timing now false (Some asked) k = ap (λ m. record { group = record { mode = k.mode; sources = m; v1 = k.v1; v2 = k.v2 }; schedule = k.schedule }) (kept-known (λ s timer. Some (cond (asked s) (source_lowered (lowered_to timing now) timer) timer)) k.sources)
+lowered-known timing now false (Some asked) k =
+    ap (λ m. record { group = record { mode = k.mode; sources = m; v1 = k.v1; v2 = k.v2 }; schedule = k.schedule })
+    (kept-known (λ s timer. Some (cond (asked s) (source_lowered (lowered_to timing now) timer) timer)) k.sources)

@@ -1,5 +1,6 @@
 -- How much the groups have together, once one of them has changed, is held, or is no longer held.
-use Rattle.std.proofs.Common.{◌≡◌, ℕ, ◌+◌, ◌-◌, ◌<◌, ◌≤◌, Bool, true, false, cond, not, ◌==◌, ◌&&◌, if◌then◌else◌, refl, List, [], ◌∷◌, Option, None, Some, is_some, sym, ap, ◌∙◌, subst, arith, ⊎_elim}
+use Rattle.std.proofs.Common.{◌≡◌, ℕ, ◌+◌, ◌-◌, ◌<◌, ◌≤◌, Bool, true, false, cond, not, ◌==◌, ◌&&◌, if◌then◌else◌, refl, List, [], ◌∷◌, Option, None}
+use Rattle.std.proofs.Common.{Some, is_some, sym, ap, ◌∙◌, subst, arith, ⊎_elim}
 use Rattle.std.specs.Prelude.{map as list_map}
 use lib.Dec.{T}
 use Rattle.std.specs.List.{sum_by}
@@ -23,12 +24,14 @@ use Rattle.mq_held.proofs.Sorted.{all-below, below-all, find_below, first, is_be
 
 -- A sum over all groups, of any number that a group has at its address, and none where it isn't held.
 module _ (w : ℕ × ScheduledGroup → ℕ) (a : ℕ) (none : w (a, unheld) ≡ 0) where
-  sum-put : (e : ScheduledGroup) (es : List (ℕ × ScheduledGroup)) → T (is_sorted nat_cmp es) → sum_by w (put nat_cmp a e es) + w (a, unwrap_or (find nat_cmp a es) unheld) ≡ sum_by w es + w (a, e)
+  sum-put : (e : ScheduledGroup) (es : List (ℕ × ScheduledGroup)) → T (is_sorted nat_cmp es) →
+      sum_by w (put nat_cmp a e es) + w (a, unwrap_or (find nat_cmp a es) unheld) ≡ sum_by w es + w (a, e)
   sum-put e [] up = omega (arith, none, sum_by-cons w (a, e) [])
   sum-put e (x ∷ es) up = by_order_of (nat_cmp a x.0) refl (sum-put e es (second (below_all nat_cmp x.0 es) (is_sorted nat_cmp es) up))
     where
       by_order_of : (o : Ordering) → nat_cmp a x.0 ≡ o → sum_by w (put nat_cmp a e es) + w (a, unwrap_or (find nat_cmp a es) unheld) ≡ sum_by w es + w (a, e)
-          → sum_by w (by_order o ((a, e) ∷ x ∷ es) ((x.0, e) ∷ es) (x ∷ put nat_cmp a e es)) + w (a, unwrap_or (cond (is_eq o) (Some x.1) (find nat_cmp a es)) unheld) ≡ sum_by w (x ∷ es) + w (a, e)
+          → sum_by w (by_order o ((a, e) ∷ x ∷ es) ((x.0, e) ∷ es) (x ∷ put nat_cmp a e es)) + w
+          (a, unwrap_or (cond (is_eq o) (Some x.1) (find nat_cmp a es)) unheld) ≡ sum_by w (x ∷ es) + w (a, e)
       by_order_of Less is rest =
           let low : a < x.0 = is_below a x.0 (subst (λ o. T (is_lt o)) (sym is) tt) in
           let above = below-all x.0 es (first (below_all nat_cmp x.0 es) (is_sorted nat_cmp es) up) in
@@ -39,7 +42,8 @@ module _ (w : ℕ × ScheduledGroup → ℕ) (a : ℕ) (none : w (a, unheld) ≡
           omega (arith, ap (λ k. w (k, e)) same, ap (λ k. w (k, x.1)) same, sum_by-cons w (x.0, e) es, sum_by-cons w x es)
       by_order_of Greater is rest = omega (arith, rest, sum_by-cons w x es, sum_by-cons w x (put nat_cmp a e es))
 
-  total-put : (groups : Groups) (e : ScheduledGroup) → sum_by w (map.entries (map.insert groups a e)) + w (a, group_at groups a) ≡ sum_by w (map.entries groups) + w (a, e)
+  total-put : (groups : Groups) (e : ScheduledGroup) → sum_by w (map.entries (map.insert groups a e)) + w (a, group_at groups a)
+      ≡ sum_by w (map.entries groups) + w (a, e)
   total-put groups e =
       (λ i. sum_by w (map.entries-insert nat_cmp_total groups a e i) + w (a, unwrap_or (map.get-entries groups a i) unheld))
       ∙ sum-put e (map.entries groups) (map.entries_sorted groups)
@@ -56,7 +60,8 @@ module _ (w : ℕ × ScheduledGroup → ℕ) (groups : Groups) (a : ℕ) where
         left = map.remove groups a
 
         -- what is put back is as it was
-        back : (e : ScheduledGroup) → map.get groups a ≡ Some e → (q : ℕ) (b : Bool) → eq_by_cmp nat_cmp q a ≡ b → cond b (Some e) (cond b None (map.get groups q)) ≡ map.get groups q
+        back : (e : ScheduledGroup) → map.get groups a ≡ Some e → (q : ℕ) (b : Bool) → eq_by_cmp nat_cmp q a ≡ b →
+            cond b (Some e) (cond b None (map.get groups q)) ≡ map.get groups q
         back e is q true same = sym (ap (map.get groups) (tied q a same) ∙ is)
         back e is q false other = refl
 
@@ -66,19 +71,23 @@ module _ (w : ℕ × ScheduledGroup → ℕ) (groups : Groups) (a : ℕ) where
 
         by_value : (o : Option ScheduledGroup) → map.get groups a ≡ o → sum_by w (map.entries left) + w (a, unwrap_or o unheld) ≡ sum_by w (map.entries groups)
         by_value None absent =
-            let same = map.same_map nat_cmp_total map.nat_cmp-IsAntisymmetric left groups (λ q. map.get-remove nat_cmp_total groups a q ∙ kept absent q (eq_by_cmp nat_cmp q a) refl) in
+            let same = map.same_map nat_cmp_total map.nat_cmp-IsAntisymmetric left groups (λ q. map.get-remove nat_cmp_total groups a q ∙
+            kept absent q (eq_by_cmp nat_cmp q a) refl) in
             omega (arith, none, ap (λ (m : Groups). sum_by w (map.entries m)) same)
         by_value (Some e) is =
             let same = map.same_map nat_cmp_total map.nat_cmp-IsAntisymmetric (map.insert left a e) groups
-            (λ q. map.get-insert nat_cmp_total left a e q ∙ ap (cond (eq_by_cmp nat_cmp q a) (Some e)) (map.get-remove nat_cmp_total groups a q) ∙ back e is q (eq_by_cmp nat_cmp q a) refl) in
+            (λ q. map.get-insert nat_cmp_total left a e q ∙ ap (cond (eq_by_cmp nat_cmp q a) (Some e)) (map.get-remove nat_cmp_total groups a q) ∙
+            back e is q (eq_by_cmp nat_cmp q a) refl) in
             let gone = map.get-remove nat_cmp_total groups a a ∙ ap (λ b. cond b None (map.get groups a)) (ties a a refl) in
             omega (arith, none, total-put w a none left e, ap (λ (m : Groups). sum_by w (map.entries m)) same, ap (λ o. w (a, unwrap_or o unheld)) gone)
 
     -- a group as said, held or not, where a vacant one has none of it either
-    pub total-with_group : (e : ScheduledGroup) → (is_vacant e.group ≡ true → w (a, e) ≡ 0) → sum_by w (map.entries (with_group groups a e)) + w (a, group_at groups a) ≡ sum_by w (map.entries groups) + w (a, e)
+    pub total-with_group : (e : ScheduledGroup) → (is_vacant e.group ≡ true → w (a, e) ≡ 0) →
+        sum_by w (map.entries (with_group groups a e)) + w (a, group_at groups a) ≡ sum_by w (map.entries groups) + w (a, e)
     total-with_group e vacant = by_test (is_vacant e.group) refl
       where
-        by_test : (b : Bool) → is_vacant e.group ≡ b → sum_by w (map.entries (if b then map.remove groups a else map.insert groups a e)) + w (a, group_at groups a) ≡ sum_by w (map.entries groups) + w (a, e)
+        by_test : (b : Bool) → is_vacant e.group ≡ b → sum_by w (map.entries (if b then map.remove groups a else map.insert groups a e)) + w
+            (a, group_at groups a) ≡ sum_by w (map.entries groups) + w (a, e)
         by_test true is = let total = total-without in omega (arith, total, vacant is)
         by_test false is = total-with e
 
@@ -108,15 +117,18 @@ vacant_sources e is = by_mode e.group.mode is
     by_mode (Exclude d) is = absurd (true≢false (sym is))
 
 -- how many sources and schedules are left with a group as said
-pub sources-with_group : (groups : Groups) (a : ℕ) (e : ScheduledGroup) → sources_in (with_group groups a e) + sources_of (group_at groups a) ≡ sources_in groups + sources_of e
+pub sources-with_group : (groups : Groups) (a : ℕ) (e : ScheduledGroup) → sources_in (with_group groups a e) + sources_of (group_at groups a)
+    ≡ sources_in groups + sources_of e
 sources-with_group groups a e =
     let total = total-with_group (of_group sources_of) groups a no_sources e (vacant_sources e) in
     omega (arith, total, total-entries sources_of groups, total-entries sources_of (with_group groups a e))
 
-pub schedules-with_group : (groups : Groups) (a : ℕ) (e : ScheduledGroup) → schedules_in (with_group groups a e) + schedules_of (group_at groups a) ≡ schedules_in groups + (if is_vacant e.group then 0 else schedules_of e)
+pub schedules-with_group : (groups : Groups) (a : ℕ) (e : ScheduledGroup) → schedules_in (with_group groups a e) + schedules_of (group_at groups a)
+    ≡ schedules_in groups + (if is_vacant e.group then 0 else schedules_of e)
 schedules-with_group groups a e = by_test (is_vacant e.group)
   where
-    by_test : (b : Bool) → schedules_in (if b then map.remove groups a else map.insert groups a e) + schedules_of (group_at groups a) ≡ schedules_in groups + (if b then 0 else schedules_of e)
+    by_test : (b : Bool) → schedules_in (if b then map.remove groups a else map.insert groups a e) + schedules_of (group_at groups a)
+        ≡ schedules_in groups + (if b then 0 else schedules_of e)
     by_test true =
         let total = total-without (of_group schedules_of) groups a refl in
         omega (arith, total, total-entries schedules_of groups, total-entries schedules_of (map.remove groups a))
@@ -130,7 +142,8 @@ own_sources groups a =
     let total = total-without (of_group sources_of) groups a no_sources in
     omega (arith, total, total-entries sources_of groups)
 
-pub len-with_group : (groups : Groups) (a : ℕ) (e : ScheduledGroup) → map.len (with_group groups a e) + one_if (map.contains_key groups a) ≡ map.len groups + one_if (not (is_vacant e.group))
+pub len-with_group : (groups : Groups) (a : ℕ) (e : ScheduledGroup) → map.len (with_group groups a e) + one_if (map.contains_key groups a)
+    ≡ map.len groups + one_if (not (is_vacant e.group))
 len-with_group groups a e = by_test (is_vacant e.group)
   where
     added : (b : Bool) (n : ℕ) → cond b n (n + 1) + one_if b ≡ n + 1
@@ -146,10 +159,15 @@ len-with_group groups a e = by_test (is_vacant e.group)
     some_held true held =
         ⊎_elim
         (λ (some : 0 < map.len groups). omega (arith, some))
-        (λ (none : map.len groups ≤ 0). absurd (true≢false (sym held ∙ ap (λ (m : Groups). map.contains_key m a) (map.empty_of_len groups (omega (arith, none))) ∙ ap is_some (map.get-empty nat_cmp a))))
+        (λ (none : map.len groups ≤ 0). absurd
+        (true≢false (sym held ∙ ap (λ (m : Groups). map.contains_key m a) (map.empty_of_len groups (omega (arith, none))) ∙
+        ap is_some (map.get-empty nat_cmp a))))
         (cases_lt 0 (map.len groups))
     some_held false absent = omega arith
 
-    by_test : (b : Bool) → map.len (if b then map.remove groups a else map.insert groups a e) + one_if (map.contains_key groups a) ≡ map.len groups + one_if (not b)
-    by_test true = ap (λ n. n + one_if (map.contains_key groups a)) (map.len-remove nat_cmp_total groups a) ∙ taken (map.contains_key groups a) (map.len groups) (some_held (map.contains_key groups a) refl)
-    by_test false = ap (λ n. n + one_if (map.contains_key groups a)) (map.len-insert nat_cmp_total groups a e) ∙ added (map.contains_key groups a) (map.len groups)
+    by_test : (b : Bool) → map.len (if b then map.remove groups a else map.insert groups a e) + one_if (map.contains_key groups a)
+        ≡ map.len groups + one_if (not b)
+    by_test true = ap (λ n. n + one_if (map.contains_key groups a)) (map.len-remove nat_cmp_total groups a) ∙
+        taken (map.contains_key groups a) (map.len groups) (some_held (map.contains_key groups a) refl)
+    by_test false = ap (λ n. n + one_if (map.contains_key groups a)) (map.len-insert nat_cmp_total groups a e) ∙
+        added (map.contains_key groups a) (map.len groups)

@@ -1,5 +1,6 @@
 -- How many sources of a row are counted.
-use Rattle.std.proofs.Common.{ℕ, ◌+◌, ◌<◌, ◌≤◌, ◌≡◌, ◌||◌, ◌&&◌, Bool, true, false, cond, ltb, min, refl, arith, List, [], ◌∷◌, take, drop, get_or, Some, sym, ap, ◌∙◌, ⊎_elim}
+use Rattle.std.proofs.Common.{ℕ, ◌+◌, ◌<◌, ◌≤◌, ◌≡◌, ◌||◌, ◌&&◌, Bool, true, false, cond, ltb, min, refl, arith, List, [], ◌∷◌, take, drop, get_or}
+use Rattle.std.proofs.Common.{Some, sym, ap, ◌∙◌, ⊎_elim}
 use Rattle.std.specs.Prelude.{map as list_map}
 use Rattle.std.specs.List.{count_by, list_any}
 use Rattle.std.proofs.lemmas.Bool.{cases_lt, cond-false, cond-true, le-ltb, lt-ltb, true≢false}
@@ -17,7 +18,8 @@ use Rattle.mq_table.specs.declared.timers.SourceTimer.TheVariants.{Stopped, Runn
 abbrev one_for : {X : Type 0} → (X → Bool) → X → ℕ
 one_for p x = cond (p x) 1 0
 
-none_of_both : {X : Type 0} (p : X → Bool) (x : X) (xs : List X) (b : Bool) → p x ≡ b → (b || list_any p xs) ≡ false → (list_any p xs ≡ false → count_by p xs ≡ 0) → count_by p (x ∷ xs) ≡ 0
+none_of_both : {X : Type 0} (p : X → Bool) (x : X) (xs : List X) (b : Bool) → p x ≡ b → (b || list_any p xs) ≡ false →
+    (list_any p xs ≡ false → count_by p xs ≡ 0) → count_by p (x ∷ xs) ≡ 0
 none_of_both p x xs true is none rest = absurd (true≢false none)
 none_of_both p x xs false is none rest =
     let own : one_for p x ≡ 0 = cond-false (p x) 1 0 is in
@@ -39,26 +41,32 @@ same-behind xs ys i d same =
     let at : i + 0 ≡ i = omega arith in
     ap (λ k. get_or xs k d) (sym at) ∙ sym (get_or-drop i xs 0 d) ∙ ap (λ zs. get_or zs 0 d) same ∙ get_or-drop i ys 0 d ∙ ap (λ k. get_or ys k d) at
 
-one_of_two : {X Y : Type 0} (test : X → Bool) (p : Y → Bool) (f : X → Y) (b : Bool) (x : X) (xs : List X) (passes : Bool) → test x ≡ passes → (test x ≡ true → p (f x) ≡ b) → (passes || list_any test xs) ≡ true → (list_any test xs ≡ true → cond b 1 0 ≤ count_by p (list_map f xs)) → cond b 1 0 ≤ count_by p (f x ∷ list_map f xs)
+one_of_two : {X Y : Type 0} (test : X → Bool) (p : Y → Bool) (f : X → Y) (b : Bool) (x : X) (xs : List X) (passes : Bool) → test x ≡ passes →
+    (test x ≡ true → p (f x) ≡ b) → (passes || list_any test xs) ≡ true → (list_any test xs ≡ true → cond b 1 0 ≤ count_by p (list_map f xs)) →
+    cond b 1 0 ≤ count_by p (f x ∷ list_map f xs)
 one_of_two test p f b x xs true is each some rest =
     let own : one_for p (f x) ≡ cond b 1 0 = ap (λ (c : Bool). cond {A = ℕ} c 1 0) (each is) in
     omega (arith, sum_by-cons (one_for p) (f x) (list_map f xs), own)
 one_of_two test p f b x xs false is each some rest = omega (arith, sum_by-cons (one_for p) (f x) (list_map f xs), rest some)
 
 -- of what is made of some items one passes, where that of an item that passes another test does
-pub count-made : {X Y : Type 0} (test : X → Bool) (p : Y → Bool) (f : X → Y) (b : Bool) → ((x : X) → test x ≡ true → p (f x) ≡ b) → (xs : List X) → list_any test xs ≡ true → cond b 1 0 ≤ count_by p (list_map f xs)
+pub count-made : {X Y : Type 0} (test : X → Bool) (p : Y → Bool) (f : X → Y) (b : Bool) → ((x : X) → test x ≡ true → p (f x) ≡ b) → (xs : List X) →
+    list_any test xs ≡ true → cond b 1 0 ≤ count_by p (list_map f xs)
 count-made test p f b each [] some = absurd (true≢false (sym some))
 count-made test p f b each (x ∷ xs) some = one_of_two test p f b x xs (test x) refl (each x) some (count-made test p f b each xs)
 
-timer-asked : (limit count : ℕ) (asked : Bool) (timer : SourceTimer) → (asked && is_ahead limit (deadline_of (Some timer))) ≡ true → cond asked (source_asked limit count timer) timer ≡ Running limit count
+timer-asked : (limit count : ℕ) (asked : Bool) (timer : SourceTimer) → (asked && is_ahead limit (deadline_of (Some timer))) ≡ true →
+    cond asked (source_asked limit count timer) timer ≡ Running limit count
 timer-asked limit count true Stopped is = absurd (true≢false (sym is))
 timer-asked limit count true (Running d n) is = cond-true (ltb limit d) (Running limit count) (Running d n) is
 timer-asked limit count false timer is = absurd (true≢false (sym is))
 
 -- a source that is asked for has sendings to go
-pub asked-has : {K : Type 0} (number : K → ℕ) (limit count : ℕ) (asked : ℕ → Bool) (x : Source K) → is_asked_above number limit asked x ≡ true → item_has_sendings (source_if_asked number limit count asked x) ≡ ltb 0 count
+pub asked-has : {K : Type 0} (number : K → ℕ) (limit count : ℕ) (asked : ℕ → Bool) (x : Source K) → is_asked_above number limit asked x ≡ true →
+    item_has_sendings (source_if_asked number limit count asked x) ≡ ltb 0 count
 asked-has number limit count asked x is =
-    ap (λ timer. item_has_sendings (let y : Source _ = record { address = x.address; timer = timer } in y)) (timer-asked limit count (asked (number x.address)) x.timer is)
+    ap (λ timer. item_has_sendings (let y : Source _ = record { address = x.address; timer = timer } in y))
+    (timer-asked limit count (asked (number x.address)) x.timer is)
 
 pub one-at_most : (n : ℕ) → cond (ltb 0 n) 1 0 ≡ min 1 n
 one-at_most n =

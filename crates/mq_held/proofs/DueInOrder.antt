@@ -1,5 +1,6 @@
 -- The due groups by their numbers: put in order, or left of all numbers.
-use Rattle.std.proofs.Common.{ℕ, ◌+◌, ◌-◌, ◌*◌, ◌<◌, ◌≤◌, ◌≡◌, min, Bool, true, false, not, cond, refl, List, [], ◌∷◌, length, get_or, take, Some, sym, ap, ◌∙◌, subst, arith, ⊎_elim}
+use Rattle.std.proofs.Common.{ℕ, ◌+◌, ◌-◌, ◌*◌, ◌<◌, ◌≤◌, ◌≡◌, min, Bool, true, false, not, cond, refl, List, [], ◌∷◌, length, get_or, take, Some}
+use Rattle.std.proofs.Common.{sym, ap, ◌∙◌, subst, arith, ⊎_elim}
 use Rattle.std.specs.Prelude.{map as list_map, filter, slice_get, if◌then◌else◌}
 use Rattle.std.specs.List.{All}
 use Rattle.std.specs.Option.{unwrap_or}
@@ -55,8 +56,22 @@ same-ordered f (x ∷ xs) (y ∷ ys) up_x up_y same =
     (λ n. omega (arith, same n, sum_by-cons (is_cell n) x xs, sum_by-cons (is_cell n) y ys, ap (is_cell n) is)) in
     ap (λ z. z ∷ xs) is ∙ ap (λ zs. y ∷ zs) rest)
     (λ (differs : x ≡ y → ⊥).
-    let in_xs : 1 ≤ times y xs = omega (arith, same y, sum_by-cons (is_cell y) x xs, sum_by-cons (is_cell y) y ys, is_cell-same y y refl, is_cell-other y x differs) in
-    let in_ys : 1 ≤ times x ys = omega (arith, same x, sum_by-cons (is_cell x) x xs, sum_by-cons (is_cell x) y ys, is_cell-same x x refl, is_cell-other x y (λ is. differs (sym is))) in
+    let in_xs : 1 ≤ times y xs = omega (
+      arith,
+      same y,
+      sum_by-cons (is_cell y) x xs,
+      sum_by-cons (is_cell y) y ys,
+      is_cell-same y y refl,
+      is_cell-other y x differs,
+    ) in
+    let in_ys : 1 ≤ times x ys = omega (
+      arith,
+      same x,
+      sum_by-cons (is_cell x) x xs,
+      sum_by-cons (is_cell x) y ys,
+      is_cell-same x x refl,
+      is_cell-other x y (λ is. differs (sym is)),
+    ) in
     let above : f x < f y = at_counted (λ n. f x < f n) xs y (IsAscending-head f x xs up_x) in_xs in
     let below : f y < f x = at_counted (λ n. f y < f n) ys x (IsAscending-head f y ys up_y) in_ys in
     absurd (omega (arith, above, below)))
@@ -74,7 +89,8 @@ entry-group groups k d within =
 -- the addresses of those that are due, by what stands at each
 pub due-addresses : (now : ℕ) (groups : Groups) → addresses_due now groups ≡ filter (λ a. has_due now (group_at groups a)) (map.keys groups)
 due-addresses now groups =
-    ap (list_map (λ (e : ℕ × ScheduledGroup). e.0)) (filter-agree (λ (e : ℕ × ScheduledGroup). has_due now e.1) (λ (e : ℕ × ScheduledGroup). has_due now (group_at groups e.0)) (map.entries groups)
+    ap (list_map (λ (e : ℕ × ScheduledGroup). e.0))
+    (filter-agree (λ (e : ℕ × ScheduledGroup). has_due now e.1) (λ (e : ℕ × ScheduledGroup). has_due now (group_at groups e.0)) (map.entries groups)
     (λ k d within. ap (has_due now) (entry-group groups k d within)))
     ∙ map-filter (λ (e : ℕ × ScheduledGroup). e.0) (λ a. has_due now (group_at groups a)) (map.entries groups)
 
@@ -86,7 +102,12 @@ due-counted now groups =
 
 pub few-running : (groups : Groups) → running_in groups ≤ map.len groups
 few-running groups =
-    omega (arith, count_by-le-length (λ (e : ScheduledGroup). not (is_vacant e.group)) (map.values groups), length-map (map.entries groups) (λ (e : ℕ × ScheduledGroup). e.1), map.len-entries groups)
+    omega (
+      arith,
+      count_by-le-length (λ (e : ScheduledGroup). not (is_vacant e.group)) (map.values groups),
+      length-map (map.entries groups) (λ (e : ℕ × ScheduledGroup). e.1),
+      map.len-entries groups,
+    )
 
 -- whether the group of a number is due
 abbrev pub is_due_at : HeldState → ℕ → ℕ → Bool
@@ -109,9 +130,11 @@ module _ {s : HeldState} (known : IsOrdered s) (now : ℕ) where
       subst (All (IsNumber s)) (sym is) (All-filter (is_due_at s now) (IsNumber s) (numbers_in s.order.items) (all-numbers known))
 
   left_ascend : IsAscending (key_in s.order.items) (filter (is_due_at s now) (numbers_in s.order.items))
-  left_ascend = AllPairs-filter (λ n m. key_in s.order.items n < key_in s.order.items m) (is_due_at s now) (numbers_in s.order.items) (numbers-ascend s.order.items known.ascending known.once)
+  left_ascend = AllPairs-filter (λ n m. key_in s.order.items n < key_in s.order.items m) (is_due_at s now) (numbers_in s.order.items)
+      (numbers-ascend s.order.items known.ascending known.once)
 
-  pub ordered-left : {ns : List ℕ} → IsAscending (key_in s.order.items) ns → ((n : ℕ) → times n ns ≡ times n (filter (is_due_at s now) (numbers_in s.order.items))) → ns ≡ filter (is_due_at s now) (numbers_in s.order.items)
+  pub ordered-left : {ns : List ℕ} → IsAscending (key_in s.order.items) ns →
+      ((n : ℕ) → times n ns ≡ times n (filter (is_due_at s now) (numbers_in s.order.items))) → ns ≡ filter (is_due_at s now) (numbers_in s.order.items)
   ordered-left {ns = ns} up same =
       same-ordered (key_in s.order.items) ns (filter (is_due_at s now) (numbers_in s.order.items)) up left_ascend same
 
@@ -121,7 +144,10 @@ pub record IsPicked (state : HeldState) (now : ℕ) (numbers : List ℕ) (count 
   pub within : count ≤ map.len state.groups
   pub size : length (take count numbers) ≡ count
 
-module _ {K : Type 0} (number : K → ℕ) {order : NumberedKeysState} {heads : List ScheduledHead} {rows : List (List (Source K))} {moments : FinMap nat_cmp ℕ} {schedules : ℕ} (known : IsStored number order.items heads rows moments schedules) {source_room ahead : ℕ} {state : HeldState} (was : ◌≡◌ {A = HeldState} (record { groups = groups_by number order.items heads rows; order = order; source_room = source_room; ahead = ahead }) state) where
+module _ {K : Type 0} (number : K → ℕ) {order : NumberedKeysState} {heads : List ScheduledHead} {rows : List (List (Source K))}
+    {moments : FinMap nat_cmp ℕ} {schedules : ℕ} (known : IsStored number order.items heads rows moments schedules) {source_room ahead : ℕ}
+    {state : HeldState} (was : ◌≡◌ {A = HeldState}
+    (record { groups = groups_by number order.items heads rows; order = order; source_room = source_room; ahead = ahead }) state) where
   -- how often a number is left
   pub times-left : (now n : ℕ) → times n (filter (is_due_at state now) (numbers_in state.order.items)) ≡ (if is_number_due moments now n then 1 else 0)
   times-left now n =
@@ -134,7 +160,8 @@ module _ {K : Type 0} (number : K → ℕ) {order : NumberedKeysState} {heads : 
       nothing true k is = is
       nothing false k is = refl
 
-      by_test : (b : Bool) → set_of number_of state.order.items n ≡ b → cond (is_due_at state now n) (times n (numbers_in state.order.items)) 0 ≡ (if is_number_due moments now n then 1 else 0)
+      by_test : (b : Bool) → set_of number_of state.order.items n ≡ b → cond (is_due_at state now n) (times n (numbers_in state.order.items)) 0
+          ≡ (if is_number_due moments now n then 1 else 0)
       by_test true held =
           let found = has-number state.order.items n held in
           let one : times n (numbers_in state.order.items) ≡ 1 = omega (arith, once, times-in state.order.items n found.0 found.1) in
@@ -145,7 +172,9 @@ module _ {K : Type 0} (number : K → ℕ) {order : NumberedKeysState} {heads : 
           ∙ ap (λ b. if b then 1 else 0) (sym (due-unused number known was now n unused))
 
   -- the numbers that the moments tell are as many as there are due groups
-  pub picked_so : (now : ℕ) {count : ℕ} (numbers spare : List ℕ) → count ≤ map.len moments → length numbers ≡ length spare → map.len state.groups ≤ length spare → ((n : ℕ) → times n (take count numbers) ≡ (if is_number_due moments now n then 1 else 0)) → IsPicked state now numbers count
+  pub picked_so : (now : ℕ) {count : ℕ} (numbers spare : List ℕ) → count ≤ map.len moments → length numbers ≡ length spare →
+      map.len state.groups ≤ length spare → ((n : ℕ) → times n (take count numbers) ≡ (if is_number_due moments now n then 1 else 0)) →
+      IsPicked state now numbers count
   picked_so now {count} numbers spare few same space each =
       let within : count ≤ map.len state.groups = omega (arith, few, running-held number known was, few-running state.groups) in
       let size = length-take-le count numbers (omega (arith, within, same, space)) in
@@ -161,10 +190,12 @@ module _ {K : Type 0} (number : K → ℕ) {order : NumberedKeysState} {heads : 
   pub picked-once : (now : ℕ) (picked : List ℕ) → ((n : ℕ) → times n picked ≡ (if is_number_due moments now n then 1 else 0)) → (n : ℕ) → times n picked ≤ 1
   picked-once now picked each n = omega (arith, each n, one_at_most (is_number_due moments now n))
 
-  pub picked-ordered : (now : ℕ) (picked : List ℕ) → ((n : ℕ) → times n picked ≡ (if is_number_due moments now n then 1 else 0)) → {ns : List ℕ} → IsAscending (key_in order.items) ns → ((n : ℕ) → times n ns ≡ times n picked)
+  pub picked-ordered : (now : ℕ) (picked : List ℕ) → ((n : ℕ) → times n picked ≡ (if is_number_due moments now n then 1 else 0)) → {ns : List ℕ} →
+      IsAscending (key_in order.items) ns → ((n : ℕ) → times n ns ≡ times n picked)
       → ns ≡ filter (is_due_at state now) (numbers_in state.order.items)
   picked-ordered now picked each {ns = ns} up same =
-      ordered-left (IsOrdered-stored number known was) now (subst (λ xs. IsAscending (key_in xs) ns) (items_are number known was) up) (λ n. same n ∙ each n ∙ sym (times-left now n))
+      ordered-left (IsOrdered-stored number known was) now (subst (λ xs. IsAscending (key_in xs) ns) (items_are number known was) up)
+      (λ n. same n ∙ each n ∙ sym (times-left now n))
 
 -- what few of them, and many, cost
 few-bound : (count len : ℕ) → count < 64 → count ≤ len → count * bitlen count ≤ min 1 count * (7 * len)
@@ -186,7 +217,8 @@ few-spent count n len is running few within first second =
     let bound = few-bound count len few within in
     rw (← is, running) (Spends-join_within _ _ first second (omega arith) (omega (arith, bound)))
 
-pub few-moved : {due : ℕ} (count len : ℕ) → count ≡ due → count < 64 → count ≤ len → {old new : ℕ} → Spends count (count * count) old new → Spends due (min 1 due * (64 * len)) old new
+pub few-moved : {due : ℕ} (count len : ℕ) → count ≡ due → count < 64 → count ≤ len → {old new : ℕ} → Spends count (count * count) old new →
+    Spends due (min 1 due * (64 * len)) old new
 few-moved count len is few within moved =
     rw (← is) (Spends-within _ _ moved (omega arith)
     (⊎_elim
@@ -205,7 +237,8 @@ many-spent count n len all is running many size first second =
     let bound : all ≤ min 1 count * (7 * len) = rw one (omega (arith, size)) in
     rw (← is, running) (Spends-join_within _ _ first second (omega arith) (omega (arith, bound)))
 
-pub many-moved : {due : ℕ} (count len all : ℕ) → count ≡ due → 64 ≤ count → count ≤ len → all ≡ len → {old new : ℕ} → Spends all all old new → Spends due (min 1 due * (64 * len)) old new
+pub many-moved : {due : ℕ} (count len all : ℕ) → count ≡ due → 64 ≤ count → count ≤ len → all ≡ len → {old new : ℕ} → Spends all all old new →
+    Spends due (min 1 due * (64 * len)) old new
 many-moved count len all is many within size moved =
     let one : min 1 count ≡ 1 = omega arith in
     let bound : all ≤ min 1 count * (64 * len) = rw one (omega (arith, size)) in

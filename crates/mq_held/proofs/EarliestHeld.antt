@@ -1,5 +1,6 @@
 -- The earliest of all moments of the groups, by the moments of their numbers.
-use Rattle.std.proofs.Common.{◌≡◌, ℕ, zero, suc, ◌<◌, ◌≤◌, Bool, true, false, true≢false, if◌then◌else◌, refl, List, [], ◌∷◌, ◌++◌, length, map, get_or, Option, None, Some, is_some, sym, ap, ◌∙◌, subst, arith, ⊎_elim}
+use Rattle.std.proofs.Common.{◌≡◌, ℕ, zero, suc, ◌<◌, ◌≤◌, Bool, true, false, true≢false, if◌then◌else◌, refl, List, [], ◌∷◌, ◌++◌, length, map}
+use Rattle.std.proofs.Common.{get_or, Option, None, Some, is_some, sym, ap, ◌∙◌, subst, arith, ⊎_elim}
 use Rattle.std.specs.Prelude.{nat_lt, MatchOption}
 use Rattle.std.specs.List.{All, Contains, flat_map}
 use Rattle.std.specs.Option.{option_to_list}
@@ -51,11 +52,13 @@ module _ (moments : FinMap nat_cmp ℕ) (d : ℕ) where
   none-below [] least_is = All-nil (λ e. d ≤ e)
   none-below (x ∷ items) least_is = by_value (map.get moments x.number) (least_is x.number) (none-below items least_is)
     where
-      by_value : (o : Option ℕ) → ((e : ℕ) → o ≡ Some e → d ≤ e) → All (λ e. d ≤ e) (moments_among items) → All (λ e. d ≤ e) (option_to_list o ++ moments_among items)
+      by_value : (o : Option ℕ) → ((e : ℕ) → o ≡ Some e → d ≤ e) → All (λ e. d ≤ e) (moments_among items) →
+          All (λ e. d ≤ e) (option_to_list o ++ moments_among items)
       by_value None least_is rest = rest
       by_value (Some e) least_is rest = All-cons (λ e. d ≤ e) e (moments_among items) (least_is e refl) rest
 
-  among : (items : List NumberedKey) (k : ℕ) (x : NumberedKey) → k < length items → get_or items k x ≡ x → map.get moments x.number ≡ Some d → Contains (moments_among items) d
+  among : (items : List NumberedKey) (k : ℕ) (x : NumberedKey) → k < length items → get_or items k x ≡ x → map.get moments x.number ≡ Some d →
+      Contains (moments_among items) d
   among [] k x within here is = absurd (omega (arith, within))
   among (y ∷ items) zero x within here is =
       let own : option_to_list (map.get moments y.number) ≡ d ∷ [] = ap option_to_list (ap (λ (x : NumberedKey). map.get moments x.number) here ∙ is) in
@@ -63,16 +66,23 @@ module _ (moments : FinMap nat_cmp ℕ) (d : ℕ) where
   among (y ∷ items) (suc k) x within here is =
       Contains-append_right (option_to_list (map.get moments y.number)) (moments_among items) d (among items k x (omega (arith, within)) here is)
 
-module _ {K : Type 0} (number : K → ℕ) {order : NumberedKeysState} {heads : List ScheduledHead} {rows : List (List (Source K))} {moments : FinMap nat_cmp ℕ} {schedules : ℕ} (known : IsStored number order.items heads rows moments schedules) {source_room ahead : ℕ} {state : HeldState} (was : ◌≡◌ {A = HeldState} (record { groups = groups_by number order.items heads rows; order = order; source_room = source_room; ahead = ahead }) state) where
+module _ {K : Type 0} (number : K → ℕ) {order : NumberedKeysState} {heads : List ScheduledHead} {rows : List (List (Source K))}
+    {moments : FinMap nat_cmp ℕ} {schedules : ℕ} (known : IsStored number order.items heads rows moments schedules) {source_room ahead : ℕ}
+    {state : HeldState} (was : ◌≡◌ {A = HeldState}
+    (record { groups = groups_by number order.items heads rows; order = order; source_room = source_room; ahead = ahead }) state) where
   -- the moment of a number of the order is the earliest of its group
-  own-moment : (k : ℕ) (x : NumberedKey) → k < length order.items → get_or order.items k x ≡ x → earliest_of (moments_of (group_by number heads rows x.number)) ≡ map.get moments x.number
+  own-moment : (k : ℕ) (x : NumberedKey) → k < length order.items → get_or order.items k x ≡ x →
+      earliest_of (moments_of (group_by number heads rows x.number)) ≡ map.get moments x.number
   own-moment k x within here =
       sym
       (known.moments_are x.number
       ∙ ap (λ b. if b then earliest_of (moments_of (group_by number heads rows x.number)) else None) (number-in order.items x.number x.key (k, within, here)))
 
-  each-moment : (items : List NumberedKey) → ((k : ℕ) (x : NumberedKey) → k < length items → get_or items k x ≡ x → earliest_of (moments_of (group_by number heads rows x.number)) ≡ map.get moments x.number)
-      → flat_map (λ (x : NumberedKey). option_to_list (earliest_of (moments_of (group_by number heads rows x.number)))) items ≡ flat_map (λ (x : NumberedKey). option_to_list (map.get moments x.number)) items
+  each-moment : (items : List NumberedKey) →
+      ((k : ℕ) (x : NumberedKey) → k < length items → get_or items k x ≡ x → earliest_of (moments_of (group_by number heads rows x.number))
+      ≡ map.get moments x.number)
+      → flat_map (λ (x : NumberedKey). option_to_list (earliest_of (moments_of (group_by number heads rows x.number)))) items
+      ≡ flat_map (λ (x : NumberedKey). option_to_list (map.get moments x.number)) items
   each-moment [] own = refl
   each-moment (x ∷ items) own =
       let first = own 0 x (omega arith) refl in
@@ -80,7 +90,8 @@ module _ {K : Type 0} (number : K → ℕ) {order : NumberedKeysState} {heads : 
       ap (λ o. option_to_list o ++ flat_map (λ (x : NumberedKey). option_to_list (earliest_of (moments_of (group_by number heads rows x.number)))) items) first
       ∙ ap (λ ms. option_to_list (map.get moments x.number) ++ ms) rest
 
-  flat_map-map : (items : List NumberedKey) → flat_map moments_of (map (λ (x : NumberedKey). group_by number heads rows x.number) items) ≡ flat_map (λ (x : NumberedKey). moments_of (group_by number heads rows x.number)) items
+  flat_map-map : (items : List NumberedKey) → flat_map moments_of (map (λ (x : NumberedKey). group_by number heads rows x.number) items)
+      ≡ flat_map (λ (x : NumberedKey). moments_of (group_by number heads rows x.number)) items
   flat_map-map [] = refl
   flat_map-map (x ∷ items) = ap (λ ms. moments_of (group_by number heads rows x.number) ++ ms) (flat_map-map items)
 
@@ -99,11 +110,13 @@ module _ {K : Type 0} (number : K → ℕ) {order : NumberedKeysState} {heads : 
       by_test : (b : Bool) → set_of number_of order.items n ≡ b → (a : ℕ) × Contains order.items (item n a)
       by_test true held = has-number order.items n held
       by_test false absent =
-          let none : map.get moments n ≡ None = known.moments_are n ∙ ap (λ b. if b then earliest_of (moments_of (group_by number heads rows n)) else None) absent in
+          let none : map.get moments n ≡ None = known.moments_are n ∙
+          ap (λ b. if b then earliest_of (moments_of (group_by number heads rows n)) else None) absent in
           absurd (true≢false (sym (ap is_some is) ∙ ap is_some none))
 
   pub earliest-held : (r : Option ℕ) → MatchOption r (moments ≡ map.empty) (IsEarliestMoment moments) → (n : ℕ) → least n (moments_in state.groups) ≡ min_or n r
-  earliest-held None is n = least-held n ∙ ap (λ m. least n (flat_map (λ (x : NumberedKey). option_to_list (map.get m x.number)) order.items)) is ∙ ap (least n) (no_moments order.items)
+  earliest-held None is n = least-held n ∙ ap (λ m. least n (flat_map (λ (x : NumberedKey). option_to_list (map.get m x.number)) order.items)) is ∙
+      ap (least n) (no_moments order.items)
     where
       no_moments : (items : List NumberedKey) → flat_map (λ (x : NumberedKey). option_to_list (map.get (map.empty {X = ℕ} {R = nat_cmp}) x.number)) items ≡ []
       no_moments [] = refl
@@ -113,7 +126,8 @@ module _ {K : Type 0} (number : K → ℕ) {order : NumberedKeysState} {heads : 
       let found = held-moment one.0 d one.1 in
       let there = found.1 in
       let in_list = among moments d order.items there.0 (item one.0 found.0) there.1 there.2 one.1 in
-      least-held n ∙ least-bounds n (moments_among moments d order.items) d in_list.0 in_list.1 in_list.2 (none-below moments d order.items (λ m e at. is.least m e at))
+      least-held n ∙ least-bounds n (moments_among moments d order.items) d in_list.0 in_list.1 in_list.2
+      (none-below moments d order.items (λ m e at. is.least m e at))
 
   pub some-held : (r : Option ℕ) → MatchOption r (moments ≡ map.empty) (IsEarliestMoment moments) → is_some r ≡ nat_lt 0 (running_in state.groups)
   some-held None is =

@@ -1,5 +1,6 @@
 -- The entries of a map, and one that is made at its place.
-use Rattle.std.proofs.Common.{◌≡◌, ℕ, zero, suc, ◌<◌, ◌≤◌, Bool, true, false, cond, refl, List, [], ◌∷◌, length, get_or, Option, None, Some, is_some, sym, ap, ◌∙◌, subst, arith}
+use Rattle.std.proofs.Common.{◌≡◌, ℕ, zero, suc, ◌<◌, ◌≤◌, Bool, true, false, cond, refl, List, [], ◌∷◌, length, get_or, Option, None, Some, is_some}
+use Rattle.std.proofs.Common.{sym, ap, ◌∙◌, subst, arith}
 use Rattle.std.specs.Prelude.{map as list_map, slice_get}
 use lib.Dec.{T}
 use Rattle.std.specs.List.{insert, remove}
@@ -43,15 +44,18 @@ module _ {X : Type 0} where
       by_entry (slice_get es p) refl
     where
       by_entry : (y : Option (ℕ × X)) → slice_get es p ≡ y → e.0 < k
-      by_entry None is = absurd (none_some k (sym (slice_get-map (λ (e : ℕ × X). e.0) es p ∙ ap (Rattle.std.specs.Option.option_map (λ (e : ℕ × X). e.0)) is) ∙ here))
+      by_entry None is = absurd
+          (none_some k (sym (slice_get-map (λ (e : ℕ × X). e.0) es p ∙ ap (Rattle.std.specs.Option.option_map (λ (e : ℕ × X). e.0)) is) ∙ here))
       by_entry (Some f) is =
-          let key : f.0 ≡ k = some_is f.0 k (sym (slice_get-map (λ (e : ℕ × X). e.0) es p ∙ ap (Rattle.std.specs.Option.option_map (λ (e : ℕ × X). e.0)) is) ∙ here) in
+          let key : f.0 ≡ k = some_is f.0 k
+          (sym (slice_get-map (λ (e : ℕ × X). e.0) es p ∙ ap (Rattle.std.specs.Option.option_map (λ (e : ℕ × X). e.0)) is) ∙ here) in
           let all = below-all e.0 es (first (below_all nat_cmp e.0 es) (is_sorted nat_cmp es) up) in
           let at : get_or es p f ≡ f = get_or_from_slice_get es p f f is in
           let above : e.0 < (get_or es p f).0 = all p f (slice_get_within es p f is) in
           subst (λ n. e.0 < n) key (subst (λ (f : ℕ × X). e.0 < f.0) at above)
 
-  pub find-insert : (es : List (ℕ × X)) (p k : ℕ) (v : X) (q : ℕ) → p ≤ length es → ((i : ℕ) (d : ℕ × X) → i < p → (get_or es i d).0 < k) → find nat_cmp q (insert es p (k, v)) ≡ cond (eq_by_cmp nat_cmp q k) (Some v) (find nat_cmp q es)
+  pub find-insert : (es : List (ℕ × X)) (p k : ℕ) (v : X) (q : ℕ) → p ≤ length es → ((i : ℕ) (d : ℕ × X) → i < p → (get_or es i d).0 < k) →
+      find nat_cmp q (insert es p (k, v)) ≡ cond (eq_by_cmp nat_cmp q k) (Some v) (find nat_cmp q es)
   find-insert [] p k v q within below = rw (no_place p within) refl
     where
       no_place : (p : ℕ) → p ≤ 0 → p ≡ 0
@@ -62,7 +66,8 @@ module _ {X : Type 0} where
       ∙ swapped (eq_by_cmp nat_cmp q e.0) (eq_by_cmp nat_cmp q k) (Some e.1) (Some v) (find nat_cmp q es) (apart_keys q e.0 k (below 0 e (omega arith)))
 
 module _ {X : Type 0} (k : ℕ) where
-  pub find-place : (es : List (ℕ × X)) (p : ℕ) (d : ℕ × X) → T (is_sorted nat_cmp es) → slice_get (keys_of es) p ≡ Some k → find nat_cmp k es ≡ Some (get_or es p d).1
+  pub find-place : (es : List (ℕ × X)) (p : ℕ) (d : ℕ × X) → T (is_sorted nat_cmp es) → slice_get (keys_of es) p ≡ Some k →
+      find nat_cmp k es ≡ Some (get_or es p d).1
   find-place [] p d up here = absurd (none_some k here)
   find-place (e ∷ es) zero d up here = rw (ties k e.0 (sym (some_is e.0 k here))) refl
   find-place (e ∷ es) (suc p) d up here =
@@ -102,7 +107,8 @@ module _ {X : Type 0} (m : FinMap nat_cmp X) (k p : ℕ) where
         let up = map.entries_sorted m in
         let place = goes_among in
         let after = sorted-ascending (insert es p (k, v)) (IsAscending-insert key_of es p (k, v) (ascending-sorted es up) place) in
-        same_entries nat_cmp nat_cmp_total nat_cmp-IsAntisymmetric (map.entries (map.insert m k v)) (insert es p (k, v)) (map.entries_sorted (map.insert m k v)) after (λ q.
+        same_entries nat_cmp nat_cmp_total nat_cmp-IsAntisymmetric (map.entries (map.insert m k v)) (insert es p (k, v))
+        (map.entries_sorted (map.insert m k v)) after (λ q.
         sym (map.get-entries (map.insert m k v) q)
         ∙ map.get-insert nat_cmp_total m k v q
         ∙ ap (cond (eq_by_cmp nat_cmp q k) (Some v)) (map.get-entries m q)

@@ -28,7 +28,8 @@ pub record IsNext (pages : List ℕ) (rank page place : ℕ) : Type 0 where
   pub place_in : place < get_or pages page 0
   pub rank_is : rank_at pages page place ≡ rank
 
-pub IsNext-turned : (pages : List ℕ) (page place : ℕ) → AreFilled pages → page < length pages → (page + 1 ≡ length pages → ⊥) → place ≡ get_or pages page 0 → IsNext pages (rank_at pages page place) (page + 1) 0
+pub IsNext-turned : (pages : List ℕ) (page place : ℕ) → AreFilled pages → page < length pages → (page + 1 ≡ length pages → ⊥) →
+    place ≡ get_or pages page 0 → IsNext pages (rank_at pages page place) (page + 1) 0
 IsNext-turned pages page place filled within other is =
     let next : page + 1 < length pages = omega (arith, within, other) in
     record {
@@ -37,7 +38,8 @@ IsNext-turned pages page place filled within other is =
       rank_is = rank-more pages page within ∙ ap (rank_at pages page) (sym is);
     }
 
-pub IsNext-here : (pages : List ℕ) (page place : ℕ) → page < length pages → place ≤ get_or pages page 0 → (place ≡ get_or pages page 0 → ⊥) → IsNext pages (rank_at pages page place) page place
+pub IsNext-here : (pages : List ℕ) (page place : ℕ) → page < length pages → place ≤ get_or pages page 0 → (place ≡ get_or pages page 0 → ⊥) →
+    IsNext pages (rank_at pages page place) page place
 IsNext-here pages page place within upto other =
     record { page_in = within; place_in = omega (arith, upto, other); rank_is = omega arith }
 
@@ -62,7 +64,9 @@ module _ {pages : List ℕ} {rank page place : ℕ} (next : IsNext pages rank pa
     next-numbered n at = number-at_rank known n rank rank-in at
 
     pub next-entries : {K : Type 0} (number : K → ℕ) (h : HeldGroup K) (n : ℕ) → get_or (numbers_in s.order.items) rank 0 ≡ n → HasNumber s (number h.address) n
-        → ◌≡◌ {A = ScheduledGroup} (record { group = record { mode = h.mode; sources = timers_in number h.sources.now; v1 = h.v1; v2 = h.v2 }; schedule = h.schedule }) (group_at s.groups (number h.address))
+        → ◌≡◌ {A = ScheduledGroup}
+        (record { group = record { mode = h.mode; sources = timers_in number h.sources.now; v1 = h.v1; v2 = h.v2 }; schedule = h.schedule })
+        (group_at s.groups (number h.address))
         → entries_from rank s.groups ≡ entry_in number h ∷ entries_from (rank_at pages page (place + 1)) s.groups
     next-entries number h n at has is =
         entry_next s.groups (number h.address) rank _ (rank-is known (number h.address) n rank rank-in at has) is

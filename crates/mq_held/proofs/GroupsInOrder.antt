@@ -26,8 +26,10 @@ pub record IsOrdered (s : HeldState) : Type 0 where
   pub ascending : IsAscending (λ x. x.key) s.order.items
   pub once : (n : ℕ) → times n (numbers_in s.order.items) ≤ 1
 
-pub IsOrdered-stored : {K : Type 0} (number : K → ℕ) {order : NumberedKeysState} {heads : List ScheduledHead} {rows : List (List (Source K))} {moments : FinMap nat_cmp ℕ} {schedules : ℕ} → IsStored number order.items heads rows moments schedules
-    → {room ahead : ℕ} {s : HeldState} → ◌≡◌ {A = HeldState} (record { groups = groups_by number order.items heads rows; order = order; source_room = room; ahead = ahead }) s → IsOrdered s
+pub IsOrdered-stored : {K : Type 0} (number : K → ℕ) {order : NumberedKeysState} {heads : List ScheduledHead} {rows : List (List (Source K))}
+    {moments : FinMap nat_cmp ℕ} {schedules : ℕ} → IsStored number order.items heads rows moments schedules
+    → {room ahead : ℕ} {s : HeldState} →
+    ◌≡◌ {A = HeldState} (record { groups = groups_by number order.items heads rows; order = order; source_room = room; ahead = ahead }) s → IsOrdered s
 IsOrdered-stored number {order = order} {heads = heads} {rows = rows} known was =
     subst IsOrdered was (record { keys = keys-groups number order.items heads rows known.ascending; ascending = known.ascending; once = known.once })
 
@@ -50,7 +52,8 @@ module _ {s : HeldState} (known : IsOrdered s) where
   place-ordered k d within = record {
     address_is =
         ap (λ ks. slice_get ks k) known.keys
-        ∙ slice_get-get_or (keys_in s.order.items) k (get_or s.order.items k d).key (omega (arith, within, length-map s.order.items (λ (x : NumberedKey). x.key)))
+        ∙ slice_get-get_or (keys_in s.order.items) k (get_or s.order.items k d).key
+        (omega (arith, within, length-map s.order.items (λ (x : NumberedKey). x.key)))
         ∙ ap Some (get_or-map (λ (x : NumberedKey). x.key) s.order.items k d (get_or s.order.items k d).key within);
   }
 
@@ -68,10 +71,12 @@ module _ {s : HeldState} (known : IsOrdered s) where
       let x : NumberedKey = record { number = n; key = address } in
       let within = rank-within k below in
       let own = item-at_rank n k x within at in
-      let key : (get_or s.order.items k x).key ≡ address = sym (key-of_item s.order.items known.once k x within) ∙ ap (key_in s.order.items) own ∙ address-known address n has in
+      let key : (get_or s.order.items k x).key ≡ address = sym (key-of_item s.order.items known.once k x within) ∙ ap (key_in s.order.items) own ∙
+      address-known address n has in
       subst (λ a. HasPlace s.groups a k) key (place-ordered k x within)
 
-  pub number-of_place : (address n k : ℕ) → k < map.len s.groups → get_or (numbers_in s.order.items) k 0 ≡ n → HasPlace s.groups address k → HasNumber s address n
+  pub number-of_place : (address n k : ℕ) → k < map.len s.groups → get_or (numbers_in s.order.items) k 0 ≡ n → HasPlace s.groups address k →
+      HasNumber s address n
   number-of_place address n k below at has =
       let x : NumberedKey = record { number = n; key = address } in
       let within = rank-within k below in
@@ -90,7 +95,8 @@ module _ {s : HeldState} (known : IsOrdered s) where
   pub all-numbers : All (IsNumber s) (numbers_in s.order.items)
   all-numbers k d within =
       let size = length-map s.order.items (λ (x : NumberedKey). x.number) in
-      number-at_rank (get_or (numbers_in s.order.items) k d) k (omega (arith, within, size, len-ordered)) (get_or_default (numbers_in s.order.items) k 0 d within)
+      number-at_rank (get_or (numbers_in s.order.items) k d) k (omega (arith, within, size, len-ordered))
+      (get_or_default (numbers_in s.order.items) k 0 d within)
 
   pub all-known : {ns : List ℕ} → ns ≡ numbers_in s.order.items → All (IsNumber s) ns
   all-known is = subst (All (IsNumber s)) (sym is) all-numbers

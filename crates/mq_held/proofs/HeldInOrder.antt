@@ -22,7 +22,8 @@ entry_next groups address place e has is =
     let value = is ∙ place-group groups address place has ∙ get_or-map (λ (x : ℕ × ScheduledGroup). x.1) (map.entries groups) place d unheld within in
     let next : suc place ≡ place + 1 = omega arith in
     drop-cons (map.entries groups) place d within
-    ∙ ap (λ x. x ∷ drop (suc place) (map.entries groups)) (pair_is (get_or (map.entries groups) place d) address e (key_at groups address place has.address_is d) (sym value))
+    ∙ ap (λ x. x ∷ drop (suc place) (map.entries groups))
+    (pair_is (get_or (map.entries groups) place d) address e (key_at groups address place has.address_is d) (sym value))
     ∙ ap (λ n. (address, e) ∷ drop n (map.entries groups)) next
 
 -- a list without its first item is shorter

@@ -1,5 +1,6 @@
 -- What is stored says of the groups that a contract sees.
-use Rattle.std.proofs.Common.{◌≡◌, ◌==◌, ◌&&◌, Bool, not, ℕ, ◌<◌, true, true≢false, refl, List, [], length, get_or, set, Option, None, Some, is_some, sym, ap, ◌∙◌, subst, arith}
+use Rattle.std.proofs.Common.{◌≡◌, ◌==◌, ◌&&◌, Bool, not, ℕ, ◌<◌, true, true≢false, refl, List, [], length, get_or, set, Option, None, Some, is_some}
+use Rattle.std.proofs.Common.{sym, ap, ◌∙◌, subst, arith}
 use Rattle.std.specs.List.{Contains}
 use Rattle.std.specs.Option.{unwrap_or}
 use Rattle.std.specs.Ordering.{nat_cmp}
@@ -24,7 +25,10 @@ use Rattle.mq_held.proofs.OrderedAmounts.{sources-groups, schedules-groups, runn
 use Rattle.mq_held.proofs.OrderedGroups.{len-groups, get-groups, group-here, groups-changed, contains-groups}
 use Rattle.mq_held.proofs.StoredEdits.{group-set, group-other}
 
-module _ {K : Type 0} (number : K → ℕ) {order : NumberedKeysState} {heads : List ScheduledHead} {rows : List (List (Source K))} {moments : FinMap nat_cmp ℕ} {schedules : ℕ} (known : IsStored number order.items heads rows moments schedules) {source_room ahead : ℕ} {state : HeldState} (was : ◌≡◌ {A = HeldState} (record { groups = groups_by number order.items heads rows; order = order; source_room = source_room; ahead = ahead }) state) where
+module _ {K : Type 0} (number : K → ℕ) {order : NumberedKeysState} {heads : List ScheduledHead} {rows : List (List (Source K))}
+    {moments : FinMap nat_cmp ℕ} {schedules : ℕ} (known : IsStored number order.items heads rows moments schedules) {source_room ahead : ℕ}
+    {state : HeldState} (was : ◌≡◌ {A = HeldState}
+    (record { groups = groups_by number order.items heads rows; order = order; source_room = source_room; ahead = ahead }) state) where
   pub groups_are : groups_by number order.items heads rows ≡ state.groups
   groups_are = ap (λ (s : HeldState). s.groups) was
 
@@ -73,7 +77,8 @@ module _ {K : Type 0} (number : K → ℕ) {order : NumberedKeysState} {heads : 
 
   pub number-of : (a : ℕ) → map.contains_key state.groups a ≡ true → (n : ℕ) × HasNumber state a n
   number-of a held =
-      let found = has-key order.items a (sym (contains-groups number order.items heads rows known.ascending a) ∙ ap (λ groups. map.contains_key groups a) groups_are ∙ held) in
+      let found = has-key order.items a (sym (contains-groups number order.items heads rows known.ascending a) ∙
+      ap (λ groups. map.contains_key groups a) groups_are ∙ held) in
       (found.0, has found.1)
 
   pub held-is : (a : ℕ) → map.contains_key state.groups a ≡ set_of key_of order.items a
@@ -89,13 +94,15 @@ module _ {K : Type 0} (number : K → ℕ) {order : NumberedKeysState} {heads : 
       let within = within-rows n (is-number is) in
       ap sources_of (group-of is) ∙ len-timers_in number (get_or rows n []) (known.rows_ascend n [] within)
 
-  pub head-of : {a n : ℕ} (h : ScheduledHead) (row : List (Source K)) → HasNumber state a n → n < length heads → h ≡ get_or heads n h → row ≡ get_or rows n [] → group_of number h row ≡ group_at state.groups a
+  pub head-of : {a n : ℕ} (h : ScheduledHead) (row : List (Source K)) → HasNumber state a n → n < length heads → h ≡ get_or heads n h →
+      row ≡ get_or rows n [] → group_of number h row ≡ group_at state.groups a
   head-of {a} {n} h row is within head_is row_is =
       ap (λ x. group_of number x row) (get_or_read heads n h within head_is no_head)
       ∙ ap (group_of number (get_or heads n no_head)) row_is
       ∙ sym (group-of is)
 
-  pub vacant-of : {a n : ℕ} (h : ScheduledHead) (row : List (Source K)) (b : Bool) → HasNumber state a n → n < length heads → h ≡ get_or heads n h → row ≡ get_or rows n [] → is_include h.head.mode ≡ b → is_vacant (group_at state.groups a).group ≡ (b && (length row == 0))
+  pub vacant-of : {a n : ℕ} (h : ScheduledHead) (row : List (Source K)) (b : Bool) → HasNumber state a n → n < length heads → h ≡ get_or heads n h →
+      row ≡ get_or rows n [] → is_include h.head.mode ≡ b → is_vacant (group_at state.groups a).group ≡ (b && (length row == 0))
   vacant-of {a} {n} h row b is within head_is row_is mode =
       let up = subst (IsAscending (number_in number)) (sym row_is) (known.rows_ascend n [] (within-rows n (is-number is))) in
       ap (λ (e : ScheduledGroup). is_vacant e.group) (sym (head-of h row is within head_is row_is))
@@ -103,7 +110,8 @@ module _ {K : Type 0} (number : K → ℕ) {order : NumberedKeysState} {heads : 
       ∙ ap (λ b. b && (length row == 0)) mode
 
   -- it has a moment exactly where it isn't vacant
-  pub moment-there : (n : ℕ) (was_vacant : Bool) → IsNumber state n → ((a : ℕ) → HasNumber state a n → was_vacant ≡ is_vacant (group_at state.groups a).group) → map.contains_key moments n ≡ not was_vacant
+  pub moment-there : (n : ℕ) (was_vacant : Bool) → IsNumber state n →
+      ((a : ℕ) → HasNumber state a n → was_vacant ≡ is_vacant (group_at state.groups a).group) → map.contains_key moments n ≡ not was_vacant
   moment-there n was_vacant is vacant =
       let found = address-of n is in
       has-moment number known n (numbered n is)
@@ -130,8 +138,10 @@ module _ {K : Type 0} (number : K → ℕ) {order : NumberedKeysState} {heads : 
   running-held = ap running_in (sym groups_are) ∙ running-groups number known
 
   -- the group of a number is another
-  pub state-set : {a n : ℕ} (h : ScheduledHead) (row : List (Source K)) (e : ScheduledGroup) (left new_left : ℕ) → HasNumber state a n → n < length heads → group_of number h row ≡ e → left ≡ new_left
-      → ◌≡◌ {A = HeldState} (record { groups = groups_by number order.items (set heads n h) (set rows n row); order = order; source_room = source_room; ahead = left })
+  pub state-set : {a n : ℕ} (h : ScheduledHead) (row : List (Source K)) (e : ScheduledGroup) (left new_left : ℕ) → HasNumber state a n →
+      n < length heads → group_of number h row ≡ e → left ≡ new_left
+      → ◌≡◌ {A = HeldState}
+      (record { groups = groups_by number order.items (set heads n h) (set rows n row); order = order; source_room = source_room; ahead = left })
       (record { groups = map.insert state.groups a e; order = state.order; source_room = state.source_room; ahead = new_left })
   state-set {a} {n} h row e left new_left is within group_is left_is =
       let held = numbered n (is-number is) in

@@ -25,7 +25,8 @@ pub map-filter : {X Y : Type 0} (f : X → Y) (p : Y → Bool) (xs : List X) →
 map-filter f p [] = refl
 map-filter f p (x ∷ xs) = by_test (p (f x)) (map-filter f p xs)
   where
-    by_test : (b : Bool) → list_map f (filter (λ x. p (f x)) xs) ≡ filter p (list_map f xs) → list_map f (cond b (x ∷ filter (λ x. p (f x)) xs) (filter (λ x. p (f x)) xs)) ≡ cond b (f x ∷ filter p (list_map f xs)) (filter p (list_map f xs))
+    by_test : (b : Bool) → list_map f (filter (λ x. p (f x)) xs) ≡ filter p (list_map f xs) →
+        list_map f (cond b (x ∷ filter (λ x. p (f x)) xs) (filter (λ x. p (f x)) xs)) ≡ cond b (f x ∷ filter p (list_map f xs)) (filter p (list_map f xs))
     by_test true rest = ap (λ ys. f x ∷ ys) rest
     by_test false rest = rest
 
@@ -51,11 +52,18 @@ key-of_item (y ∷ items) once =
     let x = get_or items k d in
     ⊎_elim
     (λ same.
-    absurd (omega (arith, once x.number, sum_by-cons (is_cell x.number) y.number (numbers_in items), is_cell-same x.number y.number same.1, times-item items x.number k d within refl)))
+    absurd (omega (
+      arith,
+      once x.number,
+      sum_by-cons (is_cell x.number) y.number (numbers_in items),
+      is_cell-same x.number y.number same.1,
+      times-item items x.number k d within refl,
+    )))
     (λ other. rw other.0 (key-of_item items (λ n. omega (arith, once n, sum_by-cons (is_cell n) y.number (numbers_in items))) k d within))
     (eqb_tells y.number x.number))
 
-pub number-is : (items : List NumberedKey) (n k : ℕ) (d : NumberedKey) → k < length items → (get_or items k d).number ≡ n → set_of (λ x. x.number) items n ≡ true
+pub number-is : (items : List NumberedKey) (n k : ℕ) (d : NumberedKey) → k < length items → (get_or items k d).number ≡ n →
+    set_of (λ x. x.number) items n ≡ true
 number-is items n k d within is =
     list_any_at (λ (x : NumberedKey). x.number == n) items k d within (eq-eqb (get_or items k d).number n is)
 
@@ -95,7 +103,8 @@ first-item (x ∷ items) n is =
     at_first same = rw same refl
 
 -- the numbers are in the order of their keys
-pub numbers-ascend : (items : List NumberedKey) → IsAscending (λ x. x.key) items → ((n : ℕ) → times n (numbers_in items) ≤ 1) → IsAscending (key_in items) (numbers_in items)
+pub numbers-ascend : (items : List NumberedKey) → IsAscending (λ x. x.key) items → ((n : ℕ) → times n (numbers_in items) ≤ 1) →
+    IsAscending (key_in items) (numbers_in items)
 numbers-ascend items up once i j d before in_list =
     let size = length-map items (λ (x : NumberedKey). x.number) in
     let x : NumberedKey = record { number = d; key = 0 } in
@@ -104,4 +113,5 @@ numbers-ascend items up once i j d before in_list =
     let at_i = key-of_item items once i x i_in in
     let at_j = key-of_item items once j x j_in in
     let above = up i j x before j_in in
-    rw (get_or-map (λ (x : NumberedKey). x.number) items i x d i_in, get_or-map (λ (x : NumberedKey). x.number) items j x d j_in) (omega (arith, at_i, at_j, above))
+    rw (get_or-map (λ (x : NumberedKey). x.number) items i x d i_in, get_or-map (λ (x : NumberedKey). x.number) items j x d j_in)
+    (omega (arith, at_i, at_j, above))

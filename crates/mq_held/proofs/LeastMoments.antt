@@ -65,7 +65,8 @@ due-earliest now (x ∷ xs) d is =
 
     by_least : (x : ℕ) (xs : List ℕ) → (nat_le x now || list_any (λ t. nat_le t now) xs) ≡ nat_le (least x xs) now
     by_least x [] = or-false (nat_le x now)
-    by_least x (y ∷ ys) = or_turned (nat_le x now) (nat_le y now) (list_any (λ t. nat_le t now) ys) ∙ ap (λ b. nat_le y now || b) (by_least x ys) ∙ or_min y (least x ys)
+    by_least x (y ∷ ys) = or_turned (nat_le x now) (nat_le y now) (list_any (λ t. nat_le t now) ys) ∙ ap (λ b. nat_le y now || b) (by_least x ys) ∙
+        or_min y (least x ys)
       where
         or_turned : (a b c : Bool) → (a || (b || c)) ≡ (b || (a || c))
         or_turned true true c = refl

@@ -1,5 +1,6 @@
 -- A number is given to an address: the storage before its group is written there.
-use Rattle.std.proofs.Common.{◌≡◌, ◌||◌, ℕ, ◌+◌, ◌-◌, ◌<◌, ◌≤◌, Bool, true, false, cond, if◌then◌else◌, refl, List, length, map, Option, Some, sym, ap, ◌∙◌, subst, arith, ◌⊎◌, inl, inr, ⊎_elim}
+use Rattle.std.proofs.Common.{◌≡◌, ◌||◌, ℕ, ◌+◌, ◌-◌, ◌<◌, ◌≤◌, Bool, true, false, cond, if◌then◌else◌, refl, List, length, map, Option, Some, sym}
+use Rattle.std.proofs.Common.{ap, ◌∙◌, subst, arith, ◌⊎◌, inl, inr, ⊎_elim}
 use Rattle.std.specs.Prelude.{nat_le}
 use Rattle.std.specs.List.{All, Contains, insert, sum_by}
 use Rattle.std.specs.Ordering.{nat_cmp, eq_by_cmp}
@@ -39,8 +40,10 @@ made-there xs p x within = (p, omega (arith, length-insert xs p x within), get_o
 pub kept-there : {X : Type 0} (xs : List X) (p : ℕ) (x y : X) → p ≤ length xs → Contains xs y → Contains (insert xs p x) y
 kept-there xs p x y within has =
     ⊎_elim
-    (λ (below : has.0 < p). let at : Contains (insert xs p x) y = (has.0, omega (arith, has.1, length-insert xs p x within), get_or-insert_below xs p x y has.0 below within ∙ has.2) in at)
-    (λ (from : p ≤ has.0). let at : Contains (insert xs p x) y = (has.0 + 1, omega (arith, has.1, length-insert xs p x within), get_or-insert_above xs p x y has.0 from within ∙ has.2) in at)
+    (λ (below : has.0 < p). let at : Contains (insert xs p x) y =
+    (has.0, omega (arith, has.1, length-insert xs p x within), get_or-insert_below xs p x y has.0 below within ∙ has.2) in at)
+    (λ (from : p ≤ has.0). let at : Contains (insert xs p x) y =
+    (has.0 + 1, omega (arith, has.1, length-insert xs p x within), get_or-insert_above xs p x y has.0 from within ∙ has.2) in at)
     (cases_lt has.0 p)
 
 -- what is written over is gone
@@ -66,9 +69,11 @@ pub record IsMade {K A : Type 0} (number : K → ℕ) (s : Inside K A) (state : 
   pub room : new.room ≡ s.order.room
   pub after : IsStorage number (record s { order = new })
 
-pub made : {K A : Type 0} (number : K → ℕ) (s : Inside K A) {state : HeldState} {new : NumberedKeysState} {n a : ℕ} {spot : Spot} → IsStorage number s → seen number s ≡ state → IsSpotFor state.order.items state.order.pages a spot
+pub made : {K A : Type 0} (number : K → ℕ) (s : Inside K A) {state : HeldState} {new : NumberedKeysState} {n a : ℕ} {spot : Spot} →
+    IsStorage number s → seen number s ≡ state → IsSpotFor state.order.items state.order.pages a spot
     → set_of number_of s.order.items n ≡ false → new.items ≡ insert s.order.items (rank_of s.order.pages spot) (item n a) → new.room ≡ s.order.room
-    → IsAscending key_of new.items → ((m : ℕ) → times m (map number_of new.items) ≤ 1) → All (λ (x : NumberedKey). x.number < new.room) new.items → length new.items ≤ new.room
+    → IsAscending key_of new.items → ((m : ℕ) → times m (map number_of new.items) ≤ 1) → All (λ (x : NumberedKey). x.number < new.room) new.items →
+    length new.items ≤ new.room
     → IsMade number s state new n a (rank_of s.order.pages spot)
 made {K} {A} number s {state} {new} {n} {a} {spot} inside was goes fresh items room up once numbered fits = record {
   inside = inside;
@@ -78,7 +83,8 @@ made {K} {A} number s {state} {new} {n} {a} {spot} inside was goes fresh items r
   items = items;
   room = room;
   after = (
-    IsStored-order number inside.0 new.items up once (λ k d in_list. omega (arith, numbered k d in_list, room, inside.2)) differ (omega (arith, same, total, none)),
+    IsStored-order number inside.0 new.items up once (λ k d in_list. omega (arith, numbered k d in_list, room, inside.2)) differ
+        (omega (arith, same, total, none)),
     inside.1,
     inside.2 ∙ sym room,
     inside.3 ∙ sym room,
@@ -99,7 +105,8 @@ made {K} {A} number s {state} {new} {n} {a} {spot} inside was goes fresh items r
         ap (λ xs. sum_by schedules_at (entries xs)) items
         ∙ ap (sum_by schedules_at) (map-insert (entry_of number s.heads.items s.sources.rows) s.order.items (rank_of s.order.pages spot) (item n a))
 
-    total : sum_by schedules_at (insert (entries s.order.items) (rank_of s.order.pages spot) (a, group_in number s n)) ≡ sum_by schedules_at (entries s.order.items) + schedules_at (a, group_in number s n)
+    total : sum_by schedules_at (insert (entries s.order.items) (rank_of s.order.pages spot) (a, group_in number s n))
+        ≡ sum_by schedules_at (entries s.order.items) + schedules_at (a, group_in number s n)
     total = sum_by-insert schedules_at (entries s.order.items) (rank_of s.order.pages spot) (a, group_in number s n)
 
     none : schedules_at (a, group_in number s n) ≡ 0
@@ -127,7 +134,9 @@ module _ {K A : Type 0} {number : K → ℕ} {s : Inside K A} {state : HeldState
   pub made-kept : (b m : ℕ) → HasNumber state b m → HasNumber mid b m
   made-kept b m has = record {
     is =
-        subst (λ xs. Contains xs (item m b)) (sym f.items) (kept-there s.order.items p (item n a) (item m b) f.place.within (subst (λ xs. Contains xs (item m b)) (ap (λ (s : HeldState). s.order.items) (sym f.was)) has.is));
+        subst (λ xs. Contains xs (item m b)) (sym f.items)
+        (kept-there s.order.items p (item n a)
+        (item m b) f.place.within (subst (λ xs. Contains xs (item m b)) (ap (λ (s : HeldState). s.order.items) (sym f.was)) has.is));
   }
 
   made-group : (b : ℕ) → HasNumber mid b n → group_at mid.groups b ≡ unheld

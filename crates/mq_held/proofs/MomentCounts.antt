@@ -15,7 +15,8 @@ pub compared-five : (a b c d e : Option ℕ)
     → let hosts = earliest_of (option_to_list b ++ option_to_list c) in
     let timers = earliest_of (option_to_list a ++ option_to_list hosts) in
     let queries = earliest_of (option_to_list d ++ option_to_list e) in
-    (length (option_to_list b ++ option_to_list c) - 1) + (length (option_to_list a ++ option_to_list hosts) - 1) + (length (option_to_list d ++ option_to_list e) - 1) + (length (option_to_list timers ++ option_to_list queries) - 1)
+    (length (option_to_list b ++ option_to_list c) - 1) + (length (option_to_list a ++ option_to_list hosts) - 1) +
+    (length (option_to_list d ++ option_to_list e) - 1) + (length (option_to_list timers ++ option_to_list queries) - 1)
     ≡ length (those_of (a ∷ b ∷ c ∷ d ∷ e ∷ [])) - 1
 compared-five a b c d e =
     let l : Option ℕ → List ℕ = option_to_list in

@@ -1,5 +1,6 @@
 -- One walk over ascending items and ascending names, which tells whether each name is that of an item.
-use Rattle.std.proofs.Common.{◌≡◌, ℕ, zero, suc, ◌+◌, ◌<◌, ◌≤◌, ◌==◌, ◌&&◌, ◌||◌, false, refl, List, [], ◌∷◌, length, get_or, drop, sym, ap, ◌∙◌, subst, arith, add-one}
+use Rattle.std.proofs.Common.{◌≡◌, ℕ, zero, suc, ◌+◌, ◌<◌, ◌≤◌, ◌==◌, ◌&&◌, ◌||◌, false, refl, List, [], ◌∷◌, length, get_or, drop, sym, ap, ◌∙◌}
+use Rattle.std.proofs.Common.{subst, arith, add-one}
 use Rattle.std.specs.Prelude.{map as list_map}
 use Rattle.std.specs.List.{All, list_all}
 use Rattle.std.proofs.lemmas.Bool.{eq-eqb}
@@ -19,7 +20,8 @@ pub record IsWalked {X K : Type 0} (number : X → ℕ) (key : K → ℕ) (row :
 
 module _ {X K : Type 0} (number : X → ℕ) (key : K → ℕ) where
   -- an item below all names has none of them
-  passed : (x : X) (row : List X) (named : List K) → All (λ k. number x < key k) named → list_all (set_of number (x ∷ row)) (list_map key named) ≡ list_all (set_of number row) (list_map key named)
+  passed : (x : X) (row : List X) (named : List K) → All (λ k. number x < key k) named → list_all (set_of number (x ∷ row)) (list_map key named)
+      ≡ list_all (set_of number row) (list_map key named)
   passed x row [] above = refl
   passed x row (k ∷ named) above =
       let P : K → Type 0 = λ k. number x < key k in
@@ -31,7 +33,8 @@ module _ {X K : Type 0} (number : X → ℕ) (key : K → ℕ) where
     pub IsWalked-start : IsWalked number key row named 0 0
     IsWalked-start = record { within = omega arith; named_within = omega arith; met = omega arith; same = refl }
 
-    pub walked-behind : (place next : ℕ) → IsWalked number key row named place next → place ≡ length row → next < length named → list_all (set_of number row) (list_map key named) ≡ false
+    pub walked-behind : (place next : ℕ) → IsWalked number key row named place next → place ≡ length row → next < length named →
+        list_all (set_of number row) (list_map key named) ≡ false
     walked-behind place next walked all more =
         walked.same
         ∙ ap (λ xs. list_all (set_of number xs) (list_map key (drop next named))) (drop_all place row (omega (arith, all)))
@@ -41,7 +44,8 @@ module _ {X K : Type 0} (number : X → ℕ) (key : K → ℕ) where
         none [] some = absurd (omega arith)
         none (k ∷ ks) some = refl
 
-    module _ (place next : ℕ) (k : K) (walked : IsWalked number key row named place next) (named_here : k ≡ get_or named next k) (named_in : next < length named) where
+    module _ (place next : ℕ) (k : K) (walked : IsWalked number key row named place next) (named_here : k ≡ get_or named next k)
+        (named_in : next < length named) where
       abbrev rest : List K
       rest = drop (next + 1) named
 
@@ -109,22 +113,26 @@ module _ {X K : Type 0} (number : X → ℕ) (key : K → ℕ) where
 
 -- the walk from the first name on
 module _ {X K : Type 0} (number : X → ℕ) (key : K → ℕ) where
-  pub first-absent : (row : List X) (named : List K) (k : K) → k ≡ get_or named 0 k → 0 < length named → set_of number row (key k) ≡ false → list_all (set_of number row) (list_map key named) ≡ false
+  pub first-absent : (row : List X) (named : List K) (k : K) → k ≡ get_or named 0 k → 0 < length named → set_of number row (key k) ≡ false →
+      list_all (set_of number row) (list_map key named) ≡ false
   first-absent row [] k here some none = absurd (omega (arith, some))
   first-absent row (z ∷ named) k here some none =
       ap (λ b. b && list_all (set_of number row) (list_map key named)) (ap (λ q. set_of number row (key q)) (sym here) ∙ none)
 
-  module _ (row : List X) (named : List K) (up : IsAscending number row) (named_up : IsAscending key named) (first : ℕ) (x : X) (k : K) (here : k ≡ get_or named 0 k) (some : 0 < length named) (inside : first < length row) (is : number (get_or row first x) ≡ key k) where
+  module _ (row : List X) (named : List K) (up : IsAscending number row) (named_up : IsAscending key named) (first : ℕ) (x : X) (k : K)
+      (here : k ≡ get_or named 0 k) (some : 0 < length named) (inside : first < length row) (is : number (get_or row first x) ≡ key k) where
     up_to : (j : ℕ) → j ≤ first → IsWalked number key row named j 0
     up_to zero below = IsWalked-start number key row named up named_up
     up_to (suc j) below =
         let step = up j first x (omega (arith, below)) inside in
         let at : j < length row = omega (arith, below, inside) in
         subst (λ n. IsWalked number key row named n 0) (add-one j)
-        (IsWalked-passed number key row named up named_up j 0 k (up_to j (omega (arith, below))) here some (get_or row j x) (get_or_default row j x (get_or row j x) at) at (omega (arith, step, is)))
+        (IsWalked-passed number key row named up named_up j 0 k (up_to j (omega (arith, below))) here some (get_or row j x)
+        (get_or_default row j x (get_or row j x) at) at (omega (arith, step, is)))
 
     pub IsWalked-first : IsWalked number key row named (first + 1) 1
-    IsWalked-first = IsWalked-met number key row named up named_up first 0 k (up_to first (omega arith)) here some (get_or row first x) (get_or_default row first x (get_or row first x) inside) inside is
+    IsWalked-first = IsWalked-met number key row named up named_up first 0 k (up_to first (omega arith)) here some (get_or row first x)
+        (get_or_default row first x (get_or row first x) inside) inside is
 
 -- an item of a list that has some
 pub some_item : {X : Type 0} (xs : List X) → 0 < length xs → X

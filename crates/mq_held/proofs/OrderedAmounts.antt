@@ -1,5 +1,6 @@
 -- How much the groups have together, by the items of the order: sources, schedules, and moments.
-use Rattle.std.proofs.Common.{◌≡◌, ℕ, zero, suc, ◌+◌, ◌-◌, ◌<◌, ◌≤◌, Bool, true, false, true≢false, cond, not, if◌then◌else◌, refl, List, [], ◌∷◌, length, map, get_or, Option, None, Some, is_some, sym, ap, ◌∙◌, arith, ⊎_elim}
+use Rattle.std.proofs.Common.{◌≡◌, ℕ, zero, suc, ◌+◌, ◌-◌, ◌<◌, ◌≤◌, Bool, true, false, true≢false, cond, not, if◌then◌else◌, refl, List, [], ◌∷◌}
+use Rattle.std.proofs.Common.{length, map, get_or, Option, None, Some, is_some, sym, ap, ◌∙◌, arith, ⊎_elim}
 use Rattle.std.specs.List.{All, sum_by, count_by, filter, flat_map}
 use Rattle.std.specs.Option.{option_to_list}
 use Rattle.std.specs.Ordering.{nat_cmp}
@@ -55,11 +56,13 @@ module _ {T : Type 0} where
   size-row (row ∷ rows) zero = refl
   size-row (row ∷ rows) (suc n) = size-row rows n
 
-  pub cells-named : (rows : List (List T)) (numbers : List ℕ) → All (λ n. n < length rows) numbers → ((n : ℕ) → times n numbers ≤ 1) → ((n : ℕ) → 0 < length (get_or rows n []) → 1 ≤ times n numbers)
+  pub cells-named : (rows : List (List T)) (numbers : List ℕ) → All (λ n. n < length rows) numbers → ((n : ℕ) → times n numbers ≤ 1) →
+      ((n : ℕ) → 0 < length (get_or rows n []) → 1 ≤ times n numbers)
       → sum_by (λ n. length (get_or rows n [])) numbers ≡ cells_in rows
   cells-named rows numbers within once each =
       sum_by-same (λ n. length (get_or rows n [])) (size_of (map extent_of rows)) numbers (λ k d in_list. sym (size-row rows (get_or numbers k d)))
-      ∙ named-sum numbers (map extent_of rows) (λ k d in_list. omega (arith, within k d in_list, length-map rows extent_of)) once (λ n some. each n (omega (arith, some, size-row rows n)))
+      ∙ named-sum numbers (map extent_of rows) (λ k d in_list. omega (arith, within k d in_list, length-map rows extent_of)) once
+      (λ n some. each n (omega (arith, some, size-row rows n)))
       ∙ sum_by-map (λ (e : Extent). e.length) extent_of rows
 
 -- a map is as large as a list that has each of its numbers once
@@ -76,7 +79,8 @@ module _ {X : Type 0} where
 
   pub len-counted : (xs : List ℕ) (m : FinMap nat_cmp X) → ((n : ℕ) → times n xs ≡ (if map.contains_key m n then 1 else 0)) → length xs ≡ map.len m
   len-counted [] m each =
-      sym (ap map.len (map.same_map nat_cmp_total map.nat_cmp-IsAntisymmetric m map.empty (λ n. absent-get m n (by_test n (map.contains_key m n) (each n)) ∙ sym (map.get-empty nat_cmp n))) ∙ map.len-empty nat_cmp X)
+      sym (ap map.len (map.same_map nat_cmp_total map.nat_cmp-IsAntisymmetric m map.empty
+      (λ n. absent-get m n (by_test n (map.contains_key m n) (each n)) ∙ sym (map.get-empty nat_cmp n))) ∙ map.len-empty nat_cmp X)
     where
       by_test : (n : ℕ) (b : Bool) → times n [] ≡ (if b then 1 else 0) → b ≡ false
       by_test n true is = absurd (omega (arith, is))
@@ -102,13 +106,15 @@ module _ {X : Type 0} where
           let all : times n (x ∷ xs) ≡ (if b then 1 else 0) = each n ∙ ap (λ b. if b then 1 else 0) is in
           ⊎_elim
           (λ (same : n ≡ x).
-          let gone : map.contains_key (map.remove m x) n ≡ false = ap is_some (map.get-remove nat_cmp_total m x n ∙ ap (λ b. cond b None (map.get m n)) (ties n x same)) in
+          let gone : map.contains_key (map.remove m x) n ≡ false =
+          ap is_some (map.get-remove nat_cmp_total m x n ∙ ap (λ b. cond b None (map.get m n)) (ties n x same)) in
           let b_is : b ≡ true = sym is ∙ ap (map.contains_key m) same ∙ there in
           let one : times n (x ∷ xs) ≡ 1 = all ∙ ap (λ b. if b then 1 else 0) b_is in
           let zero_left : times n xs ≡ 0 = omega (arith, parts, one, is_cell-same n x (sym same)) in
           zero_left ∙ ap (λ b. if b then 1 else 0) (sym gone))
           (λ (differs : n ≡ x → ⊥).
-          let kept : map.contains_key (map.remove m x) n ≡ map.contains_key m n = ap is_some (map.get-remove nat_cmp_total m x n ∙ ap (λ b. cond b None (map.get m n)) (untied n x differs)) in
+          let kept : map.contains_key (map.remove m x) n ≡ map.contains_key m n =
+          ap is_some (map.get-remove nat_cmp_total m x n ∙ ap (λ b. cond b None (map.get m n)) (untied n x differs)) in
           let left : times n xs ≡ times n (x ∷ xs) = omega (arith, parts, is_cell-other n x (λ same. differs (sym same))) in
           left ∙ all ∙ ap (λ b. if b then 1 else 0) (sym (kept ∙ is)))
           (cases_eq n x)
@@ -135,7 +141,8 @@ times-filter p n (x ∷ xs) =
         let own : p n ≡ false = ap p (sym same) ∙ is in
         rw (is, own) (rest ∙ ap (λ b. cond b (times n xs) 0) own)
 
-    elsewhere : times n (filter p xs) ≡ cond (p n) (times n xs) 0 → (x ≡ n → ⊥) → (b : Bool) → p x ≡ b → (o : Bool) → p n ≡ o → times n (filter p (x ∷ xs)) ≡ cond (p n) (times n (x ∷ xs)) 0
+    elsewhere : times n (filter p xs) ≡ cond (p n) (times n xs) 0 → (x ≡ n → ⊥) → (b : Bool) → p x ≡ b → (o : Bool) → p n ≡ o →
+        times n (filter p (x ∷ xs)) ≡ cond (p n) (times n (x ∷ xs)) 0
     elsewhere rest differs true is true own =
         let after : times n (filter p xs) ≡ times n xs = rest ∙ ap (λ b. cond b (times n xs) 0) own in
         rw (is, own) (omega (arith, after, sum_by-cons (is_cell n) x (filter p xs), sum_by-cons (is_cell n) x xs))
@@ -153,9 +160,11 @@ no-sources = nil_from_length (map.entries map.empty) (sym (map.len-entries map.e
 
 pub no-moments : earliest_of (moments_of unheld) ≡ None
 no-moments =
-    ap (λ (es : List (ℕ × SourceTimer)). earliest_of (flat_map (λ timer. option_to_list (deadline_of (Some timer))) (map (λ (e : ℕ × SourceTimer). e.1) es))) no-sources
+    ap (λ (es : List (ℕ × SourceTimer)). earliest_of
+    (flat_map (λ timer. option_to_list (deadline_of (Some timer))) (map (λ (e : ℕ × SourceTimer). e.1) es))) no-sources
 
-module _ {K : Type 0} (number : K → ℕ) {items : List NumberedKey} {heads : List ScheduledHead} {rows : List (List (Source K))} {moments : FinMap nat_cmp ℕ} {schedules : ℕ} (known : IsStored number items heads rows moments schedules) where
+module _ {K : Type 0} (number : K → ℕ) {items : List NumberedKey} {heads : List ScheduledHead} {rows : List (List (Source K))}
+    {moments : FinMap nat_cmp ℕ} {schedules : ℕ} (known : IsStored number items heads rows moments schedules) where
   abbrev numbers : List ℕ
   numbers = map number_of items
 
@@ -176,7 +185,8 @@ module _ {K : Type 0} (number : K → ℕ) {items : List NumberedKey} {heads : L
   sources-groups =
       ap (sum_by sources_of) (values-groups number items heads rows known.ascending)
       ∙ sum_by-map sources_of (λ (x : NumberedKey). of_number x.number) items
-      ∙ sum_by-same (λ (x : NumberedKey). sources_of (of_number x.number)) (λ (x : NumberedKey). length (get_or rows x.number [])) items (λ k d in_list. sizes (get_or items k d).number (known.within k d in_list))
+      ∙ sum_by-same (λ (x : NumberedKey). sources_of (of_number x.number)) (λ (x : NumberedKey). length (get_or rows x.number [])) items
+      (λ k d in_list. sizes (get_or items k d).number (known.within k d in_list))
       ∙ sym (sum_by-map (λ n. length (get_or rows n [])) number_of items)
       ∙ cells-named rows numbers all_within known.once each_row
     where

@@ -1,5 +1,6 @@
 -- The map of the groups that are kept by number, by the items of the order: what it has at an address, and its edits.
-use Rattle.std.proofs.Common.{◌≡◌, ℕ, ◌<◌, ◌≤◌, Bool, true, false, cond, refl, List, [], ◌∷◌, length, map, Option, None, Some, is_some, sym, ap, ◌∙◌, subst, arith, ⊎_elim}
+use Rattle.std.proofs.Common.{◌≡◌, ℕ, ◌<◌, ◌≤◌, Bool, true, false, cond, refl, List, [], ◌∷◌, length, map, Option, None, Some, is_some, sym, ap, ◌∙◌}
+use Rattle.std.proofs.Common.{subst, arith, ⊎_elim}
 use Rattle.std.specs.List.{Contains, insert}
 use Rattle.std.specs.Option.{option_map, unwrap_or}
 use Rattle.std.specs.Ordering.{nat_cmp, eq_by_cmp}
@@ -25,12 +26,14 @@ use Rattle.mq_held.proofs.Sorted as sorted
 use Rattle.mq_held.proofs.Entries.{entries-made}
 use Rattle.mq_held.proofs.OrderedItems.{item, number_of, key_of, one-key, has-key, item-of_key, no-item}
 
-module _ {K : Type 0} (number : K → ℕ) (items : List NumberedKey) (heads : List ScheduledHead) (rows : List (List (Source K))) (up : IsAscending key_of items) where
+module _ {K : Type 0} (number : K → ℕ) (items : List NumberedKey) (heads : List ScheduledHead) (rows : List (List (Source K)))
+    (up : IsAscending key_of items) where
   ascending_entries : IsAscending sorted.key_of (entries_of number items heads rows)
   ascending_entries = IsAscending-map sorted.key_of (entry_of number heads rows) items up
 
   pub entries-groups : map.entries (groups_by number items heads rows) ≡ entries_of number items heads rows
-  entries-groups = map.entries-from_sorted nat_cmp (entries_of number items heads rows) (sorted-ascending (entries_of number items heads rows) ascending_entries)
+  entries-groups = map.entries-from_sorted nat_cmp (entries_of number items heads rows)
+      (sorted-ascending (entries_of number items heads rows) ascending_entries)
 
   pub len-groups : map.len (groups_by number items heads rows) ≡ length items
   len-groups = map.len-entries (groups_by number items heads rows) ∙ ap length entries-groups ∙ length-map items (entry_of number heads rows)
@@ -46,12 +49,14 @@ module _ {K : Type 0} (number : K → ℕ) (items : List NumberedKey) (heads : L
   pub values-groups : map.values (groups_by number items heads rows) ≡ map (λ (x : NumberedKey). group_by number heads rows x.number) items
   values-groups = ap (map (λ (e : ℕ × ScheduledGroup). e.1)) entries-groups ∙ values items
     where
-      values : (items : List NumberedKey) → map (λ (e : ℕ × ScheduledGroup). e.1) (entries_of number items heads rows) ≡ map (λ (x : NumberedKey). group_by number heads rows x.number) items
+      values : (items : List NumberedKey) → map (λ (e : ℕ × ScheduledGroup). e.1) (entries_of number items heads rows)
+          ≡ map (λ (x : NumberedKey). group_by number heads rows x.number) items
       values [] = refl
       values (x ∷ items) = ap (λ gs. group_by number heads rows x.number ∷ gs) (values items)
 
   -- what the map has at an address
-  pub get-groups : (q : ℕ) → map.get (groups_by number items heads rows) q ≡ option_map (λ (x : NumberedKey). group_by number heads rows x.number) (item_with key_of items q)
+  pub get-groups : (q : ℕ) → map.get (groups_by number items heads rows) q ≡ option_map (λ (x : NumberedKey). group_by number heads rows x.number)
+      (item_with key_of items q)
   get-groups q =
       map.get-from_sorted nat_cmp (entries_of number items heads rows) q (sorted-ascending (entries_of number items heads rows) ascending_entries)
       ∙ sym (map.get-from_entries nat_cmp_total (entries_of number items heads rows) q)
@@ -77,13 +82,16 @@ module _ {K : Type 0} (number : K → ℕ) (items : List NumberedKey) (heads : L
       mapped (Some x) = refl
 
   -- The group of one number is another, and those of all other numbers are as they were.
-  pub groups-changed : (new_heads : List ScheduledHead) (new_rows : List (List (Source K))) (n a : ℕ) (e : ScheduledGroup) → Contains items (item n a) → times n (map number_of items) ≤ 1
+  pub groups-changed : (new_heads : List ScheduledHead) (new_rows : List (List (Source K))) (n a : ℕ) (e : ScheduledGroup) →
+      Contains items (item n a) → times n (map number_of items) ≤ 1
       → group_by number new_heads new_rows n ≡ e
       → ((m : ℕ) → (m ≡ n → ⊥) → group_by number new_heads new_rows m ≡ group_by number heads rows m)
-      → (all : (q : ℕ) → map.get (groups_by number items new_heads new_rows) q ≡ option_map (λ (x : NumberedKey). group_by number new_heads new_rows x.number) (item_with key_of items q))
+      → (all : (q : ℕ) → map.get (groups_by number items new_heads new_rows) q
+      ≡ option_map (λ (x : NumberedKey). group_by number new_heads new_rows x.number) (item_with key_of items q))
       → groups_by number items new_heads new_rows ≡ map.insert (groups_by number items heads rows) a e
   groups-changed new_heads new_rows n a e has once is others all =
-      map.same_map nat_cmp_total map.nat_cmp-IsAntisymmetric (groups_by number items new_heads new_rows) (map.insert (groups_by number items heads rows) a e) (λ q.
+      map.same_map nat_cmp_total map.nat_cmp-IsAntisymmetric (groups_by number items new_heads new_rows)
+      (map.insert (groups_by number items heads rows) a e) (λ q.
       all q
       ∙ ⊎_elim
       (λ (same : q ≡ a). here q same)
@@ -98,7 +106,8 @@ module _ {K : Type 0} (number : K → ℕ) (items : List NumberedKey) (heads : L
       here q same =
           rw (same, item-of_key items n a up has, ties a a refl, is) refl
 
-      elsewhere : (q : ℕ) → (q ≡ a → ⊥) → (b : Bool) → set_of key_of items q ≡ b → option_map now (item_with key_of items q) ≡ cond (eq_by_cmp nat_cmp q a) (Some e) (map.get (groups_by number items heads rows) q)
+      elsewhere : (q : ℕ) → (q ≡ a → ⊥) → (b : Bool) → set_of key_of items q ≡ b → option_map now (item_with key_of items q)
+          ≡ cond (eq_by_cmp nat_cmp q a) (Some e) (map.get (groups_by number items heads rows) q)
       elsewhere q differs true held =
           let found = has-key items q held in
           let other : found.0 ≡ n → ⊥ = λ same. differs (one-key items n q a once (subst (λ m. Contains items (item m q)) same found.1) has) in
@@ -106,7 +115,8 @@ module _ {K : Type 0} (number : K → ℕ) (items : List NumberedKey) (heads : L
       elsewhere q differs false absent = rw (untied q a differs, get-absent q absent, no-item items q absent) refl
 
 -- a group more, that of a number, where its address goes
-pub groups-made : {K : Type 0} (number : K → ℕ) (items : List NumberedKey) (heads : List ScheduledHead) (rows : List (List (Source K))) (up : IsAscending key_of items) (n a p : ℕ) → IsPlaceFor key_of items a p
+pub groups-made : {K : Type 0} (number : K → ℕ) (items : List NumberedKey) (heads : List ScheduledHead) (rows : List (List (Source K)))
+    (up : IsAscending key_of items) (n a p : ℕ) → IsPlaceFor key_of items a p
     → groups_by number (insert items p (item n a)) heads rows ≡ map.insert (groups_by number items heads rows) a (group_by number heads rows n)
 groups-made number items heads rows up n a p place =
     let after = IsAscending-insert key_of items p (item n a) up place in
@@ -118,7 +128,8 @@ groups-made number items heads rows up n a p place =
           let inside : i < length items = omega (arith, in_list, length-map items key_of) in
           rw (get_or-map key_of items i (item 0 d) d inside) (place.above i (item 0 d) from inside);
     } in
-    map.same_entries_map (groups_by number (insert items p (item n a)) heads rows) (map.insert (groups_by number items heads rows) a (group_by number heads rows n))
+    map.same_entries_map (groups_by number (insert items p (item n a)) heads rows)
+    (map.insert (groups_by number items heads rows) a (group_by number heads rows n))
     (entries-groups number (insert items p (item n a)) heads rows after
     ∙ map-insert (entry_of number heads rows) items p (item n a)
     ∙ ap (λ es. insert es p (entry_of number heads rows (item n a))) (sym (entries-groups number items heads rows up))

@@ -1,5 +1,6 @@
 -- The items of the order: the one of a number, and the one of an address.
-use Rattle.std.proofs.Common.{◌≡◌, ◌==◌, ℕ, zero, suc, ◌<◌, ◌≤◌, true, false, true≢false, refl, List, [], ◌∷◌, length, map, get_or, Option, None, Some, is_some, sym, ap, ◌∙◌, arith, ⊎_elim}
+use Rattle.std.proofs.Common.{◌≡◌, ◌==◌, ℕ, zero, suc, ◌<◌, ◌≤◌, true, false, true≢false, refl, List, [], ◌∷◌, length, map, get_or, Option, None}
+use Rattle.std.proofs.Common.{Some, is_some, sym, ap, ◌∙◌, arith, ⊎_elim}
 use Rattle.std.specs.List.{All, Contains}
 use Rattle.std.specs.Option.{option_map_or}
 use Rattle.std.proofs.lemmas.Bool.{cases_lt, eqb-true, eq-eqb}
@@ -43,7 +44,8 @@ one-key items n a b once in_a in_b =
     let at_a : get_or (map number_of items) in_a.0 0 ≡ n = get_or-map number_of items in_a.0 (item n a) 0 in_a.1 ∙ ap number_of in_a.2 in
     let at_b : get_or (map number_of items) in_b.0 0 ≡ n = get_or-map number_of items in_b.0 (item n b) 0 in_b.1 ∙ ap number_of in_b.2 in
     let same = one-place (map number_of items) n in_a.0 in_b.0 once (omega (arith, size, in_a.1)) (omega (arith, size, in_b.1)) at_a at_b in
-    ap key_of (sym in_a.2) ∙ ap key_of (get_or_default items in_a.0 (item n a) (item n b) in_a.1) ∙ ap (λ i. key_of (get_or items i (item n b))) same ∙ ap key_of in_b.2
+    ap key_of (sym in_a.2) ∙ ap key_of (get_or_default items in_a.0 (item n a) (item n b) in_a.1) ∙ ap (λ i. key_of (get_or items i (item n b))) same
+    ∙ ap key_of in_b.2
 
 -- the items of one address have one number
 pub one-number : (items : List NumberedKey) (a n m : ℕ) → IsAscending key_of items → Contains items (item n a) → Contains items (item m a) → n ≡ m
@@ -84,7 +86,8 @@ pub key-in : (items : List NumberedKey) (n a : ℕ) → Contains items (item n a
 key-in items n a has = set_of-found key_of items a has.0 (item n a) has.1 (ap key_of has.2)
 
 -- the item that is found by its address
-item-found : (items : List NumberedKey) (n a k : ℕ) → IsAscending key_of items → k < length items → get_or items k (item n a) ≡ item n a → item_with key_of items a ≡ Some (item n a)
+item-found : (items : List NumberedKey) (n a k : ℕ) → IsAscending key_of items → k < length items → get_or items k (item n a) ≡ item n a →
+    item_with key_of items a ≡ Some (item n a)
 item-found [] n a k up within is = absurd (omega (arith, within))
 item-found (x ∷ xs) n a zero up within is = rw (eq-eqb x.key a (ap key_of is)) (ap Some is)
 item-found (x ∷ xs) n a (suc k) up within is =
@@ -111,7 +114,8 @@ number-within items n a room within has =
 -- how often a number stands that has an item, and one that has none
 pub times-in : (items : List NumberedKey) (n a : ℕ) → Contains items (item n a) → 1 ≤ times n (map number_of items)
 times-in items n a has =
-    times-some (map number_of items) n has.0 0 (omega (arith, has.1, length-map items number_of)) (get_or-map number_of items has.0 (item n a) 0 has.1 ∙ ap number_of has.2)
+    times-some (map number_of items) n has.0 0 (omega (arith, has.1, length-map items number_of))
+    (get_or-map number_of items has.0 (item n a) 0 has.1 ∙ ap number_of has.2)
 
 pub absent-times : (items : List NumberedKey) (n : ℕ) → set_of number_of items n ≡ false → times n (map number_of items) ≡ 0
 absent-times [] n absent = refl
@@ -124,7 +128,8 @@ absent-times (x ∷ items) n absent =
     (eqb_tells x.number n)
 
 -- the item that is found by its number
-item-numbered : (items : List NumberedKey) (n a k : ℕ) → times n (map number_of items) ≤ 1 → k < length items → get_or items k (item n a) ≡ item n a → item_with number_of items n ≡ Some (item n a)
+item-numbered : (items : List NumberedKey) (n a k : ℕ) → times n (map number_of items) ≤ 1 → k < length items → get_or items k (item n a) ≡ item n a →
+    item_with number_of items n ≡ Some (item n a)
 item-numbered [] n a k once within is = absurd (omega (arith, within))
 item-numbered (x ∷ xs) n a zero once within is = rw (eq-eqb x.number n (ap number_of is)) (ap Some is)
 item-numbered (x ∷ xs) n a (suc k) once within is =
@@ -135,7 +140,8 @@ item-numbered (x ∷ xs) n a (suc k) once within is =
     (λ other. rw other.0 (item-numbered xs n a k (omega (arith, once, parts)) (omega (arith, within)) is))
     (eqb_tells x.number n)
 
-pub item-of_number : (items : List NumberedKey) (n a : ℕ) → times n (map number_of items) ≤ 1 → Contains items (item n a) → item_with number_of items n ≡ Some (item n a)
+pub item-of_number : (items : List NumberedKey) (n a : ℕ) → times n (map number_of items) ≤ 1 → Contains items (item n a) →
+    item_with number_of items n ≡ Some (item n a)
 item-of_number items n a once has = item-numbered items n a has.0 once has.1 has.2
 
 -- a number's address

@@ -28,7 +28,8 @@ each_passes test (k ∷ ks) s all has =
     let parts = and_parts (test k) _ all in
     by_tie (eq_by_cmp nat_cmp s k) refl parts.0 (each_passes test ks s parts.1) has
   where
-    by_tie : (b : Bool) → eq_by_cmp nat_cmp s k ≡ b → test k ≡ true → (list_any (eq_by_cmp nat_cmp s) ks ≡ true → test s ≡ true) → (b || list_any (eq_by_cmp nat_cmp s) ks) ≡ true → test s ≡ true
+    by_tie : (b : Bool) → eq_by_cmp nat_cmp s k ≡ b → test k ≡ true → (list_any (eq_by_cmp nat_cmp s) ks ≡ true → test s ≡ true) →
+        (b || list_any (eq_by_cmp nat_cmp s) ks) ≡ true → test s ≡ true
     by_tie true same passes rest has = ap test (tied s k same) ∙ passes
     by_tie false other passes rest has = rest has
 
@@ -36,21 +37,25 @@ pub some_passes : (test : ℕ → Bool) (ks : List ℕ) (s : ℕ) → list_any (
 some_passes test [] s has passes = absurd (true≢false (sym has))
 some_passes test (k ∷ ks) s has passes = by_tie (eq_by_cmp nat_cmp s k) refl (λ has. some_passes test ks s has passes) has
   where
-    by_tie : (b : Bool) → eq_by_cmp nat_cmp s k ≡ b → (list_any (eq_by_cmp nat_cmp s) ks ≡ true → list_any test ks ≡ true) → (b || list_any (eq_by_cmp nat_cmp s) ks) ≡ true → (test k || list_any test ks) ≡ true
+    by_tie : (b : Bool) → eq_by_cmp nat_cmp s k ≡ b → (list_any (eq_by_cmp nat_cmp s) ks ≡ true → list_any test ks ≡ true) →
+        (b || list_any (eq_by_cmp nat_cmp s) ks) ≡ true → (test k || list_any test ks) ≡ true
     by_tie true same rest has = or_left _ _ (ap test (sym (tied s k same)) ∙ passes)
     by_tie false other rest has = or_right _ _ (rest has)
 
 -- one source more
-pub restarted_each-more : (deadline : ℕ) (xs : List ℕ) (x : ℕ) (e : ScheduledGroup) → restarted_each deadline (xs ++ x ∷ []) e ≡ restarted deadline x (restarted_each deadline xs e)
+pub restarted_each-more : (deadline : ℕ) (xs : List ℕ) (x : ℕ) (e : ScheduledGroup) → restarted_each deadline (xs ++ x ∷ []) e
+    ≡ restarted deadline x (restarted_each deadline xs e)
 restarted_each-more deadline [] x e = refl
 restarted_each-more deadline (y ∷ xs) x e = restarted_each-more deadline xs x (restarted deadline y e)
 
 -- the timer of each source, once one is heard of again
-pub timer-restarted : (deadline source : ℕ) (e : ScheduledGroup) (s : ℕ) → timer_at (restarted deadline source e).group s ≡ cond (eq_by_cmp nat_cmp s source) (Some (Running deadline (sendings_of (timer_at e.group source)))) (timer_at e.group s)
+pub timer-restarted : (deadline source : ℕ) (e : ScheduledGroup) (s : ℕ) → timer_at (restarted deadline source e).group s
+    ≡ cond (eq_by_cmp nat_cmp s source) (Some (Running deadline (sendings_of (timer_at e.group source)))) (timer_at e.group s)
 timer-restarted deadline source e s = map.get-insert nat_cmp_total e.group.sources source (Running deadline (sendings_of (timer_at e.group source))) s
 
 -- and once some are
-pub timer-restarted_each : (deadline : ℕ) (xs : List ℕ) (e : ScheduledGroup) (s : ℕ) → timer_at (restarted_each deadline xs e).group s ≡ cond (list_any (eq_by_cmp nat_cmp s) xs) (Some (Running deadline (sendings_of (timer_at e.group s)))) (timer_at e.group s)
+pub timer-restarted_each : (deadline : ℕ) (xs : List ℕ) (e : ScheduledGroup) (s : ℕ) → timer_at (restarted_each deadline xs e).group s
+    ≡ cond (list_any (eq_by_cmp nat_cmp s) xs) (Some (Running deadline (sendings_of (timer_at e.group s)))) (timer_at e.group s)
 timer-restarted_each deadline [] e s = refl
 timer-restarted_each deadline (x ∷ xs) e s =
     timer-restarted_each deadline xs (restarted deadline x e) s
@@ -71,7 +76,8 @@ timer-restarted_each deadline (x ∷ xs) e s =
     by_tests false any t differs is = ap (λ t. cond any (Some (Running deadline (sendings_of t))) t) is
 
 -- it has the sources that it had
-pub held-restarted : (deadline source : ℕ) (e : ScheduledGroup) (s : ℕ) → map.contains_key e.group.sources s ≡ true → map.contains_key (restarted deadline source e).group.sources s ≡ true
+pub held-restarted : (deadline source : ℕ) (e : ScheduledGroup) (s : ℕ) → map.contains_key e.group.sources s ≡ true →
+    map.contains_key (restarted deadline source e).group.sources s ≡ true
 held-restarted deadline source e s there =
     ap is_some (timer-restarted deadline source e s) ∙ by_test (eq_by_cmp nat_cmp s source)
   where
@@ -91,15 +97,18 @@ timer-there None there = absurd (true≢false (sym there))
 timer-there (Some timer) there = (timer, refl)
 
 -- a group that is held stays one
-pub IsWellFormed-restarted_each : (deadline : ℕ) (xs : List ℕ) (e : ScheduledGroup) → has_each xs e ≡ true → IsWellFormed e.group → IsWellFormed (restarted_each deadline xs e).group
+pub IsWellFormed-restarted_each : (deadline : ℕ) (xs : List ℕ) (e : ScheduledGroup) → has_each xs e ≡ true → IsWellFormed e.group →
+    IsWellFormed (restarted_each deadline xs e).group
 IsWellFormed-restarted_each deadline [] e all held = held
 IsWellFormed-restarted_each deadline (x ∷ xs) e all held =
     let parts = and_parts (map.contains_key e.group.sources x) (has_each xs e) all in
     let found = timer-there (timer_at e.group x) parts.0 in
-    IsWellFormed-restarted_each deadline xs (restarted deadline x e) (has_each-restarted deadline x xs e parts.1) (IsWellFormed-restarted deadline x found.0 e found.1 held)
+    IsWellFormed-restarted_each deadline xs (restarted deadline x e) (has_each-restarted deadline x xs e parts.1)
+    (IsWellFormed-restarted deadline x found.0 e found.1 held)
 
 -- a group has a source exactly where its row has it
-pub has_each-row : {K : Type 0} (number : K → ℕ) (h : ScheduledHead) (row : List (Source K)) (names : List ℕ) → has_each names (group_of number h row) ≡ list_all (set_of (number_in number) row) names
+pub has_each-row : {K : Type 0} (number : K → ℕ) (h : ScheduledHead) (row : List (Source K)) (names : List ℕ) → has_each names (group_of number h row)
+    ≡ list_all (set_of (number_in number) row) names
 has_each-row {K} number h row names = λ i. list_all (λ s. in_row s i) names
   where
     some_mapped : (found : Option (Source K)) → is_some (option_map (λ (x : Source K). x.timer) found) ≡ is_some found

@@ -1,5 +1,6 @@
 -- What is stored, once the group of a number has changed, or another order has the same groups but for vacant ones.
-use Rattle.std.proofs.Common.{◌≡◌, ℕ, ◌+◌, ◌-◌, ◌*◌, ◌<◌, ◌≤◌, Bool, true, false, true≢false, cond, if◌then◌else◌, ◌&&◌, ◌==◌, refl, List, [], ◌∷◌, length, map, get_or, set, None, Some, is_some, sym, ap, ◌∙◌, subst, arith, ◌⊎◌, inl, inr, ⊎_elim}
+use Rattle.std.proofs.Common.{◌≡◌, ℕ, ◌+◌, ◌-◌, ◌*◌, ◌<◌, ◌≤◌, Bool, true, false, true≢false, cond, if◌then◌else◌, ◌&&◌, ◌==◌, refl, List, [], ◌∷◌}
+use Rattle.std.proofs.Common.{length, map, get_or, set, None, Some, is_some, sym, ap, ◌∙◌, subst, arith, ◌⊎◌, inl, inr, ⊎_elim}
 use Rattle.std.specs.Prelude.{replicate}
 use Rattle.std.specs.List.{All, Contains, sum_by}
 use Rattle.std.specs.Ordering.{nat_cmp, eq_by_cmp}
@@ -7,7 +8,8 @@ use Rattle.std.specs.Cmp.{nat_cmp_total}
 use Rattle.std.specs.FinMap as map
 use Rattle.std.specs.FinMap.{FinMap}
 use Rattle.std.proofs.lemmas.Bool.{cases_lt, cases_eq, eqb-true, eq-eqb}
-use Rattle.std.proofs.lemmas.List.{length-map, length-set, get_or-map, get_or-set_same, get_or-set_other, get_or_past, get_or_read, get_or-replicate, length-replicate, same_lists, nil_from_length}
+use Rattle.std.proofs.lemmas.List.{length-map, length-set, get_or-map, get_or-set_same, get_or-set_other, get_or_past, get_or_read, get_or-replicate}
+use Rattle.std.proofs.lemmas.List.{length-replicate, same_lists, nil_from_length}
 use Rattle.std.proofs.lemmas.List.Elements.{All-set, All-replicate}
 use Rattle.std.proofs.lemmas.List.Sums.{sum_by-cons, sum_by-set, get_or-le-sum_by}
 use Rattle.mq_sets.specs.Ascending.{IsAscending, set_of}
@@ -47,8 +49,11 @@ few_schedules (e ∷ es) =
 -- no head and no sources are the group that isn't held, and back
 pub group_of-none : {K : Type 0} (number : K → ℕ) → group_of number no_head [] ≡ unheld
 group_of-none number =
-    let none : timers_in number [] ≡ map.empty = map.empty_of_len (timers_in number []) (len-timers_in number [] (λ i j d before in_list. absurd (omega (arith, in_list)))) in
-    ap (λ timers. let e : ScheduledGroup = record { group = record { mode = Include; sources = timers; v1 = None; v2 = None }; schedule = record { group_query = None; sources_due = None } } in e) none
+    let none : timers_in number [] ≡ map.empty = map.empty_of_len (timers_in number [])
+    (len-timers_in number [] (λ i j d before in_list. absurd (omega (arith, in_list)))) in
+    ap (λ timers. let e : ScheduledGroup =
+    record { group = record { mode = Include; sources = timers; v1 = None; v2 = None }; schedule = record { group_query = None; sources_due = None } }
+    in e) none
 
 pub unheld-vacant : is_vacant unheld.group ≡ true
 unheld-vacant = eq-eqb (map.len (map.empty {X = SourceTimer} {R = nat_cmp})) 0 (map.len-empty nat_cmp SourceTimer)
@@ -59,20 +64,24 @@ head-none number x row is = λ i. record {
   schedule = (is i).schedule;
 }
 
-pub row-none : {K : Type 0} (number : K → ℕ) (x : ScheduledHead) (row : List (Source K)) → IsAscending (number_in number) row → group_of number x row ≡ unheld → row ≡ []
+pub row-none : {K : Type 0} (number : K → ℕ) (x : ScheduledHead) (row : List (Source K)) → IsAscending (number_in number) row →
+    group_of number x row ≡ unheld → row ≡ []
 row-none number x row up is =
     nil_from_length row (sym (len-timers_in number row up) ∙ ap (λ (e : ScheduledGroup). map.len e.group.sources) is ∙ map.len-empty nat_cmp SourceTimer)
 
 -- how many schedules the head of a number has
-pub schedules-read : {K : Type 0} (number : K → ℕ) (heads : List ScheduledHead) (rows : List (List (Source K))) (n : ℕ) (h : ScheduledHead) → n < length heads → h ≡ get_or heads n h
+pub schedules-read : {K : Type 0} (number : K → ℕ) (heads : List ScheduledHead) (rows : List (List (Source K))) (n : ℕ) (h : ScheduledHead) →
+    n < length heads → h ≡ get_or heads n h
     → one_if (is_some h.schedule.group_query) + one_if (is_some h.schedule.sources_due) ≡ schedules_of (group_by number heads rows n)
 schedules-read number heads rows n h within here = ap (λ x. schedules_of (group_of number x (get_or rows n []))) (get_or_read heads n h within here no_head)
 
 -- a group with its schedule, put in its parts
-pub group-of-parts : {K : Type 0} (number : K → ℕ) (head : Head) (schedule : ScheduleState) (row : List (Source K)) (g : GroupState) → timers_in number row ≡ g.sources → g ≡ state_of head g.sources
+pub group-of-parts : {K : Type 0} (number : K → ℕ) (head : Head) (schedule : ScheduleState) (row : List (Source K)) (g : GroupState) →
+    timers_in number row ≡ g.sources → g ≡ state_of head g.sources
     → group_of number (record { head = head; schedule = schedule }) row ≡ record { group = g; schedule = schedule }
 group-of-parts number head schedule row g timers is =
-    ap (λ m. let e : ScheduledGroup = record { group = state_of head m; schedule = schedule } in e) timers ∙ ap (λ (h : GroupState). let e : ScheduledGroup = record { group = h; schedule = schedule } in e) (sym is)
+    ap (λ m. let e : ScheduledGroup = record { group = state_of head m; schedule = schedule } in e) timers ∙
+    ap (λ (h : GroupState). let e : ScheduledGroup = record { group = h; schedule = schedule } in e) (sym is)
 
 -- a well-formed group isn't vacant
 pub well_formed-other : (g : GroupState) → IsWellFormed g → is_vacant g ≡ false
@@ -83,7 +92,8 @@ well_formed-other g held = by_test (is_vacant g) refl
     by_mode Include is vacant =
         let found = held.has_source is in
         let none : g.sources ≡ map.empty = map.empty_of_len g.sources (eqb-true (map.len g.sources) 0 vacant) in
-        true≢false (sym found.1 ∙ ap (λ (sources : FinMap nat_cmp SourceTimer). is_running (map.get sources found.0)) none ∙ ap is_running (map.get-empty nat_cmp found.0))
+        true≢false (sym found.1 ∙ ap (λ (sources : FinMap nat_cmp SourceTimer). is_running (map.get sources found.0)) none ∙
+        ap is_running (map.get-empty nat_cmp found.0))
 
     by_test : (b : Bool) → is_vacant g ≡ b → is_vacant g ≡ false
     by_test true vacant = absurd (by_mode g.mode refl vacant)
@@ -96,7 +106,8 @@ IsUnheldIfVacant e = is_vacant e.group ≡ true → e ≡ unheld
 abbrev IsHeldIfOther : ScheduledGroup → Type 0
 IsHeldIfOther e = is_vacant e.group ≡ false → IsWellFormed e.group
 
-module _ {K : Type 0} (number : K → ℕ) {items : List NumberedKey} {heads : List ScheduledHead} {rows : List (List (Source K))} {moments : FinMap nat_cmp ℕ} {schedules : ℕ} (known : IsStored number items heads rows moments schedules) where
+module _ {K : Type 0} (number : K → ℕ) {items : List NumberedKey} {heads : List ScheduledHead} {rows : List (List (Source K))}
+    {moments : FinMap nat_cmp ℕ} {schedules : ℕ} (known : IsStored number items heads rows moments schedules) where
   pub schedules_fit : schedules ≤ 2 * length items
   schedules_fit = omega (arith, known.schedules_are, few_schedules (entries_of number items heads rows), length-map items (entry_of number heads rows))
 
@@ -107,8 +118,10 @@ module _ {K : Type 0} (number : K → ℕ) {items : List NumberedKey} {heads : L
       let there = found.1 in
       let x = item n found.0 in
       let d = entry_of number heads rows x in
-      let part = get_or-le-sum_by schedules_at (entries_of number items heads rows) there.0 d (omega (arith, there.1, length-map items (entry_of number heads rows))) in
-      let at : schedules_at (get_or (entries_of number items heads rows) there.0 d) ≡ schedules_of (group_by number heads rows n) = ap schedules_at (get_or-map (entry_of number heads rows) items there.0 x d there.1 ∙ ap (entry_of number heads rows) there.2) in
+      let part = get_or-le-sum_by schedules_at (entries_of number items heads rows) there.0 d
+      (omega (arith, there.1, length-map items (entry_of number heads rows))) in
+      let at : schedules_at (get_or (entries_of number items heads rows) there.0 d) ≡ schedules_of (group_by number heads rows n) =
+      ap schedules_at (get_or-map (entry_of number heads rows) items there.0 x d there.1 ∙ ap (entry_of number heads rows) there.2) in
       omega (arith, part, at, known.schedules_are)
 
   -- a number that no group has is vacant, and so is each that has no moment
@@ -119,7 +132,8 @@ module _ {K : Type 0} (number : K → ℕ) {items : List NumberedKey} {heads : L
       ∙ group_of-none number
 
   -- The group of one number is another.
-  module _ (n : ℕ) (h : ScheduledHead) (row : List (Source K)) (new : FinMap nat_cmp ℕ) (held : set_of number_of items n ≡ true) (heads_within : n < length heads) (rows_within : n < length rows) where
+  module _ (n : ℕ) (h : ScheduledHead) (row : List (Source K)) (new : FinMap nat_cmp ℕ) (held : set_of number_of items n ≡ true)
+      (heads_within : n < length heads) (rows_within : n < length rows) where
     pub group-set : group_by number (set heads n h) (set rows n row) n ≡ group_of number h row
     group-set =
         ap (λ x. group_of number x (get_or (set rows n row) n [])) (get_or-set_same heads n h no_head heads_within)
@@ -130,7 +144,8 @@ module _ {K : Type 0} (number : K → ℕ) {items : List NumberedKey} {heads : L
         ap (λ x. group_of number x (get_or (set rows n row) m [])) (get_or-set_other heads n m h no_head differs)
         ∙ ap (group_of number (get_or heads m no_head)) (get_or-set_other rows n m row [] differs)
 
-    entries-set : (a : ℕ) (there : Contains items (item n a)) → entries_of number items (set heads n h) (set rows n row) ≡ set (entries_of number items heads rows) there.0 (a, group_of number h row)
+    entries-set : (a : ℕ) (there : Contains items (item n a)) → entries_of number items (set heads n h) (set rows n row)
+        ≡ set (entries_of number items heads rows) there.0 (a, group_of number h row)
     entries-set a there =
         let now = entry_of number (set heads n h) (set rows n row) in
         let old = entry_of number heads rows in
@@ -145,7 +160,8 @@ module _ {K : Type 0} (number : K → ℕ) {items : List NumberedKey} {heads : L
         (λ (same : k ≡ p).
         let own : get_or items k (item n a) ≡ item n a = ap (λ j. get_or items j (item n a)) same ∙ there.2 in
         let e : now (item n a) ≡ y = λ i. (a, group-set i) in
-        ap now own ∙ e ∙ sym (get_or-set_same (map old items) p y d (omega (arith, there.1, size_old))) ∙ ap (λ j. get_or (set (map old items) p y) j d) (sym same))
+        ap now own ∙ e ∙ sym (get_or-set_same (map old items) p y d (omega (arith, there.1, size_old))) ∙
+        ap (λ j. get_or (set (map old items) p y) j d) (sym same))
         (λ (differs : k ≡ p → ⊥).
         let x = get_or items k (item n a) in
         let other : x.number ≡ n → ⊥ = λ same.
@@ -157,7 +173,8 @@ module _ {K : Type 0} (number : K → ℕ) {items : List NumberedKey} {heads : L
         e ∙ sym (get_or-map old items k (item n a) d inside) ∙ sym (get_or-set_other (map old items) p k y d differs))
         (cases_eq k p))
 
-    schedules-set : sum_by schedules_at (entries_of number items (set heads n h) (set rows n row)) + schedules_of (group_by number heads rows n) ≡ schedules + schedules_of (group_of number h row)
+    schedules-set : sum_by schedules_at (entries_of number items (set heads n h) (set rows n row)) + schedules_of (group_by number heads rows n)
+        ≡ schedules + schedules_of (group_of number h row)
     schedules-set =
         let found = has-number items n held in
         let there = found.1 in
@@ -165,7 +182,8 @@ module _ {K : Type 0} (number : K → ℕ) {items : List NumberedKey} {heads : L
         let x = item n found.0 in
         let y : ℕ × ScheduledGroup = (found.0, group_of number h row) in
         let total = sum_by-set schedules_at (entries_of number items heads rows) there.0 y (old x) (omega (arith, there.1, length-map items old)) in
-        let at : schedules_at (get_or (entries_of number items heads rows) there.0 (old x)) ≡ schedules_of (group_by number heads rows n) = ap schedules_at (get_or-map old items there.0 x (old x) there.1 ∙ ap old there.2) in
+        let at : schedules_at (get_or (entries_of number items heads rows) there.0 (old x)) ≡ schedules_of (group_by number heads rows n) =
+        ap schedules_at (get_or-map old items there.0 x (old x) there.1 ∙ ap old there.2) in
         omega (arith, total, at, known.schedules_are, ap (sum_by schedules_at) (entries-set found.0 there))
 
     abbrev now : ℕ → ScheduledGroup
@@ -175,7 +193,8 @@ module _ {K : Type 0} (number : K → ℕ) {items : List NumberedKey} {heads : L
         → ((m : ℕ) → map.get new m ≡ cond (eq_by_cmp nat_cmp m n) (earliest_of (moments_of (group_of number h row))) (map.get moments m))
         → (is_vacant (group_of number h row).group ≡ true → group_of number h row ≡ unheld)
         → (is_vacant (group_of number h row).group ≡ false → IsWellFormed (group_of number h row).group)
-        → IsStored number items (set heads n h) (set rows n row) new (schedules - schedules_of (group_by number heads rows n) + schedules_of (group_of number h row))
+        → IsStored number items (set heads n h)
+        (set rows n row) new (schedules - schedules_of (group_by number heads rows n) + schedules_of (group_of number h row))
     IsStored-set row_up moment vacant other = record {
       ascending = known.ascending;
       once = known.once;
@@ -221,8 +240,10 @@ module _ {K : Type 0} (number : K → ℕ) {items : List NumberedKey} {heads : L
       → IsStored number items (set heads n no_head) (set rows n []) (map.remove moments n) (schedules - schedules_of (group_by number heads rows n))
   IsStored-cleared n held heads_within rows_within =
       let none = group_of-none number in
-      let no_moment : earliest_of (moments_of (group_of number no_head [])) ≡ None = ap (λ (e : ScheduledGroup). earliest_of (moments_of e)) none ∙ no-moments in
-      let total : schedules - schedules_of (group_by number heads rows n) + schedules_of (group_of number no_head []) ≡ schedules - schedules_of (group_by number heads rows n) = omega arith in
+      let no_moment : earliest_of (moments_of (group_of number no_head [])) ≡ None = ap (λ (e : ScheduledGroup). earliest_of (moments_of e)) none ∙
+      no-moments in
+      let total : schedules - schedules_of (group_by number heads rows n) + schedules_of (group_of number no_head [])
+      ≡ schedules - schedules_of (group_by number heads rows n) = omega arith in
       subst (IsStored number items (set heads n no_head) (set rows n []) (map.remove moments n)) total
       (IsStored-set n no_head [] (map.remove moments n) held heads_within rows_within (λ i j d before in_list. absurd (omega (arith, in_list)))
       (λ m. map.get-remove nat_cmp_total moments n m ∙ ap (λ o. cond (eq_by_cmp nat_cmp m n) o (map.get moments m)) (sym no_moment))
@@ -230,18 +251,22 @@ module _ {K : Type 0} (number : K → ℕ) {items : List NumberedKey} {heads : L
       (λ other. absurd (true≢false (sym (ap (λ (e : ScheduledGroup). is_vacant e.group) none ∙ unheld-vacant) ∙ other))))
 
   -- The group of one number is well formed from then on.
-  pub IsStored-written : (n : ℕ) (h : ScheduledHead) (row : List (Source K)) (e : ScheduledGroup) (due : ℕ) → set_of number_of items n ≡ true → n < length heads → n < length rows → IsAscending (number_in number) row
+  pub IsStored-written : (n : ℕ) (h : ScheduledHead) (row : List (Source K)) (e : ScheduledGroup) (due : ℕ) → set_of number_of items n ≡ true →
+      n < length heads → n < length rows → IsAscending (number_in number) row
       → group_of number h row ≡ e → IsWellFormed e.group → earliest_of (moments_of e) ≡ Some due
-      → IsStored number items (set heads n h) (set rows n row) (map.insert moments n due) (schedules - schedules_of (group_by number heads rows n) + schedules_of (group_of number h row))
+      → IsStored number items (set heads n h) (set rows n row) (map.insert moments n due)
+      (schedules - schedules_of (group_by number heads rows n) + schedules_of (group_of number h row))
   IsStored-written n h row e due held heads_within rows_within row_up is well_formed earliest =
       let formed : IsWellFormed (group_of number h row).group = subst (λ (e : ScheduledGroup). IsWellFormed e.group) (sym is) well_formed in
       IsStored-set n h row (map.insert moments n due) held heads_within rows_within row_up
-      (λ m. map.get-insert nat_cmp_total moments n due m ∙ ap (λ o. cond (eq_by_cmp nat_cmp m n) o (map.get moments m)) (sym (ap (λ (e : ScheduledGroup). earliest_of (moments_of e)) is ∙ earliest)))
+      (λ m. map.get-insert nat_cmp_total moments n due m ∙ ap (λ o. cond (eq_by_cmp nat_cmp m n) o (map.get moments m))
+      (sym (ap (λ (e : ScheduledGroup). earliest_of (moments_of e)) is ∙ earliest)))
       (λ vacant. absurd (true≢false (sym vacant ∙ well_formed-other (group_of number h row).group formed)))
       (λ other. formed)
 
   -- Another order has the same groups, but for some that aren't held.
-  pub IsStored-order : (new : List NumberedKey) → IsAscending key_of new → ((n : ℕ) → times n (map number_of new) ≤ 1) → All (λ (x : NumberedKey). x.number < length rows) new
+  pub IsStored-order : (new : List NumberedKey) → IsAscending key_of new → ((n : ℕ) → times n (map number_of new) ≤ 1) →
+      All (λ (x : NumberedKey). x.number < length rows) new
       → ((n : ℕ) → (set_of number_of new n ≡ set_of number_of items n) ⊎ (group_by number heads rows n ≡ unheld))
       → sum_by schedules_at (entries_of number new heads rows) ≡ sum_by schedules_at (entries_of number items heads rows)
       → IsStored number new heads rows moments schedules
@@ -282,7 +307,8 @@ module _ {K : Type 0} (number : K → ℕ) {items : List NumberedKey} {heads : L
         λ n held other.
         ⊎_elim
         (λ (same : set_of number_of new n ≡ set_of number_of items n). known.others_are_held n (sym same ∙ held) other)
-        (λ (gone : group_by number heads rows n ≡ unheld). absurd (true≢false (sym unheld-vacant ∙ sym (ap (λ (e : ScheduledGroup). is_vacant e.group) gone) ∙ other)))
+        (λ (gone : group_by number heads rows n ≡ unheld). absurd
+        (true≢false (sym unheld-vacant ∙ sym (ap (λ (e : ScheduledGroup). is_vacant e.group) gone) ∙ other)))
         (differ n);
     schedules_are = known.schedules_are ∙ sym sums;
   }
@@ -291,7 +317,8 @@ module _ {K : Type 0} (number : K → ℕ) {items : List NumberedKey} {heads : L
       empty n gone (inl within) = row-none number (get_or heads n no_head) (get_or rows n []) (known.rows_ascend n [] within) gone
       empty n gone (inr past) = get_or_past rows n [] past
 
-      none_either : (n : ℕ) → group_by number heads rows n ≡ unheld → (b : Bool) → (if b then earliest_of (moments_of (group_by number heads rows n)) else None) ≡ None
+      none_either : (n : ℕ) → group_by number heads rows n ≡ unheld → (b : Bool) →
+          (if b then earliest_of (moments_of (group_by number heads rows n)) else None) ≡ None
       none_either n gone true = ap (λ (e : ScheduledGroup). earliest_of (moments_of e)) gone ∙ no-moments
       none_either n gone false = refl
 

@@ -1,5 +1,6 @@
 -- The moments of the numbers, once one is set or removed, and the rows that they name.
-use Rattle.std.proofs.Common.{◌≡◌, ℕ, zero, suc, ◌+◌, ◌-◌, ◌<◌, ◌≤◌, Bool, true, false, not, cond, if◌then◌else◌, refl, List, [], ◌∷◌, length, map, get_or, set, None, Some, is_some, sym, ap, ◌∙◌, arith, ⊎_elim}
+use Rattle.std.proofs.Common.{◌≡◌, ℕ, zero, suc, ◌+◌, ◌-◌, ◌<◌, ◌≤◌, Bool, true, false, not, cond, if◌then◌else◌, refl, List, [], ◌∷◌, length, map}
+use Rattle.std.proofs.Common.{get_or, set, None, Some, is_some, sym, ap, ◌∙◌, arith, ⊎_elim}
 use Rattle.std.specs.Prelude.{nat_le}
 use Rattle.std.specs.List.{All, count_by}
 use Rattle.std.specs.Ordering.{nat_cmp}
@@ -26,7 +27,8 @@ use Rattle.mq_held.proofs.OrderedItems.{item, number_of, has-number}
 use Rattle.mq_held.proofs.OrderedGroups.{values-groups}
 use Rattle.mq_held.proofs.OrderedAmounts.{absent-get, has-moment, len-counted, running-groups}
 use Rattle.mq_held.proofs.StoredEdits.{row-none}
-use Rattle.mq_held.proofs.Inside.{address-of, ahead_is, group-of, is-number, len-held, numbered, room_is, running-held, size-of, source_room_is, sources-held, within-rows}
+use Rattle.mq_held.proofs.Inside.{address-of, ahead_is, group-of, is-number, len-held, numbered, room_is, running-held, size-of, source_room_is}
+use Rattle.mq_held.proofs.Inside.{sources-held, within-rows}
 
 module _ {X : Type 0} where
   -- nothing is removed where nothing is
@@ -55,10 +57,12 @@ module _ {X : Type 0} where
       omega (arith, part, one, length-filter_both p (λ x. not (p x)) (λ x. refl) xs, length-filter p xs, length-filter (λ x. not (p x)) xs)
 
 -- how many numbers have a moment, once one of them is set
-pub len-set : (moments : FinMap nat_cmp ℕ) (n due : ℕ) (was_new : Bool) (numbers : List ℕ) → map.contains_key moments n ≡ not was_new → ((m : ℕ) → times m numbers ≡ (if map.contains_key (map.insert moments n due) m then 1 else 0))
+pub len-set : (moments : FinMap nat_cmp ℕ) (n due : ℕ) (was_new : Bool) (numbers : List ℕ) → map.contains_key moments n ≡ not was_new →
+    ((m : ℕ) → times m numbers ≡ (if map.contains_key (map.insert moments n due) m then 1 else 0))
     → length numbers ≡ map.len moments + one_if was_new
 len-set moments n due was_new numbers there each =
-    len-counted numbers (map.insert moments n due) each ∙ map.len-insert nat_cmp_total moments n due ∙ ap (λ b. cond b (map.len moments) (map.len moments + 1)) there ∙ by_test was_new (map.len moments)
+    len-counted numbers (map.insert moments n due) each ∙ map.len-insert nat_cmp_total moments n due ∙
+    ap (λ b. cond b (map.len moments) (map.len moments + 1)) there ∙ by_test was_new (map.len moments)
   where
     by_test : (b : Bool) (k : ℕ) → cond (not b) k (k + 1) ≡ k + one_if b
     by_test true k = refl
@@ -74,7 +78,8 @@ pub one_at_most : (b : Bool) → (if b then 1 else 0) ≤ 1
 one_at_most true = omega arith
 one_at_most false = omega arith
 
-module _ {K : Type 0} (number : K → ℕ) {items : List NumberedKey} {heads : List ScheduledHead} {rows : List (List (Source K))} {moments : FinMap nat_cmp ℕ} {schedules : ℕ} (known : IsStored number items heads rows moments schedules) where
+module _ {K : Type 0} (number : K → ℕ) {items : List NumberedKey} {heads : List ScheduledHead} {rows : List (List (Source K))}
+    {moments : FinMap nat_cmp ℕ} {schedules : ℕ} (known : IsStored number items heads rows moments schedules) where
   -- the numbers of a map that has all moments name the rows
   pub names-rows : (new : FinMap nat_cmp ℕ) (numbers : List ℕ) → ((n : ℕ) → map.contains_key moments n ≡ true → map.contains_key new n ≡ true)
       → ((n : ℕ) → times n numbers ≡ (if map.contains_key new n then 1 else 0)) → All (λ n. n < length rows) numbers → NamesRows (map length rows) numbers
@@ -88,7 +93,8 @@ module _ {K : Type 0} (number : K → ℕ) {items : List NumberedKey} {heads : L
         omega (arith, one);
   }
     where
-      by_vacant : (n : ℕ) → 0 < length (get_or rows n []) → set_of number_of items n ≡ true → (b : Bool) → is_vacant (group_by number heads rows n).group ≡ b → map.contains_key moments n ≡ true
+      by_vacant : (n : ℕ) → 0 < length (get_or rows n []) → set_of number_of items n ≡ true → (b : Bool) →
+          is_vacant (group_by number heads rows n).group ≡ b → map.contains_key moments n ≡ true
       by_vacant n some held true vacant =
           let found = has-number items n held in
           let inside = known.within (found.1).0 (item n found.0) (found.1).1 in
@@ -109,19 +115,26 @@ module _ {K : Type 0} (number : K → ℕ) {items : List NumberedKey} {heads : L
       let of_item : NumberedKey → ScheduledGroup = λ (x : NumberedKey). group_by number heads rows x.number in
       let runs : ScheduledGroup → Bool = λ (e : ScheduledGroup). not (is_vacant e.group) in
       let size = length-map items of_item in
-      let at : get_or (map of_item items) there.0 (of_item (item n found.0)) ≡ group_by number heads rows n = get_or-map of_item items there.0 (item n found.0) (of_item (item n found.0)) there.1 ∙ ap of_item there.2 in
+      let at : get_or (map of_item items) there.0 (of_item (item n found.0)) ≡ group_by number heads rows n =
+      get_or-map of_item items there.0 (item n found.0) (of_item (item n found.0)) there.1 ∙ ap of_item there.2 in
       let fails : runs (get_or (map of_item items) there.0 (of_item (item n found.0))) ≡ false = ap runs at ∙ ap not vacant in
       let fewer = count-fewer runs (map of_item items) there.0 (of_item (item n found.0)) (omega (arith, size, there.1)) fails in
-      let count : count_by runs (map of_item items) ≡ map.len moments = ap (count_by runs) (sym (values-groups number items heads rows known.ascending)) ∙ running-groups number known in
+      let count : count_by runs (map of_item items) ≡ map.len moments =
+      ap (count_by runs) (sym (values-groups number items heads rows known.ascending)) ∙ running-groups number known in
       omega (arith, fewer, count, size)
 
-module _ {K : Type 0} (number : K → ℕ) {order : NumberedKeysState} {heads : List ScheduledHead} {rows : List (List (Source K))} {moments : FinMap nat_cmp ℕ} {schedules : ℕ} (known : IsStored number order.items heads rows moments schedules) {source_room ahead : ℕ} {state : HeldState} (was : ◌≡◌ {A = HeldState} (record { groups = groups_by number order.items heads rows; order = order; source_room = source_room; ahead = ahead }) state) where
+module _ {K : Type 0} (number : K → ℕ) {order : NumberedKeysState} {heads : List ScheduledHead} {rows : List (List (Source K))}
+    {moments : FinMap nat_cmp ℕ} {schedules : ℕ} (known : IsStored number order.items heads rows moments schedules) {source_room ahead : ℕ}
+    {state : HeldState} (was : ◌≡◌ {A = HeldState}
+    (record { groups = groups_by number order.items heads rows; order = order; source_room = source_room; ahead = ahead }) state) where
   -- there is room for a moment of a group that has none
-  pub moment-room : (n room : ℕ) (is_new : Bool) → IsNumber state n → ((a : ℕ) → HasNumber state a n → is_new ≡ is_vacant (group_at state.groups a).group) → length order.items ≤ room
+  pub moment-room : (n room : ℕ) (is_new : Bool) → IsNumber state n →
+      ((a : ℕ) → HasNumber state a n → is_new ≡ is_vacant (group_at state.groups a).group) → length order.items ≤ room
       → map.len moments < room + one_if (not is_new)
   moment-room n room is_new is vacant fits =
       let found = address-of number known was n is in
-      let own : is_vacant (group_by number heads rows n).group ≡ is_new = ap (λ (e : ScheduledGroup). is_vacant e.group) (sym (group-of number known was found.1)) ∙ sym (vacant found.0 found.1) in
+      let own : is_vacant (group_by number heads rows n).group ≡ is_new = ap (λ (e : ScheduledGroup). is_vacant e.group)
+      (sym (group-of number known was found.1)) ∙ sym (vacant found.0 found.1) in
       by_test is_new own
     where
       by_test : (b : Bool) → is_vacant (group_by number heads rows n).group ≡ b → map.len moments < room + one_if (not b)
@@ -137,15 +150,18 @@ module _ {K : Type 0} (number : K → ℕ) {order : NumberedKeysState} {heads : 
               omega (arith, part, map.len-entries state.groups, length-map (map.entries state.groups) (λ (e : ℕ × ScheduledGroup). e.1))
 
   -- what can be written before the rows are packed, and what is moved, by how many sources a group had and has
-  module _ (n : ℕ) {a : ℕ} (row : List (Source K)) (limit : ℕ) (has : HasNumber state a n) (limit_is : limit ≡ source_room) (size : length rows ≡ order.room) where
-    pub ahead-is : ahead_after (record { rows = rows; cell_limit = limit; ahead = ahead }) n row ≡ ahead_with state (sources_of (group_at state.groups a)) (length row)
+  module _ (n : ℕ) {a : ℕ} (row : List (Source K)) (limit : ℕ) (has : HasNumber state a n) (limit_is : limit ≡ source_room)
+      (size : length rows ≡ order.room) where
+    pub ahead-is : ahead_after (record { rows = rows; cell_limit = limit; ahead = ahead }) n row
+        ≡ ahead_with state (sources_of (group_at state.groups a)) (length row)
     ahead-is =
         let had = size-of number known was has in
         let within = within-rows number known was n (is-number number known was has) in
         let total = sum_by-set length rows n row [] within in
         let part = get_or-le-sum_by length rows n [] within in
         let sources = sources-held number known was in
-        let after : cells_in (set rows n row) ≡ sources_in state.groups - sources_of (group_at state.groups a) + length row = omega (arith, total, part, sources, had) in
+        let after : cells_in (set rows n row) ≡ sources_in state.groups - sources_of (group_at state.groups a) + length row =
+        omega (arith, total, part, sources, had) in
         let room : length rows ≡ state.order.room = size ∙ room_is number known was in
         let all : limit ≡ state.source_room = limit_is ∙ source_room_is number known was in
         λ i. if nat_le (length row) (sym had i) then ahead_is number known was i
@@ -153,7 +169,8 @@ module _ {K : Type 0} (number : K → ℕ) {order : NumberedKeysState} {heads : 
         else cells_reserved (room i) (all i) - after i
 
     pub moved-is : (named : ℕ) (was_vacant : Bool) → named ≡ running_in state.groups + one_if was_vacant
-        → moved_for (record { rows = rows; cell_limit = limit; ahead = ahead }) n row named ≡ moved_by_row state was_vacant (sources_of (group_at state.groups a)) (length row)
+        → moved_for (record { rows = rows; cell_limit = limit; ahead = ahead }) n row named
+        ≡ moved_by_row state was_vacant (sources_of (group_at state.groups a)) (length row)
     moved-is named was_vacant named_is =
         let had = size-of number known was has in
         let sources = sources-held number known was in

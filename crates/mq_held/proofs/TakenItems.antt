@@ -1,5 +1,6 @@
 -- Items of numbers that are taken out of an order: what is left of the items.
-use Rattle.std.proofs.Common.{ℕ, zero, suc, ◌+◌, ◌<◌, ◌≤◌, ◌≡◌, ◌==◌, Bool, true, false, not, cond, ◌&&◌, ◌||◌, refl, List, [], ◌∷◌, ◌++◌, length, get_or, take, sym, ap, ◌∙◌, subst, arith, ⊎_elim}
+use Rattle.std.proofs.Common.{ℕ, zero, suc, ◌+◌, ◌<◌, ◌≤◌, ◌≡◌, ◌==◌, Bool, true, false, not, cond, ◌&&◌, ◌||◌, refl, List, [], ◌∷◌, ◌++◌, length}
+use Rattle.std.proofs.Common.{get_or, take, sym, ap, ◌∙◌, subst, arith, ⊎_elim}
 use Rattle.std.specs.Prelude.{filter}
 use Rattle.std.specs.List.{All, Contains, remove, sum_by}
 use Rattle.std.proofs.lemmas.Bool.{eq-eqb, eqb-true}
@@ -47,13 +48,20 @@ filter-filter p q (x ∷ xs) = by_tests (q x) (p x) refl (filter-filter p q xs)
     by_tests false c is rest = rest
 
 -- an item that is taken out by its number
-without-at : (items : List NumberedKey) (n k : ℕ) (d : NumberedKey) → k < length items → ((m : ℕ) → times m (numbers_in items) ≤ 1) → (get_or items k d).number ≡ n
+without-at : (items : List NumberedKey) (n k : ℕ) (d : NumberedKey) → k < length items → ((m : ℕ) → times m (numbers_in items) ≤ 1) →
+    (get_or items k d).number ≡ n
     → remove items k ≡ filter (λ x. not (n == x.number)) items
 without-at [] n k d within once is = absurd (omega (arith, within))
 without-at (x ∷ items) n zero d within once is =
     let others : All (λ (y : NumberedKey). not (n == y.number) ≡ true) items =
     λ j e in_list. ⊎_elim
-    (λ same. absurd (omega (arith, once n, sum_by-cons (is_cell n) x.number (numbers_in items), is_cell-same n x.number is, times-item items n j e in_list (sym same.1))))
+    (λ same. absurd (omega (
+      arith,
+      once n,
+      sum_by-cons (is_cell n) x.number (numbers_in items),
+      is_cell-same n x.number is,
+      times-item items n j e in_list (sym same.1),
+    )))
     (λ other. ap not other.0)
     (eqb_tells n (get_or items j e).number) in
     sym (rw (eq-eqb n x.number (sym is)) (filter-all (λ (y : NumberedKey). not (n == y.number)) items others))
@@ -61,23 +69,34 @@ without-at (x ∷ items) n (suc k) d within once is =
     let inside : k < length items = omega (arith, within) in
     let rest = without-at items n k d inside (λ m. omega (arith, once m, sum_by-cons (is_cell m) x.number (numbers_in items))) is in
     ⊎_elim
-    (λ same. absurd (omega (arith, once n, sum_by-cons (is_cell n) x.number (numbers_in items), is_cell-same n x.number (sym same.1), times-item items n k d inside is)))
-    (λ other. ap (λ ys. x ∷ ys) rest ∙ sym (ap (λ b. cond (not b) (x ∷ filter (λ (y : NumberedKey). not (n == y.number)) items) (filter (λ (y : NumberedKey). not (n == y.number)) items)) other.0))
+    (λ same. absurd (omega (
+      arith,
+      once n,
+      sum_by-cons (is_cell n) x.number (numbers_in items),
+      is_cell-same n x.number (sym same.1),
+      times-item items n k d inside is,
+    )))
+    (λ other. ap (λ ys. x ∷ ys) rest ∙
+    sym (ap (λ b. cond (not b) (x ∷ filter (λ (y : NumberedKey). not (n == y.number)) items)
+    (filter (λ (y : NumberedKey). not (n == y.number)) items)) other.0))
     (eqb_tells n x.number)
 
-pub without-is : (old new : List NumberedKey) (n : ℕ) → ((m : ℕ) → times m (numbers_in old) ≤ 1) → IsWithout old new n → new ≡ filter (λ x. not (n == x.number)) old
+pub without-is : (old new : List NumberedKey) (n : ℕ) → ((m : ℕ) → times m (numbers_in old) ≤ 1) → IsWithout old new n →
+    new ≡ filter (λ x. not (n == x.number)) old
 without-is old new n once gone =
     let d : NumberedKey = record { number = n; key = 0 } in
     gone.rest ∙ without-at old n gone.rank d gone.there once (gone.is d)
 
 -- what is left once one number more is taken out
-pub left-more : (items old new : List NumberedKey) (ns : List ℕ) (i n : ℕ) → i < length ns → n ≡ get_or ns i n → old ≡ filter (λ x. not (is_among (take i ns) x.number)) items
+pub left-more : (items old new : List NumberedKey) (ns : List ℕ) (i n : ℕ) → i < length ns → n ≡ get_or ns i n →
+    old ≡ filter (λ x. not (is_among (take i ns) x.number)) items
     → new ≡ filter (λ x. not (n == x.number)) old → new ≡ filter (λ x. not (is_among (take (i + 1) ns) x.number)) items
 left-more items old new ns i n within here was is =
     is
     ∙ ap (filter (λ (x : NumberedKey). not (n == x.number))) was
     ∙ filter-filter (λ (x : NumberedKey). not (n == x.number)) (λ (x : NumberedKey). not (is_among (take i ns) x.number)) items
-    ∙ filter-agree (λ (x : NumberedKey). not (is_among (take i ns) x.number) && not (n == x.number)) (λ (x : NumberedKey). not (is_among (take (i + 1) ns) x.number)) items
+    ∙ filter-agree (λ (x : NumberedKey). not (is_among (take i ns) x.number) && not (n == x.number))
+    (λ (x : NumberedKey). not (is_among (take (i + 1) ns) x.number)) items
     (λ k d in_list. tests (get_or items k d).number)
   where
     both : (a b : Bool) → (not a && not b) ≡ not (a || (b || false))
@@ -88,10 +107,12 @@ left-more items old new ns i n within here was is =
     tests : (m : ℕ) → (not (is_among (take i ns) m) && not (n == m)) ≡ not (is_among (take (i + 1) ns) m)
     tests m =
         both (is_among (take i ns) m) (n == m)
-        ∙ ap not (sym (ap (λ xs. is_among xs m) (take_more ns i n within ∙ ap (λ x. take i ns ++ x ∷ []) (sym here)) ∙ list_any-append (λ x. x == m) (take i ns) (n ∷ [])))
+        ∙ ap not (sym (ap (λ xs. is_among xs m) (take_more ns i n within ∙ ap (λ x. take i ns ++ x ∷ []) (sym here)) ∙
+        list_any-append (λ x. x == m) (take i ns) (n ∷ [])))
 
 -- the next number is still there
-pub still-there : (items old : List NumberedKey) (ns : List ℕ) (i n : ℕ) → i < length ns → n ≡ get_or ns i n → ((m : ℕ) → times m ns ≤ 1) → old ≡ filter (λ x. not (is_among (take i ns) x.number)) items
+pub still-there : (items old : List NumberedKey) (ns : List ℕ) (i n : ℕ) → i < length ns → n ≡ get_or ns i n → ((m : ℕ) → times m ns ≤ 1) →
+    old ≡ filter (λ x. not (is_among (take i ns) x.number)) items
     → set_of (λ x. x.number) items n ≡ true → set_of (λ x. x.number) old n ≡ true
 still-there items old ns i n within here once was held =
     let earlier : times n (take i ns) ≡ 0 = omega (arith, once n, sum_by_more_le (is_cell n) ns i n within, is_cell-same n (get_or ns i n) (sym here)) in
@@ -116,12 +137,14 @@ fewer-once p ns once n = omega (arith, times-filter p n ns, once n, part (p n))
     part false = omega arith
 
 -- the items of some numbers that are left
-pub items-left : (f : ℕ → ℕ) (p : ℕ → Bool) (items : List NumberedKey) → All (λ x. f x.number ≡ x.key) items → items_by f (filter p (numbers_in items)) ≡ filter (λ x. p x.number) items
+pub items-left : (f : ℕ → ℕ) (p : ℕ → Bool) (items : List NumberedKey) → All (λ x. f x.number ≡ x.key) items →
+    items_by f (filter p (numbers_in items)) ≡ filter (λ x. p x.number) items
 items-left f p [] keys = refl
 items-left f p (x ∷ items) keys = by_test (p x.number) (items-left f p items (All-tail (λ (x : NumberedKey). f x.number ≡ x.key) x items keys))
   where
     by_test : (b : Bool) → items_by f (filter p (numbers_in items)) ≡ filter (λ x. p x.number) items
-        → items_by f (cond b (x.number ∷ filter p (numbers_in items)) (filter p (numbers_in items))) ≡ cond b (x ∷ filter (λ x. p x.number) items) (filter (λ x. p x.number) items)
+        → items_by f (cond b (x.number ∷ filter p (numbers_in items)) (filter p (numbers_in items))) ≡ cond b (x ∷ filter (λ x. p x.number) items)
+        (filter (λ x. p x.number) items)
     by_test true rest =
         let key : f x.number ≡ x.key = All-head (λ (x : NumberedKey). f x.number ≡ x.key) x items keys in
         ap (λ k. record { number = x.number; key = k } ∷ items_by f (filter p (numbers_in items))) key ∙ ap (λ ys. x ∷ ys) rest
@@ -130,7 +153,8 @@ items-left f p (x ∷ items) keys = by_test (p x.number) (items-left f p items (
 -- what is left are some of the items
 pub contains-filter : (p : NumberedKey → Bool) (items : List NumberedKey) (x : NumberedKey) → Contains (filter p items) x → Contains items x
 contains-filter p items x has =
-    subst (Contains items) has.2 (All-filter p (Contains items) items (λ k d within. (k, within, get_or_default items k (get_or items k d) d within)) has.0 x has.1)
+    subst (Contains items) has.2
+    (All-filter p (Contains items) items (λ k d within. (k, within, get_or_default items k (get_or items k d) d within)) has.0 x has.1)
 
 -- a sum over what is left, where nothing else adds to it
 pub sum-left : {X : Type 0} (w : X → ℕ) (p : X → Bool) (xs : List X) → All (λ x. p x ≡ false → w x ≡ 0) xs → sum_by w (filter p xs) ≡ sum_by w xs

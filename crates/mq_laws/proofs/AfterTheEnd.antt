@@ -11,9 +11,10 @@ use Rattle.mq_check.specs.declared.entry.Entry.TheVariants.{Wanted, Seen, Interv
 use Rattle.mq_check.specs.declared.entry.Unpaired.{Unpaired}
 use Rattle.mq_check.specs.declared.finding.Finding.TheVariants.{Differs}
 use Rattle.mq_check.specs.declared.terms.Terms.{Terms}
-use Rattle.mq_check.specs.Checking.{CheckingValue, found_of_last, near, role_returned, settled, with_wanted}
+use Rattle.mq_check.specs.Checking.{CheckingValue, found_of_last, near, role_returned, settled, subject_wanted}
 use Rattle.mq_check.specs.Entries.{excused_if, findings_of, first_joined, is_free_seen, is_over, terms_differ}
 use Rattle.mq_check.specs.Queries.{is_same}
+use Rattle.mq_check.specs.Schedules.{terms_wanted}
 use Rattle.mq_check.specs.Waiting.{WaitingValue, all_excused, excused_at, may_still_come}
 use Rattle.mq_laws.specs.Pairing.{Ask, Expected, Sent, LeftOut, PairUp, missing_of, seen_about, wanted_about}
 use Rattle.mq_laws.specs.Events.{CheckEvent, Comes, Wants, Sees, SeesGeneral, LosesRole, HasRoleAgain, SeesFault, Blocks, check_by_all, told_by_all}
@@ -38,7 +39,8 @@ IsQuiet within limit (Packet moment number fault) = ⊥
 abbrev pub AreQuiet : (within limit : ℕ) → List (Entry ℕ) → Type 0
 AreQuiet within limit es = AllByRecursion (IsQuiet within limit) es
 
-quiet_found : (keep within limit moment : ℕ) (changed : Option ℕ) (e : Entry ℕ) → within ≤ keep → IsQuiet within limit e → moment ≤ limit → is_over keep moment e ≡ true → findings_of within changed e ≡ []
+quiet_found : (keep within limit moment : ℕ) (changed : Option ℕ) (e : Entry ℕ) → within ≤ keep → IsQuiet within limit e → moment ≤ limit →
+    is_over keep moment e ≡ true → findings_of within changed e ≡ []
 quiet_found keep within limit moment changed (Wanted m a t o f) long is before over = elim is [
   | inl left ↦ rw left refl
   | inr far ↦ absurd (let late = ltb-true (m + keep) moment over in omega (arith, late, far, before, long))
@@ -50,21 +52,24 @@ quiet_found keep within limit moment changed (Silence m a w) long is before over
 quiet_found keep within limit moment changed (Packet m n f) long is before over = absurd is
 
 -- a moment comes
-quiet_told : (keep within limit moment : ℕ) (changed : Option ℕ) (es : List (Entry ℕ)) → within ≤ keep → AreQuiet within limit es → moment ≤ limit → told_of keep within moment changed es ≡ []
+quiet_told : (keep within limit moment : ℕ) (changed : Option ℕ) (es : List (Entry ℕ)) → within ≤ keep → AreQuiet within limit es → moment ≤ limit →
+    told_of keep within moment changed es ≡ []
 quiet_told keep within limit moment changed [] long are before = refl
-quiet_told keep within limit moment changed (e ∷ es) long are before = elim (is_over keep moment e) as (λ b. is_over keep moment e ≡ b → told_of keep within moment changed (e ∷ es) ≡ []) [
-  | true ↦ λ over.
-      over_told keep within moment changed e es over
-      ∙ (λ i. quiet_found keep within limit moment changed e long are.0 before over i ++ quiet_told keep within limit moment changed es long are.1 before i)
-  | false ↦ λ ahead. ahead_told keep within moment changed e es ahead
-] refl
+quiet_told keep within limit moment changed (e ∷ es) long are before =
+    elim (is_over keep moment e) as (λ b. is_over keep moment e ≡ b → told_of keep within moment changed (e ∷ es) ≡ []) [
+      | true ↦ λ over.
+          over_told keep within moment changed e es over
+          ∙ (λ i. quiet_found keep within limit moment changed e long are.0 before over i ++ quiet_told keep within limit moment changed es long are.1 before i)
+      | false ↦ λ ahead. ahead_told keep within moment changed e es ahead
+    ] refl
 
 quiet_left : (keep within limit moment : ℕ) (es : List (Entry ℕ)) → AreQuiet within limit es → AreQuiet within limit (left_of keep moment es)
 quiet_left keep within limit moment [] are = tt
-quiet_left keep within limit moment (e ∷ es) are = elim (is_over keep moment e) as (λ b. is_over keep moment e ≡ b → AreQuiet within limit (left_of keep moment (e ∷ es))) [
-  | true ↦ λ over. rw (over_left keep moment e es over) (quiet_left keep within limit moment es are.1)
-  | false ↦ λ ahead. rw (ahead_left keep moment e es ahead) are
-] refl
+quiet_left keep within limit moment (e ∷ es) are =
+    elim (is_over keep moment e) as (λ b. is_over keep moment e ≡ b → AreQuiet within limit (left_of keep moment (e ∷ es))) [
+      | true ↦ λ over. rw (over_left keep moment e es over) (quiet_left keep within limit moment es are.1)
+      | false ↦ λ ahead. rw (ahead_left keep moment e es ahead) are
+    ] refl
 
 -- a query becomes wanted
 and_false : (b : Bool) → (b && false) ≡ false
@@ -79,14 +84,17 @@ not_free within limit asked (Interval m p a w) is = absurd is
 not_free within limit asked (Silence m a w) is = absurd is
 not_free within limit asked (Packet m n f) is = absurd is
 
-none_joined : (within limit : ℕ) (asked : Asked ℕ) (other : Terms ℕ) (es : List (Entry ℕ)) → AreQuiet within limit es → first_joined (is_free_seen asked) other es ≡ es
+none_joined : (within limit : ℕ) (asked : Asked ℕ) (other : Terms ℕ) (es : List (Entry ℕ)) → AreQuiet within limit es →
+    first_joined (is_free_seen asked) other es ≡ es
 none_joined within limit asked other [] are = refl
 none_joined within limit asked other (e ∷ es) are =
-    passed_joined (is_free_seen asked) other e es (not_free within limit asked e are.0) ∙ ap (λ (l : List (Entry ℕ)). e ∷ l) (none_joined within limit asked other es are.1)
+    passed_joined (is_free_seen asked) other e es (not_free within limit asked e are.0) ∙
+    ap (λ (l : List (Entry ℕ)). e ∷ l) (none_joined within limit asked other es are.1)
 
 none_same : (within limit : ℕ) (asked : Asked ℕ) (from : ℕ) (es : List (Entry ℕ)) → AreQuiet within limit es → SameFrom (is_free_seen asked) from es
 none_same within limit asked from [] are = same_none (is_free_seen asked) from
-none_same within limit asked from (e ∷ es) are = same_behind (is_free_seen asked) from e es (not_free within limit asked e are.0) (none_same within limit asked from es are.1)
+none_same within limit asked from (e ∷ es) are = same_behind (is_free_seen asked) from e es (not_free within limit asked e are.0)
+    (none_same within limit asked from es are.1)
 
 quiet_put : (within limit : ℕ) (es : List (Entry ℕ)) (e : Entry ℕ) → AreQuiet within limit es → IsQuiet within limit e → AreQuiet within limit (es ++ e ∷ [])
 quiet_put within limit [] e are is = (is, tt)
@@ -97,14 +105,17 @@ record QuietWants (within limit : ℕ) (c after : CheckingValue) : Type 0 where
   quiet : AreQuiet within limit after.waiting.entries
   repeats : after.schedules.repeats ≡ c.schedules.repeats
 
-quiet_wants : (within limit now : ℕ) (terms : Terms ℕ) (asked : List (Asked ℕ)) (c : CheckingValue) → limit ≤ now + within → AreQuiet within limit c.waiting.entries
-    → (fold (with_wanted now terms) c asked).waiting.is_full ≡ false → QuietWants within limit c (fold (with_wanted now terms) c asked)
-quiet_wants within limit now terms [] c far are room = record { quiet = are; repeats = refl }
-quiet_wants within limit now terms (a ∷ more) c far are room =
-    let next = with_wanted now terms c a in
-    let part = wanted_part now terms c a (wants_free now terms more next room) in
-    let rest = quiet_wants within limit now terms more next far
-    (rw (part.entries (none_same within limit a (near now c) c.waiting.entries are), none_joined within limit a terms c.waiting.entries are) (quiet_put within limit c.waiting.entries _ are (inr far))) room in
+quiet_wants : (within limit now : ℕ) (is_again : Bool) (terms : Terms ℕ) (asked : List (Asked ℕ)) (c : CheckingValue) → limit ≤ now + within →
+    AreQuiet within limit c.waiting.entries
+    → (fold (subject_wanted now is_again terms) c asked).waiting.is_full ≡ false → QuietWants within limit c (fold (subject_wanted now is_again terms) c asked)
+quiet_wants within limit now is_again terms [] c far are room = record { quiet = are; repeats = refl }
+quiet_wants within limit now is_again terms (a ∷ more) c far are room =
+    let t = terms_wanted is_again terms a c.schedules in
+    let next = subject_wanted now is_again terms c a in
+    let part = wanted_part now t c a (wants_free now is_again terms more next room) in
+    let rest = quiet_wants within limit now is_again terms more next far
+    (rw (part.entries (none_same within limit a (near now c) c.waiting.entries are), none_joined within limit a t c.waiting.entries are)
+    (quiet_put within limit c.waiting.entries _ are (inr far))) room in
     record { quiet = rest.quiet; repeats = rest.repeats ∙ part.repeats }
 
 -- nothing is found by the events of ticks
@@ -115,7 +126,7 @@ pub record FindsNothing (within limit : ℕ) (timing : Timing) (now : ℕ) (es :
 in_time : (now : ℕ) (es : List CheckEvent) (end : ℕ) → AreInOrder now es end → now ≤ end
 in_time now [] end order = order
 in_time now (Comes moment ∷ es) end order = let rest = in_time moment es end order.1 in omega (arith, order.0, rest)
-in_time now (Wants terms asked ∷ es) end order = in_time now es end order
+in_time now (Wants is_again terms asked ∷ es) end order = in_time now es end order
 in_time now (Sees terms unheld asked ∷ es) end order = in_time now es end order
 in_time now (SeesGeneral terms wanted ∷ es) end order = in_time now es end order
 in_time now (LosesRole ∷ es) end order = in_time now es end order
@@ -123,22 +134,24 @@ in_time now (HasRoleAgain ∷ es) end order = in_time now es end order
 in_time now (SeesFault number fault ∷ es) end order = in_time now es end order
 in_time now (Blocks asked ∷ es) end order = in_time now es end order
 
-pub ticks_find_nothing : (within limit : ℕ) (timing : Timing) (now : ℕ) (es : List CheckEvent) (c : CheckingValue) → within ≤ c.schedules.repeats.keep → limit ≤ now + within → AreInOrder now es limit → AllByRecursion IsOfTick es
+pub ticks_find_nothing : (within limit : ℕ) (timing : Timing) (now : ℕ) (es : List CheckEvent) (c : CheckingValue) → within ≤ c.schedules.repeats.keep
+    → limit ≤ now + within → AreInOrder now es limit → AllByRecursion IsOfTick es
     → AreQuiet within limit c.waiting.entries → (check_by_all within timing now es c).waiting.is_full ≡ false → FindsNothing within limit timing now es c
 ticks_find_nothing within limit timing now [] c long far order ticks are room = record { told = refl; quiet = are }
 ticks_find_nothing within limit timing now (Comes moment ∷ es) c long far order ticks are room =
     let keep = c.schedules.repeats.keep in
     let free = all_free within timing now (Comes moment ∷ es) c room in
     let before = in_time moment es limit order.1 in
-    let left : AreQuiet within limit (settled moment c).waiting.entries = rw (settled_free keep moment c.waiting free) (quiet_left keep within limit moment c.waiting.entries are) in
+    let left : AreQuiet within limit (settled moment c).waiting.entries = rw (settled_free keep moment c.waiting free)
+    (quiet_left keep within limit moment c.waiting.entries are) in
     let more = ticks_find_nothing within limit timing moment es (settled moment c) long (omega (arith, far, order.0)) order.1 ticks.1 left room in
     record {
       told = (λ i. (told_now within moment c free ∙ quiet_told keep within limit moment c.changed c.waiting.entries long are before) i ++ more.told i);
       quiet = more.quiet;
     }
-ticks_find_nothing within limit timing now (Wants terms asked ∷ es) c long far order ticks are room =
-    let next = fold (with_wanted now terms) c asked in
-    let wants = quiet_wants within limit now terms asked c far are (all_free within timing now es next room) in
+ticks_find_nothing within limit timing now (Wants is_again terms asked ∷ es) c long far order ticks are room =
+    let next = fold (subject_wanted now is_again terms) c asked in
+    let wants = quiet_wants within limit now is_again terms asked c far are (all_free within timing now es next room) in
     let more = ticks_find_nothing within limit timing now es next (rw wants.repeats long) far order ticks.1 wants.quiet room in
     record { told = more.told; quiet = more.quiet }
 ticks_find_nothing within limit timing now (HasRoleAgain ∷ es) c long far order ticks are room =
@@ -154,7 +167,8 @@ ticks_find_nothing within limit timing now (SeesFault number fault ∷ es) c lon
 ticks_find_nothing within limit timing now (Blocks asked ∷ es) c long far order ticks are room = absurd ticks.0
 
 -- a wanted query that may be left out, and a pair
-none_found : (within end m : ℕ) (a : Asked ℕ) (t : Terms ℕ) (o f : Bool) (changed : Option ℕ) → IsQuiet within (end + within) (Wanted m a t o f) → found_of_last within end changed (Wanted m a t o f) ≡ []
+none_found : (within end m : ℕ) (a : Asked ℕ) (t : Terms ℕ) (o f : Bool) (changed : Option ℕ) → IsQuiet within (end + within) (Wanted m a t o f) →
+    found_of_last within end changed (Wanted m a t o f) ≡ []
 none_found within end m a t o f changed (inl left) = by_end (nat_le end (m + within))
   where
     by_end : (b : Bool) → findings_of within changed (excused_if b (Wanted m a t o f)) ≡ []
@@ -164,16 +178,19 @@ none_found within end m a t o f changed (inr far) =
     let late : nat_le end (m + within) ≡ true = le-leb end (m + within) (omega (arith, far)) in
     ap (λ (b : Bool). findings_of within changed (excused_if b (Wanted m a t o f))) late
 
-pair_found : (within : ℕ) (changed : Option ℕ) (b : Bool) (m : ℕ) (a : Asked ℕ) (t w : Terms ℕ) (alone : Unpaired ℕ) → terms_differ t w ≡ [] → findings_of within changed (excused_if b (Seen m a t (Some w) alone)) ≡ []
+pair_found : (within : ℕ) (changed : Option ℕ) (b : Bool) (m : ℕ) (a : Asked ℕ) (t w : Terms ℕ) (alone : Unpaired ℕ) → terms_differ t w ≡ [] →
+    findings_of within changed (excused_if b (Seen m a t (Some w) alone)) ≡ []
 pair_found within changed true m a t w alone alike = ap (list_map (Differs m t.packet a)) alike
 pair_found within changed false m a t w alone alike = ap (list_map (Differs m t.packet a)) alike
 
 -- and of what still waits then, nothing is found either
-pub none_last : (within end : ℕ) (changed : Option ℕ) (es : List (Entry ℕ)) → AreQuiet within (end + within) es → flat_map (found_of_last within end changed) es ≡ []
+pub none_last : (within end : ℕ) (changed : Option ℕ) (es : List (Entry ℕ)) → AreQuiet within (end + within) es →
+    flat_map (found_of_last within end changed) es ≡ []
 none_last within end changed [] are = refl
 none_last within end changed (Wanted m a t o f ∷ es) are = λ i. (none_found within end m a t o f changed are.0 i) ++ none_last within end changed es are.1 i
 none_last within end changed (Seen m a t None alone ∷ es) are = absurd are.0
-none_last within end changed (Seen m a t (Some w) alone ∷ es) are = λ i. (pair_found within changed (nat_le end (m + within)) m a t w alone are.0 i) ++ none_last within end changed es are.1 i
+none_last within end changed (Seen m a t (Some w) alone ∷ es) are = λ i. (pair_found within changed (nat_le end (m + within)) m a t w alone are.0 i)
+    ++ none_last within end changed es are.1 i
 none_last within end changed (Interval m p a w ∷ es) are = absurd are.0
 none_last within end changed (Silence m a w ∷ es) are = absurd are.0
 none_last within end changed (Packet m n f ∷ es) are = absurd are.0
@@ -185,15 +202,18 @@ none_free within keep left [] one_side pairs = refl
 none_free within keep left (s ∷ ss) one_side pairs =
     let here : seen_about s.asked (s ∷ ss) ≡ s ∷ seen_about s.asked ss = seen_here s.asked s ss (is_same-self s.asked) in
     absurd (elim (one_side s.asked) [
-      | inl none ↦ to_pairs within keep _ [] _ (s ∷ seen_about s.asked ss) (ap (wanted_about s.asked) (append-nil left) ∙ none) (ap (seen_about s.asked) (append-nil (s ∷ ss)) ∙ here) (pairs s.asked)
+      | inl none ↦ to_pairs within keep _ [] _ (s ∷ seen_about s.asked ss) (ap (wanted_about s.asked) (append-nil left) ∙ none)
+          (ap (seen_about s.asked) (append-nil (s ∷ ss)) ∙ here) (pairs s.asked)
       | inr none ↦ (let two : [] ≡ s ∷ seen_about s.asked ss = sym none ∙ here in cc)
     ])
 
 -- and each wanted one, if none is missing
-pub none_wanted : (within keep : ℕ) (left : List Expected) → ((asked : Asked ℕ) → PairUp within keep (wanted_about asked (left ++ [])) []) → missing_of left ≡ [] → left ≡ []
+pub none_wanted : (within keep : ℕ) (left : List Expected) → ((asked : Asked ℕ) → PairUp within keep (wanted_about asked (left ++ [])) []) →
+    missing_of left ≡ [] → left ≡ []
 none_wanted within keep [] pairs none = refl
 none_wanted within keep (Sent w ∷ xs) pairs none =
-    let here : wanted_about w.asked (Sent w ∷ xs ++ []) ≡ Sent w ∷ wanted_about w.asked (xs ++ []) = wanted_here w.asked (Sent w) (xs ++ []) (is_same-self w.asked) in
+    let here : wanted_about w.asked (Sent w ∷ xs ++ []) ≡ Sent w ∷ wanted_about w.asked (xs ++ []) = wanted_here w.asked (Sent w) (xs ++ [])
+    (is_same-self w.asked) in
     absurd (to_pairs within keep _ _ _ _ here refl (pairs w.asked))
 none_wanted within keep (LeftOut w ∷ xs) pairs none = cc
 
@@ -201,9 +221,11 @@ still_quiet : (within limit m : ℕ) (a : Asked ℕ) (t : Terms ℕ) (o b : Bool
 still_quiet within limit m a t o true = inl refl
 still_quiet within limit m a t o false = inl (or_right o true refl)
 
-pub held_quiet : (within limit end : ℕ) (sent : WaitingValue) (es : List (Entry ℕ)) → Holds es [] → free_seen es ≡ [] → AreQuiet within limit (list_map (excused_at within end sent) es)
+pub held_quiet : (within limit end : ℕ) (sent : WaitingValue) (es : List (Entry ℕ)) → Holds es [] → free_seen es ≡ [] →
+    AreQuiet within limit (list_map (excused_at within end sent) es)
 held_quiet within limit end sent [] holds none = tt
-held_quiet within limit end sent (Wanted m a t o true ∷ es) holds none = (still_quiet within limit m a t o (may_still_come within end sent (Wanted m a t o true)), held_quiet within limit end sent es holds none)
+held_quiet within limit end sent (Wanted m a t o true ∷ es) holds none =
+    (still_quiet within limit m a t o (may_still_come within end sent (Wanted m a t o true)), held_quiet within limit end sent es holds none)
 held_quiet within limit end sent (Wanted m a t o false ∷ es) holds none = absurd holds
 held_quiet within limit end sent (Seen m a t None alone ∷ es) holds none = absurd (cc)
 held_quiet within limit end sent (Seen m a t (Some w) alone ∷ es) holds none = (holds.0, held_quiet within limit end sent es holds.1 none)

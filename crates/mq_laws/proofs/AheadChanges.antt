@@ -86,7 +86,8 @@ asked_source now limit count asks t h1 h2 = grind arith
 pub query_ahead : (timing : Timing) (now : ℕ) (s : Bool) (asked : Option Set) (g : GroupState) → now < lowered_to timing now → AllAhead now g
     → AllAhead now (lowered_by_query timing now s asked g)
 query_ahead timing now true asked g later h = h
-query_ahead timing now false None g later h = record { group = lowered_mode now (lowered_to timing now) g.mode later h.group; sources = h.sources; v1 = h.v1; v2 = h.v2 }
+query_ahead timing now false None g later h =
+    record { group = lowered_mode now (lowered_to timing now) g.mode later h.group; sources = h.sources; v1 = h.v1; v2 = h.v2 }
 query_ahead timing now false (Some asked) g later h = record {
   group = h.group;
   sources = λ s. rw (timer_at-sources_lowered timing now asked g s) (lowered_source now (lowered_to timing now) (asked s) (timer_at g s) later (h.sources s));
@@ -97,13 +98,15 @@ query_ahead timing now false (Some asked) g later h = record {
 -- what the querier asks
 group_asked_ahead : (timing : Timing) (now : ℕ) (e : ScheduledGroup) → now < lowered_to timing now → AllAhead now e.group
     → AllAhead now (group_asked timing now e).group
-group_asked_ahead timing now e later h = record { group = lowered_mode now (lowered_to timing now) e.group.mode later h.group; sources = h.sources; v1 = h.v1; v2 = h.v2 }
+group_asked_ahead timing now e later h =
+    record { group = lowered_mode now (lowered_to timing now) e.group.mode later h.group; sources = h.sources; v1 = h.v1; v2 = h.v2 }
 
 sources_asked_ahead : (timing : Timing) (now : ℕ) (asked : Set) (e : ScheduledGroup) → now < lowered_to timing now → AllAhead now e.group
     → AllAhead now (sources_asked timing now asked e).group
 sources_asked_ahead timing now asked e later h = record {
   group = h.group;
-  sources = λ s. rw (timer_at-sources_asked timing now asked e s) (asked_source now (lowered_to timing now) (last_member_count timing) (asked s) (timer_at e.group s) later (h.sources s));
+  sources = λ s. rw (timer_at-sources_asked timing now asked e s)
+      (asked_source now (lowered_to timing now) (last_member_count timing) (asked s) (timer_at e.group s) later (h.sources s));
   v1 = h.v1;
   v2 = h.v2;
 }

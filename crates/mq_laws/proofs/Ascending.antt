@@ -54,20 +54,26 @@ ascend_portions : (most n group : ℕ) (flag : Bool) (xs : List ℕ) → 0 < n �
     → AscendIn (list_map (SourcesQuery group flag) (portions_within most n xs))
 ascend_portions most n group flag [] positive up = tt
 ascend_portions zero n group flag (x ∷ xs) positive up = tt
-ascend_portions (suc most) n group flag (x ∷ xs) positive up =
-    (omega (arith, length-take n (x ∷ xs)), increasing-take n (x ∷ xs) up, ascend_portions most n group flag (drop n (x ∷ xs)) positive (increasing-drop n (x ∷ xs) up))
+ascend_portions (suc most) n group flag (x ∷ xs) positive up = (
+  omega (arith, length-take n (x ∷ xs)),
+  increasing-take n (x ∷ xs) up,
+  ascend_portions most n group flag (drop n (x ∷ xs)) positive (increasing-drop n (x ∷ xs) up),
+)
 
 -- a round has queries or it has none
 ascend_if : (b : Bool) (queries : List SentQuery) → AscendIn queries → AscendIn (cond b queries [])
 ascend_if b queries h1 = grind arith
 
 ascend_where : (n group : ℕ) (flag : Bool) (test : Set) (g : GroupState) → 0 < n → AscendIn (sources_queries n group flag (sources_where test g))
-ascend_where n group flag test g positive = ascend_portions (length (sources_where test g)) n group flag (sources_where test g) positive (IsStrictlyIncreasing-filter test (map.keys g.sources) (keys_ascend g.sources))
+ascend_where n group flag test g positive = ascend_portions (length (sources_where test g)) n group flag (sources_where test g) positive
+    (IsStrictlyIncreasing-filter test (map.keys g.sources) (keys_ascend g.sources))
 
 pub messages_ascend : (n : ℕ) (timing : Timing) (now group : ℕ) (e : ScheduledGroup) → 0 < n → AscendIn (messages_due n timing now group e)
 messages_ascend n timing now group e positive =
     let g = e.group in
     ascend_append (group_messages timing now group e) (source_messages n timing now group e)
     (ascend_if (is_due now (group_due e.schedule.group_query)) (GroupQuery group (is_ahead (lowered_to timing now) (group_deadline g.mode)) ∷ []) tt)
-    (ascend_if (is_due now e.schedule.sources_due) _ (ascend_append (sources_queries n group true (sources_where (has_sendings g ∩ above timing now g) g)) (sources_queries n group false (sources_where (has_sendings g ∖ above timing now g) g))
+    (ascend_if (is_due now e.schedule.sources_due) _
+    (ascend_append (sources_queries n group true (sources_where (has_sendings g ∩ above timing now g) g))
+    (sources_queries n group false (sources_where (has_sendings g ∖ above timing now g) g))
     (ascend_where n group true (has_sendings g ∩ above timing now g) g positive) (ascend_where n group false (has_sendings g ∖ above timing now g) g positive)))

@@ -16,7 +16,8 @@ asked_no_later limit count b t = grind arith
 
 sources_asked_no_later : (timing : Timing) (now : ℕ) (asked : Set) (e : ScheduledGroup) (s : ℕ)
     → IsNoLater (deadline_of (timer_at e.group s)) (deadline_of (timer_at (sources_asked timing now asked e).group s))
-sources_asked_no_later timing now asked e s = subst (λ t. IsNoLater (deadline_of (timer_at e.group s)) (deadline_of t)) (sym (timer_at-sources_asked timing now asked e s)) (asked_no_later (lowered_to timing now) (last_member_count timing) (asked s) (timer_at e.group s))
+sources_asked_no_later timing now asked e s = subst (λ t. IsNoLater (deadline_of (timer_at e.group s)) (deadline_of t))
+    (sym (timer_at-sources_asked timing now asked e s)) (asked_no_later (lowered_to timing now) (last_member_count timing) (asked s) (timer_at e.group s))
 
 pub acted_group_no_later : (is_querier : Bool) (timing : Timing) (now : ℕ) (query_group : Bool) (query : Set) (e : ScheduledGroup)
     → IsNoLater (group_deadline e.group.mode) (group_deadline (acted is_querier timing now query_group query e).group.mode)

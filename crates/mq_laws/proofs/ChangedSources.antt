@@ -45,7 +45,8 @@ pub deadline_kept : (timing : Timing) (now : ℕ) (g : GroupState) (kind : Kind)
     → (table_row_met timing now g kind named).restart s ≡ false → (table_row_met timing now g kind named).copy s ≡ false → (e : ℕ)
     → deadline_of (timer_at (change_of timing now g kind named).group s) ≡ Some e → deadline_of (timer_at g s) ≡ Some e
 deadline_kept timing now g kind named s =
-    at_source_of (λ restart copy _ _ t. restart ≡ false → copy ≡ false → (e : ℕ) → deadline_of t ≡ Some e → deadline_of (timer_at g s) ≡ Some e) timing now g kind named s
+    at_source_of (λ restart copy _ _ t. restart ≡ false → copy ≡ false → (e : ℕ) → deadline_of t ≡ Some e → deadline_of (timer_at g s) ≡ Some e)
+    timing now g kind named s
     (kept_then (now + membership_interval timing) g.mode kind s (timer_at g s) (set.contains named s))
 
 pub unnamed_as_before : (timing : Timing) (now : ℕ) (g : GroupState) (kind : Kind) (named : NamedSources) (s : ℕ) → set.contains named s ≡ false
@@ -60,7 +61,9 @@ pub known : (timing : Timing) (now : ℕ) (g : GroupState) (kind : Kind) (named 
 known timing now g kind named s some =
     elim (set.contains named s) as (λ a. set.contains named s ≡ a → IsSome (timer_at g s) ⊎ IsTrue a) [
       | true ↦ λ _. inr refl
-      | false ↦ λ unnamed. inl (elim (unnamed_as_before timing now g kind named s unnamed) [ inl same ↦ subst IsSome same some | inr gone ↦ absurd (false≢true (subst IsSome gone some)) ])
+      | false ↦ λ unnamed. inl
+          (elim (unnamed_as_before timing now g kind named s unnamed)
+          [ inl same ↦ subst IsSome same some | inr gone ↦ absurd (false≢true (subst IsSome gone some)) ])
     ] refl
 
 -- a source that a row restarts runs for the group membership interval
@@ -95,7 +98,8 @@ sendings_kept timing now g kind named s runs =
     let same = timer_at-change_of timing now g kind named s in
     ap sendings_of same ∙ by_rule (l.x s) (l.y s) _ (sendings_of (timer_at g s)) (sym (ap is_running same) ∙ runs)
   where
-    by_rule : (x y : Bool) (d n : ℕ) → is_running (cond x (Some (Running d n)) (cond y (Some Stopped) None)) ≡ true → sendings_of (cond x (Some (Running d n)) (cond y (Some Stopped) None)) ≡ n
+    by_rule : (x y : Bool) (d n : ℕ) → is_running (cond x (Some (Running d n)) (cond y (Some Stopped) None)) ≡ true →
+        sendings_of (cond x (Some (Running d n)) (cond y (Some Stopped) None)) ≡ n
     by_rule true y d n e = refl
     by_rule false true d n e = absurd (false≢true e)
     by_rule false false d n e = absurd (false≢true e)

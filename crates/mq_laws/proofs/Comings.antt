@@ -17,7 +17,8 @@ use Rattle.mq_check.specs.Queries.{is_same}
 use Rattle.mq_laws.specs.Pairing.{Ask, Expected, Sent, LeftOut, PairUp, ask_of, seen_about, wanted_about, missing_of}
 use Rattle.mq_laws.specs.WantedAndSeen.{still_due}
 use Rattle.mq_laws.proofs.Same.{is_same-self}
-use Rattle.mq_laws.proofs.Held.{ask, Holds, free_seen, IsAscending, wanted_here, wanted_other, seen_here, seen_other, wanted_about-append, seen_about-append, ascending-from, none_over-ascending, moments_wanted}
+use Rattle.mq_laws.proofs.Held.{ask, Holds, free_seen, IsAscending, wanted_here, wanted_other, seen_here, seen_other, wanted_about-append}
+use Rattle.mq_laws.proofs.Held.{seen_about-append, ascending-from, none_over-ascending, moments_wanted}
 use Rattle.mq_laws.proofs.Steps.{Stands, by_asked, moments_seen, returns_of, to_pairs}
 
 -- all that is still to come comes at a moment or later
@@ -44,12 +45,14 @@ seen_from-about moment asked (s ∷ ss) is = one (seen_from-about moment asked s
     one rest false differs = rw (seen_other asked s ss differs) rest
 
 -- one that was sent would have been answered by then
-sent_in_time : (within keep moment : ℕ) (w : Ask) (ws : List Expected) (ss : List Ask) → within ≤ keep → PairUp within keep (Sent w ∷ ws) ss → SeenFrom moment ss → w.moment + keep < moment → ⊥
+sent_in_time : (within keep moment : ℕ) (w : Ask) (ws : List Expected) (ss : List Ask) → within ≤ keep → PairUp within keep (Sent w ∷ ws) ss →
+    SeenFrom moment ss → w.moment + keep < moment → ⊥
 sent_in_time within keep moment w ws [] long pairs from over = pairs
 sent_in_time within keep moment w ws (s ∷ ss) long pairs from over = let late = pairs.0.not_late in omega (arith, from.0)
 
 -- one that was seen would have been wanted by then
-seen_in_time : (within keep moment : ℕ) (s : Ask) (ws : List Expected) (ss : List Ask) → within ≤ keep → PairUp within keep ws (s ∷ ss) → WantedFrom moment ws → s.moment + keep < moment → ⊥
+seen_in_time : (within keep moment : ℕ) (s : Ask) (ws : List Expected) (ss : List Ask) → within ≤ keep → PairUp within keep ws (s ∷ ss) →
+    WantedFrom moment ws → s.moment + keep < moment → ⊥
 seen_in_time within keep moment s [] ss long pairs from over = pairs
 seen_in_time within keep moment s (Sent w ∷ ws) ss long pairs from over = let early = pairs.0.not_early in omega (arith, from.0)
 seen_in_time within keep moment s (LeftOut w ∷ ws) ss long pairs from over = omega (arith, from.0, pairs.0.0)
@@ -70,12 +73,15 @@ left_of keep moment entries = drop (prefix_len (is_over keep moment) entries) en
 
 pub over_told : (keep within moment : ℕ) (changed : Option ℕ) (e : Entry ℕ) (es : List (Entry ℕ)) → is_over keep moment e ≡ true
     → told_of keep within moment changed (e ∷ es) ≡ findings_of within changed e ++ told_of keep within moment changed es
-over_told keep within moment changed e es is = let more : 1 + prefix_len (is_over keep moment) es ≡ suc (prefix_len (is_over keep moment) es) = omega arith in rw (is, more) refl
+over_told keep within moment changed e es is = let more : 1 + prefix_len (is_over keep moment) es ≡ suc (prefix_len (is_over keep moment) es) =
+    omega arith in rw (is, more) refl
 
 pub over_left : (keep moment : ℕ) (e : Entry ℕ) (es : List (Entry ℕ)) → is_over keep moment e ≡ true → left_of keep moment (e ∷ es) ≡ left_of keep moment es
-over_left keep moment e es is = let more : 1 + prefix_len (is_over keep moment) es ≡ suc (prefix_len (is_over keep moment) es) = omega arith in rw (is, more) refl
+over_left keep moment e es is = let more : 1 + prefix_len (is_over keep moment) es ≡ suc (prefix_len (is_over keep moment) es) = omega arith in
+    rw (is, more) refl
 
-pub ahead_told : (keep within moment : ℕ) (changed : Option ℕ) (e : Entry ℕ) (es : List (Entry ℕ)) → is_over keep moment e ≡ false → told_of keep within moment changed (e ∷ es) ≡ []
+pub ahead_told : (keep within moment : ℕ) (changed : Option ℕ) (e : Entry ℕ) (es : List (Entry ℕ)) → is_over keep moment e ≡ false →
+    told_of keep within moment changed (e ∷ es) ≡ []
 ahead_told keep within moment changed e es is = rw is refl
 
 pub ahead_left : (keep moment : ℕ) (e : Entry ℕ) (es : List (Entry ℕ)) → is_over keep moment e ≡ false → left_of keep moment (e ∷ es) ≡ e ∷ es
@@ -86,7 +92,8 @@ pub record Come (within keep moment : ℕ) (changed : Option ℕ) (entries : Lis
   pub left : List Expected
   pub stands : Stands within keep moment (left_of keep moment entries) left wanted seen
   pub missing : missing_of (free ++ wanted) ≡ told_of keep within moment changed entries ++ missing_of (left ++ wanted)
-  pub returns : (b : Asked ℕ) → returns_of within moment b left (left_of keep moment entries) ≡ record { due = still_due within moment (moments_wanted (wanted_about b free)); early = moments_seen (seen_about b (free_seen entries)) }
+  pub returns : (b : Asked ℕ) → returns_of within moment b left (left_of keep moment entries)
+      ≡ record { due = still_due within moment (moments_wanted (wanted_about b free)); early = moments_seen (seen_about b (free_seen entries)) }
 
 -- none is over
 none_comes : (within keep low moment : ℕ) (changed : Option ℕ) (e : Entry ℕ) (es : List (Entry ℕ)) (free wanted : List Expected) (seen : List Ask)
@@ -110,9 +117,11 @@ none_comes within keep low moment changed e es free wanted seen ahead w =
     }
 
 -- the first entry is over, of which this is found
-one_comes : (within keep moment : ℕ) (changed : Option ℕ) (e : Entry ℕ) (es : List (Entry ℕ)) (before free wanted : List Expected) (seen : List Ask) (found : List (Finding ℕ))
+one_comes : (within keep moment : ℕ) (changed : Option ℕ) (e : Entry ℕ) (es : List (Entry ℕ)) (before free wanted : List Expected) (seen : List Ask)
+    (found : List (Finding ℕ))
     → is_over keep moment e ≡ true → findings_of within changed e ≡ found → missing_of (before ++ wanted) ≡ found ++ missing_of (free ++ wanted)
-    → ((b : Asked ℕ) → still_due within moment (moments_wanted (wanted_about b before)) ≡ still_due within moment (moments_wanted (wanted_about b free))) → free_seen (e ∷ es) ≡ free_seen es
+    → ((b : Asked ℕ) → still_due within moment (moments_wanted (wanted_about b before))
+    ≡ still_due within moment (moments_wanted (wanted_about b free))) → free_seen (e ∷ es) ≡ free_seen es
     → Come within keep moment changed es free wanted seen → Come within keep moment changed (e ∷ es) before wanted seen
 one_comes within keep moment changed e es before free wanted seen found over finds missing due plain rest = record {
   left = rest.left;
@@ -120,7 +129,8 @@ one_comes within keep moment changed e es before free wanted seen found over fin
   missing =
       missing ∙ ap (λ (l : List (Finding ℕ)). found ++ l) rest.missing
       ∙ sym (append_assoc found (told_of keep within moment changed es) (missing_of (rest.left ++ wanted)))
-      ∙ ap (λ (l : List (Finding ℕ)). l ++ missing_of (rest.left ++ wanted)) (ap (λ (l : List (Finding ℕ)). l ++ told_of keep within moment changed es) (sym finds) ∙ sym (over_told keep within moment changed e es over));
+      ∙ ap (λ (l : List (Finding ℕ)). l ++ missing_of (rest.left ++ wanted))
+      (ap (λ (l : List (Finding ℕ)). l ++ told_of keep within moment changed es) (sym finds) ∙ sym (over_told keep within moment changed e es over));
   returns = λ b.
       ap (λ (l : List (Entry ℕ)). returns_of within moment b rest.left l) (over_left keep moment e es over) ∙ rest.returns b
       ∙ (λ i. record { due = sym (due b) i; early = moments_seen (seen_about b (sym plain i)) });
@@ -128,7 +138,8 @@ one_comes within keep moment changed e es before free wanted seen found over fin
 
 -- an entry that keeps nothing is taken out
 plain_out : (within keep low moment : ℕ) (e : Entry ℕ) (es : List (Entry ℕ)) (free wanted : List Expected) (seen : List Ask)
-    → Holds es free → free_seen (e ∷ es) ≡ free_seen es → Waits within keep low moment (e ∷ es) free wanted seen → Waits within keep (moment_of e) moment es free wanted seen
+    → Holds es free → free_seen (e ∷ es) ≡ free_seen es → Waits within keep low moment (e ∷ es) free wanted seen →
+    Waits within keep (moment_of e) moment es free wanted seen
 plain_out within keep low moment e es free wanted seen holds same w = record {
   holds = holds;
   ascending = w.ascending.1;
@@ -140,7 +151,8 @@ plain_out within keep low moment e es free wanted seen holds same w = record {
 }
 
 -- one that was left out is taken out
-missed_out : (within keep low moment : ℕ) (m : ℕ) (asked : Asked ℕ) (terms : Terms ℕ) (is_optional : Bool) (es : List (Entry ℕ)) (x : Ask) (free wanted : List Expected) (seen : List Ask)
+missed_out : (within keep low moment : ℕ) (m : ℕ) (asked : Asked ℕ) (terms : Terms ℕ) (is_optional : Bool) (es : List (Entry ℕ)) (x : Ask)
+    (free wanted : List Expected) (seen : List Ask)
     → Waits within keep low moment (Wanted m asked terms is_optional false ∷ es) (LeftOut x ∷ free) wanted seen → Waits within keep m moment es free wanted seen
 missed_out within keep low moment m asked terms is_optional es x free wanted seen w =
     let near : is_same asked x.asked ≡ true = ap (λ (a : Ask). is_same asked a.asked) w.holds.0.0 ∙ is_same-self asked in
@@ -159,12 +171,15 @@ missed_out within keep low moment m asked terms is_optional es x free wanted see
           ]);
       pairs = by_asked (λ b. PairUp within keep (wanted_about b (free ++ wanted)) (seen_about b (free_seen es ++ seen))) asked
           ((to_pairs within keep _ _ _ _ (wanted_here asked (LeftOut x) (free ++ wanted) near) refl (w.pairs asked)).1)
-          (λ b differs. to_pairs within keep _ _ _ _ (wanted_other b (LeftOut x) (free ++ wanted) (ap (λ (a : Ask). is_same b a.asked) w.holds.0.0 ∙ differs)) refl (w.pairs b));
+          (λ b differs. to_pairs within keep _ _ _ _
+          (wanted_other b (LeftOut x) (free ++ wanted) (ap (λ (a : Ask). is_same b a.asked) w.holds.0.0 ∙ differs)) refl (w.pairs b));
     }
 
 -- one that was sent isn't over
-no_sent : (within keep low moment : ℕ) (m : ℕ) (asked : Asked ℕ) (terms : Terms ℕ) (is_optional : Bool) (es : List (Entry ℕ)) (x : Ask) (free wanted : List Expected) (seen : List Ask)
-    → within ≤ keep → SeenFrom moment seen → m + keep < moment → Waits within keep low moment (Wanted m asked terms is_optional false ∷ es) (Sent x ∷ free) wanted seen → ⊥
+no_sent : (within keep low moment : ℕ) (m : ℕ) (asked : Asked ℕ) (terms : Terms ℕ) (is_optional : Bool) (es : List (Entry ℕ)) (x : Ask)
+    (free wanted : List Expected) (seen : List Ask)
+    → within ≤ keep → SeenFrom moment seen → m + keep < moment → Waits within keep low moment (Wanted m asked terms is_optional false ∷ es)
+    (Sent x ∷ free) wanted seen → ⊥
 no_sent within keep low moment m asked terms is_optional es x free wanted seen long from over w =
     let near : is_same asked x.asked ≡ true = ap (λ (a : Ask). is_same asked a.asked) w.holds.0 ∙ is_same-self asked in
     let here = wanted_here asked (Sent x) free near in
@@ -172,12 +187,15 @@ no_sent within keep low moment m asked terms is_optional es x free wanted seen l
       | inl n ↦ absurd (let two : [] ≡ Sent x ∷ wanted_about asked free = sym n ∙ here in cc)
       | inr n ↦ n
     ] in
-    let alone : seen_about asked (free_seen es ++ seen) ≡ seen_about asked seen = seen_about-append asked (free_seen es) seen ∙ ap (λ (l : List Ask). l ++ seen_about asked seen) none in
+    let alone : seen_about asked (free_seen es ++ seen) ≡ seen_about asked seen = seen_about-append asked (free_seen es) seen ∙
+    ap (λ (l : List Ask). l ++ seen_about asked seen) none in
     let at : x.moment ≡ m = ap (λ (a : Ask). a.moment) w.holds.0 in
-    sent_in_time within keep moment x _ _ long (to_pairs within keep _ _ _ _ (wanted_here asked (Sent x) (free ++ wanted) near) alone (w.pairs asked)) (seen_from-about moment asked seen from) (omega arith)
+    sent_in_time within keep moment x _ _ long (to_pairs within keep _ _ _ _ (wanted_here asked (Sent x) (free ++ wanted) near) alone (w.pairs asked))
+    (seen_from-about moment asked seen from) (omega arith)
 
 -- and neither is one that was seen and has no partner
-no_seen_over : (within keep low moment : ℕ) (m : ℕ) (asked : Asked ℕ) (terms : Terms ℕ) (alone : Unpaired ℕ) (es : List (Entry ℕ)) (free wanted : List Expected) (seen : List Ask)
+no_seen_over : (within keep low moment : ℕ) (m : ℕ) (asked : Asked ℕ) (terms : Terms ℕ) (alone : Unpaired ℕ) (es : List (Entry ℕ))
+    (free wanted : List Expected) (seen : List Ask)
     → within ≤ keep → WantedFrom moment wanted → m + keep < moment → Waits within keep low moment (Seen m asked terms None alone ∷ es) free wanted seen → ⊥
 no_seen_over within keep low moment m asked terms alone es free wanted seen long from over w =
     let s = ask m asked terms in
@@ -186,43 +204,54 @@ no_seen_over within keep low moment m asked terms alone es free wanted seen long
       | inl n ↦ n
       | inr n ↦ absurd (let two : [] ≡ s ∷ seen_about asked (free_seen es) = sym n ∙ here in cc)
     ] in
-    let alone : wanted_about asked (free ++ wanted) ≡ wanted_about asked wanted = wanted_about-append asked free wanted ∙ ap (λ (l : List Expected). l ++ wanted_about asked wanted) none in
-    seen_in_time within keep moment s _ _ long (to_pairs within keep _ _ _ _ alone (seen_here asked s (free_seen es ++ seen) (is_same-self asked)) (w.pairs asked)) (wanted_from-about moment asked wanted from) over
+    let alone : wanted_about asked (free ++ wanted) ≡ wanted_about asked wanted = wanted_about-append asked free wanted ∙
+    ap (λ (l : List Expected). l ++ wanted_about asked wanted) none in
+    seen_in_time within keep moment s _ _ long (to_pairs within keep _ _ _ _ alone (seen_here asked s (free_seen es ++ seen) (is_same-self asked))
+    (w.pairs asked)) (wanted_from-about moment asked wanted from) over
 
 -- what is found of those that are over
-found_of_pair : (within : ℕ) (changed : Option ℕ) (m : ℕ) (asked : Asked ℕ) (terms wanted : Terms ℕ) (alone : Unpaired ℕ) → terms_differ terms wanted ≡ [] → findings_of within changed (Seen m asked terms (Some wanted) alone) ≡ []
+found_of_pair : (within : ℕ) (changed : Option ℕ) (m : ℕ) (asked : Asked ℕ) (terms wanted : Terms ℕ) (alone : Unpaired ℕ) →
+    terms_differ terms wanted ≡ [] → findings_of within changed (Seen m asked terms (Some wanted) alone) ≡ []
 found_of_pair within changed m asked terms wanted alone alike = ap (list_map (Differs m terms.packet asked)) alike
 
-found_of_found : (within : ℕ) (changed : Option ℕ) (m : ℕ) (asked : Asked ℕ) (terms : Terms ℕ) (is_optional : Bool) → findings_of within changed (Wanted m asked terms is_optional true) ≡ []
+found_of_found : (within : ℕ) (changed : Option ℕ) (m : ℕ) (asked : Asked ℕ) (terms : Terms ℕ) (is_optional : Bool) →
+    findings_of within changed (Wanted m asked terms is_optional true) ≡ []
 found_of_found within changed m asked terms is_optional = rw (or_right is_optional true refl) refl
 
-found_of_missed : (within : ℕ) (changed : Option ℕ) (m : ℕ) (asked : Asked ℕ) (terms : Terms ℕ) (is_optional : Bool) (x : Ask) → x ≡ ask m asked terms → is_optional ≡ false
+found_of_missed : (within : ℕ) (changed : Option ℕ) (m : ℕ) (asked : Asked ℕ) (terms : Terms ℕ) (is_optional : Bool) (x : Ask) →
+    x ≡ ask m asked terms → is_optional ≡ false
     → findings_of within changed (Wanted m asked terms is_optional false) ≡ Missing x.moment x.terms.packet x.asked ∷ []
 found_of_missed within changed m asked terms is_optional x is must = rw (must, is) refl
 
 -- one that is over is no longer due
-missed_due : (within keep moment m : ℕ) (asked : Asked ℕ) (terms : Terms ℕ) (x : Ask) (free : List Expected) (b : Asked ℕ) → within ≤ keep → x ≡ ask m asked terms → nat_lt (m + keep) moment ≡ true
+missed_due : (within keep moment m : ℕ) (asked : Asked ℕ) (terms : Terms ℕ) (x : Ask) (free : List Expected) (b : Asked ℕ) → within ≤ keep →
+    x ≡ ask m asked terms → nat_lt (m + keep) moment ≡ true
     → still_due within moment (moments_wanted (wanted_about b (LeftOut x ∷ free))) ≡ still_due within moment (moments_wanted (wanted_about b free))
-missed_due within keep moment m asked terms x free b long is over = elim (is_same b x.asked) as (λ t. is_same b x.asked ≡ t → still_due within moment (moments_wanted (wanted_about b (LeftOut x ∷ free))) ≡ still_due within moment (moments_wanted (wanted_about b free))) [
-  | true ↦ λ same.
-      let past : m + keep < moment = ltb-true (m + keep) moment over in
-      let early : nat_lt (m + within) moment ≡ true = lt-ltb (m + within) moment (omega arith) in
-      let gone : nat_lt (x.moment + within) moment ≡ true = ap (λ (a : Ask). nat_lt (a.moment + within) moment) is ∙ early in
-      ap (λ (l : List Expected). still_due within moment (moments_wanted l)) (wanted_here b (LeftOut x) free same) ∙ rw gone refl
-  | false ↦ λ differs. ap (λ (l : List Expected). still_due within moment (moments_wanted l)) (wanted_other b (LeftOut x) free differs)
-] refl
+missed_due within keep moment m asked terms x free b long is over =
+    elim (is_same b x.asked) as (λ t. is_same b x.asked ≡ t → still_due within moment (moments_wanted (wanted_about b (LeftOut x ∷ free)))
+    ≡ still_due within moment (moments_wanted (wanted_about b free))) [
+      | true ↦ λ same.
+          let past : m + keep < moment = ltb-true (m + keep) moment over in
+          let early : nat_lt (m + within) moment ≡ true = lt-ltb (m + within) moment (omega arith) in
+          let gone : nat_lt (x.moment + within) moment ≡ true = ap (λ (a : Ask). nat_lt (a.moment + within) moment) is ∙ early in
+          ap (λ (l : List Expected). still_due within moment (moments_wanted l)) (wanted_here b (LeftOut x) free same) ∙ rw gone refl
+      | false ↦ λ differs. ap (λ (l : List Expected). still_due within moment (moments_wanted l)) (wanted_other b (LeftOut x) free differs)
+    ] refl
 
 -- whether the first entry is over
 either_comes : (within keep low moment : ℕ) (changed : Option ℕ) (e : Entry ℕ) (es : List (Entry ℕ)) (free wanted : List Expected) (seen : List Ask)
-    → Waits within keep low moment (e ∷ es) free wanted seen → (is_over keep moment e ≡ true → Come within keep moment changed (e ∷ es) free wanted seen) → Come within keep moment changed (e ∷ es) free wanted seen
-either_comes within keep low moment changed e es free wanted seen w over = elim (is_over keep moment e) as (λ b. is_over keep moment e ≡ b → Come within keep moment changed (e ∷ es) free wanted seen) [
-  | true ↦ λ is. over is
-  | false ↦ λ ahead. none_comes within keep low moment changed e es free wanted seen ahead w
-] refl
+    → Waits within keep low moment (e ∷ es) free wanted seen →
+    (is_over keep moment e ≡ true → Come within keep moment changed (e ∷ es) free wanted seen) → Come within keep moment changed (e ∷ es) free wanted seen
+either_comes within keep low moment changed e es free wanted seen w over =
+    elim (is_over keep moment e) as (λ b. is_over keep moment e ≡ b → Come within keep moment changed (e ∷ es) free wanted seen) [
+      | true ↦ λ is. over is
+      | false ↦ λ ahead. none_comes within keep low moment changed e es free wanted seen ahead w
+    ] refl
 
 -- All that is over when a moment comes.
 pub comes : (within keep low moment : ℕ) (changed : Option ℕ) (es : List (Entry ℕ)) (free wanted : List Expected) (seen : List Ask)
-    → within ≤ keep → WantedFrom moment wanted → SeenFrom moment seen → Waits within keep low moment es free wanted seen → Come within keep moment changed es free wanted seen
+    → within ≤ keep → WantedFrom moment wanted → SeenFrom moment seen → Waits within keep low moment es free wanted seen →
+    Come within keep moment changed es free wanted seen
 comes within keep low moment changed [] free wanted seen long later_wanted later_seen w = record {
   left = free;
   stands = record { holds = w.holds; ascending = omega arith; none_over = tt; one_side = w.one_side; pairs = w.pairs };
@@ -233,7 +262,8 @@ comes within keep low moment changed (Wanted m asked terms is_optional true ∷ 
     let e = Wanted m asked terms is_optional true in
     either_comes within keep low moment changed e es free wanted seen w (λ over.
     one_comes within keep moment changed e es free free wanted seen [] over (found_of_found within changed m asked terms is_optional) refl (λ b. refl) refl
-    (comes within keep m moment changed es free wanted seen long later_wanted later_seen (plain_out within keep low moment e es free wanted seen w.holds refl w)))
+    (comes within keep m moment changed es free wanted seen long later_wanted later_seen
+    (plain_out within keep low moment e es free wanted seen w.holds refl w)))
 comes within keep low moment changed (Wanted m asked terms is_optional false ∷ es) [] wanted seen long later_wanted later_seen w = absurd w.holds
 comes within keep low moment changed (Wanted m asked terms is_optional false ∷ es) (Sent x ∷ free) wanted seen long later_wanted later_seen w =
     either_comes within keep low moment changed (Wanted m asked terms is_optional false) es (Sent x ∷ free) wanted seen w (λ over.
@@ -242,16 +272,20 @@ comes within keep low moment changed (Wanted m asked terms is_optional false ∷
     let e = Wanted m asked terms is_optional false in
     either_comes within keep low moment changed e es (LeftOut x ∷ free) wanted seen w (λ over.
     one_comes within keep moment changed e es (LeftOut x ∷ free) free wanted seen (Missing x.moment x.terms.packet x.asked ∷ []) over
-    (found_of_missed within changed m asked terms is_optional x w.holds.0.0 w.holds.0.1) refl (λ b. missed_due within keep moment m asked terms x free b long w.holds.0.0 over) refl
-    (comes within keep m moment changed es free wanted seen long later_wanted later_seen (missed_out within keep low moment m asked terms is_optional es x free wanted seen w)))
+    (found_of_missed within changed m asked terms is_optional x w.holds.0.0 w.holds.0.1) refl
+    (λ b. missed_due within keep moment m asked terms x free b long w.holds.0.0 over) refl
+    (comes within keep m moment changed es free wanted seen long later_wanted later_seen
+    (missed_out within keep low moment m asked terms is_optional es x free wanted seen w)))
 comes within keep low moment changed (Seen m asked terms None alone ∷ es) free wanted seen long later_wanted later_seen w =
     either_comes within keep low moment changed (Seen m asked terms None alone) es free wanted seen w (λ over.
     absurd (no_seen_over within keep low moment m asked terms alone es free wanted seen long later_wanted (ltb-true (m + keep) moment over) w))
 comes within keep low moment changed (Seen m asked terms (Some partner) alone ∷ es) free wanted seen long later_wanted later_seen w =
     let e = Seen m asked terms (Some partner) alone in
     either_comes within keep low moment changed e es free wanted seen w (λ over.
-    one_comes within keep moment changed e es free free wanted seen [] over (found_of_pair within changed m asked terms partner alone w.holds.0) refl (λ b. refl) refl
-    (comes within keep m moment changed es free wanted seen long later_wanted later_seen (plain_out within keep low moment e es free wanted seen w.holds.1 refl w)))
+    one_comes within keep moment changed e es free free wanted seen [] over (found_of_pair within changed m asked terms partner alone w.holds.0) refl
+    (λ b. refl) refl
+    (comes within keep m moment changed es free wanted seen long later_wanted later_seen
+    (plain_out within keep low moment e es free wanted seen w.holds.1 refl w)))
 comes within keep low moment changed (Interval m packet after wanted' ∷ es) free wanted seen long later_wanted later_seen w = absurd w.holds
 comes within keep low moment changed (Silence m after wanted' ∷ es) free wanted seen long later_wanted later_seen w = absurd w.holds
 comes within keep low moment changed (Packet m number fault ∷ es) free wanted seen long later_wanted later_seen w = absurd w.holds

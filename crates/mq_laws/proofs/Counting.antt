@@ -108,10 +108,18 @@ as_read : (read : Result (Message ℕ) WireFault) (answer : Received) (c after :
 as_read read answer c after h1 = grind arith
 
 pub decided_counted : (config : Configuration) (envelope : Envelope) (step : Step) (read : Result (Message ℕ) WireFault) (by : Option DropReason)
-    → CountsAnswer (taken_or_dropped config envelope step read by).answer step.state.counters (taken_or_dropped config envelope step read by).step.state.counters
-decided_counted config envelope step read (Some reason) = as_read read (Dropped reason) step.state.counters (count_dropped reason (count_read read step.state.counters)) (dropped_counted reason (count_read read step.state.counters))
-decided_counted config envelope step (Err fault) None = as_read (Err fault) (Dropped (reason_of_fault fault)) step.state.counters (count_dropped (reason_of_fault fault) (count_read (Err fault) step.state.counters)) (dropped_counted (reason_of_fault fault) (count_read (Err fault) step.state.counters))
-decided_counted config envelope step (Ok message) None = as_read (Ok message) (taken_in config envelope message (counting_read (Ok message) step)).answer step.state.counters (taken_in config envelope message (counting_read (Ok message) step)).step.state.counters (taken_counted config envelope message (counting_read (Ok message) step)).counted
+    → CountsAnswer (taken_or_dropped config envelope step read by).answer step.state.counters
+    (taken_or_dropped config envelope step read by).step.state.counters
+decided_counted config envelope step read (Some reason) =
+    as_read read (Dropped reason) step.state.counters (count_dropped reason (count_read read step.state.counters))
+    (dropped_counted reason (count_read read step.state.counters))
+decided_counted config envelope step (Err fault) None = as_read (Err fault) (Dropped (reason_of_fault fault)) step.state.counters
+    (count_dropped (reason_of_fault fault) (count_read (Err fault) step.state.counters))
+    (dropped_counted (reason_of_fault fault) (count_read (Err fault) step.state.counters))
+decided_counted config envelope step (Ok message) None =
+    as_read (Ok message) (taken_in config envelope message (counting_read (Ok message) step)).answer step.state.counters
+    (taken_in config envelope message (counting_read (Ok message) step)).step.state.counters
+    (taken_counted config envelope message (counting_read (Ok message) step)).counted
 
 pub decided_received : (config : Configuration) (envelope : Envelope) (step : Step) (read : Result (Message ℕ) WireFault) (by : Option DropReason)
     → (taken_or_dropped config envelope step read by).step.state.counters.received ≡ counted_on step.state.counters.received 1
@@ -135,6 +143,7 @@ two_answers (b ∷ answers) =
     one_or_other false = refl
 
 pub decided_spelled : (config : Configuration) (envelope : Envelope) (step : Step) (message : Message ℕ) (by : Option DropReason)
-    → (taken_or_dropped config envelope step (Ok message) by).step.state.counters.spelled ≡ counted_at kind_number (kind_of message) 1 step.state.counters.spelled
+    → (taken_or_dropped config envelope step (Ok message) by).step.state.counters.spelled
+    ≡ counted_at kind_number (kind_of message) 1 step.state.counters.spelled
 decided_spelled config envelope step message (Some reason) = refl
 decided_spelled config envelope step message None = (taken_counted config envelope message (counting_read (Ok message) step)).spelled

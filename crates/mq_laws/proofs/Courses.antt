@@ -10,15 +10,18 @@ use Rattle.mq_check.specs.declared.phase.Phase.{Phase}
 use Rattle.mq_check.specs.declared.phase.Phase.TheVariants.{Starting, Heard, Returned, NotQuerier}
 use Rattle.mq_check.specs.declared.schedules.Repeats.{Repeats}
 use Rattle.mq_check.specs.declared.terms.Terms.{Terms}
-use Rattle.mq_check.specs.Checking.{CheckingValue, all_blocked, alone_in, is_querier_in, near, with_wanted, with_seen, one_seen, with_general, general_compared, general_seen, specific_seen, role_lost, role_returned, settled, told, with_fault}
+use Rattle.mq_check.specs.Checking.{CheckingValue, all_blocked, alone_in, is_querier_in, near, subject_wanted, with_seen, one_seen, with_general}
+use Rattle.mq_check.specs.Checking.{general_compared, general_seen, specific_seen, role_lost, role_returned, settled, told, with_fault}
 use Rattle.mq_check.specs.Entries.{is_free_seen, is_free_wanted, may_be_left_out, terms_differ}
 use Rattle.mq_check.specs.General.{wrong_interval, phase_again, phase_behind, silence_up_to}
 use Rattle.mq_check.specs.Queries.{is_same}
-use Rattle.mq_check.specs.Schedules.{repeats_in}
+use Rattle.mq_check.specs.Schedules.{repeats_in, terms_wanted}
 use Rattle.mq_check.specs.Waiting.{WaitingValue}
 use Rattle.mq_laws.specs.Pairing.{Ask, Expected, Sent, LeftOut, ask_of, asks_of, kept_for, missing_of, wanted_about}
-use Rattle.mq_laws.specs.Events.{CheckEvent, Comes, Wants, Sees, SeesGeneral, LosesRole, HasRoleAgain, SeesFault, Blocks, moment_behind, check_by, told_by, moment_behind_all, check_by_all, told_by_all}
-use Rattle.mq_laws.specs.WantedAndSeen.{asks_at, wanted_in, seen_in, general_ask, general_returned, all_seen, all_wanted, return_seen, return_wanted, still_due, Returns}
+use Rattle.mq_laws.specs.Events.{CheckEvent, Comes, Wants, Sees, SeesGeneral, LosesRole, HasRoleAgain, SeesFault, Blocks, moment_behind, check_by}
+use Rattle.mq_laws.specs.Events.{told_by, moment_behind_all, check_by_all, told_by_all}
+use Rattle.mq_laws.specs.WantedAndSeen.{asks_at, asks_wanted, wanted_in, seen_in, general_ask, general_returned, all_seen, all_wanted, return_seen}
+use Rattle.mq_laws.specs.WantedAndSeen.{return_wanted, still_due, Returns}
 use Rattle.mq_laws.specs.OnTime.{AreInOrder, AreOnTime, IsAsWantedThen}
 use Rattle.mq_laws.specs.AsWanted.{AreMissed}
 use Rattle.mq_laws.proofs.Held.{ask, IsKept, ascending-to, moments_wanted, still_later}
@@ -26,7 +29,8 @@ use Rattle.mq_laws.proofs.Same.{same_asked}
 use Rattle.mq_laws.proofs.Partners.{SameFrom}
 use Rattle.mq_laws.proofs.Steps.{Stands, Stepped, general_one, returns_of, see_one, seen_near, want_one, wanted_near}
 use Rattle.mq_laws.proofs.Comings.{WantedFrom, SeenFrom, Waits, comes, left_of, told_of}
-use Rattle.mq_laws.proofs.Rooms.{entered, wanted_part, seen_part, general_part, lost_part, required, told_now, settled_free, settled_full, compared_querier, compared_other, general_free, lost_free, returned_free, returned_part, blocked_free, blocked_part}
+use Rattle.mq_laws.proofs.Rooms.{entered, wanted_part, seen_part, general_part, lost_part, required, told_now, settled_free, settled_full}
+use Rattle.mq_laws.proofs.Rooms.{compared_querier, compared_other, general_free, lost_free, returned_free, returned_part, blocked_free, blocked_part}
 
 -- What waits behind some steps, and the general queries among it.
 pub record StepsTo (within keep now : ℕ) (entries : List (Entry ℕ)) (before wanted : List Expected) (seen : List Ask) (returns : Returns) : Type 0 where
@@ -39,28 +43,35 @@ abbrev pub general_returns : (within now : ℕ) → List Expected → List (Entr
 general_returns within now free entries = returns_of within now AllGroups free entries
 
 -- one step, as far as general queries go
-stepped : (within keep now : ℕ) (asked : Asked ℕ) (step : (due early : List ℕ) → Returns) (old entries : List (Entry ℕ)) (free before wanted : List Expected) (seen : List Ask)
+stepped : (within keep now : ℕ) (asked : Asked ℕ) (step : (due early : List ℕ) → Returns) (old entries : List (Entry ℕ))
+    (free before wanted : List Expected) (seen : List Ask)
     → Stepped within keep now asked step old entries free before wanted seen
     → StepsTo within keep now entries before wanted seen
-    (if is_same AllGroups asked then step (general_returns within now free old).due (general_returns within now free old).early else general_returns within now free old)
+    (if is_same AllGroups asked then step (general_returns within now free old).due (general_returns within now free old).early else general_returns
+    within now free old)
 stepped within keep now asked step old entries free before wanted seen s = record {
   left = s.left;
   stands = s.stands;
   missing = s.missing;
-  returns_are = elim (is_same AllGroups asked) as (λ b. is_same AllGroups asked ≡ b → returns_of within now AllGroups s.left entries ≡ (if is_same AllGroups asked then step (general_returns within now free old).due (general_returns within now free old).early else general_returns within now free old)) [
-    | true ↦ λ same.
-        let is : AllGroups ≡ asked = same_asked AllGroups asked same in
-        rw same (subst (λ (a : Asked ℕ). returns_of within now a s.left entries ≡ step (returns_of within now a free old).due (returns_of within now a free old).early) (sym is) s.here)
-    | false ↦ λ differs. rw differs (s.others AllGroups differs)
-  ] refl;
+  returns_are = elim (is_same AllGroups asked) as (λ b. is_same AllGroups asked ≡ b → returns_of within now AllGroups s.left entries
+      ≡ (if is_same AllGroups asked then step (general_returns within now free old).due (general_returns within now free old).early else
+      general_returns within now free old)) [
+        | true ↦ λ same.
+            let is : AllGroups ≡ asked = same_asked AllGroups asked same in
+            rw same (subst (λ (a : Asked ℕ). returns_of within now a s.left entries ≡ step (returns_of within now a free old).due
+            (returns_of within now a free old).early) (sym is) s.here)
+        | false ↦ λ differs. rw differs (s.others AllGroups differs)
+      ] refl;
 }
 
 -- the first moment within the tolerance, as the check has it
-near_as : (within now : ℕ) (test : Entry ℕ → Bool) (c : CheckingValue) → c.schedules.repeats.within ≡ within → SameFrom test (now - within) c.waiting.entries → SameFrom test (near now c) c.waiting.entries
+near_as : (within now : ℕ) (test : Entry ℕ → Bool) (c : CheckingValue) → c.schedules.repeats.within ≡ within →
+    SameFrom test (now - within) c.waiting.entries → SameFrom test (near now c) c.waiting.entries
 near_as within now test c within_is same = subst (λ (w : ℕ). SameFrom test (now - w) c.waiting.entries) (sym within_is) same
 
 -- what is left to do behind some of what is wanted at a moment
-pub record WantedAll (within keep end now : ℕ) (c after : CheckingValue) (free before : List Expected) (seen : List Ask) (rest : List Ask) (returns : Returns) : Type 0 where
+pub record WantedAll (within keep end now : ℕ) (c after : CheckingValue) (free before : List Expected) (seen : List Ask) (rest : List Ask)
+    (returns : Returns) : Type 0 where
   pub wanted : List Expected
   pub step : StepsTo within keep now after.waiting.entries before wanted seen returns
   pub asks : asks_of wanted ≡ rest
@@ -78,29 +89,50 @@ missed_behind : (keep end : ℕ) (x : Expected) (xs : List Expected) → AreMiss
 missed_behind keep end (Sent w) xs missed = missed
 missed_behind keep end (LeftOut w) xs missed = missed.1
 
-pub wants_free : (now : ℕ) (terms : Terms ℕ) (asked : List (Asked ℕ)) (c : CheckingValue) → (fold (with_wanted now terms) c asked).waiting.is_full ≡ false → c.waiting.is_full ≡ false
-wants_free now terms [] c free = free
-wants_free now terms (a ∷ more) c free = (wanted_part now terms c a (wants_free now terms more (with_wanted now terms c a) free)).was
+-- the terms that a check gives a query of the link about a thing
+abbrev given : (is_again : Bool) → Terms ℕ → Asked ℕ → CheckingValue → Terms ℕ
+given is_again terms asked c = terms_wanted is_again terms asked c.schedules
 
-wants_all : (within keep end now : ℕ) (terms : Terms ℕ) (asked : List (Asked ℕ)) (c : CheckingValue) (free expected : List Expected) (seen : List Ask) (rest : List Ask)
-    → c.schedules.repeats.within ≡ within → asks_of expected ≡ asks_at now terms asked ++ rest → AreMissed keep end expected → (fold (with_wanted now terms) c asked).waiting.is_full ≡ false
+pub wants_free : (now : ℕ) (is_again : Bool) (terms : Terms ℕ) (asked : List (Asked ℕ)) (c : CheckingValue) →
+    (fold (subject_wanted now is_again terms) c asked).waiting.is_full ≡ false → c.waiting.is_full ≡ false
+wants_free now is_again terms [] c free = free
+wants_free now is_again terms (a ∷ more) c free =
+    (wanted_part now (given is_again terms a c) c a (wants_free now is_again terms more (subject_wanted now is_again terms c a) free)).was
+
+wants_all : (within keep end now : ℕ) (is_again : Bool) (terms : Terms ℕ) (asked : List (Asked ℕ)) (c : CheckingValue) (free expected : List Expected)
+    (seen : List Ask) (rest : List Ask)
+    → c.schedules.repeats.within ≡ within → asks_of expected ≡ asks_wanted now is_again terms asked c ++ rest → AreMissed keep end expected →
+    (fold (subject_wanted now is_again terms) c asked).waiting.is_full ≡ false
     → Stands within keep now c.waiting.entries free expected seen
-    → WantedAll within keep end now c (fold (with_wanted now terms) c asked) free (free ++ expected) seen rest (all_wanted now asked (general_returns within now free c.waiting.entries))
-wants_all within keep end now terms [] c free expected seen rest within_is is missed room st =
-    record { wanted = expected; step = record { left = free; stands = st; missing = refl; returns_are = refl }; asks = is; missed = missed; phase = refl; last = refl; repeats = refl }
-wants_all within keep end now terms (a ∷ more) c free [] seen rest within_is is missed room st = absurd (cc)
-wants_all within keep end now terms (a ∷ more) c free (x ∷ xs) seen rest within_is is missed room st =
-    let first : ask_of x ≡ ask now a terms = cc in
-    let others : asks_of xs ≡ asks_at now terms more ++ rest = cc in
-    let next = with_wanted now terms c a in
-    let part = wanted_part now terms c a (wants_free now terms more next room) in
+    → WantedAll within keep end now c (fold (subject_wanted now is_again terms) c asked) free (free ++ expected) seen rest
+    (all_wanted now asked (general_returns within now free c.waiting.entries))
+wants_all within keep end now is_again terms [] c free expected seen rest within_is is missed room st =
+    record {
+      wanted = expected;
+      step = record { left = free; stands = st; missing = refl; returns_are = refl };
+      asks = is;
+      missed = missed;
+      phase =
+          refl;
+      last = refl;
+      repeats = refl;
+    }
+wants_all within keep end now is_again terms (a ∷ more) c free [] seen rest within_is is missed room st = absurd (cc)
+wants_all within keep end now is_again terms (a ∷ more) c free (x ∷ xs) seen rest within_is is missed room st =
+    let t = given is_again terms a c in
+    let next = subject_wanted now is_again terms c a in
+    let first : ask_of x ≡ ask now a t = cc in
+    let others : asks_of xs ≡ asks_wanted now is_again terms more next ++ rest = cc in
+    let part = wanted_part now t c a (wants_free now is_again terms more next room) in
     let r = general_returns within now free c.waiting.entries in
     let near_is : SameFrom (is_free_seen a) (near now c) c.waiting.entries =
-    near_as within now (is_free_seen a) c within_is (seen_near within keep now a terms x c.waiting.entries free xs seen first st) in
+    near_as within now (is_free_seen a) c within_is (seen_near within keep now a t x c.waiting.entries free xs seen first st) in
     let one : StepsTo within keep now next.waiting.entries (free ++ x ∷ xs) xs seen (if is_same AllGroups a then return_wanted now r.due r.early else r) =
     rw (part.entries near_is) (stepped within keep now a (return_wanted now) _ _ free (free ++ x ∷ xs) xs seen
-    (want_one within keep now a terms (may_be_left_out now a terms c.waiting.entries) x c.waiting.entries free xs seen (kept_of keep end now a terms c.waiting.entries x xs first missed) st)) in
-    let all = wants_all within keep end now terms more next one.left xs seen rest (ap (λ (r : Repeats). r.within) part.repeats ∙ within_is) others (missed_behind keep end x xs missed) room one.stands in
+    (want_one within keep now a t (may_be_left_out now a t c.waiting.entries) x c.waiting.entries free xs seen
+    (kept_of keep end now a t c.waiting.entries x xs first missed) st)) in
+    let all = wants_all within keep end now is_again terms more next one.left xs seen rest (ap (λ (r : Repeats). r.within) part.repeats ∙ within_is)
+    others (missed_behind keep end x xs missed) room one.stands in
     record {
       wanted = all.wanted;
       step = record {
@@ -123,22 +155,28 @@ pub record SeenAll (within keep now : ℕ) (c after : CheckingValue) (free befor
   pub last : after.last_general ≡ c.last_general
   pub repeats : after.schedules.repeats ≡ c.schedules.repeats
 
-sees_free : (now : ℕ) (terms : Terms ℕ) (unheld : Asked ℕ → Option (Terms ℕ)) (asked : List (Asked ℕ)) (c : CheckingValue) → (fold (one_seen now terms unheld) c asked).waiting.is_full ≡ false → c.waiting.is_full ≡ false
+sees_free : (now : ℕ) (terms : Terms ℕ) (unheld : Asked ℕ → Option (Terms ℕ)) (asked : List (Asked ℕ)) (c : CheckingValue) →
+    (fold (one_seen now terms unheld) c asked).waiting.is_full ≡ false → c.waiting.is_full ≡ false
 sees_free now terms unheld [] c free = free
-sees_free now terms unheld (a ∷ more) c free = (seen_part now terms (unheld a) c a (sees_free now terms unheld more (with_seen now terms (unheld a) c a) free)).was
+sees_free now terms unheld (a ∷ more) c free =
+    (seen_part now terms (unheld a) c a (sees_free now terms unheld more (with_seen now terms (unheld a) c a) free)).was
 
-sees_all : (within keep now : ℕ) (terms : Terms ℕ) (unheld : Asked ℕ → Option (Terms ℕ)) (asked : List (Asked ℕ)) (c : CheckingValue) (free wanted : List Expected) (rest : List Ask)
+sees_all : (within keep now : ℕ) (terms : Terms ℕ) (unheld : Asked ℕ → Option (Terms ℕ)) (asked : List (Asked ℕ)) (c : CheckingValue)
+    (free wanted : List Expected) (rest : List Ask)
     → c.schedules.repeats.within ≡ within → (fold (one_seen now terms unheld) c asked).waiting.is_full ≡ false
     → Stands within keep now c.waiting.entries free wanted (asks_at now terms asked ++ rest)
-    → SeenAll within keep now c (fold (one_seen now terms unheld) c asked) free (free ++ wanted) wanted rest (all_seen now asked (general_returns within now free c.waiting.entries))
-sees_all within keep now terms unheld [] c free wanted rest within_is room st = record { step = record { left = free; stands = st; missing = refl; returns_are = refl }; phase = refl; last = refl; repeats = refl }
+    → SeenAll within keep now c (fold (one_seen now terms unheld) c asked) free (free ++ wanted) wanted rest
+    (all_seen now asked (general_returns within now free c.waiting.entries))
+sees_all within keep now terms unheld [] c free wanted rest within_is room st =
+    record { step = record { left = free; stands = st; missing = refl; returns_are = refl }; phase = refl; last = refl; repeats = refl }
 sees_all within keep now terms unheld (a ∷ more) c free wanted rest within_is room st =
     let next = with_seen now terms (unheld a) c a in
     let part = seen_part now terms (unheld a) c a (sees_free now terms unheld more next room) in
     let r = general_returns within now free c.waiting.entries in
     let near_is : SameFrom (is_free_wanted a) (near now c) c.waiting.entries =
     near_as within now (is_free_wanted a) c within_is (wanted_near within keep now a terms c.waiting.entries free wanted (asks_at now terms more ++ rest) st) in
-    let one : StepsTo within keep now next.waiting.entries (free ++ wanted) wanted (asks_at now terms more ++ rest) (if is_same AllGroups a then return_seen now r.due r.early else r) =
+    let one : StepsTo within keep now next.waiting.entries (free ++ wanted) wanted (asks_at now terms more ++ rest)
+    (if is_same AllGroups a then return_seen now r.due r.early else r) =
     rw (part.entries near_is) (stepped within keep now a (return_seen now) _ _ free (free ++ wanted) wanted (asks_at now terms more ++ rest)
     (see_one within keep now a terms (alone_in now terms (unheld a) a c) c.waiting.entries free wanted (asks_at now terms more ++ rest) st)) in
     let all = sees_all within keep now terms unheld more next one.left wanted rest (ap (λ (r : Repeats). r.within) part.repeats ∙ within_is) room one.stands in
@@ -155,19 +193,25 @@ sees_all within keep now terms unheld (a ∷ more) c free wanted rest within_is 
     }
 
 -- where there is room at the end, there was at the beginning
-pub all_free : (within : ℕ) (timing : Timing) (now : ℕ) (events : List CheckEvent) (c : CheckingValue) → (check_by_all within timing now events c).waiting.is_full ≡ false → c.waiting.is_full ≡ false
+pub all_free : (within : ℕ) (timing : Timing) (now : ℕ) (events : List CheckEvent) (c : CheckingValue) →
+    (check_by_all within timing now events c).waiting.is_full ≡ false → c.waiting.is_full ≡ false
 all_free within timing now [] c free = free
-all_free within timing now (Comes moment ∷ es) c free = sym (settled_full c.schedules.repeats.keep moment c.waiting) ∙ all_free within timing moment es (settled moment c) free
-all_free within timing now (Wants terms asked ∷ es) c free = wants_free now terms asked c (all_free within timing now es (fold (with_wanted now terms) c asked) free)
-all_free within timing now (Sees terms unheld asked ∷ es) c free = sees_free now terms unheld asked c (all_free within timing now es (specific_seen now terms unheld asked c) free)
-all_free within timing now (SeesGeneral terms wanted ∷ es) c free = general_free within timing now terms wanted c (all_free within timing now es (general_seen within timing now terms wanted c) free)
+all_free within timing now (Comes moment ∷ es) c free = sym (settled_full c.schedules.repeats.keep moment c.waiting) ∙
+    all_free within timing moment es (settled moment c) free
+all_free within timing now (Wants is_again terms asked ∷ es) c free =
+    wants_free now is_again terms asked c (all_free within timing now es (fold (subject_wanted now is_again terms) c asked) free)
+all_free within timing now (Sees terms unheld asked ∷ es) c free =
+    sees_free now terms unheld asked c (all_free within timing now es (specific_seen now terms unheld asked c) free)
+all_free within timing now (SeesGeneral terms wanted ∷ es) c free =
+    general_free within timing now terms wanted c (all_free within timing now es (general_seen within timing now terms wanted c) free)
 all_free within timing now (LosesRole ∷ es) c free = lost_free within timing now c (all_free within timing now es (role_lost within timing now c) free)
 all_free within timing now (HasRoleAgain ∷ es) c free = returned_free within now c (all_free within timing now es (role_returned within now c) free)
 all_free within timing now (SeesFault number fault ∷ es) c free = (entered _ _ (all_free within timing now es (with_fault now number c fault) free)).was
 all_free within timing now (Blocks asked ∷ es) c free = blocked_free now asked c (all_free within timing now es (all_blocked now asked c) free)
 
 -- What waits at the end, and that no less is missing than was told and is missing still.
-pub record Ended (within : ℕ) (timing : Timing) (strict : Bool) (end now : ℕ) (events : List CheckEvent) (c : CheckingValue) (missing : List (Finding ℕ)) : Type 0 where
+pub record Ended (within : ℕ) (timing : Timing) (strict : Bool) (end now : ℕ) (events : List CheckEvent) (c : CheckingValue)
+    (missing : List (Finding ℕ)) : Type 0 where
   pub left : List Expected
   pub stands : Stands within (kept_for within timing strict) (moment_behind_all now events) (check_by_all within timing now events c).waiting.entries left [] []
   pub missing_is : missing ≡ told_by_all within timing now events c ++ missing_of (left ++ [])
@@ -184,28 +228,42 @@ later-from : (now moment : ℕ) (asks : List Ask) → now ≤ moment → SeenFro
 later-from now moment [] before is = is
 later-from now moment (a ∷ more) before is = (omega (arith, is.0), later-from now moment more before is.1)
 
-wanted-from : (now : ℕ) (events : List CheckEvent) (end : ℕ) → AreInOrder now events end → SeenFrom now (wanted_in now events)
-wanted-from now [] end order = tt
-wanted-from now (Comes moment ∷ es) end order = later-from now moment (wanted_in moment es) order.0 (wanted-from moment es end order.1)
-wanted-from now (Wants terms asked ∷ es) end order = asks-from now terms asked (wanted_in now es) (wanted-from now es end order)
-wanted-from now (Sees terms unheld asked ∷ es) end order = wanted-from now es end order
-wanted-from now (SeesGeneral terms wanted ∷ es) end order = wanted-from now es end order
-wanted-from now (LosesRole ∷ es) end order = wanted-from now es end order
-wanted-from now (HasRoleAgain ∷ es) end order = wanted-from now es end order
-wanted-from now (SeesFault number fault ∷ es) end order = wanted-from now es end order
-wanted-from now (Blocks asked ∷ es) end order = wanted-from now es end order
+asks_wanted-from : (now : ℕ) (is_again : Bool) (terms : Terms ℕ) (asked : List (Asked ℕ)) (c : CheckingValue) (rest : List Ask) → SeenFrom now rest →
+    SeenFrom now (asks_wanted now is_again terms asked c ++ rest)
+asks_wanted-from now is_again terms [] c rest is = is
+asks_wanted-from now is_again terms (a ∷ more) c rest is =
+    (omega arith, asks_wanted-from now is_again terms more (subject_wanted now is_again terms c a) rest is)
 
-general-from : (is_querier : Bool) (due : List ℕ) (now : ℕ) (terms : Terms ℕ) (rest : List Ask) → SeenFrom now rest → SeenFrom now (general_ask is_querier due now terms ++ rest)
+wanted-from : (within : ℕ) (timing : Timing) (now : ℕ) (events : List CheckEvent) (c : CheckingValue) (end : ℕ) → AreInOrder now events end →
+    SeenFrom now (wanted_in within timing now events c)
+wanted-from within timing now [] c end order = tt
+wanted-from within timing now (Comes moment ∷ es) c end order =
+    later-from now moment _ order.0 (wanted-from within timing moment es (settled moment c) end order.1)
+wanted-from within timing now (Wants is_again terms asked ∷ es) c end order =
+    asks_wanted-from now is_again terms asked c _ (wanted-from within timing now es (fold (subject_wanted now is_again terms) c asked) end order)
+wanted-from within timing now (Sees terms unheld asked ∷ es) c end order = wanted-from within timing now es (specific_seen now terms unheld asked c) end order
+wanted-from within timing now (SeesGeneral terms wanted ∷ es) c end order =
+    wanted-from within timing now es (general_seen within timing now terms wanted c) end order
+wanted-from within timing now (LosesRole ∷ es) c end order = wanted-from within timing now es (role_lost within timing now c) end order
+wanted-from within timing now (HasRoleAgain ∷ es) c end order = wanted-from within timing now es (role_returned within now c) end order
+wanted-from within timing now (SeesFault number fault ∷ es) c end order = wanted-from within timing now es (with_fault now number c fault) end order
+wanted-from within timing now (Blocks asked ∷ es) c end order = wanted-from within timing now es (all_blocked now asked c) end order
+
+general-from : (is_querier : Bool) (due : List ℕ) (now : ℕ) (terms : Terms ℕ) (rest : List Ask) → SeenFrom now rest →
+    SeenFrom now (general_ask is_querier due now terms ++ rest)
 general-from true [] now terms rest is = is
 general-from true (d ∷ due) now terms rest is = (omega arith, is)
 general-from false due now terms rest is = (omega arith, is)
 
-seen-from : (within : ℕ) (is_querier : Bool) (r : Returns) (now : ℕ) (events : List CheckEvent) (end : ℕ) → AreInOrder now events end → SeenFrom now (seen_in within is_querier r now events)
+seen-from : (within : ℕ) (is_querier : Bool) (r : Returns) (now : ℕ) (events : List CheckEvent) (end : ℕ) → AreInOrder now events end →
+    SeenFrom now (seen_in within is_querier r now events)
 seen-from within q r now [] end order = tt
-seen-from within q r now (Comes moment ∷ es) end order = later-from now moment _ order.0 (seen-from within q (record r { due = still_due within moment r.due }) moment es end order.1)
-seen-from within q r now (Wants terms asked ∷ es) end order = seen-from within q (all_wanted now asked r) now es end order
+seen-from within q r now (Comes moment ∷ es) end order =
+    later-from now moment _ order.0 (seen-from within q (record r { due = still_due within moment r.due }) moment es end order.1)
+seen-from within q r now (Wants is_again terms asked ∷ es) end order = seen-from within q (all_wanted now asked r) now es end order
 seen-from within q r now (Sees terms unheld asked ∷ es) end order = asks-from now terms asked _ (seen-from within q (all_seen now asked r) now es end order)
-seen-from within q r now (SeesGeneral terms wanted ∷ es) end order = general-from q r.due now terms _ (seen-from within q (general_returned q now r.due r.early) now es end order)
+seen-from within q r now (SeesGeneral terms wanted ∷ es) end order =
+    general-from q r.due now terms _ (seen-from within q (general_returned q now r.due r.early) now es end order)
 seen-from within q r now (LosesRole ∷ es) end order = seen-from within false r now es end order
 seen-from within q r now (HasRoleAgain ∷ es) end order = seen-from within true r now es end order
 seen-from within q r now (SeesFault number fault ∷ es) end order = seen-from within q r now es end order
@@ -228,10 +286,11 @@ querier_behind within timing now NotQuerier = refl
 
 querier_again : (within now : ℕ) (last : Option ℕ) → is_querier_in (phase_again within now last) ≡ true
 querier_again within now None = refl
-querier_again within now (Some last) = elim (nat_le now (last + within)) as (λ b. nat_le now (last + within) ≡ b → is_querier_in (phase_again within now (Some last)) ≡ true) [
-  | true ↦ λ is. rw is refl
-  | false ↦ λ is. rw is refl
-] refl
+querier_again within now (Some last) =
+    elim (nat_le now (last + within)) as (λ b. nat_le now (last + within) ≡ b → is_querier_in (phase_again within now (Some last)) ≡ true) [
+      | true ↦ λ is. rw is refl
+      | false ↦ λ is. rw is refl
+    ] refl
 
 no_phase_behind : (within : ℕ) (timing : Timing) (now : ℕ) (phase : Phase) → is_querier_in phase ≡ false → phase_behind within timing now phase ≡ phase
 no_phase_behind within timing now (Starting startup) is = absurd (cc)
@@ -240,13 +299,15 @@ no_phase_behind within timing now Returned is = absurd (cc)
 no_phase_behind within timing now NotQuerier is = refl
 
 -- a general query that was seen
-pub record GeneralAll (within keep : ℕ) (timing : Timing) (now : ℕ) (c after : CheckingValue) (free before wanted : List Expected) (rest : List Ask) (returns : Returns) : Type 0 where
+pub record GeneralAll (within keep : ℕ) (timing : Timing) (now : ℕ) (c after : CheckingValue) (free before wanted : List Expected) (rest : List Ask)
+    (returns : Returns) : Type 0 where
   pub step : StepsTo within keep now after.waiting.entries before wanted rest returns
   pub phase : after.phase ≡ phase_behind within timing now c.phase
   pub repeats : after.schedules.repeats ≡ c.schedules.repeats
 
 -- one step about all groups
-general_step : (within keep now : ℕ) (step : (due early : List ℕ) → Returns) (old entries : List (Entry ℕ)) (free before wanted : List Expected) (seen : List Ask)
+general_step : (within keep now : ℕ) (step : (due early : List ℕ) → Returns) (old entries : List (Entry ℕ)) (free before wanted : List Expected)
+    (seen : List Ask)
     → Stepped within keep now AllGroups step old entries free before wanted seen
     → StepsTo within keep now entries before wanted seen (step (general_returns within now free old).due (general_returns within now free old).early)
 general_step within keep now step old entries free before wanted seen s = record { left = s.left; stands = s.stands; missing = s.missing; returns_are = s.here }
@@ -256,32 +317,45 @@ general_all : (within keep : ℕ) (timing : Timing) (now : ℕ) (terms partner :
     → (general_compared within timing now terms partner c).waiting.is_full ≡ false
     → (let r = general_returns within now free c.waiting.entries in
     Stands within keep now c.waiting.entries free wanted (general_ask (is_querier_in c.phase) r.due now terms ++ rest)
-    → GeneralAll within keep timing now c (general_compared within timing now terms partner c) free (free ++ wanted) wanted rest (general_returned (is_querier_in c.phase) now r.due r.early))
+    → GeneralAll within keep timing now c (general_compared within timing now terms partner c) free (free ++ wanted) wanted rest
+    (general_returned (is_querier_in c.phase) now r.due r.early))
 general_all within keep timing now terms partner c free wanted rest within_is in_time alike room st =
     let r = general_returns within now free c.waiting.entries in
-    elim (is_querier_in c.phase) as (λ b. is_querier_in c.phase ≡ b → GeneralAll within keep timing now c (general_compared within timing now terms partner c) free (free ++ wanted) wanted rest (general_returned b now r.due r.early)) [
+    elim (is_querier_in c.phase) as
+    (λ b. is_querier_in c.phase ≡ b → GeneralAll within keep timing now c (general_compared within timing now terms partner c) free
+    (free ++ wanted) wanted rest (general_returned b now r.due r.early)) [
       | true ↦ λ is.
           let same = compared_querier within timing now terms partner c is in
           let part = general_part within timing now terms partner c in_time (ap (λ (d : CheckingValue). d.waiting.is_full) (sym same) ∙ room) in
-          let before : Stands within keep now c.waiting.entries free wanted (general_ask true r.due now terms ++ rest) = subst (λ (b : Bool). Stands within keep now c.waiting.entries free wanted (general_ask b r.due now terms ++ rest)) is st in
+          let before : Stands within keep now c.waiting.entries free wanted (general_ask true r.due now terms ++ rest) =
+          subst (λ (b : Bool). Stands within keep now c.waiting.entries free wanted (general_ask b r.due now terms ++ rest)) is st in
           let fits : terms_differ terms partner ≡ [] = subst (λ (b : Bool). IsAsWantedThen b terms partner) is alike in
-          let one : StepsTo within keep now (with_general within timing now terms partner c).waiting.entries (free ++ wanted) wanted rest (general_returned true now r.due r.early) =
-          rw (part.entries, within_is) (general_step within keep now (general_returned true now) _ _ free (free ++ wanted) wanted rest (general_one within keep now terms partner c.waiting.entries free wanted rest fits before)) in
+          let one : StepsTo within keep now (with_general within timing now terms partner c).waiting.entries (free ++ wanted) wanted rest
+          (general_returned true now r.due r.early) =
+          rw (part.entries, within_is)
+          (general_step within keep now (general_returned true now) _ _ free (free ++ wanted) wanted rest
+          (general_one within keep now terms partner c.waiting.entries free wanted rest fits before)) in
           rw same (record { step = one; phase = part.phase; repeats = part.repeats })
       | false ↦ λ is.
           let same = compared_other within timing now terms partner c is in
           let part = seen_part now terms None c AllGroups (ap (λ (d : CheckingValue). d.waiting.is_full) (sym same) ∙ room) in
-          let before : Stands within keep now c.waiting.entries free wanted (ask now AllGroups terms ∷ rest) = subst (λ (b : Bool). Stands within keep now c.waiting.entries free wanted (general_ask b r.due now terms ++ rest)) is st in
+          let before : Stands within keep now c.waiting.entries free wanted (ask now AllGroups terms ∷ rest) =
+          subst (λ (b : Bool). Stands within keep now c.waiting.entries free wanted (general_ask b r.due now terms ++ rest)) is st in
           let near_is : SameFrom (is_free_wanted AllGroups) (near now c) c.waiting.entries =
           near_as within now (is_free_wanted AllGroups) c within_is (wanted_near within keep now AllGroups terms c.waiting.entries free wanted rest before) in
-          let one : StepsTo within keep now (with_seen now terms None c AllGroups).waiting.entries (free ++ wanted) wanted rest (general_returned false now r.due r.early) =
-          rw (part.entries near_is) (general_step within keep now (return_seen now) _ _ free (free ++ wanted) wanted rest (see_one within keep now AllGroups terms (alone_in now terms None AllGroups c) c.waiting.entries free wanted rest before)) in
+          let one : StepsTo within keep now (with_seen now terms None c AllGroups).waiting.entries (free ++ wanted) wanted rest
+          (general_returned false now r.due r.early) =
+          rw (part.entries near_is)
+          (general_step within keep now (return_seen now) _ _ free (free ++ wanted) wanted rest
+          (see_one within keep now AllGroups terms (alone_in now terms None AllGroups c) c.waiting.entries free wanted rest before)) in
           rw same (record { step = one; phase = part.phase ∙ sym (no_phase_behind within timing now c.phase is); repeats = part.repeats })
     ] refl
 
 -- one more event before others
-ended_behind : (within : ℕ) (timing : Timing) (strict : Bool) (end now : ℕ) (e : CheckEvent) (es : List CheckEvent) (c : CheckingValue) (before after : List (Finding ℕ))
-    → before ≡ told_by within e c ++ after → Ended within timing strict end (moment_behind now e) es (check_by within timing now e c) after → Ended within timing strict end now (e ∷ es) c before
+ended_behind : (within : ℕ) (timing : Timing) (strict : Bool) (end now : ℕ) (e : CheckEvent) (es : List CheckEvent) (c : CheckingValue)
+    (before after : List (Finding ℕ))
+    → before ≡ told_by within e c ++ after → Ended within timing strict end (moment_behind now e) es (check_by within timing now e c) after →
+    Ended within timing strict end now (e ∷ es) c before
 ended_behind within timing strict end now e es c before after told rest = record {
   left = rest.left;
   stands = rest.stands;
@@ -292,15 +366,19 @@ ended_behind within timing strict end now e es c before after told rest = record
 }
 
 -- What waits, whatever is known of the queries to come by other names.
-seen_as : (within keep now : ℕ) (entries : List (Entry ℕ)) (free wanted : List Expected) (q q' : Bool) (r r' : Returns) (events : List CheckEvent) → q' ≡ q → r' ≡ r
+seen_as : (within keep now : ℕ) (entries : List (Entry ℕ)) (free wanted : List Expected) (q q' : Bool) (r r' : Returns) (events : List CheckEvent) →
+    q' ≡ q → r' ≡ r
     → Stands within keep now entries free wanted (seen_in within q r now events) → Stands within keep now entries free wanted (seen_in within q' r' now events)
 seen_as within keep now entries free wanted q q' r r' events same is st =
-    subst (λ (b : Bool). Stands within keep now entries free wanted (seen_in within b r' now events)) (sym same) (subst (λ (x : Returns). Stands within keep now entries free wanted (seen_in within q x now events)) (sym is) st)
+    subst (λ (b : Bool). Stands within keep now entries free wanted (seen_in within b r' now events)) (sym same)
+    (subst (λ (x : Returns). Stands within keep now entries free wanted (seen_in within q x now events)) (sym is) st)
 
-time_as : (within : ℕ) (timing : Timing) (phase phase' : Phase) (last last' : Option ℕ) (now : ℕ) (events : List CheckEvent) (end : ℕ) → phase' ≡ phase → last' ≡ last → AreOnTime within timing phase last now events end
+time_as : (within : ℕ) (timing : Timing) (phase phase' : Phase) (last last' : Option ℕ) (now : ℕ) (events : List CheckEvent) (end : ℕ) →
+    phase' ≡ phase → last' ≡ last → AreOnTime within timing phase last now events end
     → AreOnTime within timing phase' last' now events end
 time_as within timing phase phase' last last' now events end same is time =
-    subst (λ (p : Phase). AreOnTime within timing p last' now events end) (sym same) (subst (λ (l : Option ℕ). AreOnTime within timing phase l now events end) (sym is) time)
+    subst (λ (p : Phase). AreOnTime within timing p last' now events end) (sym same)
+    (subst (λ (l : Option ℕ). AreOnTime within timing phase l now events end) (sym is) time)
 
 -- a query is kept for the tolerance at least
 pub kept-long : (within : ℕ) (timing : Timing) (strict : Bool) → within ≤ kept_for within timing strict
@@ -309,11 +387,14 @@ kept-long within timing false = omega arith
 
 -- What is wanted and what was seen are told at the end, or are pairs.
 pub course : (within : ℕ) (timing : Timing) (strict : Bool) (end now : ℕ) (events : List CheckEvent) (c : CheckingValue) (free expected : List Expected)
-    → c.schedules.repeats ≡ repeats_in within timing strict → asks_of expected ≡ wanted_in now events → AreMissed (kept_for within timing strict) end expected → AreInOrder now events end
+    → c.schedules.repeats ≡ repeats_in within timing strict → asks_of expected ≡ wanted_in within timing now events c →
+    AreMissed (kept_for within timing strict) end expected → AreInOrder now events end
     → AreOnTime within timing c.phase c.last_general now events end → (check_by_all within timing now events c).waiting.is_full ≡ false
-    → Stands within (kept_for within timing strict) now c.waiting.entries free expected (seen_in within (is_querier_in c.phase) (general_returns within now free c.waiting.entries) now events)
+    → Stands within (kept_for within timing strict) now c.waiting.entries free expected
+    (seen_in within (is_querier_in c.phase) (general_returns within now free c.waiting.entries) now events)
     → Ended within timing strict end now events c (missing_of (free ++ expected))
-course within timing strict end now [] c free [] keeps asks missed order general room st = record { left = free; stands = st; missing_is = refl; silence = general; in_time = order; repeats = keeps }
+course within timing strict end now [] c free [] keeps asks missed order general room st =
+    record { left = free; stands = st; missing_is = refl; silence = general; in_time = order; repeats = keeps }
 course within timing strict end now [] c free (x ∷ xs) keeps asks missed order general room st = absurd (cc)
 course within timing strict end now (Comes moment ∷ es) c free expected keeps asks missed order general room st =
     let next = settled moment c in
@@ -330,42 +411,58 @@ course within timing strict end now (Comes moment ∷ es) c free expected keeps 
       pairs = st.pairs;
     } in
     let come = comes within keep 0 moment c.changed c.waiting.entries free expected (seen_in within q still moment es)
-    (kept-long within timing strict) (expected-from moment expected (wanted_in moment es) asks (wanted-from moment es end order.1)) (seen-from within q still moment es end order.1) waits in
+    (kept-long within timing strict)
+    (expected-from moment expected (wanted_in within timing moment es next) asks (wanted-from within timing moment es next end order.1))
+    (seen-from within q still moment es end order.1) waits in
     let left_is : next.waiting.entries ≡ left_of keep moment c.waiting.entries =
     settled_free c.schedules.repeats.keep moment c.waiting before ∙ ap (λ (k : ℕ). left_of k moment c.waiting.entries) keep_is in
-    let stands : Stands within keep moment next.waiting.entries come.left expected (seen_in within q still moment es) = rw left_is come.stands in
+    let stands : Stands within keep moment next.waiting.entries come.left expected (seen_in within q still moment es) =
+    subst (λ (l : List (Entry ℕ)). Stands within keep moment l come.left expected (seen_in within q still moment es)) (sym left_is) come.stands in
     let returns : general_returns within moment come.left next.waiting.entries ≡ still =
     ap (general_returns within moment come.left) left_is ∙ come.returns AllGroups
     ∙ (λ i. record { due = sym (still_later within now moment (moments_wanted (wanted_about AllGroups free)) order.0) i; early = r.early }) in
     ended_behind within timing strict end now (Comes moment) es c (missing_of (free ++ expected)) (missing_of (come.left ++ expected))
-    (come.missing ∙ ap (λ (l : List (Finding ℕ)). l ++ missing_of (come.left ++ expected)) (sym (told_now within moment c before ∙ ap (λ (k : ℕ). told_of k within moment c.changed c.waiting.entries) keep_is)))
+    (come.missing ∙ ap (λ (l : List (Finding ℕ)). l ++ missing_of (come.left ++ expected))
+    (sym (told_now within moment c before ∙ ap (λ (k : ℕ). told_of k within moment c.changed c.waiting.entries) keep_is)))
     (course within timing strict end moment es next come.left expected keeps asks missed order.1 general room
     (seen_as within _ moment next.waiting.entries come.left expected q q still _ es refl returns stands))
-course within timing strict end now (Wants terms asked ∷ es) c free expected keeps asks missed order general room st =
-    let next = fold (with_wanted now terms) c asked in
+course within timing strict end now (Wants is_again terms asked ∷ es) c free expected keeps asks missed order general room st =
+    let next = fold (subject_wanted now is_again terms) c asked in
     let r = general_returns within now free c.waiting.entries in
-    let all = wants_all within (kept_for within timing strict) end now terms asked c free expected (seen_in within (is_querier_in c.phase) (all_wanted now asked r) now es) (wanted_in now es) (ap (λ (r : Repeats). r.within) keeps) asks missed (all_free within timing now es next room) st in
-    ended_behind within timing strict end now (Wants terms asked) es c (missing_of (free ++ expected)) (missing_of (all.step.left ++ all.wanted)) all.step.missing
+    let all = wants_all within (kept_for within timing strict) end now is_again terms asked c free expected
+    (seen_in within (is_querier_in c.phase) (all_wanted now asked r) now es) (wanted_in within timing now es next)
+    (ap (λ (r : Repeats). r.within) keeps) asks missed (all_free within timing now es next room) st in
+    ended_behind within timing strict end now (Wants is_again terms asked) es c (missing_of (free ++ expected))
+    (missing_of (all.step.left ++ all.wanted)) all.step.missing
     (course within timing strict end now es next all.step.left all.wanted (all.repeats ∙ keeps) all.asks all.missed order
     (time_as within timing c.phase next.phase c.last_general next.last_general now es end all.phase all.last general) room
-    (seen_as within _ now next.waiting.entries all.step.left all.wanted (is_querier_in c.phase) _ (all_wanted now asked r) _ es (ap is_querier_in all.phase) all.step.returns_are all.step.stands))
+    (seen_as within _ now next.waiting.entries all.step.left all.wanted (is_querier_in c.phase) _ (all_wanted now asked r) _ es
+    (ap is_querier_in all.phase) all.step.returns_are all.step.stands))
 course within timing strict end now (Sees terms unheld asked ∷ es) c free expected keeps asks missed order general room st =
     let next = specific_seen now terms unheld asked c in
     let r = general_returns within now free c.waiting.entries in
-    let all = sees_all within (kept_for within timing strict) now terms unheld asked c free expected (seen_in within (is_querier_in c.phase) (all_seen now asked r) now es) (ap (λ (r : Repeats). r.within) keeps) (all_free within timing now es next room) st in
-    ended_behind within timing strict end now (Sees terms unheld asked) es c (missing_of (free ++ expected)) (missing_of (all.step.left ++ expected)) all.step.missing
+    let all = sees_all within (kept_for within timing strict) now terms unheld asked c free expected
+    (seen_in within (is_querier_in c.phase) (all_seen now asked r) now es) (ap (λ (r : Repeats). r.within) keeps)
+    (all_free within timing now es next room) st in
+    ended_behind within timing strict end now (Sees terms unheld asked) es c (missing_of (free ++ expected))
+    (missing_of (all.step.left ++ expected)) all.step.missing
     (course within timing strict end now es next all.step.left expected (all.repeats ∙ keeps) asks missed order
     (time_as within timing c.phase next.phase c.last_general next.last_general now es end all.phase all.last general) room
-    (seen_as within _ now next.waiting.entries all.step.left expected (is_querier_in c.phase) _ (all_seen now asked r) _ es (ap is_querier_in all.phase) all.step.returns_are all.step.stands))
+    (seen_as within _ now next.waiting.entries all.step.left expected (is_querier_in c.phase) _ (all_seen now asked r) _ es
+    (ap is_querier_in all.phase) all.step.returns_are all.step.stands))
 course within timing strict end now (SeesGeneral terms partner ∷ es) c free expected keeps asks missed order general room st =
     let next = general_seen within timing now terms partner c in
     let r = general_returns within now free c.waiting.entries in
     let q = is_querier_in c.phase in
-    let all = general_all within (kept_for within timing strict) timing now terms partner c free expected (seen_in within q (general_returned q now r.due r.early) now es) (ap (λ (r : Repeats). r.within) keeps) general.0 general.1 (all_free within timing now es next room) st in
-    ended_behind within timing strict end now (SeesGeneral terms partner) es c (missing_of (free ++ expected)) (missing_of (all.step.left ++ expected)) all.step.missing
+    let all = general_all within (kept_for within timing strict) timing now terms partner c free expected
+    (seen_in within q (general_returned q now r.due r.early) now es) (ap (λ (r : Repeats). r.within) keeps) general.0 general.1
+    (all_free within timing now es next room) st in
+    ended_behind within timing strict end now (SeesGeneral terms partner) es c (missing_of (free ++ expected))
+    (missing_of (all.step.left ++ expected)) all.step.missing
     (course within timing strict end now es next all.step.left expected (all.repeats ∙ keeps) asks missed order
     (time_as within timing _ next.phase _ next.last_general now es end all.phase refl general.2) room
-    (seen_as within _ now next.waiting.entries all.step.left expected q _ (general_returned q now r.due r.early) _ es (ap is_querier_in all.phase ∙ querier_behind within timing now c.phase) all.step.returns_are all.step.stands))
+    (seen_as within _ now next.waiting.entries all.step.left expected q _ (general_returned q now r.due r.early) _ es
+    (ap is_querier_in all.phase ∙ querier_behind within timing now c.phase) all.step.returns_are all.step.stands))
 course within timing strict end now (LosesRole ∷ es) c free expected keeps asks missed order general room st =
     let next = role_lost within timing now c in
     let part = lost_part within timing now c general.0 in
@@ -374,7 +471,8 @@ course within timing strict end now (LosesRole ∷ es) c free expected keeps ask
     ended_behind within timing strict end now LosesRole es c (missing_of (free ++ expected)) (missing_of (free ++ expected)) refl
     (course within timing strict end now es next free expected (part.repeats ∙ keeps) asks missed order
     (time_as within timing NotQuerier next.phase c.last_general next.last_general now es end part.phase part.last general.1) room
-    (seen_as within _ now next.waiting.entries free expected false _ r _ es (ap is_querier_in part.phase) (ap (general_returns within now free) entries) (rw entries st)))
+    (seen_as within _ now next.waiting.entries free expected false _ r _ es (ap is_querier_in part.phase)
+    (ap (general_returns within now free) entries) (rw entries st)))
 course within timing strict end now (HasRoleAgain ∷ es) c free expected keeps asks missed order general room st =
     let next = role_returned within now c in
     let part = returned_part within now c in
@@ -383,7 +481,8 @@ course within timing strict end now (HasRoleAgain ∷ es) c free expected keeps 
     ended_behind within timing strict end now HasRoleAgain es c (missing_of (free ++ expected)) (missing_of (free ++ expected)) refl
     (course within timing strict end now es next free expected (part.repeats ∙ keeps) asks missed order
     (time_as within timing (phase_again within now c.last_general) next.phase c.last_general next.last_general now es end part.phase part.last general) room
-    (seen_as within _ now next.waiting.entries free expected true _ r _ es (ap is_querier_in part.phase ∙ querier_again within now c.last_general) (ap (general_returns within now free) entries) (rw entries st)))
+    (seen_as within _ now next.waiting.entries free expected true _ r _ es (ap is_querier_in part.phase ∙ querier_again within now c.last_general)
+    (ap (general_returns within now free) entries) (rw entries st)))
 course within timing strict end now (SeesFault number fault ∷ es) c free expected keeps asks missed order general room st = absurd general
 course within timing strict end now (Blocks asked ∷ es) c free expected keeps asks missed order general room st =
     let next = all_blocked now asked c in
@@ -393,4 +492,5 @@ course within timing strict end now (Blocks asked ∷ es) c free expected keeps 
     ended_behind within timing strict end now (Blocks asked) es c (missing_of (free ++ expected)) (missing_of (free ++ expected)) refl
     (course within timing strict end now es next free expected (part.repeats ∙ keeps) asks missed order
     (time_as within timing c.phase next.phase c.last_general next.last_general now es end part.phase part.last general) room
-    (seen_as within _ now next.waiting.entries free expected (is_querier_in c.phase) _ r _ es (ap is_querier_in part.phase) (ap (general_returns within now free) entries) (rw entries st)))
+    (seen_as within _ now next.waiting.entries free expected (is_querier_in c.phase) _ r _ es (ap is_querier_in part.phase)
+    (ap (general_returns within now free) entries) (rw entries st)))

@@ -34,7 +34,8 @@ AllBeyond m groups = All (λ _ e. IsBeyond m e) groups
 
 pub beyond_all : (m : ℕ) (groups : Groups) → AllAbove m (moments_in groups) → AllBeyond m groups
 beyond_all m groups above q e is =
-    beyond m e (from-each (λ _ e. AllAbove m (moments_of e)) (map.entries groups) (above_values m moments_of (map.entries groups) above) q e (sym (map.get-entries groups q) ∙ is))
+    beyond m e (from-each (λ _ e. AllAbove m (moments_of e)) (map.entries groups) (above_values m moments_of (map.entries groups) above) q e
+    (sym (map.get-entries groups q) ∙ is))
 
 pub above_all : (m : ℕ) (groups : Groups) → AllBeyond m groups → AllAbove m (moments_in groups)
 above_all m groups all =
@@ -71,12 +72,14 @@ positive_product a b x y = grind (arith, mul-le-mul_right)
 
 pub spans_of : (timing : Timing) → AreInRange timing → AreSpans timing
 spans_of timing h =
-    let intervals = positive_product timing.robustness (timing.query_seconds * 1000) (omega (arith, h.robustness.at_least)) (omega (arith, h.query_seconds.at_least)) in
+    let intervals = positive_product timing.robustness (timing.query_seconds * 1000) (omega (arith, h.robustness.at_least))
+    (omega (arith, h.query_seconds.at_least)) in
     record {
       membership = omega (arith, intervals);
       older = omega (arith, intervals);
       other = omega (arith, intervals);
-      lowered = positive_product timing.last_member_interval timing.robustness (omega (arith, h.last_member_interval.at_least)) (omega (arith, h.robustness.at_least));
+      lowered = positive_product timing.last_member_interval timing.robustness (omega (arith, h.last_member_interval.at_least))
+          (omega (arith, h.robustness.at_least));
       sending = omega (arith, h.last_member_interval.at_least);
     }
 
@@ -111,7 +114,8 @@ pub stated_beyond : (at : Setting) (group : ℕ) (statement : Statement) (groups
 unfolding stated
 stated_beyond at group statement groups spans all =
     changed_beyond at group groups (change_in at group statement groups) spans all
-    (stated_ahead (v1_mutes_leave at.config.family) (is_muted at.config group statement) at.election.timing at.now statement (group_at groups group).group (omega (arith, spans.membership)) (omega (arith, spans.older))
+    (stated_ahead (v1_mutes_leave at.config.family) (is_muted at.config group statement) at.election.timing at.now statement
+    (group_at groups group).group (omega (arith, spans.membership)) (omega (arith, spans.older))
     (met_ahead at.now (map.get groups group) (held_beyond at.now group groups all (map.get groups group) refl)))
 
 judged_beyond : (at : Setting) (seen : Seen) (r : RecordView ℕ) (groups : Groups) → AreSpans at.election.timing → AllBeyond at.now groups
@@ -134,7 +138,9 @@ cleared_beyond : (m : ℕ) (e : ScheduledGroup) → IsBeyond m e → IsBeyond m 
 cleared_beyond m e h = record {
   timers = record {
     group = h.timers.group;
-    sources = λ s. subst (λ d. IfSome d (λ d. m < d)) (sym (ap deadline_of (get-kept (λ s timer. Some (source_cleared timer)) e.group.sources s) ∙ cleared_deadline (timer_at e.group s))) (h.timers.sources s);
+    sources = λ s. subst (λ d. IfSome d (λ d. m < d))
+        (sym (ap deadline_of (get-kept (λ s timer. Some (source_cleared timer)) e.group.sources s) ∙ cleared_deadline (timer_at e.group s)))
+        (h.timers.sources s);
     v1 = h.timers.v1;
     v2 = h.timers.v2;
   };
@@ -148,7 +154,11 @@ groups_cleared_beyond m groups all = all-kept (λ _ e. IsBeyond m e) (λ group e
 lowered_beyond : (m : ℕ) (timing : Timing) (query : Query ℕ) (e : ScheduledGroup) → AreSpans timing → IsBeyond m e
     → IsBeyond m (group_lowered timing m query.version e)
 lowered_beyond m timing query e spans h =
-    record { timers = query_ahead timing m (suppresses query.version) (asked_by query.version) e.group (omega (arith, spans.lowered)) h.timers; schedule = h.schedule }
+    record {
+      timers = query_ahead timing m (suppresses query.version)
+          (asked_by query.version) e.group (omega (arith, spans.lowered)) h.timers;
+      schedule = h.schedule;
+    }
 
 if_lowered_beyond : (m : ℕ) (timing : Timing) (query : Query ℕ) (e : ScheduledGroup) (b : Bool) → AreSpans timing → IsBeyond m e
     → IsBeyond m (cond b (group_lowered timing m query.version e) e)
@@ -186,8 +196,10 @@ role_later m lower source timing role h1 h2 = grind arith
 heard_later : (config : Configuration) (m source : ℕ) (query : Query ℕ) (state : LinkState) → AreSpans (query_heard config m source query state).election.timing
     → IsLater m state → IsLater m (query_heard config m source query state)
 heard_later config m source query state spans h = record {
-  election = role_later m (nat_lt source config.own) source (election_after config m source query.version state.election).timing state.election.role spans.other h.election;
-  groups = groups_lowered_beyond m (election_after config m source query.version state.election).timing query _ spans (if_cleared_beyond m state.groups (loses_role config.own source state.election.role) h.groups);
+  election = role_later m (nat_lt source config.own) source (election_after config m source query.version state.election).timing state.election.role
+      spans.other h.election;
+  groups = groups_lowered_beyond m (election_after config m source query.version state.election).timing query _ spans
+      (if_cleared_beyond m state.groups (loses_role config.own source state.election.role) h.groups);
 }
 
 outcomes_later : (config : Configuration) (state : LinkState) (groups : Groups) (counters : Counters) → AllBeyond state.last groups → IsLater state.last state
@@ -200,7 +212,8 @@ taken_later : (config : Configuration) (envelope : Envelope) (message : Message 
 unfolding taken_in
 taken_later config envelope (QueryMessage query) step before after h = heard_later config step.state.last envelope.source query step.state (spans_of _ after) h
 taken_later config envelope (OldReport version group) step before after h =
-    outcomes_later config step.state _ _ (stated_beyond (setting_of config step.state) group (OlderJoin version) step.state.groups (spans_of _ before) h.groups) h
+    outcomes_later config step.state _ _
+    (stated_beyond (setting_of config step.state) group (OlderJoin version) step.state.groups (spans_of _ before) h.groups) h
 taken_later config envelope (LeaveMessage group) step before after h =
     outcomes_later config step.state _ _ (stated_beyond (setting_of config step.state) group OlderLeave step.state.groups (spans_of _ before) h.groups) h
 taken_later config envelope (ReportMessage records) step before after h =

@@ -54,7 +54,8 @@ bare_vacant : (g : GroupState) → is_vacant (bare g) ≡ is_vacant g
 bare_vacant g = ap (λ n. is_include g.mode && eqb n 0) (len-clear g.sources)
 
 nothing_left : (f : ℕ → SourceTimer → Option SourceTimer) → kept f map.empty ≡ map.empty
-nothing_left f = same_sources (kept f map.empty) map.empty (λ s. get-kept f map.empty s ∙ ap (option_and_then (f s)) (map.get-empty nat_cmp s) ∙ sym (map.get-empty nat_cmp s))
+nothing_left f = same_sources (kept f map.empty) map.empty (λ s. get-kept f map.empty s ∙ ap (option_and_then (f s)) (map.get-empty nat_cmp s) ∙
+    sym (map.get-empty nat_cmp s))
 
 bare_of_vacant : bare vacant ≡ vacant
 bare_of_vacant = ap (λ m. record { mode = Include; sources = m; v1 = None; v2 = None }) (nothing_left clear)
@@ -80,11 +81,13 @@ bare_left : (now : ℕ) (g : GroupState) → left_at now (bare g) ≡ bare (left
 unfolding left_at
 bare_left now g = λ i. record {
   mode = mode_expired now g.mode;
-  sources = same_sources (kept (λ s. source_expired (mode_expired now g.mode) now) (kept clear g.sources)) (kept clear (kept (λ s. source_expired (mode_expired now g.mode) now) g.sources)) (λ s.
+  sources = same_sources (kept (λ s. source_expired (mode_expired now g.mode) now) (kept clear g.sources))
+      (kept clear (kept (λ s. source_expired (mode_expired now g.mode) now) g.sources)) (λ s.
       get-kept (λ s. source_expired (mode_expired now g.mode) now) (kept clear g.sources) s
       ∙ ap (option_and_then (source_expired (mode_expired now g.mode) now)) (get-kept clear g.sources s)
       ∙ cleared_expired (mode_expired now g.mode) now (timer_at g s)
-      ∙ sym (get-kept clear (kept (λ s. source_expired (mode_expired now g.mode) now) g.sources) s ∙ ap (option_and_then (clear 0)) (get-kept (λ s. source_expired (mode_expired now g.mode) now) g.sources s))) i;
+      ∙ sym (get-kept clear (kept (λ s. source_expired (mode_expired now g.mode) now) g.sources) s ∙
+      ap (option_and_then (clear 0)) (get-kept (λ s. source_expired (mode_expired now g.mode) now) g.sources s))) i;
   v1 = option_and_then (ahead now) g.v1;
   v2 = option_and_then (ahead now) g.v2;
 }
@@ -113,7 +116,8 @@ unfolding bare_at groups_after_round
 round_at timing now groups group =
     ap (λ e. bare (unwrap_or e unheld).group) (get-kept (λ _ e. Some (after_round timing now e)) groups group) ∙ by_group (map.get groups group)
   where
-    by_group : (e : Option ScheduledGroup) → bare (unwrap_or (option_and_then (λ e. Some (after_round timing now e)) e) unheld).group ≡ bare (unwrap_or e unheld).group
+    by_group : (e : Option ScheduledGroup) → bare (unwrap_or (option_and_then (λ e. Some (after_round timing now e)) e) unheld).group
+        ≡ bare (unwrap_or e unheld).group
     by_group None = refl
     by_group (Some e) = bare_counted e.group (is_due now e.schedule.sources_due)
 
@@ -122,11 +126,13 @@ unfolding bare_at groups_expired left_at
 expired_at now groups group =
     ap (λ e. bare (unwrap_or e unheld).group) (get-kept (λ _ e. if_held (group_expired now e)) groups group) ∙ by_group (map.get groups group)
   where
-    by_test : (e : ScheduledGroup) (b : Bool) → is_vacant (expired now e.group) ≡ b → bare (unwrap_or (cond b None (Some (group_expired now e))) unheld).group ≡ expired now (bare e.group)
+    by_test : (e : ScheduledGroup) (b : Bool) → is_vacant (expired now e.group) ≡ b →
+        bare (unwrap_or (cond b None (Some (group_expired now e))) unheld).group ≡ expired now (bare e.group)
     by_test e true is = ap bare (sym (is_the_vacant (left_at now e.group) is)) ∙ sym (bare_expired now e.group)
     by_test e false is = sym (bare_expired now e.group)
 
-    by_group : (e : Option ScheduledGroup) → bare (unwrap_or (option_and_then (λ e. if_held (group_expired now e)) e) unheld).group ≡ expired now (bare (unwrap_or e unheld).group)
+    by_group : (e : Option ScheduledGroup) → bare (unwrap_or (option_and_then (λ e. if_held (group_expired now e)) e) unheld).group
+        ≡ expired now (bare (unwrap_or e unheld).group)
     by_group None = bare_of_vacant ∙ sym (ap (expired now) bare_of_vacant ∙ expired_vacant now)
     by_group (Some e) = by_test e (is_vacant (expired now e.group)) refl
 

@@ -1,5 +1,6 @@
 -- A check of a capture comes to what happens in it.
-use Rattle.std.proofs.Common.{◌≡◌, ℕ, zero, suc, ◌+◌, ◌<◌, ◌≤◌, Bool, true, false, not, ◌&&◌, List, [], ◌∷◌, ◌++◌, refl, ap, sym, ◌∙◌, subst, append_assoc, append-nil}
+use Rattle.std.proofs.Common.{◌≡◌, ℕ, zero, suc, ◌+◌, ◌<◌, ◌≤◌, Bool, true, false, not, ◌&&◌, List, [], ◌∷◌, ◌++◌, refl, ap, sym, ◌∙◌, subst}
+use Rattle.std.proofs.Common.{append_assoc, append-nil}
 use Rattle.std.specs.Prelude.{Option, None, Some, Result, Ok, Err, if◌then◌else◌, nat_lt}
 use Rattle.std.proofs.lemmas.Bool.{ltb-true, ltb-false, lt-ltb, le-ltb}
 use Rattle.mq_pcap.specs.declared.link_type.LinkType.{LinkType}
@@ -23,11 +24,15 @@ use Rattle.mq_check.specs.declared.finding.Finding.{Finding}
 use Rattle.mq_check.specs.declared.headers.HeaderFault.{HeaderFault}
 use Rattle.mq_check.specs.Basis as basis
 use Rattle.mq_check.specs.Blocked.{blocked_in}
-use Rattle.mq_check.specs.Check.{Checked, Outcome, behind, quiet, settled_at, ticked, ticked_within, ticked_through, received, seen_at, seen_or_received, with_datagram, with_faults, with_packet, destination_in, faults_in, noted}
-use Rattle.mq_check.specs.Checking.{CheckingValue, all_blocked, counted_up, told, settled, faults_seen, with_fault, with_message, with_messages, query_wanted, role_after_tick, role_changed, query_came}
+use Rattle.mq_check.specs.Check.{Checked, Outcome, behind, quiet, settled_at, ticked, ticked_within, ticked_through, received, seen_at}
+use Rattle.mq_check.specs.Check.{seen_or_received, with_datagram, with_faults, with_packet, destination_in, faults_in, noted}
+use Rattle.mq_check.specs.Checking.{CheckingValue, all_blocked, counted_up, told, settled, faults_seen, with_fault, with_message, with_messages}
+use Rattle.mq_check.specs.Checking.{query_wanted, role_after_tick, role_changed, query_came}
 use Rattle.mq_check.specs.Queries.{is_general, query_sent, query_seen}
 use Rattle.mq_check.proofs.Steppings.{none_within, one_within}
-use Rattle.mq_laws.specs.Captures.{Passage, nothing_happens, happening_behind, wanted_for, wanted_of, wanted_by, role_by_tick, role_by_datagram, tick_passage, ticks_passage, ticks_through, event_of, fault_events, datagram_passage, frame_passage, packet_passage}
+use Rattle.mq_laws.specs.Captures.{Passage, nothing_happens, happening_behind, wanted_for, wanted_of, wanted_by, role_by_tick, role_by_datagram}
+use Rattle.mq_laws.specs.Captures.{tick_passage, ticks_passage, ticks_through, event_of, fault_events, datagram_passage, frame_passage}
+use Rattle.mq_laws.specs.Captures.{packet_passage}
 use Rattle.mq_laws.specs.Events.{CheckEvent, Comes, Blocks, moment_behind, check_by, told_by, moment_behind_all, check_by_all, told_by_all}
 
 -- events one after the other
@@ -37,7 +42,8 @@ check_by-append within timing now [] ys c = refl
 check_by-append within timing now (x ∷ xs) ys c = check_by-append within timing (moment_behind now x) xs ys (check_by within timing now x c)
 
 told_by-append : (within : ℕ) (timing : Timing) (now : ℕ) (xs ys : List CheckEvent) (c : CheckingValue)
-    → told_by_all within timing now (xs ++ ys) c ≡ told_by_all within timing now xs c ++ told_by_all within timing (moment_behind_all now xs) ys (check_by_all within timing now xs c)
+    → told_by_all within timing now (xs ++ ys) c ≡ told_by_all within timing now xs c ++
+    told_by_all within timing (moment_behind_all now xs) ys (check_by_all within timing now xs c)
 told_by-append within timing now [] ys c = refl
 told_by-append within timing now (x ∷ xs) ys c =
     ap (λ (l : List (Finding ℕ)). told_by within x c ++ l) (told_by-append within timing (moment_behind now x) xs ys (check_by within timing now x c))
@@ -62,34 +68,40 @@ still-append within timing now xs ys c d e first second = record {
 }
 
 -- a query that the link sends
-still-wanted : (within : ℕ) (timing : Timing) (now packets : ℕ) (family : Family) (is_returning : Bool) (to : ℕ) (query : Option (Query ℕ)) (c : CheckingValue)
-    → IsStill within timing now (wanted_for family packets is_returning to query) c (query_wanted family now packets is_returning to query c)
-still-wanted within timing now packets family is_returning to None c = record { check = refl; told = refl; moment = refl }
-still-wanted within timing now packets family is_returning to (Some query) c =
+still-wanted : (within : ℕ) (timing : Timing) (now packets : ℕ) (family : Family) (by_tick is_returning : Bool) (to : ℕ) (query : Option (Query ℕ))
+    (c : CheckingValue)
+    → IsStill within timing now (wanted_for family packets by_tick is_returning to query) c (query_wanted family now packets by_tick is_returning to query c)
+still-wanted within timing now packets family by_tick is_returning to None c = record { check = refl; told = refl; moment = refl }
+still-wanted within timing now packets family by_tick is_returning to (Some query) c =
     elim (is_general query && not is_returning) as (λ b.
-    (is_general query && not is_returning) ≡ b → IsStill within timing now (wanted_for family packets is_returning to (Some query)) c (query_wanted family now packets is_returning to (Some query) c)) [
+    (is_general query && not is_returning) ≡ b → IsStill within timing now (wanted_for family packets by_tick is_returning to (Some query)) c
+    (query_wanted family now packets by_tick is_returning to (Some query) c)) [
       | true ↦ λ is. rw is (record { check = refl; told = refl; moment = refl })
       | false ↦ λ is. rw is (record { check = refl; told = refl; moment = refl })
     ] refl
 
-still-messages : (within : ℕ) (config : Configuration) (now packets : ℕ) (is_returning : Bool) (messages : List Outgoing) (c : CheckingValue)
-    → IsStill within config.timing now (wanted_of config packets is_returning messages) c (with_messages config.family config.own now packets is_returning messages c)
+still-messages : (within : ℕ) (config : Configuration) (now packets : ℕ) (by_tick is_returning : Bool) (messages : List Outgoing) (c : CheckingValue)
+    → IsStill within config.timing now (wanted_of config packets by_tick is_returning messages) c
+    (with_messages config.family config.own now packets by_tick is_returning messages c)
 unfolding with_message
-still-messages within config now packets is_returning [] c = record { check = refl; told = refl; moment = refl }
-still-messages within config now packets is_returning (message ∷ messages) c =
+still-messages within config now packets by_tick is_returning [] c = record { check = refl; told = refl; moment = refl }
+still-messages within config now packets by_tick is_returning (message ∷ messages) c =
     let query = query_sent config.family config.own message in
-    still-append within config.timing now (wanted_for config.family packets is_returning message.to query) (wanted_of config packets is_returning messages) c
-    (with_message config.family config.own now packets is_returning c message) _
-    (still-wanted within config.timing now packets config.family is_returning message.to query c)
-    (still-messages within config now packets is_returning messages (with_message config.family config.own now packets is_returning c message))
+    still-append within config.timing now (wanted_for config.family packets by_tick is_returning message.to query)
+    (wanted_of config packets by_tick is_returning messages) c
+    (with_message config.family config.own now packets by_tick is_returning c message) _
+    (still-wanted within config.timing now packets config.family by_tick is_returning message.to query c)
+    (still-messages within config now packets by_tick is_returning messages (with_message config.family config.own now packets by_tick is_returning c message))
 
 -- the role
-still-tick : (within : ℕ) (timing : Timing) (now : ℕ) (was is : Bool) (c : CheckingValue) → IsStill within timing now (role_by_tick was is) c (role_after_tick within now was is c)
+still-tick : (within : ℕ) (timing : Timing) (now : ℕ) (was is : Bool) (c : CheckingValue) →
+    IsStill within timing now (role_by_tick was is) c (role_after_tick within now was is c)
 still-tick within timing now true is c = record { check = refl; told = refl; moment = refl }
 still-tick within timing now false true c = record { check = refl; told = refl; moment = refl }
 still-tick within timing now false false c = record { check = refl; told = refl; moment = refl }
 
-still-datagram : (within : ℕ) (timing : Timing) (now : ℕ) (was is : Bool) (c : CheckingValue) → IsStill within timing now (role_by_datagram was is) c (role_changed within timing now was is c)
+still-datagram : (within : ℕ) (timing : Timing) (now : ℕ) (was is : Bool) (c : CheckingValue) →
+    IsStill within timing now (role_by_datagram was is) c (role_changed within timing now was is c)
 still-datagram within timing now true true c = record { check = refl; told = refl; moment = refl }
 still-datagram within timing now true false c = record { check = refl; told = refl; moment = refl }
 still-datagram within timing now false true c = record { check = refl; told = refl; moment = refl }
@@ -113,7 +125,8 @@ pub record Follows (within : ℕ) (timing : Timing) (p : Passage) (r : Checked) 
 -- a moment comes, and then what happens at it
 follows-still : (within : ℕ) (timing : Timing) (moment packets : ℕ) (link : LinkState) (events : List CheckEvent) (r after : Checked)
     → after.link ≡ link → after.basis.packets ≡ packets → IsStill within timing moment events (settled moment r.checking) after.checking
-    → Follows within timing (record { link = link; packets = packets; events = Comes moment ∷ events }) r (record { checked = after; found = told within moment r.checking })
+    → Follows within timing (record { link = link; packets = packets; events = Comes moment ∷ events }) r
+    (record { checked = after; found = told within moment r.checking })
 follows-still within timing moment packets link events r after is counts still = record {
   link = is;
   packets = counts;
@@ -122,16 +135,20 @@ follows-still within timing moment packets link events r after is counts still =
 }
 
 -- one passage behind another
-pub follows-behind : (within : ℕ) (timing : Timing) (p q : Passage) (r : Checked) (o u : Outcome) → Follows within timing p r o → Follows within timing q o.checked u
+pub follows-behind : (within : ℕ) (timing : Timing) (p q : Passage) (r : Checked) (o u : Outcome) → Follows within timing p r o →
+    Follows within timing q o.checked u
     → Follows within timing (happening_behind p.events q) r (behind o.found u)
 follows-behind within timing p q r o u first second = record {
   link = second.link;
   packets = second.packets;
   checking = λ now.
-      second.checking (moment_behind_all now p.events) ∙ ap (λ (c : CheckingValue). check_by_all within timing (moment_behind_all now p.events) q.events c) (first.checking now)
+      second.checking (moment_behind_all now p.events) ∙
+      ap (λ (c : CheckingValue). check_by_all within timing (moment_behind_all now p.events) q.events c) (first.checking now)
       ∙ sym (check_by-append within timing now p.events q.events r.checking);
   found = λ now.
-      (λ i. first.found now i ++ (second.found (moment_behind_all now p.events) ∙ ap (λ (c : CheckingValue). told_by_all within timing (moment_behind_all now p.events) q.events c) (first.checking now)) i)
+      (λ i. first.found now i ++
+      (second.found (moment_behind_all now p.events) ∙
+      ap (λ (c : CheckingValue). told_by_all within timing (moment_behind_all now p.events) q.events c) (first.checking now)) i)
       ∙ sym (told_by-append within timing now p.events q.events r.checking);
 }
 
@@ -180,49 +197,62 @@ frame_packets family link frame content None b = without_packets link frame cont
 
 -- a tick
 follows-tick : (config : Configuration) (within moment : ℕ) (r : Checked)
-    → Follows within config.timing (tick_passage config moment r.basis.packets r.link) r (record { checked = ticked config within moment (settled_at moment r); found = told within moment r.checking })
+    → Follows within config.timing (tick_passage config moment r.basis.packets r.link) r
+    (record { checked = ticked config within moment (settled_at moment r); found = told within moment r.checking })
 unfolding ticked
 follows-tick config within moment r =
     let step = tick_of config moment r.link in
     let was = is_querier r.link.election.role in
     let c = settled moment r.checking in
-    let wanted = with_messages config.family config.own moment r.basis.packets (not was) (outgoing_of config step) c in
-    follows-still within config.timing moment _ _ (wanted_by config r.basis.packets r.link step ++ role_by_tick was (is_querier step.state.election.role)) r (ticked config within moment (settled_at moment r)) refl
+    let wanted = with_messages config.family config.own moment r.basis.packets true (not was) (outgoing_of config step) c in
+    follows-still within config.timing moment _ _ (wanted_by config r.basis.packets true r.link step ++
+    role_by_tick was (is_querier step.state.election.role)) r (ticked config within moment (settled_at moment r)) refl
     (tick_packets moment was (is_querier step.state.election.role) r.basis)
-    (still-append within config.timing moment (wanted_by config r.basis.packets r.link step) (role_by_tick was (is_querier step.state.election.role)) c wanted _
-    (still-messages within config moment r.basis.packets (not was) (outgoing_of config step) c) (still-tick within config.timing moment was (is_querier step.state.election.role) wanted))
+    (still-append within config.timing moment (wanted_by config r.basis.packets true r.link step)
+    (role_by_tick was (is_querier step.state.election.role)) c wanted _
+    (still-messages within config moment r.basis.packets true (not was) (outgoing_of config step) c)
+    (still-tick within config.timing moment was (is_querier step.state.election.role) wanted))
 
 -- ticks up to a limit
-pub none_passes : (most : ℕ) (config : Configuration) (limit packets : ℕ) (link : LinkState) → limit ≤ next_of link → ticks_passage most config limit packets link ≡ nothing_happens packets link
+pub none_passes : (most : ℕ) (config : Configuration) (limit packets : ℕ) (link : LinkState) → limit ≤ next_of link →
+    ticks_passage most config limit packets link ≡ nothing_happens packets link
 unfolding ticks_passage
 none_passes zero config limit packets link reached = refl
 none_passes (suc most) config limit packets link reached = rw (le-ltb (next_of link) limit reached, ticks_passage) refl
 
 pub one_passes : (most : ℕ) (config : Configuration) (limit packets : ℕ) (link : LinkState) → next_of link < limit
-    → ticks_passage (suc most) config limit packets link ≡ happening_behind (tick_passage config (next_of link) packets link).events (ticks_passage most config limit packets (tick_passage config (next_of link) packets link).link)
+    → ticks_passage (suc most) config limit packets link ≡ happening_behind (tick_passage config (next_of link) packets link).events
+    (ticks_passage most config limit packets (tick_passage config (next_of link) packets link).link)
 unfolding ticks_passage
 one_passes most config limit packets link due = rw (lt-ltb (next_of link) limit due, ticks_passage) refl
 
-follows-as : (within : ℕ) (timing : Timing) (p q : Passage) (r : Checked) (o u : Outcome) → p ≡ q → o ≡ u → Follows within timing q r u → Follows within timing p r o
+follows-as : (within : ℕ) (timing : Timing) (p q : Passage) (r : Checked) (o u : Outcome) → p ≡ q → o ≡ u → Follows within timing q r u →
+    Follows within timing p r o
 follows-as within timing p q r o u same is follows = rw (same, is) follows
 
-pub follows-ticks : (most : ℕ) (config : Configuration) (within limit : ℕ) (r : Checked) → Follows within config.timing (ticks_passage most config limit r.basis.packets r.link) r (ticked_within most config within limit r)
+pub follows-ticks : (most : ℕ) (config : Configuration) (within limit : ℕ) (r : Checked) →
+    Follows within config.timing (ticks_passage most config limit r.basis.packets r.link) r (ticked_within most config within limit r)
 unfolding ticks_passage ticked_within
 follows-ticks zero config within limit r = follows-nothing within config.timing r
 follows-ticks (suc most) config within limit r =
-    elim (nat_lt (next_of r.link) limit) as (λ b. nat_lt (next_of r.link) limit ≡ b → Follows within config.timing (ticks_passage (suc most) config limit r.basis.packets r.link) r (ticked_within (suc most) config within limit r)) [
+    elim (nat_lt (next_of r.link) limit) as (λ b. nat_lt (next_of r.link) limit ≡ b →
+    Follows within config.timing (ticks_passage (suc most) config limit r.basis.packets r.link) r (ticked_within (suc most) config within limit r)) [
       | true ↦ λ due.
           let before = ltb-true (next_of r.link) limit due in
           let one = follows-tick config within (next_of r.link) r in
           let next = ticked config within (next_of r.link) (settled_at (next_of r.link) r) in
           follows-as within config.timing _ _ r _ _ (one_passes most config limit r.basis.packets r.link before) (one_within most config within limit r before)
           (follows-behind within config.timing (tick_passage config (next_of r.link) r.basis.packets r.link) _ r _ _ one
-          (subst (λ (n : ℕ). Follows within config.timing (ticks_passage most config limit n (tick_passage config (next_of r.link) r.basis.packets r.link).link) next (ticked_within most config within limit next)) one.packets
-          (subst (λ (l : LinkState). Follows within config.timing (ticks_passage most config limit next.basis.packets l) next (ticked_within most config within limit next)) one.link
+          (subst (λ (n : ℕ). Follows within config.timing
+          (ticks_passage most config limit n (tick_passage config (next_of r.link) r.basis.packets r.link).link) next
+          (ticked_within most config within limit next)) one.packets
+          (subst (λ (l : LinkState). Follows within config.timing (ticks_passage most config limit next.basis.packets l) next
+          (ticked_within most config within limit next)) one.link
           (follows-ticks most config within limit next))))
       | false ↦ λ reached.
           let beyond = ltb-false (next_of r.link) limit reached in
-          follows-as within config.timing _ _ r _ _ (none_passes (suc most) config limit r.basis.packets r.link beyond) (none_within (suc most) config within limit r beyond) (follows-nothing within config.timing r)
+          follows-as within config.timing _ _ r _ _ (none_passes (suc most) config limit r.basis.packets r.link beyond)
+          (none_within (suc most) config within limit r beyond) (follows-nothing within config.timing r)
     ] refl
 
 -- a query that was seen
@@ -230,21 +260,29 @@ still-came : (within : ℕ) (config : Configuration) (link : LinkState) (moment 
     → IsStill within config.timing moment (event_of config link packets to query ∷ []) c (query_came within config link moment packets to query c)
 unfolding query_came
 still-came within config link moment packets to query c =
-    elim (is_general query) as (λ b. is_general query ≡ b → IsStill within config.timing moment (event_of config link packets to query ∷ []) c (query_came within config link moment packets to query c)) [
+    elim (is_general query) as
+    (λ b. is_general query ≡ b → IsStill within config.timing moment (event_of config link packets to query ∷ []) c
+    (query_came within config link moment packets to query c)) [
       | true ↦ λ is. rw is (record { check = refl; told = refl; moment = refl })
       | false ↦ λ is. rw is (record { check = refl; told = refl; moment = refl })
     ] refl
 
 -- any other datagram, or a query of the querier
-follows-datagram : (config : Configuration) (within moment number to : ℕ) (datagram : Datagram) (query : Option (Query ℕ)) (faults : List HeaderFault) (r : Checked)
+follows-datagram : (config : Configuration) (within moment number to : ℕ) (datagram : Datagram) (query : Option (Query ℕ)) (faults : List HeaderFault)
+    (r : Checked)
     → Follows within config.timing (datagram_passage config moment to datagram query (fault_events number faults) r.basis.packets r.link) r
-    (record { checked = seen_or_received config within moment to datagram query (with_faults moment number faults (settled_at moment r)); found = told within moment r.checking })
+    (record {
+      checked = seen_or_received config within moment to datagram query (with_faults moment number faults (settled_at moment r));
+      found =
+          told within moment r.checking;
+    })
 unfolding received seen_at
 follows-datagram config within moment number to datagram (Some query) faults r =
     let begun = settled moment r.checking in
     let c = faults_seen moment number faults begun in
     let event = event_of config r.link r.basis.packets to query in
-    follows-still within config.timing moment r.basis.packets r.link (fault_events number faults ++ event ∷ []) r (seen_at config within moment to query (with_faults moment number faults (settled_at moment r))) refl refl
+    follows-still within config.timing moment r.basis.packets r.link (fault_events number faults ++ event ∷ []) r
+    (seen_at config within moment to query (with_faults moment number faults (settled_at moment r))) refl refl
     (still-append within config.timing moment (fault_events number faults) (event ∷ []) begun c _ (still-faults within config.timing moment number faults begun)
     (still-came within config r.link moment r.basis.packets to query c))
 follows-datagram config within moment number to datagram None faults r =
@@ -254,23 +292,30 @@ follows-datagram config within moment number to datagram None faults r =
     let c = faults_seen moment number faults begun in
     let blocked = blocked_in config.family datagram in
     let noted = all_blocked moment blocked c in
-    let wanted = with_messages config.family config.own moment r.basis.packets (not was) (outgoing_of config step) noted in
-    let rest = wanted_by config r.basis.packets r.link step ++ role_by_datagram was (is_querier step.state.election.role) in
-    follows-still within config.timing moment _ _ (fault_events number faults ++ Blocks blocked ∷ rest) r (received config within moment datagram (with_faults moment number faults (settled_at moment r))) refl
+    let wanted = with_messages config.family config.own moment r.basis.packets false (not was) (outgoing_of config step) noted in
+    let rest = wanted_by config r.basis.packets false r.link step ++ role_by_datagram was (is_querier step.state.election.role) in
+    follows-still within config.timing moment _ _ (fault_events number faults ++ Blocks blocked ∷ rest) r
+    (received config within moment datagram (with_faults moment number faults (settled_at moment r))) refl
     (other_packets config.family step.state.election.role _ ∙ role_packets moment was (is_querier step.state.election.role) r.basis)
-    (still-append within config.timing moment (fault_events number faults) (Blocks blocked ∷ rest) begun c _ (still-faults within config.timing moment number faults begun)
+    (still-append within config.timing moment (fault_events number faults) (Blocks blocked ∷ rest) begun c _
+    (still-faults within config.timing moment number faults begun)
     (still-append within config.timing moment (Blocks blocked ∷ []) rest c noted _ (record { check = refl; told = refl; moment = refl })
-    (still-append within config.timing moment (wanted_by config r.basis.packets r.link step) (role_by_datagram was (is_querier step.state.election.role)) noted wanted _
-    (still-messages within config moment r.basis.packets (not was) (outgoing_of config step) noted) (still-datagram within config.timing moment was (is_querier step.state.election.role) wanted))))
+    (still-append within config.timing moment (wanted_by config r.basis.packets false r.link step)
+    (role_by_datagram was (is_querier step.state.election.role)) noted wanted _
+    (still-messages within config moment r.basis.packets false (not was) (outgoing_of config step) noted)
+    (still-datagram within config.timing moment was (is_querier step.state.election.role) wanted))))
 
 follows-frame : (config : Configuration) (link : LinkType) (within moment number : ℕ) (frame : List ℕ) (datagram : Option Datagram) (r : Checked)
-    → Follows within config.timing (frame_passage config link moment number frame datagram r.basis.packets r.link) r (with_datagram config link within moment number frame datagram r)
+    → Follows within config.timing (frame_passage config link moment number frame datagram r.basis.packets r.link) r
+    (with_datagram config link within moment number frame datagram r)
 follows-frame config link within moment number frame None r = follows-nothing within config.timing r
 follows-frame config link within moment number frame (Some datagram) r =
-    follows-datagram config within moment number (destination_in config.family link frame datagram.envelope) datagram (query_seen config datagram) (faults_in config link frame datagram) r
+    follows-datagram config within moment number (destination_in config.family link frame datagram.envelope) datagram (query_seen config datagram)
+    (faults_in config link frame datagram) r
 
 pub follows-packet : (config : Configuration) (link : LinkType) (within moment number : ℕ) (frame : List ℕ) (r : Checked)
-    → Follows within config.timing (packet_passage config link moment number frame r.basis.packets r.link) r (with_packet config link within moment number frame r)
+    → Follows within config.timing (packet_passage config link moment number frame r.basis.packets r.link) r
+    (with_packet config link within moment number frame r)
 unfolding with_packet
 follows-packet config link within moment number frame r =
     let before = ticked_through config within moment r in
@@ -281,6 +326,9 @@ follows-packet config link within moment number frame r =
     let counts : counted.basis.packets ≡ counted_up (ticks_through config moment r.basis.packets r.link).packets =
     frame_packets config.family link frame (carried_in link frame) datagram before.checked.basis ∙ ap counted_up ticks.packets in
     follows-behind within config.timing (ticks_through config moment r.basis.packets r.link) _ r before _ ticks
-    (subst (λ (n : ℕ). Follows within config.timing (frame_passage config link moment number frame datagram n (ticks_through config moment r.basis.packets r.link).link) before.checked (with_datagram config link within moment number frame datagram counted)) counts
-    (subst (λ (l : LinkState). Follows within config.timing (frame_passage config link moment number frame datagram counted.basis.packets l) before.checked (with_datagram config link within moment number frame datagram counted)) ticks.link
+    (subst (λ (n : ℕ). Follows within config.timing
+    (frame_passage config link moment number frame datagram n (ticks_through config moment r.basis.packets r.link).link) before.checked
+    (with_datagram config link within moment number frame datagram counted)) counts
+    (subst (λ (l : LinkState). Follows within config.timing (frame_passage config link moment number frame datagram counted.basis.packets l)
+    before.checked (with_datagram config link within moment number frame datagram counted)) ticks.link
     (record { link = frame_in.link; packets = frame_in.packets; checking = frame_in.checking; found = frame_in.found })))

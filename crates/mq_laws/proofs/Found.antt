@@ -44,7 +44,8 @@ before_behind kept end [] ys all = all
 before_behind kept end (x ∷ xs) ys all = before_behind kept end xs ys all.1
 
 -- so none of those that still wait is missing
-none_left : (kept end : ℕ) (es : List (Entry ℕ)) (xs : List Expected) → Holds es xs → NoneOver kept end es → AllByRecursion (IsBefore kept end) (missing_of xs) → missing_of xs ≡ []
+none_left : (kept end : ℕ) (es : List (Entry ℕ)) (xs : List Expected) → Holds es xs → NoneOver kept end es →
+    AllByRecursion (IsBefore kept end) (missing_of xs) → missing_of xs ≡ []
 none_left kept end [] [] holds ahead all = refl
 none_left kept end [] (x ∷ xs) holds ahead all = absurd holds
 none_left kept end (Wanted m a t o true ∷ es) xs holds ahead all = none_left kept end es xs holds ahead.1 all
@@ -60,12 +61,15 @@ none_left kept end (Silence m a w ∷ es) xs holds ahead all = absurd holds
 none_left kept end (Packet m number fault ∷ es) xs holds ahead all = absurd holds
 
 -- there was room before the end
-room_before : (within : ℕ) (timing : Timing) (end : ℕ) (ahead : List CheckEvent) (c : CheckingValue) → (checked_ahead within timing end ahead c).waiting.is_full ≡ false → c.waiting.is_full ≡ false
+room_before : (within : ℕ) (timing : Timing) (end : ℕ) (ahead : List CheckEvent) (c : CheckingValue) →
+    (checked_ahead within timing end ahead c).waiting.is_full ≡ false → c.waiting.is_full ≡ false
 room_before within timing end ahead c room =
-    sym (settled_full c.schedules.repeats.keep end c.waiting) ∙ sym (excused_full within end (recent end c.schedules).sent (settled end c).waiting) ∙ all_free within timing end ahead (at_the_end within end c) room
+    sym (settled_full c.schedules.repeats.keep end c.waiting) ∙ sym (excused_full within end (recent end c.schedules).sent (settled end c).waiting) ∙
+    all_free within timing end ahead (at_the_end within end c) room
 
 -- what is found from the end on
-from_end : (within : ℕ) (timing : Timing) (strict : Bool) (end : ℕ) (ahead : List CheckEvent) (c : CheckingValue) (free : List Expected) → AreAhead within end ahead → (checked_ahead within timing end ahead c).waiting.is_full ≡ false
+from_end : (within : ℕ) (timing : Timing) (strict : Bool) (end : ℕ) (ahead : List CheckEvent) (c : CheckingValue) (free : List Expected) →
+    AreAhead within end ahead → (checked_ahead within timing end ahead c).waiting.is_full ≡ false
     → c.schedules.repeats ≡ repeats_in within timing strict → silence_up_to within timing end c.phase ≡ None
     → (come : Come within (kept_for within timing strict) end c.changed c.waiting.entries free [] []) → missing_of come.left ≡ []
     → found_from within timing end ahead c ≡ told_of (kept_for within timing strict) within end c.changed c.waiting.entries
@@ -80,31 +84,38 @@ from_end within timing strict end ahead c free after room keeps silence come non
     let gone : come.left ≡ [] = none_wanted within keep come.left pairs none in
     let holds : Holds entries [] = rw gone at come.stands.holds in
     let sent = (recent end c.schedules).sent in
-    let entries_are : (settled end c).waiting.entries ≡ entries = settled_free c.schedules.repeats.keep end c.waiting free_room ∙ ap (λ (k : ℕ). left_of k end c.waiting.entries) keep_is in
+    let entries_are : (settled end c).waiting.entries ≡ entries = settled_free c.schedules.repeats.keep end c.waiting free_room ∙
+    ap (λ (k : ℕ). left_of k end c.waiting.entries) keep_is in
     let quiet : AreQuiet within (end + within) (at_the_end within end c).waiting.entries =
     rw (excused_entries within end sent (settled end c).waiting, entries_are) (held_quiet within (end + within) end sent entries holds alone) in
     let keeps_then : (at_the_end within end c).schedules.repeats.keep ≡ keep = ap (λ (r : Repeats). r.keep) (recent_repeats end c.schedules ∙ keeps) in
-    let nothing = ticks_find_nothing within (end + within) timing end ahead (at_the_end within end c) (rw keeps_then (kept-long within timing strict)) (omega arith) after.order after.of_ticks quiet room in
+    let nothing = ticks_find_nothing within (end + within) timing end ahead (at_the_end within end c) (rw keeps_then (kept-long within timing strict))
+    (omega arith) after.order after.of_ticks quiet room in
     let left = checked_ahead within timing end ahead c in
-    let told : told_of c.schedules.repeats.keep within end c.changed c.waiting.entries ≡ told_of keep within end c.changed c.waiting.entries = ap (λ (k : ℕ). told_of k within end c.changed c.waiting.entries) keep_is in
-    (λ i. (told_now within end c free_room ∙ told) i ++ nothing.told i ++ (none_last within end left.changed left.waiting.entries nothing.quiet i ++ silence_found timing end (silence i)))
+    let told : told_of c.schedules.repeats.keep within end c.changed c.waiting.entries ≡ told_of keep within end c.changed c.waiting.entries =
+    ap (λ (k : ℕ). told_of k within end c.changed c.waiting.entries) keep_is in
+    (λ i. (told_now within end c free_room ∙ told) i ++ nothing.told i ++
+    (none_last within end left.changed left.waiting.entries nothing.quiet i ++ silence_found timing end (silence i)))
     ∙ append-nil (told_of keep within end c.changed c.waiting.entries ++ []) ∙ append-nil (told_of keep within end c.changed c.waiting.entries)
 
 pub found_is : (within : ℕ) (timing : Timing) (strict : Bool) (end : ℕ) (expected : List Expected) (events ahead : List CheckEvent)
-    → AreInOrder 0 events end → AreAhead within end ahead → IsAsWanted within timing strict end expected events → HasRoom within timing strict end events ahead → found_by within timing strict end events ahead ≡ missing_of expected
+    → AreInOrder 0 events end → AreAhead within end ahead → IsAsWanted within timing strict end expected events →
+    HasRoom within timing strict end events ahead → found_by within timing strict end events ahead ≡ missing_of expected
 found_is within timing strict end expected events ahead order after is room =
     let keep = kept_for within timing strict in
     let start = checking_at_start within timing strict in
     let c = checked_by within timing strict events in
     let with_room : c.waiting.is_full ≡ false = room_before within timing end ahead c room in
-    let ended : Ended within timing strict end 0 events start (missing_of expected) = course within timing strict end 0 events start [] expected refl is.wanted is.missed order is.on_time with_room (record {
+    let ended : Ended within timing strict end 0 events start (missing_of expected) =
+    course within timing strict end 0 events start [] expected refl is.wanted is.missed order is.on_time with_room (record {
       holds = tt;
       ascending = omega arith;
       none_over = tt;
       one_side = λ b. inl refl;
       pairs = is.pairs;
     }) in
-    let come : Come within keep end c.changed c.waiting.entries ended.left [] [] = comes within keep 0 end c.changed c.waiting.entries ended.left [] [] (kept-long within timing strict) tt tt (record {
+    let come : Come within keep end c.changed c.waiting.entries ended.left [] [] =
+    comes within keep 0 end c.changed c.waiting.entries ended.left [] [] (kept-long within timing strict) tt tt (record {
       holds = ended.stands.holds;
       ascending = ascending-to 0 c.waiting.entries _ end ended.in_time ended.stands.ascending;
       one_side = ended.stands.one_side;
@@ -115,7 +126,9 @@ found_is within timing strict end expected events ahead order after is room =
     let all : missing_of expected ≡ (told_before ++ told_last) ++ missing_of (come.left ++ []) =
     ended.missing_is ∙ ap (λ (l : List (Finding ℕ)). told_before ++ l) come.missing ∙ sym (append_assoc told_before told_last (missing_of (come.left ++ []))) in
     let none_there : missing_of come.left ≡ [] = none_left keep end (left_of keep end c.waiting.entries) come.left come.stands.holds come.stands.none_over
-    (rw (append-nil come.left) at (before_behind keep end (told_before ++ told_last) (missing_of (come.left ++ [])) (rw all at (all_before keep end expected is.missed)))) in
+    (rw (append-nil come.left) at
+    (before_behind keep end (told_before ++ told_last) (missing_of (come.left ++ [])) (rw all at (all_before keep end expected is.missed)))) in
     let none : missing_of (come.left ++ []) ≡ [] = ap missing_of (append-nil come.left) ∙ none_there in
-    ap (λ (l : List (Finding ℕ)). told_before ++ l) (from_end within timing strict end ahead c ended.left after room ended.repeats ended.silence come none_there)
+    ap (λ (l : List (Finding ℕ)). told_before ++ l)
+    (from_end within timing strict end ahead c ended.left after room ended.repeats ended.silence come none_there)
     ∙ sym (all ∙ ap (λ (l : List (Finding ℕ)). (told_before ++ told_last) ++ l) none ∙ append-nil (told_before ++ told_last))

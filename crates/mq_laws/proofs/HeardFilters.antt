@@ -46,7 +46,8 @@ cleared_at : (groups : Groups) (group : ℕ) → filter_of (group_at (groups_cle
 unfolding groups_cleared
 cleared_at groups group = ap (λ e. filter_of (unwrap_or e unheld).group) (get-kept (λ _ e. Some (cleared e)) groups group) ∙ by_group (map.get groups group)
   where
-    by_group : (e : Option ScheduledGroup) → filter_of (unwrap_or (option_and_then (λ e. Some (cleared e)) e) unheld).group ≡ filter_of (unwrap_or e unheld).group
+    by_group : (e : Option ScheduledGroup) → filter_of (unwrap_or (option_and_then (λ e. Some (cleared e)) e) unheld).group
+        ≡ filter_of (unwrap_or e unheld).group
     by_group None = refl
     by_group (Some e) = cleared_filter e
 
@@ -54,10 +55,13 @@ lowered_at : (timing : Timing) (now : ℕ) (query : Query ℕ) (groups : Groups)
     → filter_of (group_at (groups_lowered timing now query groups) group).group ≡ filter_of (group_at groups group).group
 unfolding groups_lowered
 lowered_at timing now query groups group =
-    ap (λ e. filter_of (unwrap_or e unheld).group) (get-kept (λ group e. Some (cond (eqb group query.group) (heard_by timing now query.version e) e)) groups group)
+    ap (λ e. filter_of (unwrap_or e unheld).group)
+    (get-kept (λ group e. Some (cond (eqb group query.group) (heard_by timing now query.version e) e)) groups group)
     ∙ by_group (eqb group query.group) (map.get groups group)
   where
-    by_group : (b : Bool) (e : Option ScheduledGroup) → filter_of (unwrap_or (option_and_then (λ e. Some (cond b (heard_by timing now query.version e) e)) e) unheld).group ≡ filter_of (unwrap_or e unheld).group
+    by_group : (b : Bool) (e : Option ScheduledGroup) →
+        filter_of (unwrap_or (option_and_then (λ e. Some (cond b (heard_by timing now query.version e) e)) e) unheld).group
+        ≡ filter_of (unwrap_or e unheld).group
     by_group b None = refl
     by_group true (Some e) = lowered_filter timing now (suppresses query.version) (asked_by query.version) e.group
     by_group false (Some e) = refl

@@ -52,18 +52,22 @@ IsAscending low (e ∷ es) now = (low ≤ moment_of e) × IsAscending (moment_of
 abbrev pub NoneOver : (within now : ℕ) → List (Entry ℕ) → Type 0
 NoneOver within now es = AllByRecursion (λ (e : Entry ℕ). now ≤ moment_of e + within) es
 
-pub kept_ask : (moment : ℕ) (asked : Asked ℕ) (terms : Terms ℕ) (is_optional : Bool) (x : Expected) → IsKept moment asked terms is_optional x → ask_of x ≡ ask moment asked terms
+pub kept_ask : (moment : ℕ) (asked : Asked ℕ) (terms : Terms ℕ) (is_optional : Bool) (x : Expected) → IsKept moment asked terms is_optional x →
+    ask_of x ≡ ask moment asked terms
 kept_ask moment asked terms is_optional (Sent w) is = is
 kept_ask moment asked terms is_optional (LeftOut w) is = is.0
 
 -- those about one thing, one by one
-pub wanted_here : (asked : Asked ℕ) (x : Expected) (xs : List Expected) → is_same asked (ask_of x).asked ≡ true → wanted_about asked (x ∷ xs) ≡ x ∷ wanted_about asked xs
+pub wanted_here : (asked : Asked ℕ) (x : Expected) (xs : List Expected) → is_same asked (ask_of x).asked ≡ true →
+    wanted_about asked (x ∷ xs) ≡ x ∷ wanted_about asked xs
 wanted_here asked x xs is = rw is refl
 
-pub wanted_other : (asked : Asked ℕ) (x : Expected) (xs : List Expected) → is_same asked (ask_of x).asked ≡ false → wanted_about asked (x ∷ xs) ≡ wanted_about asked xs
+pub wanted_other : (asked : Asked ℕ) (x : Expected) (xs : List Expected) → is_same asked (ask_of x).asked ≡ false →
+    wanted_about asked (x ∷ xs) ≡ wanted_about asked xs
 wanted_other asked x xs is = rw is refl
 
-pub wanted_both : (asked : Asked ℕ) (x : Expected) (xs ys : List Expected) → wanted_about asked xs ≡ wanted_about asked ys → wanted_about asked (x ∷ xs) ≡ wanted_about asked (x ∷ ys)
+pub wanted_both : (asked : Asked ℕ) (x : Expected) (xs ys : List Expected) → wanted_about asked xs ≡ wanted_about asked ys →
+    wanted_about asked (x ∷ xs) ≡ wanted_about asked (x ∷ ys)
 wanted_both asked x xs ys e = rw e refl
 
 pub seen_here : (asked : Asked ℕ) (s : Ask) (ss : List Ask) → is_same asked s.asked ≡ true → seen_about asked (s ∷ ss) ≡ s ∷ seen_about asked ss
@@ -72,23 +76,28 @@ seen_here asked s ss is = rw is refl
 pub seen_other : (asked : Asked ℕ) (s : Ask) (ss : List Ask) → is_same asked s.asked ≡ false → seen_about asked (s ∷ ss) ≡ seen_about asked ss
 seen_other asked s ss is = rw is refl
 
-pub seen_both : (asked : Asked ℕ) (s : Ask) (ss ts : List Ask) → seen_about asked ss ≡ seen_about asked ts → seen_about asked (s ∷ ss) ≡ seen_about asked (s ∷ ts)
+pub seen_both : (asked : Asked ℕ) (s : Ask) (ss ts : List Ask) → seen_about asked ss ≡ seen_about asked ts →
+    seen_about asked (s ∷ ss) ≡ seen_about asked (s ∷ ts)
 seen_both asked s ss ts e = rw e refl
 
 pub wanted_about-append : (asked : Asked ℕ) (xs ys : List Expected) → wanted_about asked (xs ++ ys) ≡ wanted_about asked xs ++ wanted_about asked ys
 wanted_about-append asked [] ys = refl
 wanted_about-append asked (x ∷ xs) ys = one (wanted_about-append asked xs ys) (is_same asked (ask_of x).asked) refl
   where
-    one : wanted_about asked (xs ++ ys) ≡ wanted_about asked xs ++ wanted_about asked ys → (b : Bool) → is_same asked (ask_of x).asked ≡ b → wanted_about asked (x ∷ xs ++ ys) ≡ wanted_about asked (x ∷ xs) ++ wanted_about asked ys
-    one rest true is = wanted_here asked x (xs ++ ys) is ∙ ap (λ (l : List Expected). x ∷ l) rest ∙ ap (λ (l : List Expected). l ++ wanted_about asked ys) (sym (wanted_here asked x xs is))
+    one : wanted_about asked (xs ++ ys) ≡ wanted_about asked xs ++ wanted_about asked ys → (b : Bool) → is_same asked (ask_of x).asked ≡ b →
+        wanted_about asked (x ∷ xs ++ ys) ≡ wanted_about asked (x ∷ xs) ++ wanted_about asked ys
+    one rest true is = wanted_here asked x (xs ++ ys) is ∙ ap (λ (l : List Expected). x ∷ l) rest ∙
+        ap (λ (l : List Expected). l ++ wanted_about asked ys) (sym (wanted_here asked x xs is))
     one rest false is = wanted_other asked x (xs ++ ys) is ∙ rest ∙ ap (λ (l : List Expected). l ++ wanted_about asked ys) (sym (wanted_other asked x xs is))
 
 pub seen_about-append : (asked : Asked ℕ) (xs ys : List Ask) → seen_about asked (xs ++ ys) ≡ seen_about asked xs ++ seen_about asked ys
 seen_about-append asked [] ys = refl
 seen_about-append asked (x ∷ xs) ys = one (seen_about-append asked xs ys) (is_same asked x.asked) refl
   where
-    one : seen_about asked (xs ++ ys) ≡ seen_about asked xs ++ seen_about asked ys → (b : Bool) → is_same asked x.asked ≡ b → seen_about asked (x ∷ xs ++ ys) ≡ seen_about asked (x ∷ xs) ++ seen_about asked ys
-    one rest true is = seen_here asked x (xs ++ ys) is ∙ ap (λ (l : List Ask). x ∷ l) rest ∙ ap (λ (l : List Ask). l ++ seen_about asked ys) (sym (seen_here asked x xs is))
+    one : seen_about asked (xs ++ ys) ≡ seen_about asked xs ++ seen_about asked ys → (b : Bool) → is_same asked x.asked ≡ b →
+        seen_about asked (x ∷ xs ++ ys) ≡ seen_about asked (x ∷ xs) ++ seen_about asked ys
+    one rest true is = seen_here asked x (xs ++ ys) is ∙ ap (λ (l : List Ask). x ∷ l) rest ∙ ap (λ (l : List Ask). l ++ seen_about asked ys)
+        (sym (seen_here asked x xs is))
     one rest false is = seen_other asked x (xs ++ ys) is ∙ rest ∙ ap (λ (l : List Ask). l ++ seen_about asked ys) (sym (seen_other asked x xs is))
 
 -- in order
@@ -115,16 +124,19 @@ joined_moment other (Packet moment number fault) = refl
 pub passed_terms : (test : Entry ℕ → Bool) (e : Entry ℕ) (es : List (Entry ℕ)) → test e ≡ false → first_terms test (e ∷ es) ≡ first_terms test es
 passed_terms test e es is = rw is refl
 
-pub passed_joined : (test : Entry ℕ → Bool) (other : Terms ℕ) (e : Entry ℕ) (es : List (Entry ℕ)) → test e ≡ false → first_joined test other (e ∷ es) ≡ e ∷ first_joined test other es
+pub passed_joined : (test : Entry ℕ → Bool) (other : Terms ℕ) (e : Entry ℕ) (es : List (Entry ℕ)) → test e ≡ false →
+    first_joined test other (e ∷ es) ≡ e ∷ first_joined test other es
 passed_joined test other e es is = rw is refl
 
 pub met_terms : (test : Entry ℕ → Bool) (e : Entry ℕ) (es : List (Entry ℕ)) → test e ≡ true → first_terms test (e ∷ es) ≡ terms_in e
 met_terms test e es is = rw is refl
 
-pub met_joined : (test : Entry ℕ → Bool) (other : Terms ℕ) (e : Entry ℕ) (es : List (Entry ℕ)) → test e ≡ true → first_joined test other (e ∷ es) ≡ joined other e ∷ es
+pub met_joined : (test : Entry ℕ → Bool) (other : Terms ℕ) (e : Entry ℕ) (es : List (Entry ℕ)) → test e ≡ true →
+    first_joined test other (e ∷ es) ≡ joined other e ∷ es
 met_joined test other e es is = rw is refl
 
-pub ascending-joined : (test : Entry ℕ → Bool) (other : Terms ℕ) (low : ℕ) (es : List (Entry ℕ)) (now : ℕ) → IsAscending low es now → IsAscending low (first_joined test other es) now
+pub ascending-joined : (test : Entry ℕ → Bool) (other : Terms ℕ) (low : ℕ) (es : List (Entry ℕ)) (now : ℕ) → IsAscending low es now →
+    IsAscending low (first_joined test other es) now
 ascending-joined test other low [] now is = is
 ascending-joined test other low (e ∷ es) now is = one (ascending-joined test other (moment_of e) es now is.1) (test e) refl
   where
@@ -132,7 +144,8 @@ ascending-joined test other low (e ∷ es) now is = one (ascending-joined test o
     one rest true met = rw (met_joined test other e es met, joined_moment other e) is
     one rest false met = rw (passed_joined test other e es met) (is.0, rest)
 
-pub none_over-joined : (test : Entry ℕ → Bool) (other : Terms ℕ) (within now : ℕ) (es : List (Entry ℕ)) → NoneOver within now es → NoneOver within now (first_joined test other es)
+pub none_over-joined : (test : Entry ℕ → Bool) (other : Terms ℕ) (within now : ℕ) (es : List (Entry ℕ)) → NoneOver within now es →
+    NoneOver within now (first_joined test other es)
 none_over-joined test other within now [] is = is
 none_over-joined test other within now (e ∷ es) is = one (none_over-joined test other within now es is.1) (test e) refl
   where
@@ -162,7 +175,8 @@ ahead-holds within moment [] [] holds ahead = tt
 ahead-holds within moment [] (x ∷ xs) holds ahead = absurd holds
 ahead-holds within moment (Wanted m a t o true ∷ es) xs holds ahead = ahead-holds within moment es xs holds ahead.1
 ahead-holds within moment (Wanted m a t o false ∷ es) [] holds ahead = absurd holds
-ahead-holds within moment (Wanted m a t o false ∷ es) (x ∷ xs) holds ahead = (rw (kept_ask m a t o x holds.0) ahead.0, ahead-holds within moment es xs holds.1 ahead.1)
+ahead-holds within moment (Wanted m a t o false ∷ es) (x ∷ xs) holds ahead =
+    (rw (kept_ask m a t o x holds.0) ahead.0, ahead-holds within moment es xs holds.1 ahead.1)
 ahead-holds within moment (Seen m a t None q ∷ es) xs holds ahead = ahead-holds within moment es xs holds ahead.1
 ahead-holds within moment (Seen m a t (Some w) q ∷ es) xs holds ahead = ahead-holds within moment es xs holds.1 ahead.1
 ahead-holds within moment (Interval m n a w ∷ es) xs holds ahead = absurd holds
@@ -173,7 +187,8 @@ pub ahead-about : (within moment : ℕ) (asked : Asked ℕ) (xs : List Expected)
 ahead-about within moment asked [] is = is
 ahead-about within moment asked (x ∷ xs) is = one (ahead-about within moment asked xs is.1) (is_same asked (ask_of x).asked) refl
   where
-    one : AllStill within moment (wanted_about asked xs) → (b : Bool) → is_same asked (ask_of x).asked ≡ b → AllStill within moment (wanted_about asked (x ∷ xs))
+    one : AllStill within moment (wanted_about asked xs) → (b : Bool) → is_same asked (ask_of x).asked ≡ b →
+        AllStill within moment (wanted_about asked (x ∷ xs))
     one rest true same = rw (wanted_here asked x xs same) (is.0, rest)
     one rest false differs = rw (wanted_other asked x xs differs) rest
 
@@ -185,7 +200,8 @@ pub still_put : (within now : ℕ) (ds : List ℕ) → still_due within now (ds 
 still_put within now [] = let ahead = le-ltb (now + within) now (omega arith) in rw ahead refl
 still_put within now (d ∷ ds) = one (still_put within now ds) (nat_lt (d + within) now) refl
   where
-    one : still_due within now (ds ++ now ∷ []) ≡ still_due within now ds ++ now ∷ [] → (b : Bool) → nat_lt (d + within) now ≡ b → still_due within now (d ∷ ds ++ now ∷ []) ≡ still_due within now (d ∷ ds) ++ now ∷ []
+    one : still_due within now (ds ++ now ∷ []) ≡ still_due within now ds ++ now ∷ [] → (b : Bool) → nat_lt (d + within) now ≡ b →
+        still_due within now (d ∷ ds ++ now ∷ []) ≡ still_due within now (d ∷ ds) ++ now ∷ []
     one rest true over = rw over rest
     one rest false ahead = rw ahead refl
 
@@ -194,6 +210,8 @@ pub still_later : (within now later : ℕ) (ds : List ℕ) → now ≤ later →
 still_later within now later [] before = refl
 still_later within now later (d ∷ ds) before = one (still_later within now later ds before) (nat_lt (d + within) now) refl
   where
-    one : still_due within later (still_due within now ds) ≡ still_due within later ds → (b : Bool) → nat_lt (d + within) now ≡ b → still_due within later (still_due within now (d ∷ ds)) ≡ still_due within later (d ∷ ds)
-    one rest true over = let past = ltb-true (d + within) now over in let gone : nat_lt (d + within) later ≡ true = lt-ltb (d + within) later (omega arith) in rw (over, gone) rest
+    one : still_due within later (still_due within now ds) ≡ still_due within later ds → (b : Bool) → nat_lt (d + within) now ≡ b →
+        still_due within later (still_due within now (d ∷ ds)) ≡ still_due within later (d ∷ ds)
+    one rest true over = let past = ltb-true (d + within) now over in let gone : nat_lt (d + within) later ≡ true =
+        lt-ltb (d + within) later (omega arith) in rw (over, gone) rest
     one rest false ahead = rw ahead refl

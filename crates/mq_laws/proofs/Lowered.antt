@@ -15,4 +15,5 @@ source_no_later limit b t = grind arith
 
 pub sources_no_later : (timing : Timing) (now : ℕ) (asked : Set) (g : GroupState) (s : ℕ)
     → IsNoLater (deadline_of (timer_at g s)) (deadline_of (timer_at (sources_lowered timing now asked g) s))
-sources_no_later timing now asked g s = subst (λ t. IsNoLater (deadline_of (timer_at g s)) (deadline_of t)) (sym (timer_at-sources_lowered timing now asked g s)) (source_no_later (lowered_to timing now) (asked s) (timer_at g s))
+sources_no_later timing now asked g s = subst (λ t. IsNoLater (deadline_of (timer_at g s)) (deadline_of t))
+    (sym (timer_at-sources_lowered timing now asked g s)) (source_no_later (lowered_to timing now) (asked s) (timer_at g s))

@@ -1,6 +1,6 @@
 -- Queries pair up that were seen at their moments, or no more than the tolerance from them, and where one was left out.
 use Rattle.std.proofs.Common.{◌≡◌, ℕ, ◌+◌, Bool, true, false, not, List, [], ◌∷◌, ◌++◌, refl, ap, sym, ◌∙◌, arith, subst, append_assoc}
-use Rattle.std.specs.Prelude.{Option, None, Some, ◌==◌}
+use Rattle.std.specs.Prelude.{Option, None, Some, ◌==◌, map as list_map}
 use Rattle.std.specs.List.{AllByRecursion}
 use Rattle.std.proofs.lemmas.Bool.{eq-eqb}
 use Rattle.mq_check.specs.declared.asked.Asked.{Asked}
@@ -12,7 +12,8 @@ use Rattle.mq_check.specs.declared.terms.Terms.{Terms}
 use Rattle.mq_check.specs.declared.terms.QuerierTerms.{QuerierTerms}
 use Rattle.mq_check.specs.Entries.{terms_differ, difference_if, is_unlike, responses_differ, fields_differ, queriers_differ}
 use Rattle.mq_check.specs.Queries.{is_same}
-use Rattle.mq_laws.specs.Pairing.{Ask, Expected, Sent, LeftOut, Answers, IsMoved, AreMoved, AllLater, PairUp, ask_of, asks_of, all_sent, all_left_out, sent_but, seen_about, wanted_about, missing_of}
+use Rattle.mq_laws.specs.Pairing.{Ask, Expected, Sent, LeftOut, Answers, IsMoved, AreMoved, AllLater, PairUp, ask_of, asks_of, all_sent, all_left_out}
+use Rattle.mq_laws.specs.Pairing.{sent_but, seen_about, unnumbered, unnumbered_terms, wanted_about, missing_of}
 use Rattle.mq_laws.specs.AsWanted.{AreMissed, TakesOut, all_missing}
 use Rattle.mq_laws.proofs.Same.{same_asked}
 use Rattle.mq_laws.proofs.Held.{wanted_here, wanted_other, wanted_about-append, seen_here, seen_other, seen_about-append}
@@ -30,7 +31,8 @@ no_response None = refl
 no_response (Some n) = none_if n (field.Response n n)
 
 no_field : (q : QuerierTerms) → fields_differ q q ≡ []
-no_field q = λ i. (none_unlike q.suppress (field.Suppress q.suppress q.suppress) i ++ none_if q.robustness (field.Robustness q.robustness q.robustness) i) ++ none_if q.interval (field.QueryInterval q.interval q.interval) i
+no_field q = λ i. (none_unlike q.suppress (field.Suppress q.suppress q.suppress) i ++
+    none_if q.robustness (field.Robustness q.robustness q.robustness) i) ++ none_if q.interval (field.QueryInterval q.interval q.interval) i
 
 no_querier : (q : Option QuerierTerms) → queriers_differ q q ≡ []
 no_querier None = refl
@@ -38,28 +40,73 @@ no_querier (Some q) = no_field q
 
 pub terms_differ-self : (t : Terms ℕ) → terms_differ t t ≡ []
 terms_differ-self t =
-    λ i. ((none_if t.version (field.Version t.version t.version) i ++ no_response t.response i) ++ no_querier t.querier i) ++ none_if t.to (field.Destination t.to t.to) i
+    λ i. ((none_if t.version (field.Version t.version t.version) i ++ no_response t.response i) ++ no_querier t.querier i) ++
+    none_if t.to (field.Destination t.to t.to) i
 
 answers_moved : (within : ℕ) (w s : Ask) → IsMoved within w s → Answers within w s
 answers_moved within w s is = record {
   not_late = is.not_late;
   not_early = is.not_early;
-  alike = ap (λ (t : Terms ℕ). terms_differ t w.terms) is.terms ∙ terms_differ-self w.terms;
+  alike = ap (λ (t : Terms ℕ). terms_differ t (unnumbered_terms w.terms)) is.terms ∙ terms_differ-self (unnumbered_terms w.terms);
 }
 
 moved_none : (within : ℕ) (w : Ask) → IsMoved within w w
 moved_none within w = record { not_late = omega arith; not_early = omega arith; terms = refl }
 
-pub moved-self : (within : ℕ) (ws : List Ask) → AreMoved within ws ws
+moved-self : (within : ℕ) (ws : List Ask) → AreMoved within ws ws
 moved-self within [] = tt
 moved-self within (w ∷ ws) = (moved_none within w, moved-self within ws)
+
+-- The same queries in other packets: no comparison reads the number of a packet.
+pub moved_as : (within : ℕ) (ws ss : List Ask) → list_map unnumbered ss ≡ list_map unnumbered ws → AreMoved within ws ss
+moved_as within [] [] same = tt
+moved_as within [] (s ∷ ss) same = absurd (cc)
+moved_as within (w ∷ ws) [] same = absurd (cc)
+moved_as within (w ∷ ws) (s ∷ ss) same =
+    let first : unnumbered s ≡ unnumbered w = cc in
+    let rest : list_map unnumbered ss ≡ list_map unnumbered ws = cc in
+    let at : s.moment ≡ w.moment = ap (λ (a : Ask). a.moment) first in
+    (record { not_late = omega arith; not_early = omega arith; terms = ap (λ (a : Ask). a.terms) first }, moved_as within ws ss rest)
+
+answers_as : (within : ℕ) (w s t : Ask) → unnumbered t ≡ unnumbered s → Answers within w s → Answers within w t
+answers_as within w s t same is =
+    let at : t.moment ≡ s.moment = ap (λ (a : Ask). a.moment) same in
+    record {
+      not_late = omega (arith, is.not_late);
+      not_early = omega (arith, is.not_early);
+      alike = ap (λ (a : Ask). terms_differ a.terms w.terms) same ∙ is.alike;
+    }
+
+later_as : (moment : ℕ) (ss ts : List Ask) → list_map unnumbered ts ≡ list_map unnumbered ss → AllLater moment ss → AllLater moment ts
+later_as moment [] [] same later = tt
+later_as moment [] (t ∷ ts) same later = absurd (cc)
+later_as moment (s ∷ ss) [] same later = absurd (cc)
+later_as moment (s ∷ ss) (t ∷ ts) same later =
+    let first : unnumbered t ≡ unnumbered s = cc in
+    let rest : list_map unnumbered ts ≡ list_map unnumbered ss = cc in
+    let at : t.moment ≡ s.moment = ap (λ (a : Ask). a.moment) first in
+    (rw at later.0, later_as moment ss ts rest later.1)
+
+pairs_as : (within kept : ℕ) (ws : List Expected) (ss ts : List Ask) → list_map unnumbered ts ≡ list_map unnumbered ss → PairUp within kept ws ss →
+    PairUp within kept ws ts
+pairs_as within kept [] [] [] same pairs = tt
+pairs_as within kept [] [] (t ∷ ts) same pairs = absurd (cc)
+pairs_as within kept [] (s ∷ ss) ts same pairs = absurd pairs
+pairs_as within kept (Sent w ∷ ws) [] ts same pairs = absurd pairs
+pairs_as within kept (Sent w ∷ ws) (s ∷ ss) [] same pairs = absurd (cc)
+pairs_as within kept (Sent w ∷ ws) (s ∷ ss) (t ∷ ts) same pairs =
+    let first : unnumbered t ≡ unnumbered s = cc in
+    let rest : list_map unnumbered ts ≡ list_map unnumbered ss = cc in
+    (answers_as within w s t first pairs.0, pairs_as within kept ws ss ts rest pairs.1)
+pairs_as within kept (LeftOut w ∷ ws) ss ts same pairs = (later_as (w.moment + kept) ss ts same pairs.0, pairs_as within kept ws ss ts same pairs.1)
 
 -- those that were sent about one thing
 sent_about : (asked : Asked ℕ) (ws : List Ask) → wanted_about asked (all_sent ws) ≡ all_sent (seen_about asked ws)
 sent_about asked [] = refl
 sent_about asked (w ∷ ws) = one (sent_about asked ws) (is_same asked w.asked) refl
   where
-    one : wanted_about asked (all_sent ws) ≡ all_sent (seen_about asked ws) → (b : Bool) → is_same asked w.asked ≡ b → wanted_about asked (all_sent (w ∷ ws)) ≡ all_sent (seen_about asked (w ∷ ws))
+    one : wanted_about asked (all_sent ws) ≡ all_sent (seen_about asked ws) → (b : Bool) → is_same asked w.asked ≡ b →
+        wanted_about asked (all_sent (w ∷ ws)) ≡ all_sent (seen_about asked (w ∷ ws))
     one rest true is = wanted_here asked (Sent w) (all_sent ws) is ∙ ap (λ (l : List Expected). Sent w ∷ l) rest ∙ ap all_sent (sym (seen_here asked w ws is))
     one rest false is = wanted_other asked (Sent w) (all_sent ws) is ∙ rest ∙ ap all_sent (sym (seen_other asked w ws is))
 
@@ -71,7 +118,8 @@ pairs_moved within kept (w ∷ ws) (s ∷ ss) are = (answers_moved within w s ar
 
 pub all_pair_up : (within kept : ℕ) (wanted seen : List Ask) → ((asked : Asked ℕ) → AreMoved within (seen_about asked wanted) (seen_about asked seen))
     → (asked : Asked ℕ) → PairUp within kept (wanted_about asked (all_sent wanted)) (seen_about asked seen)
-all_pair_up within kept wanted seen are asked = rw (sent_about asked wanted) (pairs_moved within kept (seen_about asked wanted) (seen_about asked seen) (are asked))
+all_pair_up within kept wanted seen are asked = rw (sent_about asked wanted)
+    (pairs_moved within kept (seen_about asked wanted) (seen_about asked seen) (are asked))
 
 -- all but some of those about one thing
 abbrev AllLaterThan : (kept : ℕ) → (taken behind : List Ask) → Type 0
@@ -81,7 +129,8 @@ pairs_behind : (within kept : ℕ) (taken behind : List Ask) → AllLaterThan ke
 pairs_behind within kept [] behind later = pairs_moved within kept behind behind (moved-self within behind)
 pairs_behind within kept (ask ∷ taken) behind later = (later.0, pairs_behind within kept taken behind later.1)
 
-pairs_but : (within kept : ℕ) (before taken behind : List Ask) → AllLaterThan kept taken behind → PairUp within kept (all_sent before ++ (all_left_out taken ++ all_sent behind)) (before ++ behind)
+pairs_but : (within kept : ℕ) (before taken behind : List Ask) → AllLaterThan kept taken behind →
+    PairUp within kept (all_sent before ++ (all_left_out taken ++ all_sent behind)) (before ++ behind)
 pairs_but within kept [] taken behind later = pairs_behind within kept taken behind later
 pairs_but within kept (w ∷ before) taken behind later = (answers_moved within w w (moved_none within w), pairs_but within kept before taken behind later)
 
@@ -89,12 +138,15 @@ left_out_about : (asked : Asked ℕ) (ws : List Ask) → wanted_about asked (all
 left_out_about asked [] = refl
 left_out_about asked (w ∷ ws) = one (left_out_about asked ws) (is_same asked w.asked) refl
   where
-    one : wanted_about asked (all_left_out ws) ≡ all_left_out (seen_about asked ws) → (b : Bool) → is_same asked w.asked ≡ b → wanted_about asked (all_left_out (w ∷ ws)) ≡ all_left_out (seen_about asked (w ∷ ws))
-    one rest true is = wanted_here asked (LeftOut w) (all_left_out ws) is ∙ ap (λ (l : List Expected). LeftOut w ∷ l) rest ∙ ap all_left_out (sym (seen_here asked w ws is))
+    one : wanted_about asked (all_left_out ws) ≡ all_left_out (seen_about asked ws) → (b : Bool) → is_same asked w.asked ≡ b →
+        wanted_about asked (all_left_out (w ∷ ws)) ≡ all_left_out (seen_about asked (w ∷ ws))
+    one rest true is = wanted_here asked (LeftOut w) (all_left_out ws) is ∙ ap (λ (l : List Expected). LeftOut w ∷ l) rest ∙
+        ap all_left_out (sym (seen_here asked w ws is))
     one rest false is = wanted_other asked (LeftOut w) (all_left_out ws) is ∙ rest ∙ ap all_left_out (sym (seen_other asked w ws is))
 
 sent_but_about : (asked : Asked ℕ) (before taken behind : List Ask)
-    → wanted_about asked (sent_but before taken behind) ≡ all_sent (seen_about asked before) ++ (all_left_out (seen_about asked taken) ++ all_sent (seen_about asked behind))
+    → wanted_about asked (sent_but before taken behind) ≡ all_sent (seen_about asked before) ++
+    (all_left_out (seen_about asked taken) ++ all_sent (seen_about asked behind))
 sent_but_about asked before taken behind =
     wanted_about-append asked (all_sent before ++ all_left_out taken) (all_sent behind)
     ∙ ap (λ (l : List Expected). l ++ wanted_about asked (all_sent behind)) (wanted_about-append asked (all_sent before) (all_left_out taken))
@@ -102,20 +154,26 @@ sent_but_about asked before taken behind =
     ∙ append_assoc (all_sent (seen_about asked before)) (all_left_out (seen_about asked taken)) (all_sent (seen_about asked behind))
 
 -- of those about one thing each is taken out longer before the next than it is kept
-later_about : (kept end : ℕ) (asked : Asked ℕ) (taken behind : List Ask) → TakesOut kept end taken behind → AllLaterThan kept (seen_about asked taken) (seen_about asked behind)
+later_about : (kept end : ℕ) (asked : Asked ℕ) (taken behind : List Ask) → TakesOut kept end taken behind → AllLaterThan kept (seen_about asked taken)
+    (seen_about asked behind)
 later_about kept end asked [] behind out = tt
 later_about kept end asked (ask ∷ taken) behind out = one (later_about kept end asked taken behind out.2) (is_same asked ask.asked) refl
   where
-    one : AllLaterThan kept (seen_about asked taken) (seen_about asked behind) → (b : Bool) → is_same asked ask.asked ≡ b → AllLaterThan kept (seen_about asked (ask ∷ taken)) (seen_about asked behind)
-    one rest true is = rw (seen_here asked ask taken is) (subst (λ (a : Asked ℕ). AllLater (ask.moment + kept) (seen_about a behind)) (sym (same_asked asked ask.asked is)) out.1, rest)
+    one : AllLaterThan kept (seen_about asked taken) (seen_about asked behind) → (b : Bool) → is_same asked ask.asked ≡ b →
+        AllLaterThan kept (seen_about asked (ask ∷ taken)) (seen_about asked behind)
+    one rest true is = rw (seen_here asked ask taken is)
+        (subst (λ (a : Asked ℕ). AllLater (ask.moment + kept) (seen_about a behind)) (sym (same_asked asked ask.asked is)) out.1, rest)
     one rest false is = rw (seen_other asked ask taken is) rest
 
 pub all_but_some_pair_up : (within kept end : ℕ) (before taken behind seen : List Ask)
-    → ((asked : Asked ℕ) → seen_about asked seen ≡ seen_about asked (before ++ behind)) → TakesOut kept end taken behind
+    → ((asked : Asked ℕ) → list_map unnumbered (seen_about asked seen) ≡ list_map unnumbered (seen_about asked (before ++ behind))) →
+    TakesOut kept end taken behind
     → (asked : Asked ℕ) → PairUp within kept (wanted_about asked (sent_but before taken behind)) (seen_about asked seen)
 all_but_some_pair_up within kept end before taken behind seen are out asked =
-    rw (sent_but_about asked before taken behind, are asked, seen_about-append asked before behind)
-    (pairs_but within kept (seen_about asked before) (seen_about asked taken) (seen_about asked behind) (later_about kept end asked taken behind out))
+    rw (sent_but_about asked before taken behind)
+    (pairs_as within kept _ (seen_about asked before ++ seen_about asked behind) (seen_about asked seen)
+    (are asked ∙ ap (list_map unnumbered) (seen_about-append asked before behind))
+    (pairs_but within kept (seen_about asked before) (seen_about asked taken) (seen_about asked behind) (later_about kept end asked taken behind out)))
 
 -- what is wanted of those that were sent and those that weren't
 pub asks_of-sent : (asks : List Ask) → asks_of (all_sent asks) ≡ asks
@@ -132,7 +190,8 @@ asks_of-append (x ∷ xs) ys = ap (λ (l : List Ask). ask_of x ∷ l) (asks_of-a
 
 pub asks_of-sent_but : (before taken behind : List Ask) → asks_of (sent_but before taken behind) ≡ before ++ taken ++ behind
 asks_of-sent_but before taken behind =
-    asks_of-append (all_sent before ++ all_left_out taken) (all_sent behind) ∙ ap (λ (l : List Ask). l ++ asks_of (all_sent behind)) (asks_of-append (all_sent before) (all_left_out taken))
+    asks_of-append (all_sent before ++ all_left_out taken) (all_sent behind) ∙ ap (λ (l : List Ask). l ++ asks_of (all_sent behind))
+    (asks_of-append (all_sent before) (all_left_out taken))
     ∙ (λ i. (asks_of-sent before i ++ asks_of-left_out taken i) ++ asks_of-sent behind i)
 
 -- and what is missing
@@ -150,7 +209,8 @@ missing_of-behind (a ∷ before) xs = missing_of-behind before xs
 
 pub missing_of-sent_but : (before taken behind : List Ask) → missing_of (sent_but before taken behind) ≡ all_missing taken
 missing_of-sent_but before taken behind =
-    ap missing_of (append_assoc (all_sent before) (all_left_out taken) (all_sent behind)) ∙ missing_of-behind before (all_left_out taken ++ all_sent behind) ∙ missing_of-left_out taken behind
+    ap missing_of (append_assoc (all_sent before) (all_left_out taken) (all_sent behind)) ∙
+    missing_of-behind before (all_left_out taken ++ all_sent behind) ∙ missing_of-left_out taken behind
 
 -- nothing is missed of what was sent, and of the rest what is taken out
 pub missed-sent : (kept end : ℕ) (asks : List Ask) → AreMissed kept end (all_sent asks)

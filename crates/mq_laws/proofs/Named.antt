@@ -31,7 +31,8 @@ are_given : (a b c d : Bool) → AreGiven a b c d
 are_given a b c d = grind arith
 
 pub limits_given : (limits : Limits) (groups : Groups) (changed : ScheduledGroup)
-    → AreGiven (ltb limits.groups (map.len groups)) (ltb limits.group_sources (sources_of changed)) (ltb limits.sources (sources_in groups)) (ltb limits.scheduled (schedules_in groups))
+    → AreGiven (ltb limits.groups (map.len groups)) (ltb limits.group_sources (sources_of changed)) (ltb limits.sources (sources_in groups))
+    (ltb limits.scheduled (schedules_in groups))
 limits_given limits groups changed = are_given _ _ _ _
 
 at_most : (most n : ℕ) → n ≤ most → ltb most n ≡ false
@@ -51,11 +52,13 @@ named_so passed name before after queries = grind arith
 
 pub verdict_names : (at : Setting) (group : ℕ) (st : Statement) (groups : Groups) (change : GroupChange) (name : Refusal)
     → change_in at group st groups ≡ Some change
-    → ((stated at group st groups).verdict ≡ Refused name) ↔ (limit_passed at.config.limits (would_leave at group groups change) (would_be at group groups change) ≡ Some name)
+    → ((stated at group st groups).verdict ≡ Refused name) ↔
+    (limit_passed at.config.limits (would_leave at group groups change) (would_be at group groups change) ≡ Some name)
 unfolding stated
 verdict_names at group st groups change name is =
     let same = ap (λ c. (changed_or_refused at group groups c).verdict) is in
-    let h = named_so (limit_passed at.config.limits (would_leave at group groups change) (would_be at group groups change)) name groups (would_leave at group groups change) (sent_at_once at group (changed_by at group groups change)) in
+    let h = named_so (limit_passed at.config.limits (would_leave at group groups change) (would_be at group groups change)) name groups
+    (would_leave at group groups change) (sent_at_once at group (changed_by at group groups change)) in
     (λ v. h.0 (sym same ∙ v), λ v. same ∙ h.1 v)
 
 -- a statement is refused for a limit alone
@@ -82,7 +85,9 @@ repeated_given at seen r groups kind is =
     let h = by_test (is_repeated groups seen r.group) in
     (λ v. h.0 (sym same ∙ v), λ v. same ∙ h.1 v)
   where
-    by_test : (b : Bool) → ((cond b (leaving groups (Refused Repeated)) (stated at r.group (RecordOf kind (set.from_list r.sources)) groups)).verdict ≡ Refused Repeated) ↔ (b ≡ true)
+    by_test : (b : Bool) →
+        ((cond b (leaving groups (Refused Repeated)) (stated at r.group (RecordOf kind (set.from_list r.sources)) groups)).verdict ≡ Refused Repeated)
+        ↔ (b ≡ true)
     by_test true = (λ _. refl, λ _. refl)
     by_test false = (λ h. absurd ((stated_names at r.group (RecordOf kind (set.from_list r.sources)) groups Repeated h).1 refl), λ h. cc)
 
@@ -92,7 +97,8 @@ long_given : (at : Setting) (seen : Seen) (r : RecordView ℕ) (groups : Groups)
 unfolding judged
 long_given at seen r groups = by_entrance (entrance at.config r)
   where
-    by_test : (b : Bool) (kind : Kind) → (cond b (leaving groups (Refused Repeated)) (stated at r.group (RecordOf kind (set.from_list r.sources)) groups)).verdict ≡ Refused Long → ⊥
+    by_test : (b : Bool) (kind : Kind) →
+        (cond b (leaving groups (Refused Repeated)) (stated at r.group (RecordOf kind (set.from_list r.sources)) groups)).verdict ≡ Refused Long → ⊥
     by_test true kind h = cc
     by_test false kind h = (stated_names at r.group (RecordOf kind (set.from_list r.sources)) groups Long h).0 refl
 
@@ -139,18 +145,21 @@ unadmitted_ignored at seen r groups apart = ignored_if at seen r groups (by_kind
   where
     by_kind : (kind : Option Kind) → entrance_as at.config r kind ≡ Stops Ignored
     by_kind None = refl
-    by_kind (Some kind) = ap (λ b. cond (not b) (Stops Ignored) (cond (ltb at.config.limits.group_sources (length r.sources)) (Stops (Refused Long)) (GoesOn kind))) apart
+    by_kind (Some kind) =
+        ap (λ b. cond (not b) (Stops Ignored) (cond (ltb at.config.limits.group_sources (length r.sources)) (Stops (Refused Long)) (GoesOn kind))) apart
 
 -- want of memory is never named
 pub never_memory : (at : Setting) (seen : Seen) (r : RecordView ℕ) (groups : Groups) → (judged at seen r groups).verdict ≡ Refused Memory → ⊥
 unfolding judged
 never_memory at seen r groups = by_kind (kind_named r.kind)
   where
-    goes_on : (b : Bool) (kind : Kind) → (cond b (leaving groups (Refused Repeated)) (stated at r.group (RecordOf kind (set.from_list r.sources)) groups)).verdict ≡ Refused Memory → ⊥
+    goes_on : (b : Bool) (kind : Kind) →
+        (cond b (leaving groups (Refused Repeated)) (stated at r.group (RecordOf kind (set.from_list r.sources)) groups)).verdict ≡ Refused Memory → ⊥
     goes_on true kind h = cc
     goes_on false kind h = (stated_names at r.group (RecordOf kind (set.from_list r.sources)) groups Memory h).2 refl
 
-    by_tests : (admitted long : Bool) (kind : Kind) → (judged_from at seen r groups (cond (not admitted) (Stops Ignored) (cond long (Stops (Refused Long)) (GoesOn kind)))).verdict ≡ Refused Memory → ⊥
+    by_tests : (admitted long : Bool) (kind : Kind) →
+        (judged_from at seen r groups (cond (not admitted) (Stops Ignored) (cond long (Stops (Refused Long)) (GoesOn kind)))).verdict ≡ Refused Memory → ⊥
     by_tests false long kind h = cc
     by_tests true true kind h = cc
     by_tests true false kind h = goes_on (is_repeated groups seen r.group) kind h

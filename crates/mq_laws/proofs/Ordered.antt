@@ -22,7 +22,9 @@ use Rattle.mq_replay.specs.Report.{Datagram, datagram_of, all_sent}
 use Rattle.mq_check.specs.declared.headers.HeaderFault.{HeaderFault}
 use Rattle.mq_check.specs.Check.{destination_in, faults_in}
 use Rattle.mq_check.specs.Queries.{asked_in, is_general, terms_of, query_sent, query_seen}
-use Rattle.mq_laws.specs.Captures.{Passage, happening_behind, wanted_for, wanted_of, wanted_by, role_by_tick, role_by_datagram, tick_passage, ticks_passage, ticks_through, event_of, fault_events, datagram_passage, frame_passage, packet_passage, packets_passage, last_of, end_of, events_ahead, events_of}
+use Rattle.mq_laws.specs.Captures.{Passage, happening_behind, wanted_for, wanted_of, wanted_by, role_by_tick, role_by_datagram, tick_passage}
+use Rattle.mq_laws.specs.Captures.{ticks_passage, ticks_through, event_of, fault_events, datagram_passage, frame_passage, packet_passage}
+use Rattle.mq_laws.specs.Captures.{packets_passage, last_of, end_of, events_ahead, events_of}
 use Rattle.mq_check.specs.Blocked.{blocked_in}
 use Rattle.mq_laws.specs.Events.{CheckEvent, Comes, Wants, Sees, SeesGeneral, LosesRole, HasRoleAgain, SeesFault, Blocks}
 use Rattle.mq_laws.specs.OnTime.{AreAhead, AreInOrder, IsOfTick}
@@ -31,10 +33,14 @@ use Rattle.mq_laws.proofs.Followed.{none_passes, one_passes}
 -- what is known of links
 pub record KnownOfLinks : Type 0 where
   pub start : (config : Configuration) (start : ℕ) → IsFaultless config → IsWellFormed config (link_at config start)
-  pub ticked : (config : Configuration) (now : ℕ) (state : LinkState) → IsFaultless config → IsWellFormed config state → IsWellFormed config (tick_of config now state).state
-  pub received : (config : Configuration) (envelope : Envelope) (bytes : List ℕ) (now : ℕ) (state : LinkState) → IsFaultless config → IsWellFormed config state → IsWellFormed config (receipt_of config envelope bytes now state).step.state
-  pub later_tick : (config : Configuration) (now : ℕ) (state : LinkState) → IsFaultless config → IsWellFormed config state → tick.moment_of state now < next_of (tick_of config now state).state
-  pub later_datagram : (config : Configuration) (envelope : Envelope) (bytes : List ℕ) (now : ℕ) (state : LinkState) → IsFaultless config → IsWellFormed config state → tick.moment_of state now < next_of (receipt_of config envelope bytes now state).step.state
+  pub ticked : (config : Configuration) (now : ℕ) (state : LinkState) → IsFaultless config → IsWellFormed config state →
+      IsWellFormed config (tick_of config now state).state
+  pub received : (config : Configuration) (envelope : Envelope) (bytes : List ℕ) (now : ℕ) (state : LinkState) → IsFaultless config →
+      IsWellFormed config state → IsWellFormed config (receipt_of config envelope bytes now state).step.state
+  pub later_tick : (config : Configuration) (now : ℕ) (state : LinkState) → IsFaultless config → IsWellFormed config state →
+      tick.moment_of state now < next_of (tick_of config now state).state
+  pub later_datagram : (config : Configuration) (envelope : Envelope) (bytes : List ℕ) (now : ℕ) (state : LinkState) → IsFaultless config →
+      IsWellFormed config state → tick.moment_of state now < next_of (receipt_of config envelope bytes now state).step.state
 
 -- the counters have no part in it
 counted_formed : (config : Configuration) (answers : List Bool) (step : Step) → IsWellFormed config step.state → IsWellFormed config (answered answers step)
@@ -44,7 +50,7 @@ counted_formed config answers step h = record { groups = h.groups; within = h.wi
 order-later : (now later : ℕ) (events : List CheckEvent) (end : ℕ) → now ≤ later → AreInOrder later events end → AreInOrder now events end
 order-later now later [] end before order = omega arith
 order-later now later (Comes moment ∷ es) end before order = (omega (arith, order.0), order.1)
-order-later now later (Wants terms asked ∷ es) end before order = order-later now later es end before order
+order-later now later (Wants is_again terms asked ∷ es) end before order = order-later now later es end before order
 order-later now later (Sees terms unheld asked ∷ es) end before order = order-later now later es end before order
 order-later now later (SeesGeneral terms wanted ∷ es) end before order = order-later now later es end before order
 order-later now later (LosesRole ∷ es) end before order = order-later now later es end before order
@@ -55,7 +61,7 @@ order-later now later (Blocks asked ∷ es) end before order = order-later now l
 order-append : (now middle : ℕ) (xs ys : List CheckEvent) (end : ℕ) → AreInOrder now xs middle → AreInOrder middle ys end → AreInOrder now (xs ++ ys) end
 order-append now middle [] ys end first second = order-later now middle ys end first second
 order-append now middle (Comes moment ∷ es) ys end first second = (first.0, order-append moment middle es ys end first.1 second)
-order-append now middle (Wants terms asked ∷ es) ys end first second = order-append now middle es ys end first second
+order-append now middle (Wants is_again terms asked ∷ es) ys end first second = order-append now middle es ys end first second
 order-append now middle (Sees terms unheld asked ∷ es) ys end first second = order-append now middle es ys end first second
 order-append now middle (SeesGeneral terms wanted ∷ es) ys end first second = order-append now middle es ys end first second
 order-append now middle (LosesRole ∷ es) ys end first second = order-append now middle es ys end first second
@@ -64,19 +70,23 @@ order-append now middle (SeesFault number fault ∷ es) ys end first second = or
 order-append now middle (Blocks asked ∷ es) ys end first second = order-append now middle es ys end first second
 
 -- what happens at one moment
-order-wanted_for : (now packets : ℕ) (family : Family) (is_returning : Bool) (to : ℕ) (query : Option (Query ℕ)) → AreInOrder now (wanted_for family packets is_returning to query) now
-order-wanted_for now packets family is_returning to None = omega arith
-order-wanted_for now packets family is_returning to (Some query) = by_test (is_general query && not is_returning)
+order-wanted_for : (now packets : ℕ) (family : Family) (by_tick is_returning : Bool) (to : ℕ) (query : Option (Query ℕ)) →
+    AreInOrder now (wanted_for family packets by_tick is_returning to query) now
+order-wanted_for now packets family by_tick is_returning to None = omega arith
+order-wanted_for now packets family by_tick is_returning to (Some query) = by_test (is_general query && not is_returning)
   where
-    by_test : (b : Bool) → AreInOrder now (cond b [] (Wants (terms_of family packets to query) (asked_in query) ∷ [])) now
+    by_test : (b : Bool) → AreInOrder now (cond b [] (Wants (by_tick && not (is_general query)) (terms_of family packets to query) (asked_in query) ∷ [])) now
     by_test true = omega arith
     by_test false = omega arith
 
-order-wanted : (now packets : ℕ) (config : Configuration) (is_returning : Bool) (messages : List Outgoing) → AreInOrder now (wanted_of config packets is_returning messages) now
-order-wanted now packets config is_returning [] = omega arith
-order-wanted now packets config is_returning (message ∷ messages) =
-    order-append now now (wanted_for config.family packets is_returning message.to (query_sent config.family config.own message)) (wanted_of config packets is_returning messages) now
-    (order-wanted_for now packets config.family is_returning message.to (query_sent config.family config.own message)) (order-wanted now packets config is_returning messages)
+order-wanted : (now packets : ℕ) (config : Configuration) (by_tick is_returning : Bool) (messages : List Outgoing) →
+    AreInOrder now (wanted_of config packets by_tick is_returning messages) now
+order-wanted now packets config by_tick is_returning [] = omega arith
+order-wanted now packets config by_tick is_returning (message ∷ messages) =
+    order-append now now (wanted_for config.family packets by_tick is_returning message.to (query_sent config.family config.own message))
+    (wanted_of config packets by_tick is_returning messages) now
+    (order-wanted_for now packets config.family by_tick is_returning message.to (query_sent config.family config.own message))
+    (order-wanted now packets config by_tick is_returning messages)
 
 order-tick : (now : ℕ) (was is : Bool) → AreInOrder now (role_by_tick was is) now
 order-tick now true is = omega arith
@@ -95,30 +105,37 @@ pub record IsOrdered (config : Configuration) (now moment : ℕ) (p : Passage) :
   pub formed : IsWellFormed config p.link
   pub later : moment < next_of p.link
 
-ordered-behind : (config : Configuration) (now middle moment : ℕ) (p q : Passage) → AreInOrder now p.events middle → IsOrdered config middle moment q → IsOrdered config now moment (happening_behind p.events q)
-ordered-behind config now middle moment p q first second = record { order = order-append now middle p.events q.events moment first second.order; formed = second.formed; later = second.later }
+ordered-behind : (config : Configuration) (now middle moment : ℕ) (p q : Passage) → AreInOrder now p.events middle →
+    IsOrdered config middle moment q → IsOrdered config now moment (happening_behind p.events q)
+ordered-behind config now middle moment p q first second =
+    record { order = order-append now middle p.events q.events moment first second.order; formed = second.formed; later = second.later }
 
 -- a tick
-ordered-tick : KnownOfLinks → (config : Configuration) (now moment packets : ℕ) (link : LinkState) → IsFaultless config → IsWellFormed config link → now ≤ moment → IsOrdered config now moment (tick_passage config moment packets link)
+ordered-tick : KnownOfLinks → (config : Configuration) (now moment packets : ℕ) (link : LinkState) → IsFaultless config → IsWellFormed config link →
+    now ≤ moment → IsOrdered config now moment (tick_passage config moment packets link)
 ordered-tick known config now moment packets link faultless formed before =
     let step = tick_of config moment link in
     record {
       order = (
         before,
-        order-append moment moment (wanted_by config packets link step) (role_by_tick (is_querier link.election.role) (is_querier step.state.election.role)) moment
-            (order-wanted moment packets config (not (is_querier link.election.role)) (outgoing_of config step)) (order-tick moment (is_querier link.election.role) (is_querier step.state.election.role)),
+        order-append moment moment (wanted_by config packets true link step)
+            (role_by_tick (is_querier link.election.role) (is_querier step.state.election.role)) moment
+            (order-wanted moment packets config true (not (is_querier link.election.role)) (outgoing_of config step))
+            (order-tick moment (is_querier link.election.role) (is_querier step.state.election.role)),
       );
       formed = counted_formed config (all_sent (outgoing_of config step)) step (known.ticked config moment link faultless formed);
       later = let after = known.later_tick config moment link faultless formed in omega (arith, after);
     }
 
 -- all ticks up to a moment
-ordered-ticks : KnownOfLinks → (most : ℕ) (config : Configuration) (now moment packets : ℕ) (link : LinkState) → IsFaultless config → IsWellFormed config link → now ≤ moment → now ≤ next_of link → moment + 1 ≤ most + next_of link
+ordered-ticks : KnownOfLinks → (most : ℕ) (config : Configuration) (now moment packets : ℕ) (link : LinkState) → IsFaultless config →
+    IsWellFormed config link → now ≤ moment → now ≤ next_of link → moment + 1 ≤ most + next_of link
     → IsOrdered config now moment (ticks_passage most config (moment + 1) packets link)
 unfolding ticks_passage
 ordered-ticks known zero config now moment packets link faultless formed before next enough = record { order = before; formed = formed; later = omega arith }
 ordered-ticks known (suc most) config now moment packets link faultless formed before next enough =
-    elim (nat_lt (next_of link) (moment + 1)) as (λ b. nat_lt (next_of link) (moment + 1) ≡ b → IsOrdered config now moment (ticks_passage (suc most) config (moment + 1) packets link)) [
+    elim (nat_lt (next_of link) (moment + 1)) as (λ b. nat_lt (next_of link) (moment + 1) ≡ b →
+    IsOrdered config now moment (ticks_passage (suc most) config (moment + 1) packets link)) [
       | true ↦ λ due.
           let at : next_of link < moment + 1 = ltb-true (next_of link) (moment + 1) due in
           let first = tick_passage config (next_of link) packets link in
@@ -132,8 +149,10 @@ ordered-ticks known (suc most) config now moment packets link faultless formed b
           rw (none_passes (suc most) config (moment + 1) packets link beyond) (record { order = before; formed = formed; later = omega arith })
     ] refl
 
-ordered-through : KnownOfLinks → (config : Configuration) (now moment packets : ℕ) (link : LinkState) → IsFaultless config → IsWellFormed config link → now ≤ moment → now ≤ next_of link → IsOrdered config now moment (ticks_through config moment packets link)
-ordered-through known config now moment packets link faultless formed before next = ordered-ticks known (moment + 1) config now moment packets link faultless formed before next (omega arith)
+ordered-through : KnownOfLinks → (config : Configuration) (now moment packets : ℕ) (link : LinkState) → IsFaultless config →
+    IsWellFormed config link → now ≤ moment → now ≤ next_of link → IsOrdered config now moment (ticks_through config moment packets link)
+ordered-through known config now moment packets link faultless formed before next =
+    ordered-ticks known (moment + 1) config now moment packets link faultless formed before next (omega arith)
 
 -- faults in the headers of a packet
 order-faults : (now number : ℕ) (faults : List HeaderFault) → AreInOrder now (fault_events number faults) now
@@ -141,20 +160,24 @@ order-faults now number [] = omega arith
 order-faults now number (fault ∷ faults) = order-faults now number faults
 
 -- a query of the querier
-order-event : (now : ℕ) (config : Configuration) (link : LinkState) (packets to : ℕ) (query : Query ℕ) → AreInOrder now (event_of config link packets to query ∷ []) now
-order-event now config link packets to query = elim (is_general query) as (λ b. is_general query ≡ b → AreInOrder now (event_of config link packets to query ∷ []) now) [
-  | true ↦ λ is. rw is (omega arith)
-  | false ↦ λ is. rw is (omega arith)
-] refl
+order-event : (now : ℕ) (config : Configuration) (link : LinkState) (packets to : ℕ) (query : Query ℕ) →
+    AreInOrder now (event_of config link packets to query ∷ []) now
+order-event now config link packets to query =
+    elim (is_general query) as (λ b. is_general query ≡ b → AreInOrder now (event_of config link packets to query ∷ []) now) [
+      | true ↦ λ is. rw is (omega arith)
+      | false ↦ λ is. rw is (omega arith)
+    ] refl
 
 -- a datagram, behind all ticks up to its moment
-ordered-datagram : KnownOfLinks → (config : Configuration) (moment number to : ℕ) (datagram : Datagram) (query : Option (Query ℕ)) (faults : List HeaderFault) (packets : ℕ) (link : LinkState) → IsFaultless config → IsWellFormed config link → moment < next_of link
+ordered-datagram : KnownOfLinks → (config : Configuration) (moment number to : ℕ) (datagram : Datagram) (query : Option (Query ℕ))
+    (faults : List HeaderFault) (packets : ℕ) (link : LinkState) → IsFaultless config → IsWellFormed config link → moment < next_of link
     → IsOrdered config moment moment (datagram_passage config moment to datagram query (fault_events number faults) packets link)
 ordered-datagram known config moment number to datagram (Some query) faults packets link faultless formed later =
     record {
       order = (
         omega arith,
-        order-append moment moment (fault_events number faults) (event_of config link packets to query ∷ []) moment (order-faults moment number faults) (order-event moment config link packets to query),
+        order-append moment moment (fault_events number faults) (event_of config link packets to query ∷ []) moment
+            (order-faults moment number faults) (order-event moment config link packets to query),
       );
       formed = formed;
       later = later;
@@ -164,26 +187,36 @@ ordered-datagram known config moment number to datagram None faults packets link
     record {
       order = (
         omega arith,
-        order-append moment moment (fault_events number faults) (Blocks (blocked_in config.family datagram) ∷ wanted_by config packets link step ++ role_by_datagram (is_querier link.election.role) (is_querier step.state.election.role)) moment (order-faults moment number faults)
-            (order-append moment moment (wanted_by config packets link step) (role_by_datagram (is_querier link.election.role) (is_querier step.state.election.role)) moment
-            (order-wanted moment packets config (not (is_querier link.election.role)) (outgoing_of config step)) (order-datagram moment (is_querier link.election.role) (is_querier step.state.election.role))),
+        order-append moment moment (fault_events number faults)
+            (Blocks (blocked_in config.family datagram) ∷ wanted_by config packets false link step ++ role_by_datagram (is_querier link.election.role)
+            (is_querier step.state.election.role)) moment (order-faults moment number faults)
+            (order-append moment moment (wanted_by config packets false link step)
+            (role_by_datagram (is_querier link.election.role) (is_querier step.state.election.role)) moment
+            (order-wanted moment packets config false (not (is_querier link.election.role)) (outgoing_of config step))
+            (order-datagram moment (is_querier link.election.role) (is_querier step.state.election.role))),
       );
-      formed = counted_formed config (all_sent (outgoing_of config step)) step (known.received config datagram.envelope datagram.body moment link faultless formed);
+      formed = counted_formed config (all_sent (outgoing_of config step)) step
+          (known.received config datagram.envelope datagram.body moment link faultless formed);
       later = let after = known.later_datagram config datagram.envelope datagram.body moment link faultless formed in omega (arith, after);
     }
 
-ordered-frame : KnownOfLinks → (config : Configuration) (link_type : LinkType) (moment number : ℕ) (frame : List ℕ) (datagram : Option Datagram) (packets : ℕ) (link : LinkState) → IsFaultless config → IsWellFormed config link → moment < next_of link
+ordered-frame : KnownOfLinks → (config : Configuration) (link_type : LinkType) (moment number : ℕ) (frame : List ℕ) (datagram : Option Datagram)
+    (packets : ℕ) (link : LinkState) → IsFaultless config → IsWellFormed config link → moment < next_of link
     → IsOrdered config moment moment (frame_passage config link_type moment number frame datagram packets link)
-ordered-frame known config link_type moment number frame None packets link faultless formed later = record { order = omega arith; formed = formed; later = later }
+ordered-frame known config link_type moment number frame None packets link faultless formed later =
+    record { order = omega arith; formed = formed; later = later }
 ordered-frame known config link_type moment number frame (Some datagram) packets link faultless formed later =
-    ordered-datagram known config moment number (destination_in config.family link_type frame datagram.envelope) datagram (query_seen config datagram) (faults_in config link_type frame datagram) packets link faultless formed later
+    ordered-datagram known config moment number (destination_in config.family link_type frame datagram.envelope) datagram (query_seen config datagram)
+    (faults_in config link_type frame datagram) packets link faultless formed later
 
-ordered-packet : KnownOfLinks → (config : Configuration) (link_type : LinkType) (now moment number : ℕ) (frame : List ℕ) (packets : ℕ) (link : LinkState) → IsFaultless config → IsWellFormed config link → now ≤ moment → now ≤ next_of link
+ordered-packet : KnownOfLinks → (config : Configuration) (link_type : LinkType) (now moment number : ℕ) (frame : List ℕ) (packets : ℕ)
+    (link : LinkState) → IsFaultless config → IsWellFormed config link → now ≤ moment → now ≤ next_of link
     → IsOrdered config now moment (packet_passage config link_type moment number frame packets link)
 ordered-packet known config link_type now moment number frame packets link faultless formed before next =
     let ticks = ordered-through known config now moment packets link faultless formed before next in
     ordered-behind config now moment moment (ticks_through config moment packets link) _ ticks.order
-    (ordered-frame known config link_type moment number frame (datagram_of config.family (carried_in link_type frame)) _ (ticks_through config moment packets link).link faultless ticks.formed ticks.later)
+    (ordered-frame known config link_type moment number frame (datagram_of config.family (carried_in link_type frame)) _
+    (ticks_through config moment packets link).link faultless ticks.formed ticks.later)
 
 -- packets, one after the other
 pub record AreOrdered (config : Configuration) (now moment : ℕ) (p : Passage) : Type 0 where
@@ -191,7 +224,8 @@ pub record AreOrdered (config : Configuration) (now moment : ℕ) (p : Passage) 
   pub formed : IsWellFormed config p.link
   pub next : moment ≤ next_of p.link
 
-ordered-packets : KnownOfLinks → (config : Configuration) (link_type : LinkType) (first : Option ℕ) (before number : ℕ) (packets : List Captured) (earlier : ℕ) (link : LinkState) → IsFaultless config → IsWellFormed config link → before ≤ next_of link
+ordered-packets : KnownOfLinks → (config : Configuration) (link_type : LinkType) (first : Option ℕ) (before number : ℕ) (packets : List Captured)
+    (earlier : ℕ) (link : LinkState) → IsFaultless config → IsWellFormed config link → before ≤ next_of link
     → AreOrdered config before (last_of first before packets) (packets_passage config link_type first before number packets earlier link)
 unfolding packets_passage
 ordered-packets known config link_type first before number [] earlier link faultless formed next = record { order = omega arith; formed = formed; next = next }
@@ -200,7 +234,8 @@ ordered-packets known config link_type first before number (packet ∷ packets) 
     let this = packet_passage config link_type moment number packet.bytes earlier link in
     let one = ordered-packet known config link_type before moment number packet.bytes earlier link faultless formed (omega arith) next in
     let after = one.later in
-    let more = ordered-packets known config link_type (Some (unwrap_or first packet.stamp)) moment (number + 1) packets this.packets this.link faultless one.formed (omega arith) in
+    let more = ordered-packets known config link_type (Some (unwrap_or first packet.stamp)) moment (number + 1) packets this.packets this.link
+    faultless one.formed (omega arith) in
     record { order = order-append before moment this.events _ _ one.order more.order; formed = more.formed; next = more.next }
 
 -- a link at the end of a capture, behind all ticks up to then
@@ -218,18 +253,24 @@ of_ticks-append : (xs ys : List CheckEvent) → AllByRecursion IsOfTick xs → A
 of_ticks-append [] ys first second = second
 of_ticks-append (x ∷ xs) ys first second = (first.0, of_ticks-append xs ys first.1 second)
 
-wanted-of_tick : (family : Family) (packets : ℕ) (is_returning : Bool) (to : ℕ) (query : Option (Query ℕ)) → AllByRecursion IsOfTick (wanted_for family packets is_returning to query)
-wanted-of_tick family packets is_returning to None = tt
-wanted-of_tick family packets is_returning to (Some query) = elim (is_general query && not is_returning) as (λ b. (is_general query && not is_returning) ≡ b → AllByRecursion IsOfTick (wanted_for family packets is_returning to (Some query))) [
-  | true ↦ λ is. rw is tt
-  | false ↦ λ is. rw is (tt, tt)
-] refl
+wanted-of_tick : (family : Family) (packets : ℕ) (by_tick is_returning : Bool) (to : ℕ) (query : Option (Query ℕ)) →
+    AllByRecursion IsOfTick (wanted_for family packets by_tick is_returning to query)
+wanted-of_tick family packets by_tick is_returning to None = tt
+wanted-of_tick family packets by_tick is_returning to (Some query) =
+    elim (is_general query && not is_returning) as (λ b. (is_general query && not is_returning) ≡ b →
+    AllByRecursion IsOfTick (wanted_for family packets by_tick is_returning to (Some query))) [
+      | true ↦ λ is. rw is tt
+      | false ↦ λ is. rw is (tt, tt)
+    ] refl
 
-all_wanted-of_tick : (config : Configuration) (packets : ℕ) (is_returning : Bool) (messages : List Outgoing) → AllByRecursion IsOfTick (wanted_of config packets is_returning messages)
-all_wanted-of_tick config packets is_returning [] = tt
-all_wanted-of_tick config packets is_returning (message ∷ messages) =
-    of_ticks-append (wanted_for config.family packets is_returning message.to (query_sent config.family config.own message)) (wanted_of config packets is_returning messages)
-    (wanted-of_tick config.family packets is_returning message.to (query_sent config.family config.own message)) (all_wanted-of_tick config packets is_returning messages)
+all_wanted-of_tick : (config : Configuration) (packets : ℕ) (by_tick is_returning : Bool) (messages : List Outgoing) →
+    AllByRecursion IsOfTick (wanted_of config packets by_tick is_returning messages)
+all_wanted-of_tick config packets by_tick is_returning [] = tt
+all_wanted-of_tick config packets by_tick is_returning (message ∷ messages) =
+    of_ticks-append (wanted_for config.family packets by_tick is_returning message.to (query_sent config.family config.own message))
+    (wanted_of config packets by_tick is_returning messages)
+    (wanted-of_tick config.family packets by_tick is_returning message.to (query_sent config.family config.own message))
+    (all_wanted-of_tick config packets by_tick is_returning messages)
 
 role-of_tick : (was is : Bool) → AllByRecursion IsOfTick (role_by_tick was is)
 role-of_tick true is = tt
@@ -240,15 +281,18 @@ tick-of_tick : (config : Configuration) (moment packets : ℕ) (link : LinkState
 tick-of_tick config moment packets link =
     let step = tick_of config moment link in (
       tt,
-      of_ticks-append (wanted_by config packets link step) (role_by_tick (is_querier link.election.role) (is_querier step.state.election.role))
-          (all_wanted-of_tick config packets (not (is_querier link.election.role)) (outgoing_of config step)) (role-of_tick (is_querier link.election.role) (is_querier step.state.election.role)),
+      of_ticks-append (wanted_by config packets true link step) (role_by_tick (is_querier link.election.role) (is_querier step.state.election.role))
+          (all_wanted-of_tick config packets true (not (is_querier link.election.role)) (outgoing_of config step))
+          (role-of_tick (is_querier link.election.role) (is_querier step.state.election.role)),
     )
 
-ticks-of_tick : (most : ℕ) (config : Configuration) (limit packets : ℕ) (link : LinkState) → AllByRecursion IsOfTick (ticks_passage most config limit packets link).events
+ticks-of_tick : (most : ℕ) (config : Configuration) (limit packets : ℕ) (link : LinkState) →
+    AllByRecursion IsOfTick (ticks_passage most config limit packets link).events
 unfolding ticks_passage
 ticks-of_tick zero config limit packets link = tt
 ticks-of_tick (suc most) config limit packets link =
-    elim (nat_lt (next_of link) limit) as (λ b. nat_lt (next_of link) limit ≡ b → AllByRecursion IsOfTick (ticks_passage (suc most) config limit packets link).events) [
+    elim (nat_lt (next_of link) limit) as
+    (λ b. nat_lt (next_of link) limit ≡ b → AllByRecursion IsOfTick (ticks_passage (suc most) config limit packets link).events) [
       | true ↦ λ due.
           let first = tick_passage config (next_of link) packets link in
           rw (one_passes most config limit packets link (ltb-true (next_of link) limit due))
@@ -260,7 +304,7 @@ ticks-of_tick (suc most) config limit packets link =
 order-until : (now : ℕ) (es : List CheckEvent) (end later : ℕ) → end ≤ later → AreInOrder now es end → AreInOrder now es later
 order-until now [] end later before order = omega (arith, order, before)
 order-until now (Comes moment ∷ es) end later before order = (order.0, order-until moment es end later before order.1)
-order-until now (Wants terms asked ∷ es) end later before order = order-until now es end later before order
+order-until now (Wants is_again terms asked ∷ es) end later before order = order-until now es end later before order
 order-until now (Sees terms unheld asked ∷ es) end later before order = order-until now es end later before order
 order-until now (SeesGeneral terms wanted ∷ es) end later before order = order-until now es end later before order
 order-until now (LosesRole ∷ es) end later before order = order-until now es end later before order
@@ -269,7 +313,8 @@ order-until now (SeesFault number fault ∷ es) end later before order = order-u
 order-until now (Blocks asked ∷ es) end later before order = order-until now es end later before order
 
 -- the ticks behind the end, where the end is in range and where it isn't
-order-ahead : KnownOfLinks → (config : Configuration) (within end limit packets : ℕ) (link : LinkState) → IsFaultless config → IsWellFormed config link → end < next_of link → limit ≤ end + within
+order-ahead : KnownOfLinks → (config : Configuration) (within end limit packets : ℕ) (link : LinkState) → IsFaultless config →
+    IsWellFormed config link → end < next_of link → limit ≤ end + within
     → AreInOrder end (ticks_through config limit packets link).events (end + within)
 order-ahead known config within end limit packets link faultless formed next least =
     elim (nat_le end limit) as (λ b. nat_le end limit ≡ b → AreInOrder end (ticks_through config limit packets link).events (end + within)) [
@@ -282,7 +327,8 @@ order-ahead known config within end limit packets link faultless formed next lea
           rw (none_passes (limit + 1) config (limit + 1) packets link (omega (arith, next, past))) (omega arith)
     ] refl
 
-pub ahead_in_order : KnownOfLinks → (config : Configuration) (within : ℕ) (until : Option ℕ) (form : Form) (packets : List Captured) → IsFaultless config → AreAhead within (end_of until packets) (events_ahead config within until form packets)
+pub ahead_in_order : KnownOfLinks → (config : Configuration) (within : ℕ) (until : Option ℕ) (form : Form) (packets : List Captured) →
+    IsFaultless config → AreAhead within (end_of until packets) (events_ahead config within until form packets)
 ahead_in_order known config within until form packets faultless =
     let ended = at_end known config until form packets faultless in
     let p = packets_passage config form.link None 0 1 packets 0 (link_at config 0) in
@@ -294,7 +340,8 @@ ahead_in_order known config within until form packets faultless =
       of_ticks = ticks-of_tick (limit + 1) config (limit + 1) t.packets t.link;
     }
 
-pub events_in_order : KnownOfLinks → (config : Configuration) (until : Option ℕ) (form : Form) (packets : List Captured) → IsFaultless config → AreInOrder 0 (events_of config until form packets) (end_of until packets)
+pub events_in_order : KnownOfLinks → (config : Configuration) (until : Option ℕ) (form : Form) (packets : List Captured) → IsFaultless config →
+    AreInOrder 0 (events_of config until form packets) (end_of until packets)
 events_in_order known config until form packets faultless =
     let last = last_of None 0 packets in
     let all = ordered-packets known config form.link None 0 1 packets 0 (link_at config 0) faultless (known.start config 0 faultless) (omega arith) in

@@ -52,7 +52,8 @@ unanswered_step step = record { state = unanswered step.state; queries = step.qu
 outcomes_alike : (step : Step) (outcomes : Outcomes) → Alike step (with_outcomes step outcomes) (with_outcomes (unanswered_step step) outcomes)
 unfolding quiet
 outcomes_alike step outcomes = record {
-  state = ap (λ c. record { groups = outcomes.groups; election = step.state.election; last = step.state.last; counters = c }) (verdicts_quiet outcomes.verdicts step.state.counters);
+  state = ap (λ c. record { groups = outcomes.groups; election = step.state.election; last = step.state.last; counters = c })
+      (verdicts_quiet outcomes.verdicts step.state.counters);
   queries = refl;
   timing = refl;
   answer = refl;
@@ -112,7 +113,8 @@ together_after : (config : Configuration) (before : LinkState) (h : Happening) �
     → counted_on h.after.counters.sent h.after.counters.unsent ≡ counted_on (counted_on before.counters.sent before.counters.unsent) (length h.messages)
 together_after config before h is =
     ap (λ (s : LinkState). counted_on s.counters.sent s.counters.unsent) is.hands_out.leaves
-    ∙ ap (λ (n : ℕ × ℕ). counted_on (counted_on n.0 (count_by (λ b. b) h.answers)) (counted_on n.1 (count_by not h.answers))) (alike_step config h.event before).1
+    ∙ ap (λ (n : ℕ × ℕ). counted_on (counted_on n.0 (count_by (λ b. b) h.answers)) (counted_on n.1 (count_by not h.answers)))
+    (alike_step config h.event before).1
     ∙ added before.counters.sent before.counters.unsent (count_by (λ b. b) h.answers) (count_by not h.answers)
     ∙ ap (counted_on (counted_on before.counters.sent before.counters.unsent)) (two_answers h.answers ∙ is.hands_out.answered_each)
 
@@ -126,13 +128,15 @@ happens_alike : (config : Configuration) (s t : LinkState) (x y : Happening) →
     → HappensAlike x y
 happens_alike config s t x y agree event hx hy =
     let same = same_step config x.event s t agree.state in
-    let messages : x.messages ≡ y.messages = hx.hands_out.handed ∙ (λ i. list_map (outgoing config (same.timing i)) (same.queries i)) ∙ ap (λ e. outgoing_of config (step_of config e t)) event ∙ sym hy.hands_out.handed in
+    let messages : x.messages ≡ y.messages = hx.hands_out.handed ∙ (λ i. list_map (outgoing config (same.timing i)) (same.queries i)) ∙
+    ap (λ e. outgoing_of config (step_of config e t)) event ∙ sym hy.hands_out.handed in
     record {
       event = event;
       answer = hx.answer_is ∙ same.answer ∙ ap (λ e. answer_to config e t) event ∙ sym hy.answer_is;
       messages = messages;
       after = record {
-        state = ap unanswered hx.hands_out.leaves ∙ same.state ∙ ap (λ e. unanswered (step_of config e t).state) event ∙ sym (ap unanswered hy.hands_out.leaves);
+        state = ap unanswered hx.hands_out.leaves ∙ same.state ∙ ap (λ e. unanswered (step_of config e t).state) event ∙
+            sym (ap unanswered hy.hands_out.leaves);
         together = together_after config s x hx ∙ (λ i. counted_on (agree.together i) (length (messages i))) ∙ sym (together_after config t y hy);
       };
     }

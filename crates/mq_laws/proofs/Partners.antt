@@ -12,7 +12,9 @@ use Rattle.mq_check.specs.Entries.{moment_of, first_terms, first_joined, is_free
 use Rattle.mq_check.specs.Queries.{is_same}
 use Rattle.mq_laws.specs.Pairing.{Ask, Expected, Sent, LeftOut, ask_of, seen_about, wanted_about, missing_of}
 use Rattle.mq_laws.proofs.Same.{other_than}
-use Rattle.mq_laws.proofs.Held.{ask, IsKept, Holds, free_seen, IsAscending, NoneOver, kept_ask, wanted_here, wanted_other, wanted_both, seen_here, seen_other, seen_both, passed_terms, passed_joined, met_terms, met_joined, none_over-ascending, AllStill, ahead-about, ahead-holds}
+use Rattle.mq_laws.proofs.Held.{ask, IsKept, Holds, free_seen, IsAscending, NoneOver, kept_ask, wanted_here, wanted_other, wanted_both, seen_here}
+use Rattle.mq_laws.proofs.Held.{seen_other, seen_both, passed_terms, passed_joined, met_terms, met_joined, none_over-ascending, AllStill, ahead-about}
+use Rattle.mq_laws.proofs.Held.{ahead-holds}
 
 -- A test of entries from a moment on. It finds the same first entry as the test of all entries.
 abbrev pub test_from : (Entry ℕ → Bool) → (from : ℕ) → Entry ℕ → Bool
@@ -30,7 +32,8 @@ same_behind test from e es fails rest =
     let fails_too : test_from test from e ≡ false = and_left _ _ fails in
     record {
       terms = passed_terms (test_from test from) e es fails_too ∙ rest.terms ∙ sym (passed_terms test e es fails);
-      joined = λ other. passed_joined (test_from test from) other e es fails_too ∙ ap (λ (l : List (Entry ℕ)). e ∷ l) (rest.joined other) ∙ sym (passed_joined test other e es fails);
+      joined = λ other. passed_joined (test_from test from) other e es fails_too ∙ ap (λ (l : List (Entry ℕ)). e ∷ l) (rest.joined other) ∙
+          sym (passed_joined test other e es fails);
     }
 
 pub same_met : (test : Entry ℕ → Bool) (from : ℕ) (e : Entry ℕ) (es : List (Entry ℕ)) → test e ≡ true → from ≤ moment_of e → SameFrom test from (e ∷ es)
@@ -70,7 +73,8 @@ pub record OneWanted (within keep now : ℕ) (asked : Asked ℕ) (other : Terms 
   pub later : now ≤ (ask_of first).moment + within → AllStill within now (wanted_about asked rest)
 
 -- an entry that isn't free, and keeps nothing
-none_behind : (asked : Asked ℕ) (e : Entry ℕ) (es : List (Entry ℕ)) (xs : List Expected) → is_free_wanted asked e ≡ false → NoneWanted asked es xs → NoneWanted asked (e ∷ es) xs
+none_behind : (asked : Asked ℕ) (e : Entry ℕ) (es : List (Entry ℕ)) (xs : List Expected) → is_free_wanted asked e ≡ false → NoneWanted asked es xs →
+    NoneWanted asked (e ∷ es) xs
 none_behind asked e es xs fails rest = record {
   terms = passed_terms (is_free_wanted asked) e es fails ∙ rest.terms;
   joined = λ other. passed_joined (is_free_wanted asked) other e es fails ∙ ap (λ (l : List (Entry ℕ)). e ∷ l) (rest.joined other);
@@ -96,7 +100,8 @@ one_behind within keep now asked other e es xs fails holds seen one = record {
   later = one.later;
 }
 
-either_behind : (within keep now : ℕ) (asked : Asked ℕ) (other : Terms ℕ) (e : Entry ℕ) (es : List (Entry ℕ)) (xs : List Expected) → is_free_wanted asked e ≡ false
+either_behind : (within keep now : ℕ) (asked : Asked ℕ) (other : Terms ℕ) (e : Entry ℕ) (es : List (Entry ℕ)) (xs : List Expected) →
+    is_free_wanted asked e ≡ false
     → ((ds : List (Entry ℕ)) (ys : List Expected) → Holds ds ys → Holds (e ∷ ds) ys)
     → ((ds : List (Entry ℕ)) → free_seen ds ≡ free_seen es → free_seen (e ∷ ds) ≡ free_seen (e ∷ es))
     → NoneWanted asked es xs ⊎ OneWanted within keep now asked other es xs → NoneWanted asked (e ∷ es) xs ⊎ OneWanted within keep now asked other (e ∷ es) xs
@@ -112,10 +117,12 @@ missing_sent : (x : Expected) (xs : List Expected) (w : Ask) → x ≡ Sent w �
 missing_sent (Sent v) xs w is = refl
 missing_sent (LeftOut v) xs w is = cc
 
-either_other : (within keep now : ℕ) (asked asked' : Asked ℕ) (other : Terms ℕ) (moment : ℕ) (terms : Terms ℕ) (is_optional : Bool) (es : List (Entry ℕ)) (x : Expected) (xs : List Expected)
+either_other : (within keep now : ℕ) (asked asked' : Asked ℕ) (other : Terms ℕ) (moment : ℕ) (terms : Terms ℕ) (is_optional : Bool)
+    (es : List (Entry ℕ)) (x : Expected) (xs : List Expected)
     → is_same asked asked' ≡ false → IsKept moment asked' terms is_optional x
     → NoneWanted asked es xs ⊎ OneWanted within keep now asked other es xs
-    → NoneWanted asked (Wanted moment asked' terms is_optional false ∷ es) (x ∷ xs) ⊎ OneWanted within keep now asked other (Wanted moment asked' terms is_optional false ∷ es) (x ∷ xs)
+    → NoneWanted asked (Wanted moment asked' terms is_optional false ∷ es) (x ∷ xs) ⊎
+    OneWanted within keep now asked other (Wanted moment asked' terms is_optional false ∷ es) (x ∷ xs)
 either_other within keep now asked asked' other moment terms is_optional es x xs differs kept (inl none) =
     let e = Wanted moment asked' terms is_optional false in
     let fails : is_free_wanted asked e ≡ false = and_left _ _ differs in
@@ -144,7 +151,8 @@ either_other within keep now asked asked' other moment terms is_optional es x xs
       later = λ near. rw (wanted_other asked x one.rest away) (one.later near);
     })
 
-either_here : (within keep now : ℕ) (asked asked' : Asked ℕ) (other : Terms ℕ) (moment : ℕ) (terms : Terms ℕ) (is_optional : Bool) (es : List (Entry ℕ)) (x : Expected) (xs : List Expected)
+either_here : (within keep now : ℕ) (asked asked' : Asked ℕ) (other : Terms ℕ) (moment : ℕ) (terms : Terms ℕ) (is_optional : Bool)
+    (es : List (Entry ℕ)) (x : Expected) (xs : List Expected)
     → is_same asked asked' ≡ true → IsKept moment asked' terms is_optional x → Holds es xs → IsAscending moment es now → now ≤ moment + keep
     → OneWanted within keep now asked other (Wanted moment asked' terms is_optional false ∷ es) (x ∷ xs)
 either_here within keep now asked asked' other moment terms is_optional es x xs same kept holds ascending ahead =
@@ -163,24 +171,32 @@ either_here within keep now asked asked' other moment terms is_optional es x xs 
       missing = λ w is. missing_sent x xs w is;
       ahead = rw is ahead;
       same = λ from near. same_met (is_free_wanted asked) from e es free (rw is at near);
-      later = λ near. ahead-about within now asked xs (ahead-holds within now es xs holds (none_over-ascending within now moment es now (rw is at near) ascending));
+      later = λ near. ahead-about within now asked xs
+          (ahead-holds within now es xs holds (none_over-ascending within now moment es now (rw is at near) ascending));
     }
 
-pub find_wanted : (low within keep now : ℕ) (asked : Asked ℕ) (other : Terms ℕ) (es : List (Entry ℕ)) (xs : List Expected) → Holds es xs → IsAscending low es now → NoneOver keep now es → NoneWanted asked es xs ⊎ OneWanted within keep now asked other es xs
-find_wanted low within keep now asked other [] [] holds is ahead = inl (record { terms = refl; joined = λ other. refl; none = refl; same = same_none (is_free_wanted asked) })
+pub find_wanted : (low within keep now : ℕ) (asked : Asked ℕ) (other : Terms ℕ) (es : List (Entry ℕ)) (xs : List Expected) → Holds es xs →
+    IsAscending low es now → NoneOver keep now es → NoneWanted asked es xs ⊎ OneWanted within keep now asked other es xs
+find_wanted low within keep now asked other [] [] holds is ahead =
+    inl (record { terms = refl; joined = λ other. refl; none = refl; same = same_none (is_free_wanted asked) })
 find_wanted low within keep now asked other [] (x ∷ xs) holds is ahead = absurd holds
 find_wanted low within keep now asked other (Wanted moment asked' terms is_optional true ∷ es) xs holds is ahead =
-    either_behind within keep now asked other (Wanted moment asked' terms is_optional true) es xs (and_right _ _ refl) (λ ds ys h. h) (λ ds e. e) (find_wanted moment within keep now asked other es xs holds is.1 ahead.1)
+    either_behind within keep now asked other (Wanted moment asked' terms is_optional true) es xs (and_right _ _ refl) (λ ds ys h. h) (λ ds e. e)
+    (find_wanted moment within keep now asked other es xs holds is.1 ahead.1)
 find_wanted low within keep now asked other (Wanted moment asked' terms is_optional false ∷ es) [] holds is ahead = absurd holds
 find_wanted low within keep now asked other (Wanted moment asked' terms is_optional false ∷ es) (x ∷ xs) holds is ahead =
-    elim (is_same asked asked') as (λ b. is_same asked asked' ≡ b → NoneWanted asked (Wanted moment asked' terms is_optional false ∷ es) (x ∷ xs) ⊎ OneWanted within keep now asked other (Wanted moment asked' terms is_optional false ∷ es) (x ∷ xs)) [
+    elim (is_same asked asked') as (λ b. is_same asked asked' ≡ b → NoneWanted asked (Wanted moment asked' terms is_optional false ∷ es) (x ∷ xs) ⊎
+    OneWanted within keep now asked other (Wanted moment asked' terms is_optional false ∷ es) (x ∷ xs)) [
       | true ↦ λ same. inr (either_here within keep now asked asked' other moment terms is_optional es x xs same holds.0 holds.1 is.1 ahead.0)
-      | false ↦ λ differs. either_other within keep now asked asked' other moment terms is_optional es x xs differs holds.0 (find_wanted moment within keep now asked other es xs holds.1 is.1 ahead.1)
+      | false ↦ λ differs. either_other within keep now asked asked' other moment terms is_optional es x xs differs holds.0
+          (find_wanted moment within keep now asked other es xs holds.1 is.1 ahead.1)
     ] refl
 find_wanted low within keep now asked other (Seen moment asked' terms None alone ∷ es) xs holds is ahead =
-    either_behind within keep now asked other (Seen moment asked' terms None alone) es xs refl (λ ds ys h. h) (λ ds e. ap (λ (l : List Ask). ask moment asked' terms ∷ l) e) (find_wanted moment within keep now asked other es xs holds is.1 ahead.1)
+    either_behind within keep now asked other (Seen moment asked' terms None alone) es xs refl (λ ds ys h. h)
+    (λ ds e. ap (λ (l : List Ask). ask moment asked' terms ∷ l) e) (find_wanted moment within keep now asked other es xs holds is.1 ahead.1)
 find_wanted low within keep now asked other (Seen moment asked' terms (Some wanted) alone ∷ es) xs holds is ahead =
-    either_behind within keep now asked other (Seen moment asked' terms (Some wanted) alone) es xs refl (λ ds ys h. (holds.0, h)) (λ ds e. e) (find_wanted moment within keep now asked other es xs holds.1 is.1 ahead.1)
+    either_behind within keep now asked other (Seen moment asked' terms (Some wanted) alone) es xs refl (λ ds ys h. (holds.0, h)) (λ ds e. e)
+    (find_wanted moment within keep now asked other es xs holds.1 is.1 ahead.1)
 find_wanted low within keep now asked other (Interval moment packet after wanted ∷ es) xs holds is ahead = absurd holds
 find_wanted low within keep now asked other (Silence moment after wanted ∷ es) xs holds is ahead = absurd holds
 find_wanted low within keep now asked other (Packet moment number fault ∷ es) xs holds is ahead = absurd holds
@@ -228,7 +244,8 @@ seen_behind now asked other e es xs ys fails holds plain (inr one) =
     })
 
 -- a query without a partner about something else
-seen_elsewhere : (now : ℕ) (asked asked' : Asked ℕ) (other : Terms ℕ) (moment : ℕ) (terms : Terms ℕ) (alone : Unpaired ℕ) (es : List (Entry ℕ)) (xs : List Expected)
+seen_elsewhere : (now : ℕ) (asked asked' : Asked ℕ) (other : Terms ℕ) (moment : ℕ) (terms : Terms ℕ) (alone : Unpaired ℕ) (es : List (Entry ℕ))
+    (xs : List Expected)
     → is_same asked asked' ≡ false → NoneSeen asked es ⊎ OneSeen now asked other es xs
     → NoneSeen asked (Seen moment asked' terms None alone ∷ es) ⊎ OneSeen now asked other (Seen moment asked' terms None alone ∷ es) xs
 seen_elsewhere now asked asked' other moment terms alone es xs differs (inl none) =
@@ -273,7 +290,8 @@ seen_found now asked asked' other moment terms alone es xs same holds arrived =
       terms = met_terms (is_free_seen asked) e es free;
       holds = λ alike. rw is (alike, holds);
       here = seen_here asked s (free_seen es) same ∙ ap (λ (l : List (Entry ℕ)). s ∷ seen_about asked (free_seen l)) (sym is);
-      others = λ b differs. seen_other b s (free_seen es) (other_than asked asked' b same differs) ∙ ap (λ (l : List (Entry ℕ)). seen_about b (free_seen l)) (sym is);
+      others = λ b differs. seen_other b s (free_seen es) (other_than asked asked' b same differs) ∙
+          ap (λ (l : List (Entry ℕ)). seen_about b (free_seen l)) (sym is);
       arrived = arrived;
       same = λ from near. same_met (is_free_seen asked) from e es free near;
     }
@@ -283,20 +301,25 @@ pub ascending-low : (low : ℕ) (es : List (Entry ℕ)) (now : ℕ) → IsAscend
 ascending-low low [] now is = is
 ascending-low low (e ∷ es) now is = let rest = ascending-low (moment_of e) es now is.1 in omega arith
 
-pub find_seen : (low now : ℕ) (asked : Asked ℕ) (other : Terms ℕ) (es : List (Entry ℕ)) (xs : List Expected) → Holds es xs → IsAscending low es now → NoneSeen asked es ⊎ OneSeen now asked other es xs
+pub find_seen : (low now : ℕ) (asked : Asked ℕ) (other : Terms ℕ) (es : List (Entry ℕ)) (xs : List Expected) → Holds es xs → IsAscending low es now →
+    NoneSeen asked es ⊎ OneSeen now asked other es xs
 find_seen low now asked other [] xs holds is = inl (record { terms = refl; joined = λ other. refl; none = refl; same = same_none (is_free_seen asked) })
 find_seen low now asked other (Wanted moment asked' terms is_optional true ∷ es) xs holds is =
-    seen_behind now asked other (Wanted moment asked' terms is_optional true) es xs xs refl (λ ds h. h) (λ ds. refl) (find_seen moment now asked other es xs holds is.1)
+    seen_behind now asked other (Wanted moment asked' terms is_optional true) es xs xs refl (λ ds h. h) (λ ds. refl)
+    (find_seen moment now asked other es xs holds is.1)
 find_seen low now asked other (Wanted moment asked' terms is_optional false ∷ es) [] holds is = absurd holds
 find_seen low now asked other (Wanted moment asked' terms is_optional false ∷ es) (x ∷ xs) holds is =
-    seen_behind now asked other (Wanted moment asked' terms is_optional false) es (x ∷ xs) xs refl (λ ds h. (holds.0, h)) (λ ds. refl) (find_seen moment now asked other es xs holds.1 is.1)
+    seen_behind now asked other (Wanted moment asked' terms is_optional false) es (x ∷ xs) xs refl (λ ds h. (holds.0, h)) (λ ds. refl)
+    (find_seen moment now asked other es xs holds.1 is.1)
 find_seen low now asked other (Seen moment asked' terms None alone ∷ es) xs holds is =
-    elim (is_same asked asked') as (λ b. is_same asked asked' ≡ b → NoneSeen asked (Seen moment asked' terms None alone ∷ es) ⊎ OneSeen now asked other (Seen moment asked' terms None alone ∷ es) xs) [
+    elim (is_same asked asked') as (λ b. is_same asked asked' ≡ b → NoneSeen asked (Seen moment asked' terms None alone ∷ es) ⊎
+    OneSeen now asked other (Seen moment asked' terms None alone ∷ es) xs) [
       | true ↦ λ same. inr (seen_found now asked asked' other moment terms alone es xs same holds (ascending-low moment es now is.1))
       | false ↦ λ differs. seen_elsewhere now asked asked' other moment terms alone es xs differs (find_seen moment now asked other es xs holds is.1)
     ] refl
 find_seen low now asked other (Seen moment asked' terms (Some wanted) alone ∷ es) xs holds is =
-    seen_behind now asked other (Seen moment asked' terms (Some wanted) alone) es xs xs (and_right _ _ refl) (λ ds h. (holds.0, h)) (λ ds. refl) (find_seen moment now asked other es xs holds.1 is.1)
+    seen_behind now asked other (Seen moment asked' terms (Some wanted) alone) es xs xs (and_right _ _ refl) (λ ds h. (holds.0, h)) (λ ds. refl)
+    (find_seen moment now asked other es xs holds.1 is.1)
 find_seen low now asked other (Interval moment packet after wanted ∷ es) xs holds is = absurd holds
 find_seen low now asked other (Silence moment after wanted ∷ es) xs holds is = absurd holds
 find_seen low now asked other (Packet moment number fault ∷ es) xs holds is = absurd holds

@@ -11,7 +11,8 @@ use Rattle.mq_check.specs.declared.entry.Unpaired.TheVariants.{Extra}
 use Rattle.mq_check.specs.declared.phase.Phase.TheVariants.{NotQuerier}
 use Rattle.mq_check.specs.declared.terms.Terms.{Terms}
 use Rattle.mq_check.specs.declared.waiting.Side.TheVariants.{OfWanted, OfSeen}
-use Rattle.mq_check.specs.Checking.{CheckingValue, all_blocked, alone_in, is_late, is_querier_in, near, one_blocked, paired, partner_of, with_wanted, with_seen, with_general, general_compared, role_lost, role_returned, with_interval, with_silence}
+use Rattle.mq_check.specs.Checking.{CheckingValue, all_blocked, alone_in, is_late, is_querier_in, near, one_blocked, paired, partner_of, with_wanted}
+use Rattle.mq_check.specs.Checking.{with_seen, with_general, general_compared, role_lost, role_returned, with_interval, with_silence}
 use Rattle.mq_check.specs.Checking as checking
 use Rattle.mq_check.specs.Entries.{first_terms, first_joined, is_free_seen, is_free_wanted, may_be_left_out}
 use Rattle.mq_check.specs.General.{phase_again, wrong_interval, phase_behind, silence_up_to}
@@ -36,12 +37,14 @@ without_room e w is = rw is refl
 
 pub entered : (e : Entry ℕ) (w : WaitingValue) → (with_entry e w).is_full ≡ false → Entered e w
 entered e w free = elim (nat_lt (length w.entries) room) as (λ b. nat_lt (length w.entries) room ≡ b → Entered e w) [
-  | true ↦ λ is. let put = with_room e w is in record { was = ap (λ (v : WaitingValue). v.is_full) (sym put) ∙ free; entries = ap (λ (v : WaitingValue). v.entries) put }
+  | true ↦ λ is. let put = with_room e w is in
+      record { was = ap (λ (v : WaitingValue). v.is_full) (sym put) ∙ free; entries = ap (λ (v : WaitingValue). v.entries) put }
   | false ↦ λ is. absurd (let put : true ≡ false = ap (λ (v : WaitingValue). v.is_full) (sym (without_room e w is)) ∙ free in cc)
 ] refl
 
 -- what waits no longer when a moment comes
-pub told_free : (keep within now : ℕ) (changed : Option ℕ) (w : WaitingValue) → w.is_full ≡ false → told keep within now changed w ≡ told_of keep within now changed w.entries
+pub told_free : (keep within now : ℕ) (changed : Option ℕ) (w : WaitingValue) → w.is_full ≡ false →
+    told keep within now changed w ≡ told_of keep within now changed w.entries
 unfolding told
 told_free keep within now changed w free = rw free refl
 
@@ -56,7 +59,8 @@ settled_full keep now w = elim w.is_full as (λ b. w.is_full ≡ b → (settled 
   | false ↦ λ is. rw is refl
 ] refl
 
-pub told_now : (within now : ℕ) (c : CheckingValue) → c.waiting.is_full ≡ false → checking.told within now c ≡ told_of c.schedules.repeats.keep within now c.changed c.waiting.entries
+pub told_now : (within now : ℕ) (c : CheckingValue) → c.waiting.is_full ≡ false →
+    checking.told within now c ≡ told_of c.schedules.repeats.keep within now c.changed c.waiting.entries
 told_now within now c free = told_free c.schedules.repeats.keep within now c.changed c.waiting free
 
 -- the retransmission stays
@@ -70,7 +74,8 @@ wanted_repeats : (moment : ℕ) (terms : Terms ℕ) (asked : Asked ℕ) (s : Sch
 unfolding schedules_wanted
 wanted_repeats moment terms asked s = refl
 
-seen_repeats : (moment : ℕ) (terms : Terms ℕ) (asked : Asked ℕ) (has_partner : Bool) (s : SchedulesValue) → (schedules_seen moment terms asked has_partner s).repeats ≡ s.repeats
+seen_repeats : (moment : ℕ) (terms : Terms ℕ) (asked : Asked ℕ) (has_partner : Bool) (s : SchedulesValue) →
+    (schedules_seen moment terms asked has_partner s).repeats ≡ s.repeats
 unfolding schedules_seen
 seen_repeats moment terms asked has_partner s = refl
 
@@ -92,23 +97,28 @@ pub record WantedPart (now : ℕ) (terms : Terms ℕ) (c : CheckingValue) (asked
   pub last : (with_wanted now terms c asked).last_general ≡ c.last_general
   pub repeats : (with_wanted now terms c asked).schedules.repeats ≡ c.schedules.repeats
   pub entries : SameFrom (is_free_seen asked) (near now c) c.waiting.entries → (with_wanted now terms c asked).waiting.entries
-      ≡ first_joined (is_free_seen asked) terms c.waiting.entries ++ Wanted now asked terms (may_be_left_out now asked terms c.waiting.entries) (is_some (first_terms (is_free_seen asked) c.waiting.entries)) ∷ []
+      ≡ first_joined (is_free_seen asked) terms c.waiting.entries ++ Wanted now asked terms (may_be_left_out now asked terms c.waiting.entries)
+      (is_some (first_terms (is_free_seen asked) c.waiting.entries)) ∷ []
 
-pub wanted_part : (now : ℕ) (terms : Terms ℕ) (c : CheckingValue) (asked : Asked ℕ) → (with_wanted now terms c asked).waiting.is_full ≡ false → WantedPart now terms c asked
+pub wanted_part : (now : ℕ) (terms : Terms ℕ) (c : CheckingValue) (asked : Asked ℕ) → (with_wanted now terms c asked).waiting.is_full ≡ false →
+    WantedPart now terms c asked
 unfolding with_wanted with_partner
 wanted_part now terms c asked free =
-    let e = Wanted now asked terms (may_be_left_out now asked terms c.waiting.entries) (is_some (first_terms (is_free OfSeen asked (near now c)) c.waiting.entries)) in
+    let e = Wanted now asked terms (may_be_left_out now asked terms c.waiting.entries)
+    (is_some (first_terms (is_free OfSeen asked (near now c)) c.waiting.entries)) in
     let put = entered e (with_partner OfSeen asked (near now c) terms c.waiting) free in
     record {
       was = put.was;
       phase = refl;
       last = refl;
       repeats = wanted_repeats now terms asked (recent now c.schedules) ∙ recent_repeats now c.schedules;
-      entries = λ same. put.entries ∙ (λ i. same.joined terms i ++ Wanted now asked terms (may_be_left_out now asked terms c.waiting.entries) (is_some (same.terms i)) ∷ []);
+      entries = λ same. put.entries ∙
+          (λ i. same.joined terms i ++ Wanted now asked terms (may_be_left_out now asked terms c.waiting.entries) (is_some (same.terms i)) ∷ []);
     }
 
 -- one that has to be sent may not be left out
-pub required : (now : ℕ) (asked : Asked ℕ) (terms : Terms ℕ) (entries : List (Entry ℕ)) → HasToBeSent asked terms → may_be_left_out now asked terms entries ≡ false
+pub required : (now : ℕ) (asked : Asked ℕ) (terms : Terms ℕ) (entries : List (Entry ℕ)) → HasToBeSent asked terms →
+    may_be_left_out now asked terms entries ≡ false
 required now AllGroups terms entries must = refl
 required now (Group group) terms entries must = refl
 required now (Source group source) terms entries must = and_left _ _ must
@@ -119,7 +129,8 @@ partner_is : (now : ℕ) (terms : Terms ℕ) (asked : Asked ℕ) (c : CheckingVa
 partner_is now terms asked c same =
     let es = c.waiting.entries in
     let all = same_all (is_free_wanted asked) es in
-    elim (first_terms (is_free_wanted asked) es) as (λ o. first_terms (is_free_wanted asked) es ≡ o → partner_of now terms asked c ≡ first_terms (is_free_wanted asked) es) [
+    elim (first_terms (is_free_wanted asked) es) as (λ o. first_terms (is_free_wanted asked) es ≡ o →
+    partner_of now terms asked c ≡ first_terms (is_free_wanted asked) es) [
       | None ↦ λ none.
           let near_is : first_terms (is_free OfWanted asked (near now c)) es ≡ None = same.terms ∙ none in
           let all_is : first_terms (is_free OfWanted asked 0) es ≡ None = all.terms ∙ none in
@@ -135,10 +146,12 @@ partner_is now terms asked c same =
 paired_is : (now : ℕ) (terms : Terms ℕ) (asked : Asked ℕ) (c : CheckingValue) → SameFrom (is_free_wanted asked) (near now c) c.waiting.entries
     → (paired now terms asked c).entries ≡ first_joined (is_free_wanted asked) terms c.waiting.entries
 unfolding with_partner
-paired_is now terms asked c same = elim (is_late now asked c) as (λ b. is_late now asked c ≡ b → (paired now terms asked c).entries ≡ first_joined (is_free_wanted asked) terms c.waiting.entries) [
-  | true ↦ λ late. rw late ((same_all (is_free_wanted asked) c.waiting.entries).joined terms)
-  | false ↦ λ early. rw early (same.joined terms)
-] refl
+paired_is now terms asked c same =
+    elim (is_late now asked c) as
+    (λ b. is_late now asked c ≡ b → (paired now terms asked c).entries ≡ first_joined (is_free_wanted asked) terms c.waiting.entries) [
+      | true ↦ λ late. rw late ((same_all (is_free_wanted asked) c.waiting.entries).joined terms)
+      | false ↦ λ early. rw early (same.joined terms)
+    ] refl
 
 paired_full : (now : ℕ) (terms : Terms ℕ) (asked : Asked ℕ) (c : CheckingValue) → (paired now terms asked c).is_full ≡ c.waiting.is_full
 unfolding with_partner
@@ -154,9 +167,11 @@ pub record SeenPart (now : ℕ) (terms : Terms ℕ) (unheld : Option (Terms ℕ)
   pub last : (with_seen now terms unheld c asked).last_general ≡ c.last_general
   pub repeats : (with_seen now terms unheld c asked).schedules.repeats ≡ c.schedules.repeats
   pub entries : SameFrom (is_free_wanted asked) (near now c) c.waiting.entries → (with_seen now terms unheld c asked).waiting.entries
-      ≡ first_joined (is_free_wanted asked) terms c.waiting.entries ++ Seen now asked terms (first_terms (is_free_wanted asked) c.waiting.entries) (alone_in now terms unheld asked c) ∷ []
+      ≡ first_joined (is_free_wanted asked) terms c.waiting.entries ++ Seen now asked terms (first_terms (is_free_wanted asked) c.waiting.entries)
+      (alone_in now terms unheld asked c) ∷ []
 
-pub seen_part : (now : ℕ) (terms : Terms ℕ) (unheld : Option (Terms ℕ)) (c : CheckingValue) (asked : Asked ℕ) → (with_seen now terms unheld c asked).waiting.is_full ≡ false → SeenPart now terms unheld c asked
+pub seen_part : (now : ℕ) (terms : Terms ℕ) (unheld : Option (Terms ℕ)) (c : CheckingValue) (asked : Asked ℕ) →
+    (with_seen now terms unheld c asked).waiting.is_full ≡ false → SeenPart now terms unheld c asked
 unfolding with_seen
 seen_part now terms unheld c asked free =
     let e = Seen now asked terms (partner_of now terms asked c) (alone_in now terms unheld asked c) in
@@ -166,7 +181,8 @@ seen_part now terms unheld c asked free =
       phase = refl;
       last = refl;
       repeats = seen_repeats now terms asked (is_some (partner_of now terms asked c)) (recent now c.schedules) ∙ recent_repeats now c.schedules;
-      entries = λ same. put.entries ∙ (λ i. paired_is now terms asked c same i ++ Seen now asked terms (partner_is now terms asked c same i) (alone_in now terms unheld asked c) ∷ []);
+      entries = λ same. put.entries ∙
+          (λ i. paired_is now terms asked c same i ++ Seen now asked terms (partner_is now terms asked c same i) (alone_in now terms unheld asked c) ∷ []);
     }
 
 -- a general query was seen in its time, while the router is querier
@@ -182,7 +198,8 @@ pub general_part : (within : ℕ) (timing : Timing) (now : ℕ) (terms wanted : 
 unfolding with_general with_partner
 general_part within timing now terms wanted c in_time free =
     let e = Seen now AllGroups terms (Some wanted) (Extra true) in
-    let put : Entered e (with_partner OfWanted AllGroups (near now c) terms c.waiting) = entered e (with_partner OfWanted AllGroups (near now c) terms c.waiting) (rw in_time at free) in
+    let put : Entered e (with_partner OfWanted AllGroups (near now c) terms c.waiting) =
+    entered e (with_partner OfWanted AllGroups (near now c) terms c.waiting) (rw in_time at free) in
     record { was = put.was; phase = refl; repeats = refl; entries = rw in_time put.entries }
 
 -- the role is lost in time
@@ -197,7 +214,8 @@ unfolding role_lost
 lost_part within timing now c in_time = record { waiting = rw in_time refl; phase = refl; last = refl; repeats = refl }
 
 -- where there is room at the end, there was at the beginning
-pub interval_free : (timing : Timing) (now packet : ℕ) (passed : Option ℕ) (w : WaitingValue) → (with_interval timing now packet passed w).is_full ≡ false → w.is_full ≡ false
+pub interval_free : (timing : Timing) (now packet : ℕ) (passed : Option ℕ) (w : WaitingValue) → (with_interval timing now packet passed w).is_full
+    ≡ false → w.is_full ≡ false
 interval_free timing now packet None w free = free
 interval_free timing now packet (Some passed) w free = (entered _ w free).was
 
@@ -205,24 +223,32 @@ silence_free : (timing : Timing) (now : ℕ) (passed : Option ℕ) (w : WaitingV
 silence_free timing now None w free = free
 silence_free timing now (Some passed) w free = (entered _ w free).was
 
-with_general_free : (within : ℕ) (timing : Timing) (now : ℕ) (terms wanted : Terms ℕ) (c : CheckingValue) → (with_general within timing now terms wanted c).waiting.is_full ≡ false → c.waiting.is_full ≡ false
+with_general_free : (within : ℕ) (timing : Timing) (now : ℕ) (terms wanted : Terms ℕ) (c : CheckingValue) →
+    (with_general within timing now terms wanted c).waiting.is_full ≡ false → c.waiting.is_full ≡ false
 unfolding with_general with_partner
-with_general_free within timing now terms wanted c free = interval_free timing now terms.packet (wrong_interval within timing now c.phase) c.waiting (entered _ _ free).was
+with_general_free within timing now terms wanted c free = interval_free timing now terms.packet (wrong_interval within timing now c.phase) c.waiting
+    (entered _ _ free).was
 
 -- a general query, where the router is querier, and where it isn't
-pub compared_querier : (within : ℕ) (timing : Timing) (now : ℕ) (terms wanted : Terms ℕ) (c : CheckingValue) → is_querier_in c.phase ≡ true → general_compared within timing now terms wanted c ≡ with_general within timing now terms wanted c
+pub compared_querier : (within : ℕ) (timing : Timing) (now : ℕ) (terms wanted : Terms ℕ) (c : CheckingValue) → is_querier_in c.phase ≡ true →
+    general_compared within timing now terms wanted c ≡ with_general within timing now terms wanted c
 compared_querier within timing now terms wanted c is = rw is refl
 
-pub compared_other : (within : ℕ) (timing : Timing) (now : ℕ) (terms wanted : Terms ℕ) (c : CheckingValue) → is_querier_in c.phase ≡ false → general_compared within timing now terms wanted c ≡ with_seen now terms None c AllGroups
+pub compared_other : (within : ℕ) (timing : Timing) (now : ℕ) (terms wanted : Terms ℕ) (c : CheckingValue) → is_querier_in c.phase ≡ false →
+    general_compared within timing now terms wanted c ≡ with_seen now terms None c AllGroups
 compared_other within timing now terms wanted c is = rw is refl
 
-pub general_free : (within : ℕ) (timing : Timing) (now : ℕ) (terms wanted : Terms ℕ) (c : CheckingValue) → (general_compared within timing now terms wanted c).waiting.is_full ≡ false → c.waiting.is_full ≡ false
+pub general_free : (within : ℕ) (timing : Timing) (now : ℕ) (terms wanted : Terms ℕ) (c : CheckingValue) →
+    (general_compared within timing now terms wanted c).waiting.is_full ≡ false → c.waiting.is_full ≡ false
 general_free within timing now terms wanted c free = elim (is_querier_in c.phase) as (λ b. is_querier_in c.phase ≡ b → c.waiting.is_full ≡ false) [
-  | true ↦ λ is. with_general_free within timing now terms wanted c (ap (λ (d : CheckingValue). d.waiting.is_full) (sym (compared_querier within timing now terms wanted c is)) ∙ free)
-  | false ↦ λ is. (seen_part now terms None c AllGroups (ap (λ (d : CheckingValue). d.waiting.is_full) (sym (compared_other within timing now terms wanted c is)) ∙ free)).was
+  | true ↦ λ is. with_general_free within timing now terms wanted c
+      (ap (λ (d : CheckingValue). d.waiting.is_full) (sym (compared_querier within timing now terms wanted c is)) ∙ free)
+  | false ↦ λ is. (seen_part now terms None c AllGroups
+      (ap (λ (d : CheckingValue). d.waiting.is_full) (sym (compared_other within timing now terms wanted c is)) ∙ free)).was
 ] refl
 
-pub lost_free : (within : ℕ) (timing : Timing) (now : ℕ) (c : CheckingValue) → (role_lost within timing now c).waiting.is_full ≡ false → c.waiting.is_full ≡ false
+pub lost_free : (within : ℕ) (timing : Timing) (now : ℕ) (c : CheckingValue) → (role_lost within timing now c).waiting.is_full ≡ false →
+    c.waiting.is_full ≡ false
 unfolding role_lost
 lost_free within timing now c free = silence_free timing now (silence_up_to within timing now c.phase) c.waiting free
 

@@ -18,7 +18,8 @@ use Rattle.std.specs.FinMap as map
 -- where the groups differ in another one alone, it isn't changed
 other_unchanged : (before left : Groups) (address group : ℕ) → DifferAt address before left → (address == group) ≡ false → changes before left group ≡ false
 other_unchanged before left address group differ apart =
-    ap (λ e. changes_filter (group_at before group).group (unwrap_or e unheld).group) (differ group (λ same. true≢false (sym (eq-eqb address group (sym same)) ∙ apart)))
+    ap (λ e. changes_filter (group_at before group).group (unwrap_or e unheld).group)
+    (differ group (λ same. true≢false (sym (eq-eqb address group (sym same)) ∙ apart)))
     ∙ unchanged (group_at before group).group
 
 others_of_all : (at : Setting) (seen : Seen) (records : List (RecordView ℕ)) (groups : Groups) (group : ℕ)
@@ -27,7 +28,8 @@ others_of_all at seen [] groups group is = refl
 others_of_all at seen (r ∷ rs) groups group is =
     let left = (judged at seen r groups).groups in
     let parts = or_parts (r.group == group) _ is in
-    or_from _ _ (other_unchanged groups left r.group group (others_judged at seen r groups) parts.0) (others_of_all at (seen_after at.config r groups seen) rs left group parts.1)
+    or_from _ _ (other_unchanged groups left r.group group (others_judged at seen r groups) parts.0)
+    (others_of_all at (seen_after at.config r groups seen) rs left group parts.1)
 
 others_of_message : (at : Setting) (message : Message ℕ) (groups : Groups) (group : ℕ) → set_of (λ a. a) (groups_in message) group ≡ false
     → changed_by_message at message groups group ≡ false
@@ -49,13 +51,17 @@ or_nothing a b h1 = grind arith
 -- So of such a group a datagram names what the tick at its moment does, and one that spells no message of each group.
 module _ (config : Configuration) (envelope : Envelope) (bytes : List ℕ) (now : ℕ) (state : LinkState) (group : ℕ) where
   abbrev changed_when : Result (Message ℕ) WireFault → Bool
-  changed_when read = let left = (tick_of config now state).state in changed_by_read (setting_of config left) read (drop_reason config envelope read) left.groups group
+  changed_when read = let left = (tick_of config now state).state in
+      changed_by_read (setting_of config left) read (drop_reason config envelope read) left.groups group
 
-  pub as_the_tick : (message : Message ℕ) → read_of config.family (pseudo_of config.family envelope bytes) bytes ≡ Ok message → set_of (λ a. a) (groups_in message) group ≡ false
+  pub as_the_tick : (message : Message ℕ) → read_of config.family (pseudo_of config.family envelope bytes) bytes ≡ Ok message →
+      set_of (λ a. a) (groups_in message) group ≡ false
       → changed_by_datagram config envelope bytes now state group ≡ changed_by_tick config now state group
   as_the_tick message read is =
       let left = (tick_of config now state).state in
-      or_nothing (changed_by_tick config now state group) _ (ap changed_when read ∙ others_of_read (setting_of config left) message (drop_reason config envelope (Ok message)) left.groups group is)
+      or_nothing (changed_by_tick config now state group) _
+      (ap changed_when read ∙ others_of_read (setting_of config left) message (drop_reason config envelope (Ok message)) left.groups group is)
 
-  pub as_the_tick_unread : (fault : WireFault) → read_of config.family (pseudo_of config.family envelope bytes) bytes ≡ Err fault → changed_by_datagram config envelope bytes now state group ≡ changed_by_tick config now state group
+  pub as_the_tick_unread : (fault : WireFault) → read_of config.family (pseudo_of config.family envelope bytes) bytes ≡ Err fault →
+      changed_by_datagram config envelope bytes now state group ≡ changed_by_tick config now state group
   as_the_tick_unread fault read = or_nothing (changed_by_tick config now state group) _ (ap changed_when read)

@@ -9,18 +9,22 @@ use Rattle.mq_replay.specs.Report.{Replayed, ticked_at, ticked_within, ticked_be
 
 -- what is known of ticks
 abbrev pub KeepsForm : Type 0
-KeepsForm = (config : Configuration) (now : ℕ) (state : LinkState) → IsFaultless config → IsWellFormed config state → IsWellFormed config (tick_of config now state).state
+KeepsForm = (config : Configuration) (now : ℕ) (state : LinkState) → IsFaultless config → IsWellFormed config state →
+    IsWellFormed config (tick_of config now state).state
 
 abbrev pub IsLaterThen : Type 0
-IsLaterThen = (config : Configuration) (now : ℕ) (state : LinkState) → IsFaultless config → IsWellFormed config state → moment_of state now < next_of (tick_of config now state).state
+IsLaterThen = (config : Configuration) (now : ℕ) (state : LinkState) → IsFaultless config → IsWellFormed config state →
+    moment_of state now < next_of (tick_of config now state).state
 
-formed_then : KeepsForm → (config : Configuration) (moment : ℕ) (r : Replayed) → IsFaultless config → IsWellFormed config r.link → IsWellFormed config (ticked_at config moment r).link
+formed_then : KeepsForm → (config : Configuration) (moment : ℕ) (r : Replayed) → IsFaultless config → IsWellFormed config r.link →
+    IsWellFormed config (ticked_at config moment r).link
 unfolding ticked_at
 formed_then keeps config moment r faultless formed =
     let h = keeps config moment r.link faultless formed in
     record { groups = h.groups; within = h.within; timing = h.timing; silent = h.silent }
 
-later_then : IsLaterThen → (config : Configuration) (moment : ℕ) (r : Replayed) → IsFaultless config → IsWellFormed config r.link → moment < next_of (ticked_at config moment r).link
+later_then : IsLaterThen → (config : Configuration) (moment : ℕ) (r : Replayed) → IsFaultless config → IsWellFormed config r.link →
+    moment < next_of (ticked_at config moment r).link
 unfolding ticked_at
 later_then later config moment r faultless formed = let after = later config moment r.link faultless formed in omega (arith, after)
 
@@ -34,9 +38,11 @@ none_within keeps later (suc most) config limit r faultless formed enough =
     → limit ≤ next_of (elim b as (λ _. Replayed) [ true ↦ ticked_within most config limit (ticked_at config (next_of r.link) r) | false ↦ r ]).link) [
       | true ↦ λ due.
           let after = later_then later config (next_of r.link) r faultless formed in
-          none_within keeps later most config limit (ticked_at config (next_of r.link) r) faultless (formed_then keeps config (next_of r.link) r faultless formed) (omega (arith, enough, after))
+          none_within keeps later most config limit (ticked_at config (next_of r.link) r) faultless
+          (formed_then keeps config (next_of r.link) r faultless formed) (omega (arith, enough, after))
       | false ↦ λ reached. ltb-false (next_of r.link) limit reached
     ] refl
 
-pub none_before : KeepsForm → IsLaterThen → (config : Configuration) (limit : ℕ) (r : Replayed) → IsFaultless config → IsWellFormed config r.link → limit ≤ next_of (ticked_before config limit r).link
+pub none_before : KeepsForm → IsLaterThen → (config : Configuration) (limit : ℕ) (r : Replayed) → IsFaultless config → IsWellFormed config r.link →
+    limit ≤ next_of (ticked_before config limit r).link
 none_before keeps later config limit r faultless formed = none_within keeps later limit config limit r faultless formed (omega arith)

@@ -15,30 +15,35 @@ use Rattle.mq_check.specs.declared.check_fault.CheckFault.TheVariants.{Gap, Wait
 use Rattle.mq_check.specs.declared.check_terms.Additions.{Additions}
 use Rattle.mq_check.specs.declared.finding.Finding.{Finding}
 use Rattle.mq_check.specs.declared.totals.Totals.{Totals}
-use Rattle.mq_check.specs.Check.{Checked, Course, Outcome, Verdict, at_the_start, with_packet, with_packets, with_all_packets, ticked_through, settled_through, looked_ahead, last_moment, ended_at, concluded, broken_off, totals_of, verdict_behind}
+use Rattle.mq_check.specs.Check.{Checked, Course, Outcome, Verdict, at_the_start, with_packet, with_packets, with_all_packets, ticked_through}
+use Rattle.mq_check.specs.Check.{settled_through, looked_ahead, last_moment, ended_at, concluded, broken_off, totals_of, verdict_behind}
 use Rattle.mq_check.specs.Checking.{CheckingValue, told, told_at_end}
 use Rattle.mq_check.specs.FindingLines.{finding_lines, last_lines}
 use Rattle.mq_check.specs.General.{silence_up_to}
+use Rattle.mq_check.specs.Repeated.{all_reported}
 use Rattle.mq_laws.specs.Captures.{Passage, packet_passage, packets_passage, ticks_through, last_of, end_of, events_ahead, events_of}
 use Rattle.mq_laws.specs.Events.{CheckEvent, at_the_end, checked_ahead, checked_by, found_by, found_from}
 use Rattle.mq_laws.specs.Verdicts.{CheckedCapture, CameToItsEnd, TellsWhatHappened}
 use Rattle.mq_laws.proofs.Followed.{Follows, follows-nothing, follows-behind, follows-ticks, follows-packet}
 
 -- what packets come to, where there is a gap, where too much waits, and else
-gap_is : (config : Configuration) (link : LinkType) (within : ℕ) (first : Option ℕ) (before number : ℕ) (packet : Captured) (packets : List Captured) (r : Checked)
+gap_is : (config : Configuration) (link : LinkType) (within : ℕ) (first : Option ℕ) (before number : ℕ) (packet : Captured) (packets : List Captured)
+    (r : Checked)
     → is_gap before (moment_of first before packet.stamp) ≡ true
     → (with_packets config link within first before number (packet ∷ packets) r).fault ≡ Some (Gap number)
 unfolding with_packets
 gap_is config link within first before number packet packets r is = rw (is, with_packets) refl
 
-full_is : (config : Configuration) (link : LinkType) (within : ℕ) (first : Option ℕ) (before number : ℕ) (packet : Captured) (packets : List Captured) (r : Checked)
+full_is : (config : Configuration) (link : LinkType) (within : ℕ) (first : Option ℕ) (before number : ℕ) (packet : Captured) (packets : List Captured)
+    (r : Checked)
     → is_gap before (moment_of first before packet.stamp) ≡ false
     → (with_packet config link within (moment_of first before packet.stamp) number packet.bytes r).checked.checking.waiting.is_full ≡ true
     → (with_packets config link within first before number (packet ∷ packets) r).fault ≡ Some (Waiting number)
 unfolding with_packets
 full_is config link within first before number packet packets r is full = rw (is, full, with_packets) refl
 
-rest_is : (config : Configuration) (link : LinkType) (within : ℕ) (first : Option ℕ) (before number : ℕ) (packet : Captured) (packets : List Captured) (r : Checked)
+rest_is : (config : Configuration) (link : LinkType) (within : ℕ) (first : Option ℕ) (before number : ℕ) (packet : Captured) (packets : List Captured)
+    (r : Checked)
     → is_gap before (moment_of first before packet.stamp) ≡ false
     → (with_packet config link within (moment_of first before packet.stamp) number packet.bytes r).checked.checking.waiting.is_full ≡ false
     → (let after = with_packet config link within (moment_of first before packet.stamp) number packet.bytes r in
@@ -54,7 +59,8 @@ record FollowsAll (within : ℕ) (timing : Timing) (p : Passage) (last : ℕ) (r
 
 follows-packets : (config : Configuration) (link : LinkType) (within : ℕ) (first : Option ℕ) (before number : ℕ) (packets : List Captured) (r : Checked)
     → (with_packets config link within first before number packets r).fault ≡ None
-    → FollowsAll within config.timing (packets_passage config link first before number packets r.basis.packets r.link) (last_of first before packets) r (with_packets config link within first before number packets r)
+    → FollowsAll within config.timing (packets_passage config link first before number packets r.basis.packets r.link)
+    (last_of first before packets) r (with_packets config link within first before number packets r)
 unfolding with_packets packets_passage
 follows-packets config link within first before number [] r whole = record { follows = follows-nothing within config.timing r; moment = refl }
 follows-packets config link within first before number (packet ∷ packets) r whole =
@@ -62,20 +68,28 @@ follows-packets config link within first before number (packet ∷ packets) r wh
     let after = with_packet config link within moment number packet.bytes r in
     let rest = with_packets config link within (Some (unwrap_or first packet.stamp)) moment (number + 1) packets after.checked in
     elim (is_gap before moment) as (λ b. is_gap before moment ≡ b
-    → FollowsAll within config.timing (packets_passage config link first before number (packet ∷ packets) r.basis.packets r.link) (last_of first before (packet ∷ packets)) r (with_packets config link within first before number (packet ∷ packets) r)) [
+    → FollowsAll within config.timing (packets_passage config link first before number (packet ∷ packets) r.basis.packets r.link)
+    (last_of first before (packet ∷ packets)) r (with_packets config link within first before number (packet ∷ packets) r)) [
       | true ↦ λ gap. absurd (let two : Some (Gap number) ≡ None = sym (gap_is config link within first before number packet packets r gap) ∙ whole in cc)
       | false ↦ λ near.
           elim (after.checked.checking.waiting.is_full) as (λ b. after.checked.checking.waiting.is_full ≡ b
-          → FollowsAll within config.timing (packets_passage config link first before number (packet ∷ packets) r.basis.packets r.link) (last_of first before (packet ∷ packets)) r (with_packets config link within first before number (packet ∷ packets) r)) [
-            | true ↦ λ full. absurd (let two : Some (Waiting number) ≡ None = sym (full_is config link within first before number packet packets r near full) ∙ whole in cc)
+          → FollowsAll within config.timing (packets_passage config link first before number (packet ∷ packets) r.basis.packets r.link)
+          (last_of first before (packet ∷ packets)) r (with_packets config link within first before number (packet ∷ packets) r)) [
+            | true ↦ λ full. absurd
+                (let two : Some (Waiting number) ≡ None = sym (full_is config link within first before number packet packets r near full) ∙ whole in cc)
             | false ↦ λ room.
                 let is = rest_is config link within first before number packet packets r near room in
                 let one = follows-packet config link within moment number packet.bytes r in
-                let more = follows-packets config link within (Some (unwrap_or first packet.stamp)) moment (number + 1) packets after.checked (ap (λ (c : Course). c.fault) (sym is) ∙ whole) in
+                let more = follows-packets config link within (Some (unwrap_or first packet.stamp)) moment (number + 1) packets after.checked
+                (ap (λ (c : Course). c.fault) (sym is) ∙ whole) in
                 let this = packet_passage config link moment number packet.bytes r.basis.packets r.link in
                 let more_there =
-                subst (λ (n : ℕ). Follows within config.timing (packets_passage config link (Some (unwrap_or first packet.stamp)) moment (number + 1) packets n this.link) after.checked (record { checked = rest.checked; found = rest.found })) one.packets
-                (subst (λ (l : LinkState). Follows within config.timing (packets_passage config link (Some (unwrap_or first packet.stamp)) moment (number + 1) packets after.checked.basis.packets l) after.checked (record { checked = rest.checked; found = rest.found })) one.link more.follows) in
+                subst (λ (n : ℕ). Follows within config.timing
+                (packets_passage config link (Some (unwrap_or first packet.stamp)) moment (number + 1) packets n this.link) after.checked
+                (record { checked = rest.checked; found = rest.found })) one.packets
+                (subst (λ (l : LinkState). Follows within config.timing
+                (packets_passage config link (Some (unwrap_or first packet.stamp)) moment (number + 1) packets after.checked.basis.packets l)
+                after.checked (record { checked = rest.checked; found = rest.found })) one.link more.follows) in
                 rw is (record {
                   follows = follows-behind within config.timing this _ r after (record { checked = rest.checked; found = rest.found }) one more_there;
                   moment = more.moment;
@@ -83,19 +97,23 @@ follows-packets config link within first before number (packet ∷ packets) r wh
           ] refl
     ] refl
 
--- the end of a capture
-pub record EndTells (config : Configuration) (additions : Additions) (totals : Totals) (c : CheckingValue) (found : List (Finding ℕ)) (told : List ℕ) : Type 0 where
+-- the end of a capture, with these reported findings
+pub record EndTells (config : Configuration) (additions : Additions) (totals : Totals) (c : CheckingValue) (found : List (Finding ℕ))
+    (told : List ℕ) : Type 0 where
   pub room : c.waiting.is_full ≡ false
   pub text : told ≡ finding_lines config.family additions found ++ last_lines totals
   pub counted : totals.findings ≡ min (length found) (2 ^ 64 - 1)
 
-concluded_tells : (config : Configuration) (additions : Additions) (totals : Totals) (c : CheckingValue) (rests : Basis) (found : List (Finding ℕ)) → c.waiting.is_full ≡ false
-    → (concluded config additions c rests found).answer ≡ Ok totals → EndTells config additions totals c found (concluded config additions c rests found).text
+concluded_tells : (config : Configuration) (additions : Additions) (totals : Totals) (c : CheckingValue) (rests : Basis) (found : List (Finding ℕ)) →
+    c.waiting.is_full ≡ false
+    → (concluded config additions c rests found).answer ≡ Ok totals → EndTells config additions totals c (all_reported additions found)
+    (concluded config additions c rests found).text
 concluded_tells config additions totals c rests found room answered =
-    let same : totals_of c rests found ≡ totals = cc in
+    let told = all_reported additions found in
+    let same : totals_of c rests told ≡ totals = cc in
     record {
       room = room;
-      text = ap (λ (t : Totals). finding_lines config.family additions found ++ last_lines t) same;
+      text = ap (λ (t : Totals). finding_lines config.family additions told ++ last_lines t) same;
       counted = ap (λ (t : Totals). t.findings) (sym same);
     }
 
@@ -112,7 +130,7 @@ at_last config within moment r = (looked_ahead config within moment (settled_thr
 
 ended_tells : (config : Configuration) (within : ℕ) (additions : Additions) (moment number : ℕ) (found : List (Finding ℕ)) (r : Checked) (totals : Totals)
     → (ended_at config within additions moment number found r).answer ≡ Ok totals
-    → EndTells config additions totals (at_last config within moment r) (all_found config within moment found r)
+    → EndTells config additions totals (at_last config within moment r) (all_reported additions (all_found config within moment found r))
     (ended_at config within additions moment number found r).text
 unfolding ended_at
 ended_tells config within additions moment number found r totals answered =
@@ -120,9 +138,11 @@ ended_tells config within additions moment number found r totals answered =
     let ahead = looked_ahead config within moment done.checked in
     let c = ahead.checked.checking in
     let all = all_found config within moment found r in
-    elim (c.waiting.is_full) as (λ b. c.waiting.is_full ≡ b → EndTells config additions totals c all (ended_at config within additions moment number found r).text) [
+    elim (c.waiting.is_full) as (λ b. c.waiting.is_full ≡ b → EndTells config additions totals c (all_reported additions all)
+    (ended_at config within additions moment number found r).text) [
       | true ↦ λ full.
-          let broken : ended_at config within additions moment number found r ≡ broken_off config additions (Waiting number) (found ++ done.found ++ ahead.found) = rw full refl in
+          let broken : ended_at config within additions moment number found r ≡ broken_off config additions (Waiting number)
+          (found ++ done.found ++ ahead.found) = rw full refl in
           absurd (let two = ap (λ (v : Verdict). v.answer) (sym broken) ∙ answered in cc)
       | false ↦ λ room.
           let ended : ended_at config within additions moment number found r ≡ concluded config additions c done.checked.basis all = rw room refl in
@@ -134,7 +154,8 @@ behind_packets : (k : CheckedCapture) (course : Course) (fault : Option CheckFau
     → (verdict_behind k.config k.within k.until k.additions number end fault course).answer ≡ Ok k.totals
     → (let moment = last_moment k.until course in
     (course.fault ≡ None)
-    × EndTells k.config k.additions k.totals (at_last k.config k.within moment course.checked) (all_found k.config k.within moment course.found course.checked)
+    × EndTells k.config k.additions k.totals (at_last k.config k.within moment course.checked)
+    (all_reported k.additions (all_found k.config k.within moment course.found course.checked))
     (verdict_behind k.config k.within k.until k.additions number end fault course).text)
 behind_packets k course (Some fault) end number is answered = absurd (cc)
 behind_packets k course None (Some fault) number is answered = absurd (cc)
@@ -142,13 +163,17 @@ behind_packets k course None None number is answered =
     let moment = last_moment k.until course in
     let verdict = verdict_behind k.config k.within k.until k.additions number None None course in
     elim (is_gap course.moment moment) as (λ b. is_gap course.moment moment ≡ b
-    → (course.fault ≡ None) × EndTells k.config k.additions k.totals (at_last k.config k.within moment course.checked) (all_found k.config k.within moment course.found course.checked) verdict.text) [
+    → (course.fault ≡ None) × EndTells k.config k.additions k.totals (at_last k.config k.within moment course.checked)
+    (all_reported k.additions (all_found k.config k.within moment course.found course.checked)) verdict.text) [
       | true ↦ λ gap.
           let broken : verdict ≡ broken_off k.config k.additions (Gap number) course.found = rw (gap, verdict_behind) refl in
           absurd (let two = ap (λ (v : Verdict). v.answer) (sym broken) ∙ answered in cc)
       | false ↦ λ near.
-          let ended : verdict ≡ ended_at k.config k.within k.additions moment number course.found course.checked = rw (near, verdict_behind) refl in
-          (is, rw ended (ended_tells k.config k.within k.additions moment number course.found course.checked k.totals (ap (λ (v : Verdict). v.answer) (sym ended) ∙ answered)))
+          let ended : verdict ≡ ended_at k.config k.within k.additions moment number course.found course.checked = rw (near, verdict_behind) refl in (
+            is,
+            rw ended (ended_tells k.config k.within k.additions moment number course.found course.checked k.totals
+                (ap (λ (v : Verdict). v.answer) (sym ended) ∙ answered)),
+          )
     ] refl
 
 -- the events of the look-ahead of a check
@@ -157,11 +182,14 @@ ahead_at config within moment packets link = (ticks_through config (min (moment 
 
 -- the look-ahead comes to these events
 record LooksAhead (config : Configuration) (within moment : ℕ) (before : List (Finding ℕ)) (r : Checked) (done : Outcome) : Type 0 where
-  last : at_last config within moment r ≡ checked_ahead within config.timing moment (ahead_at config within moment done.checked.basis.packets done.checked.link) done.checked.checking
+  last : at_last config within moment r ≡ checked_ahead within config.timing moment
+      (ahead_at config within moment done.checked.basis.packets done.checked.link) done.checked.checking
   found : all_found config within moment before r
-      ≡ (before ++ done.found) ++ found_from within config.timing moment (ahead_at config within moment done.checked.basis.packets done.checked.link) done.checked.checking
+      ≡ (before ++ done.found) ++
+      found_from within config.timing moment (ahead_at config within moment done.checked.basis.packets done.checked.link) done.checked.checking
 
-looks_ahead : (config : Configuration) (within moment : ℕ) (found : List (Finding ℕ)) (r : Checked) → LooksAhead config within moment found r (ticked_through config within moment r)
+looks_ahead : (config : Configuration) (within moment : ℕ) (found : List (Finding ℕ)) (r : Checked) →
+    LooksAhead config within moment found r (ticked_through config within moment r)
 looks_ahead config within moment found r =
     let done = ticked_through config within moment r in
     let limit = min (moment + within) (2 ^ 53) in
@@ -198,7 +226,8 @@ tells_what_happened k answered =
     let ticks : Follows k.within config.timing t course.checked done =
     subst (λ (n : ℕ). Follows k.within config.timing (ticks_through config end n p.link) course.checked done) all.follows.packets
     (subst (λ (l : LinkState). Follows k.within config.timing (ticks_through config end course.checked.basis.packets l) course.checked done) all.follows.link
-    (subst (λ (m : ℕ). Follows k.within config.timing (ticks_through config m course.checked.basis.packets course.checked.link) course.checked done) at (follows-ticks (moment + 1) config k.within (moment + 1) course.checked))) in
+    (subst (λ (m : ℕ). Follows k.within config.timing (ticks_through config m course.checked.basis.packets course.checked.link) course.checked done)
+    at (follows-ticks (moment + 1) config k.within (moment + 1) course.checked))) in
     let both = follows-behind k.within config.timing p t start (record { checked = course.checked; found = course.found }) done all.follows ticks in
     let looks = looks_ahead config k.within moment course.found course.checked in
     let events = events_of config k.until k.form k.packets in
@@ -206,11 +235,12 @@ tells_what_happened k answered =
     let c : at_last config k.within moment course.checked ≡ checked_ahead k.within config.timing end ahead (checked_by k.within config.timing k.strict events) =
     looks.last ∙ (λ i. checked_ahead k.within config.timing (at i) (ahead_at config k.within (at i) (both.packets i) (both.link i)) (both.checking 0 i)) in
     let found : all_found config k.within moment course.found course.checked ≡ found_by k.within config.timing k.strict end events ahead =
-    looks.found ∙ (λ i. both.found 0 i ++ found_from k.within config.timing (at i) (ahead_at config k.within (at i) (both.packets i) (both.link i)) (both.checking 0 i)) in
+    looks.found ∙ (λ i. both.found 0 i ++ found_from k.within config.timing (at i) (ahead_at config k.within (at i) (both.packets i) (both.link i))
+    (both.checking 0 i)) in
     record {
       room = ap (λ (v : CheckingValue). v.waiting.is_full) (sym c) ∙ told.1.room;
       tells = record {
-        text = told.1.text ∙ ap (λ (l : List (Finding ℕ)). finding_lines config.family k.additions l ++ last_lines k.totals) found;
-        counted = told.1.counted ∙ ap (λ (l : List (Finding ℕ)). min (length l) (2 ^ 64 - 1)) found;
+        text = told.1.text ∙ ap (λ (l : List (Finding ℕ)). finding_lines config.family k.additions (all_reported k.additions l) ++ last_lines k.totals) found;
+        counted = told.1.counted ∙ ap (λ (l : List (Finding ℕ)). min (length (all_reported k.additions l)) (2 ^ 64 - 1)) found;
       };
     }

@@ -64,7 +64,8 @@ one_turned f h is = by_modes (beq f.is_include h.is_include) refl is
     Turned : Type 0
     Turned = (s : ℕ) × (forwards_by h s ≡ not (forwards_by f s))
 
-    by_sources : beq f.is_include h.is_include ≡ true → (first : Bool) → set.is_subset f.sources h.sources ≡ first → (first && set.is_subset h.sources f.sources) ≡ false → Turned
+    by_sources : beq f.is_include h.is_include ≡ true → (first : Bool) → set.is_subset f.sources h.sources ≡ first →
+        (first && set.is_subset h.sources f.sources) ≡ false → Turned
     by_sources modes false lacks is =
         let at = in_one_alone f.sources h.sources lacks in
         (at.0, turned_alike f.is_include h.is_include _ _ modes (at.2 ∙ sym (ap not at.1)))
@@ -72,7 +73,8 @@ one_turned f h is = by_modes (beq f.is_include h.is_include) refl is
         let at = in_one_alone h.sources f.sources is in
         (at.0, turned_alike f.is_include h.is_include _ _ modes (at.1 ∙ sym (ap not at.2)))
 
-    by_modes : (modes : Bool) → beq f.is_include h.is_include ≡ modes → (modes && (set.is_subset f.sources h.sources && set.is_subset h.sources f.sources)) ≡ false → Turned
+    by_modes : (modes : Bool) → beq f.is_include h.is_include ≡ modes →
+        (modes && (set.is_subset f.sources h.sources && set.is_subset h.sources f.sources)) ≡ false → Turned
     by_modes false apart is =
         let at = in_none f.sources h.sources in
         (at.0, turned_apart f.is_include h.is_include _ _ apart (at.2 ∙ sym at.1))

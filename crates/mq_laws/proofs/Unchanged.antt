@@ -73,7 +73,8 @@ others_changed at group groups None = λ other apart. refl
 others_changed at group groups (Some change) =
     let left = after_sending at (changed_by at group groups change) in
     let after = with_group groups group left in
-    others_unless group (limit_passed at.config.limits after left) groups after (sent_at_once at group (changed_by at group groups change)) (others_with_group groups group left)
+    others_unless group (limit_passed at.config.limits after left) groups after (sent_at_once at group (changed_by at group groups change))
+    (others_with_group groups group left)
 
 pub others_stated : (at : Setting) (group : ℕ) (st : Statement) (groups : Groups) → DifferAt group groups (stated at group st groups).groups
 unfolding stated
@@ -91,7 +92,8 @@ others_lowered timing now query groups other apart =
     get-kept (λ group e. Some (cond (eqb group query.group) (group_lowered timing now query.version e) e)) groups other
     ∙ by_test (eqb other query.group) refl (map.get groups other)
   where
-    by_test : (b : Bool) → eqb other query.group ≡ b → (before : Option ScheduledGroup) → option_and_then (λ e. Some (cond (eqb other query.group) (group_lowered timing now query.version e) e)) before ≡ before
+    by_test : (b : Bool) → eqb other query.group ≡ b → (before : Option ScheduledGroup) →
+        option_and_then (λ e. Some (cond (eqb other query.group) (group_lowered timing now query.version e) e)) before ≡ before
     by_test true is before = absurd (apart (eqb-true other query.group is))
     by_test false is None = refl
     by_test false is (Some e) = ap (λ b. Some (cond b (group_lowered timing now query.version e) e)) is
@@ -119,7 +121,8 @@ not_dropped : (config : Configuration) (envelope : Envelope) (message : Message 
 unfolding taken_in
 not_dropped config envelope message step reason h1 = grind arith
 
-pub dropped_decided : (config : Configuration) (envelope : Envelope) (tick : Step) (read : Result (Message ℕ) WireFault) (by : Option DropReason) (reason : DropReason)
+pub dropped_decided : (config : Configuration) (envelope : Envelope) (tick : Step) (read : Result (Message ℕ) WireFault) (by : Option DropReason)
+    (reason : DropReason)
     → (taken_or_dropped config envelope tick read by).answer ≡ Dropped reason → IsOnlyCounted tick (taken_or_dropped config envelope tick read by)
 dropped_decided config envelope tick read (Some other) reason h = record { state = refl; queries = refl }
 dropped_decided config envelope tick (Err fault) None reason h = record { state = refl; queries = refl }

@@ -9,8 +9,8 @@ use Rattle.mq_check.specs.declared.terms.Terms.{Terms}
 use Rattle.mq_check.specs.Entries.{is_suppressed}
 use Rattle.mq_laws.specs.Events.{CheckEvent}
 use Rattle.mq_laws.specs.OnTime.{IsOnTime}
-use Rattle.mq_laws.specs.Pairing.{Ask, Expected, Sent, LeftOut, AllLater, AreMoved, PairUp, asks_of, kept_for, seen_about, wanted_about}
-use Rattle.mq_laws.specs.WantedAndSeen.{all_seen_in, wanted_in}
+use Rattle.mq_laws.specs.Pairing.{Ask, Expected, Sent, LeftOut, AllLater, AreMoved, PairUp, asks_of, kept_for, seen_about, unnumbered, wanted_about}
+use Rattle.mq_laws.specs.WantedAndSeen.{all_seen_in, all_wanted_in}
 
 -- A query that was left out is missed. A query for sources with S set may be left out if a query for their group goes
 -- at the same moment, so it isn't missed. The capture goes on for longer than the query is kept.
@@ -32,14 +32,15 @@ AreMissed kept end (LeftOut ask ∷ xs) = IsMissed kept end ask × AreMissed kep
 -- no others. The rest was left out.
 pub record IsAsWanted (within : ℕ) (timing : Timing) (strict : Bool) (end : ℕ) (expected : List Expected) (events : List CheckEvent) : Type 0 where
   pub on_time : IsOnTime within timing end events
-  pub wanted : asks_of expected ≡ wanted_in 0 events
+  pub wanted : asks_of expected ≡ all_wanted_in within timing strict events
   pub pairs : (asked : Asked ℕ) → PairUp within (kept_for within timing strict) (wanted_about asked expected) (seen_about asked (all_seen_in within events))
   pub missed : AreMissed (kept_for within timing strict) end expected
 
--- The queries that were seen about each thing are these, at their moments. In the second definition they are these
--- within the tolerance.
+-- The queries that were seen about each thing are these, at their moments, in any packets. In the second definition they
+-- are these within the tolerance.
 abbrev pub AreSeen : (within : ℕ) → List Ask → List CheckEvent → Type 0
-AreSeen within asks events = (asked : Asked ℕ) → seen_about asked (all_seen_in within events) ≡ seen_about asked asks
+AreSeen within asks events = (asked : Asked ℕ)
+    → list_map unnumbered (seen_about asked (all_seen_in within events)) ≡ list_map unnumbered (seen_about asked asks)
 
 abbrev pub AreSeenWithin : (within : ℕ) → List Ask → List CheckEvent → Type 0
 AreSeenWithin within asks events = (asked : Asked ℕ) → AreMoved within (seen_about asked asks) (seen_about asked (all_seen_in within events))

@@ -38,20 +38,20 @@ abbrev pub happening_behind : List CheckEvent → Passage → Passage
 happening_behind events p = record p { events = events ++ p.events }
 
 -- The expectation by a query of the link, after this number of packets. A general query is only expected if the router
--- is querier again.
-abbrev pub wanted_for : Family → (packets : ℕ) → (is_returning : Bool) → (to : ℕ) → Option (Query ℕ) → List CheckEvent
-wanted_for family packets is_returning to None = []
-wanted_for family packets is_returning to (Some query) =
-    if is_general query && not is_returning then [] else Wants (terms_of family packets to query) (asked_in query) ∷ []
+-- is querier again. A tick sends each other query again.
+abbrev pub wanted_for : Family → (packets : ℕ) → (by_tick is_returning : Bool) → (to : ℕ) → Option (Query ℕ) → List CheckEvent
+wanted_for family packets by_tick is_returning to None = []
+wanted_for family packets by_tick is_returning to (Some query) =
+    if is_general query && not is_returning then [] else Wants (by_tick && not (is_general query)) (terms_of family packets to query) (asked_in query) ∷ []
 
-abbrev pub wanted_of : Configuration → (packets : ℕ) → (is_returning : Bool) → List Outgoing → List CheckEvent
-wanted_of config packets is_returning messages =
-    flat_map (λ (message : Outgoing). wanted_for config.family packets is_returning message.to (query_sent config.family config.own message)) messages
+abbrev pub wanted_of : Configuration → (packets : ℕ) → (by_tick is_returning : Bool) → List Outgoing → List CheckEvent
+wanted_of config packets by_tick is_returning messages =
+    flat_map (λ (message : Outgoing). wanted_for config.family packets by_tick is_returning message.to (query_sent config.family config.own message)) messages
 
--- the expectations by the link's queries in a step
-abbrev pub wanted_by : Configuration → (packets : ℕ) → LinkState → Step → List CheckEvent
-wanted_by config packets link step =
-    wanted_of config packets (not (is_querier link.election.role)) (outgoing_of config step)
+-- the expectations by the link's queries in a step, a tick or a datagram
+abbrev pub wanted_by : Configuration → (packets : ℕ) → (by_tick : Bool) → LinkState → Step → List CheckEvent
+wanted_by config packets by_tick link step =
+    wanted_of config packets by_tick (not (is_querier link.election.role)) (outgoing_of config step)
 
 -- The change of the role. A tick can make the router querier again, and a datagram can also take the role from it.
 abbrev pub role_by_tick : (was_querier is_querier : Bool) → List CheckEvent
@@ -72,7 +72,7 @@ tick_passage config moment packets link =
     record {
       link = answered (all_sent (outgoing_of config step)) step;
       packets = packets;
-      events = Comes moment ∷ wanted_by config packets link step ++ role_by_tick (is_querier link.election.role) (is_querier step.state.election.role);
+      events = Comes moment ∷ wanted_by config packets true link step ++ role_by_tick (is_querier link.election.role) (is_querier step.state.election.role);
     }
 
 -- ticks at the link's next moments, while these are before a limit; at most `most`
@@ -111,7 +111,7 @@ datagram_passage config moment to datagram None faults packets link =
       packets = packets;
       events =
           Comes moment ∷ faults
-          ++ (Blocks (blocked_in config.family datagram) ∷ wanted_by config packets link step ++ role_by_datagram (is_querier link.election.role) (is_querier step.state.election.role));
+          ++ (Blocks (blocked_in config.family datagram) ∷ wanted_by config packets false link step ++ role_by_datagram (is_querier link.election.role) (is_querier step.state.election.role));
     }
 
 -- a frame, if it carries a datagram; the faults of the headers of a query come first

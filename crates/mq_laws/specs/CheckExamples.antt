@@ -1,48 +1,72 @@
--- A check in which a querier sends one of two queries for the group 5, and leaves the other out. A host leaves the group,
--- and another host blocks a source. Afterwards another router has the role for four minutes.
-use Rattle.std.specs.Prelude.{ℕ, false, List, [], ◌∷◌, None, Some}
+-- A check in which a querier sends one of two queries for the group 5, and leaves the other out, or sends both. A host
+-- leaves the group, and another host blocks a source. Afterwards another router has the role for four minutes. The seen
+-- queries are in other packets than those of the expected ones.
+use Rattle.std.specs.Prelude.{◌≡◌, ℕ, ◌+◌, false, true, List, [], ◌∷◌, ◌++◌, None, Some}
 use Rattle.mq_table.specs.declared.timing.Timing.{Timing}
 use Rattle.mq_check.specs.declared.asked.Asked.TheVariants.{AllGroups, Group, Source}
 use Rattle.mq_check.specs.declared.terms.Terms.{Terms}
-use Rattle.mq_laws.specs.Pairing.{Expected, Sent, LeftOut}
-use Rattle.mq_laws.specs.Events.{CheckEvent, Comes, Wants, Sees, SeesGeneral, LosesRole, HasRoleAgain, Blocks}
+use Rattle.mq_laws.specs.Pairing.{Ask, Expected, Sent, LeftOut}
+use Rattle.mq_laws.specs.Events.{CheckEvent, Comes, Wants, Sees, SeesGeneral, LosesRole, HasRoleAgain, Blocks, HasRoom}
+use Rattle.mq_laws.specs.OnTime.{AreInOrder, IsOnTime}
+use Rattle.mq_laws.specs.WantedAndSeen.{all_wanted_in}
 
 abbrev pub example_timing : Timing
 example_timing = record { robustness = 2; query_seconds = 125; response_interval = 10000; last_member_interval = 1000 }
 
-abbrev pub group_terms : Terms ℕ
-group_terms = record {
+abbrev pub group_terms : (packet : ℕ) → Terms ℕ
+group_terms packet = record {
   version = 3;
   response = Some 1000;
   querier = Some (record { suppress = false; robustness = 2; interval = 125 });
   to = 5;
-  packet = 3;
+  packet = packet;
 }
 
-abbrev pub general_terms : Terms ℕ
-general_terms = record {
+abbrev pub general_terms : (packet : ℕ) → Terms ℕ
+general_terms packet = record {
   version = 3;
   response = Some 10000;
   querier = Some (record { suppress = false; robustness = 2; interval = 125 });
   to = 1;
-  packet = 4;
+  packet = packet;
 }
 
-abbrev pub example_events : List CheckEvent
-example_events =
-    Comes 500 ∷ SeesGeneral general_terms general_terms
-    ∷ Comes 1000 ∷ Blocks [] ∷ Wants group_terms (Group 5 ∷ [])
-    ∷ Comes 1050 ∷ Blocks (Source 5 7 ∷ [])
-    ∷ Comes 1100 ∷ Sees group_terms (λ asked. None) (Group 5 ∷ [])
-    ∷ Comes 2000 ∷ Wants group_terms (Group 5 ∷ [])
-    ∷ Comes 20000 ∷ LosesRole
-    ∷ Comes 260000 ∷ Wants general_terms (AllGroups ∷ []) ∷ HasRoleAgain
-    ∷ Comes 260080 ∷ SeesGeneral general_terms general_terms
+-- The events if each query comes so much later than it is expected. `second` has those of the second query for the group.
+abbrev pub example_events : (delay : ℕ) → (second : List CheckEvent) → List CheckEvent
+example_events delay second =
+    Comes 500 ∷ SeesGeneral (general_terms 1) (general_terms 0)
+    ∷ Comes 1000 ∷ Blocks [] ∷ Wants false (group_terms 2) (Group 5 ∷ [])
+    ∷ Comes (1000 + delay) ∷ Sees (group_terms 3) (λ asked. None) (Group 5 ∷ [])
+    ∷ Comes 1200 ∷ Blocks (Source 5 7 ∷ [])
+    ∷ Comes 2000 ∷ Wants true (group_terms 4) (Group 5 ∷ []) ∷ second
+    ++ Comes 20000 ∷ LosesRole
+    ∷ Comes 260000 ∷ Wants false (general_terms 6) (AllGroups ∷ []) ∷ HasRoleAgain
+    ∷ Comes (260000 + delay) ∷ SeesGeneral (general_terms 7) (general_terms 0)
     ∷ []
 
+-- without the second query, and with it
+abbrev pub one_left_out : (delay : ℕ) → List CheckEvent
+one_left_out delay = example_events delay []
+
+abbrev pub all_answered : (delay : ℕ) → List CheckEvent
+all_answered delay = example_events delay (Comes (2000 + delay) ∷ Sees (group_terms 5) (λ asked. None) (Group 5 ∷ []) ∷ [])
+
+-- The expected queries. A tick sends the second one again, so it has the packet of the first.
+abbrev pub first_ask : Ask
+first_ask = record { moment = 1000; asked = Group 5; terms = group_terms 2 }
+
+abbrev pub second_ask : Ask
+second_ask = record { moment = 2000; asked = Group 5; terms = group_terms 2 }
+
+abbrev pub last_ask : Ask
+last_ask = record { moment = 260000; asked = AllGroups; terms = general_terms 6 }
+
 abbrev pub example_expected : List Expected
-example_expected =
-    Sent (record { moment = 1000; asked = Group 5; terms = group_terms })
-    ∷ LeftOut (record { moment = 2000; asked = Group 5; terms = group_terms })
-    ∷ Sent (record { moment = 260000; asked = AllGroups; terms = general_terms })
-    ∷ []
+example_expected = Sent first_ask ∷ LeftOut second_ask ∷ Sent last_ask ∷ []
+
+-- Events of a check with these expected queries: in order, with general queries on time, and with room.
+pub record IsExample (events : List CheckEvent) : Type 0 where
+  pub in_order : AreInOrder 0 events 262000
+  pub on_time : IsOnTime 100 example_timing 262000 events
+  pub room : HasRoom 100 example_timing false 262000 events []
+  pub wanted : all_wanted_in 100 example_timing false events ≡ first_ask ∷ second_ask ∷ last_ask ∷ []

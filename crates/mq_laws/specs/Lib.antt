@@ -8,5 +8,11 @@ pub mod Events
 pub mod CheckExamples
 pub mod OnTime
 pub mod Pairing
+pub mod Reports
 pub mod Verdicts
 pub mod WantedAndSeen
+pub mod Messages
+pub mod Texts
+pub mod CaptureFiles
+pub mod PlainCaptures
+pub mod Conversions

@@ -15,7 +15,7 @@ use Rattle.mq_laws.specs.Events.{CheckEvent, Comes, Wants, Sees, SeesGeneral, Lo
 abbrev pub AreInOrder : (now : ℕ) → List CheckEvent → (end : ℕ) → Type 0
 AreInOrder now [] end = now ≤ end
 AreInOrder now (Comes moment ∷ es) end = (now ≤ moment) × AreInOrder moment es end
-AreInOrder now (Wants terms asked ∷ es) end = AreInOrder now es end
+AreInOrder now (Wants is_again terms asked ∷ es) end = AreInOrder now es end
 AreInOrder now (Sees terms unheld asked ∷ es) end = AreInOrder now es end
 AreInOrder now (SeesGeneral terms wanted ∷ es) end = AreInOrder now es end
 AreInOrder now (LosesRole ∷ es) end = AreInOrder now es end
@@ -26,7 +26,7 @@ AreInOrder now (Blocks asked ∷ es) end = AreInOrder now es end
 -- An event of a tick. After the end of a capture there are only these, in order, up to the tolerance after the end.
 abbrev pub IsOfTick : CheckEvent → Type 0
 IsOfTick (Comes moment) = ⊤
-IsOfTick (Wants terms asked) = ⊤
+IsOfTick (Wants is_again terms asked) = ⊤
 IsOfTick (Sees terms unheld asked) = ⊥
 IsOfTick (SeesGeneral terms wanted) = ⊥
 IsOfTick LosesRole = ⊥
@@ -49,7 +49,7 @@ IsAsWantedThen false terms wanted = ⊤
 abbrev pub AreOnTime : (within : ℕ) → Timing → Phase → (last : Option ℕ) → (now : ℕ) → List CheckEvent → (end : ℕ) → Type 0
 AreOnTime within timing phase last now [] end = silence_up_to within timing end phase ≡ None
 AreOnTime within timing phase last now (Comes moment ∷ es) end = AreOnTime within timing phase last moment es end
-AreOnTime within timing phase last now (Wants terms asked ∷ es) end = AreOnTime within timing phase last now es end
+AreOnTime within timing phase last now (Wants is_again terms asked ∷ es) end = AreOnTime within timing phase last now es end
 AreOnTime within timing phase last now (Sees terms unheld asked ∷ es) end = AreOnTime within timing phase last now es end
 AreOnTime within timing phase last now (SeesGeneral terms wanted ∷ es) end =
     (wrong_interval within timing now phase ≡ None) × IsAsWantedThen (is_querier_in phase) terms wanted

@@ -16,6 +16,14 @@ pub record Ask : Type 0 where
   pub asked : Asked ℕ
   pub terms : Terms ℕ
 
+-- A query without the number of its packet. A seen query has the number of its own packet, and an expected query has that of
+-- the packet which makes the querier send it.
+abbrev pub unnumbered_terms : Terms ℕ → Terms ℕ
+unnumbered_terms terms = record terms { packet = 0 }
+
+abbrev pub unnumbered : Ask → Ask
+unnumbered ask = record ask { terms = unnumbered_terms ask.terms }
+
 -- An expected query: the querier sent it, or left it out.
 pub data Expected : Type 0 where
   Sent : Ask → Expected
@@ -68,11 +76,11 @@ missing_of [] = []
 missing_of (Sent ask ∷ xs) = missing_of xs
 missing_of (LeftOut ask ∷ xs) = Missing ask.moment ask.terms.packet ask.asked ∷ missing_of xs
 
--- A query was seen within the tolerance of its moment, with the expected fields.
+-- A query was seen within the tolerance of its moment, with the expected fields, in any packet.
 pub record IsMoved (within : ℕ) (wanted seen : Ask) : Type 0 where
   pub not_late : seen.moment ≤ wanted.moment + within
   pub not_early : wanted.moment ≤ seen.moment + within
-  pub terms : seen.terms ≡ wanted.terms
+  pub terms : unnumbered_terms seen.terms ≡ unnumbered_terms wanted.terms
 
 -- each of these queries was seen so, in order
 abbrev pub AreMoved : (within : ℕ) → (wanted seen : List Ask) → Type 0

@@ -9,6 +9,7 @@ use Rattle.mq_check.specs.declared.finding.Finding.{Finding}
 use Rattle.mq_check.specs.declared.totals.Totals.{Totals}
 use Rattle.mq_check.specs.Check.{Verdict, check_of}
 use Rattle.mq_check.specs.FindingLines.{finding_lines, last_lines}
+use Rattle.mq_check.specs.Repeated.{all_reported}
 use Rattle.mq_laws.specs.Captures.{end_of, events_ahead, events_of}
 use Rattle.mq_laws.specs.Events.{CheckEvent, HasRoom, found_by}
 
@@ -41,15 +42,15 @@ verdict_of c = check_of c.config c.within c.until c.additions c.strict (Ok c.for
 abbrev pub CameToItsEnd : CheckedCapture → Type 0
 CameToItsEnd c = (verdict_of c).answer ≡ Ok c.totals
 
--- these are the findings, and the text says so
+-- these are the reported findings, and the text says so
 pub record Tells (c : CheckedCapture) (found : List (Finding ℕ)) : Type 0 where
   pub text : (verdict_of c).text ≡ finding_lines c.config.family c.additions found ++ last_lines c.totals
   pub counted : c.totals.findings ≡ min (length found) (2 ^ 64 - 1)
 
--- the text has the findings by the events, and there was room for all pending entries
+-- the text has the reported ones of the findings by the events, and there was room for all pending entries
 pub record TellsWhatHappened (c : CheckedCapture) : Type 0 where
   pub room : HasRoom c.within c.config.timing c.strict (end_in c) (events_in c) (ahead_in c)
-  pub tells : Tells c (found_by c.within c.config.timing c.strict (end_in c) (events_in c) (ahead_in c))
+  pub tells : Tells c (all_reported c.additions (found_by c.within c.config.timing c.strict (end_in c) (events_in c) (ahead_in c)))
 
 -- the text says that there is no finding, and no more
 pub record IsClean (c : CheckedCapture) : Type 0 where

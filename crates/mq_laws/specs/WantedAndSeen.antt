@@ -1,26 +1,44 @@
 -- The expected queries of a check, and the seen queries that must be expected.
 use Rattle.std.specs.Prelude.{ℕ, ◌+◌, Bool, true, false, List, [], ◌∷◌, ◌++◌, map as list_map, nat_lt, if◌then◌else◌}
+use Rattle.mq_table.specs.declared.timing.Timing.{Timing}
 use Rattle.mq_check.specs.declared.asked.Asked.{Asked}
 use Rattle.mq_check.specs.declared.asked.Asked.TheVariants.{AllGroups}
 use Rattle.mq_check.specs.declared.terms.Terms.{Terms}
+use Rattle.mq_check.specs.Checking.{CheckingValue, checking_at_start, subject_wanted}
 use Rattle.mq_check.specs.Queries.{is_same}
-use Rattle.mq_laws.specs.Events.{CheckEvent, Comes, Wants, Sees, SeesGeneral, LosesRole, HasRoleAgain, SeesFault, Blocks}
+use Rattle.mq_check.specs.Schedules.{terms_wanted}
+use Rattle.mq_laws.specs.Events.{CheckEvent, Comes, Wants, Sees, SeesGeneral, LosesRole, HasRoleAgain, SeesFault, Blocks, check_by, moment_behind}
 use Rattle.mq_laws.specs.Pairing.{Ask}
 
--- the expected queries, one for each thing that they ask about
+-- The expected queries by one query of the link, one for each thing that it asks about. A query that a tick sends again
+-- has the packet that started its schedule, as far as the check has kept it.
+abbrev pub asks_wanted : (now : ℕ) → (is_again : Bool) → Terms ℕ → List (Asked ℕ) → CheckingValue → List Ask
+asks_wanted now is_again terms [] c = []
+asks_wanted now is_again terms (a ∷ asked) c =
+    record { moment = now; asked = a; terms = terms_wanted is_again terms a c.schedules }
+    ∷ asks_wanted now is_again terms asked (subject_wanted now is_again terms c a)
+
+abbrev pub asks_by : (now : ℕ) → CheckEvent → CheckingValue → List Ask
+asks_by now (Comes moment) c = []
+asks_by now (Wants is_again terms asked) c = asks_wanted now is_again terms asked c
+asks_by now (Sees terms unheld asked) c = []
+asks_by now (SeesGeneral terms wanted) c = []
+asks_by now LosesRole c = []
+asks_by now HasRoleAgain c = []
+asks_by now (SeesFault number fault) c = []
+asks_by now (Blocks asked) c = []
+
+-- the expected queries by several events, if `c` is the check before them
+abbrev pub wanted_in : (within : ℕ) → Timing → (now : ℕ) → List CheckEvent → CheckingValue → List Ask
+wanted_in within timing now [] c = []
+wanted_in within timing now (e ∷ es) c = asks_by now e c ++ wanted_in within timing (moment_behind now e) es (check_by within timing now e c)
+
+abbrev pub all_wanted_in : (within : ℕ) → Timing → (strict : Bool) → List CheckEvent → List Ask
+all_wanted_in within timing strict events = wanted_in within timing 0 events (checking_at_start within timing strict)
+
+-- the seen queries, one for each thing that they ask about
 abbrev pub asks_at : (moment : ℕ) → Terms ℕ → List (Asked ℕ) → List Ask
 asks_at moment terms asked = list_map (λ a. record { moment = moment; asked = a; terms = terms }) asked
-
-abbrev pub wanted_in : (now : ℕ) → List CheckEvent → List Ask
-wanted_in now [] = []
-wanted_in now (Comes moment ∷ es) = wanted_in moment es
-wanted_in now (Wants terms asked ∷ es) = asks_at now terms asked ++ wanted_in now es
-wanted_in now (Sees terms unheld asked ∷ es) = wanted_in now es
-wanted_in now (SeesGeneral terms wanted ∷ es) = wanted_in now es
-wanted_in now (LosesRole ∷ es) = wanted_in now es
-wanted_in now (HasRoleAgain ∷ es) = wanted_in now es
-wanted_in now (SeesFault number fault ∷ es) = wanted_in now es
-wanted_in now (Blocks asked ∷ es) = wanted_in now es
 
 -- General queries that are expected at their moment, like those after the router becomes querier again. `due` has the
 -- moments of those for which none was seen yet. `early` has those that were seen before, while another router was
@@ -72,7 +90,7 @@ general_ask false due moment terms = record { moment = moment; asked = AllGroups
 abbrev pub seen_in : (within : ℕ) → (is_querier : Bool) → Returns → (now : ℕ) → List CheckEvent → List Ask
 seen_in within is_querier r now [] = []
 seen_in within is_querier r now (Comes moment ∷ es) = seen_in within is_querier (record r { due = still_due within moment r.due }) moment es
-seen_in within is_querier r now (Wants terms asked ∷ es) = seen_in within is_querier (all_wanted now asked r) now es
+seen_in within is_querier r now (Wants is_again terms asked ∷ es) = seen_in within is_querier (all_wanted now asked r) now es
 seen_in within is_querier r now (Sees terms unheld asked ∷ es) = asks_at now terms asked ++ seen_in within is_querier (all_seen now asked r) now es
 seen_in within is_querier r now (SeesGeneral terms wanted ∷ es) =
     general_ask is_querier r.due now terms ++ seen_in within is_querier (general_returned is_querier now r.due r.early) now es

@@ -10,18 +10,27 @@
 //! - The text in these cases: `clean_captures_are_told_so`, `what_was_left_out_is_told`.
 //! - The times of general queries: `general_queries_are_on_time_at_these_intervals`.
 //! - The existence of such checks: `a_check_of_two_queries`.
-ghost use Rattle.std.specs.Prelude.{◌≡◌, ◌↔◌, ℕ, Bool, ◌+◌, ◌-◌, ◌≤◌, List, [], ◌++◌, None, false, true};
+//! - The findings that are left out if a changed variable is reported once: `only_repeated_differences_are_left_out`.
+ghost use Rattle.std.specs.Prelude.{◌≡◌, ◌↔◌, ℕ, Bool, ◌+◌, ◌-◌, ◌≤◌, List, [], ◌∷◌, ◌++◌, None, false, true};
 ghost use Rattle.mq_table.specs.declared.timing.Timing.{Timing};
 ghost use Rattle.mq_table.specs.Timing.{query_interval};
 ghost use Rattle.mq_check.specs.declared.phase.Phase.TheVariants.{Starting, Heard, Returned};
+ghost use Rattle.mq_check.specs.declared.asked.Asked.{Asked};
+ghost use Rattle.mq_check.specs.declared.check_terms.Additions.{Additions};
+ghost use Rattle.mq_check.specs.declared.finding.Difference.{Difference};
+ghost use Rattle.mq_check.specs.declared.finding.Finding.{Finding};
+ghost use Rattle.mq_check.specs.declared.finding.Finding.TheVariants.{Differs};
+ghost use Rattle.mq_check.specs.declared.repeated.LastDifferences.{LastDifferences};
 ghost use Rattle.mq_check.specs.General.{silence_up_to, wrong_interval};
+ghost use Rattle.mq_check.specs.Repeated.{all_reported, repeats, reported, with_finding};
 ghost use Rattle.mq_link.specs.Configuration.{IsFaultless};
 ghost use Rattle.mq_laws.specs.OnTime.{AreAhead, AreInOrder, IsOnTime, IsWantedInterval};
 ghost use Rattle.mq_laws.specs.AsWanted.{AreSeen, AreSeenWithin, IsAsWanted, TakesOut, all_missing};
 ghost use Rattle.mq_laws.specs.Events.{CheckEvent, HasRoom, found_by};
-ghost use Rattle.mq_laws.specs.WantedAndSeen.{wanted_in};
-ghost use Rattle.mq_laws.specs.CheckExamples.{example_events, example_expected, example_timing};
+ghost use Rattle.mq_laws.specs.WantedAndSeen.{all_wanted_in};
+ghost use Rattle.mq_laws.specs.CheckExamples.{IsExample, all_answered, example_expected, example_timing, first_ask, last_ask, one_left_out, second_ask};
 ghost use Rattle.mq_laws.specs.Pairing.{Ask, Expected, kept_for, missing_of};
+ghost use Rattle.mq_laws.specs.Reports.{is_of_variable, others_in};
 ghost use Rattle.mq_laws.specs.Verdicts.{CameToItsEnd, CheckedCapture, IsClean, Tells, TellsWhatHappened, ahead_in, end_in, events_in};
 
 use crate::links::{
@@ -70,7 +79,7 @@ pub fn nothing_is_found()
     ensures { (within : ℕ) (timing : Timing) (strict : Bool) (end : ℕ) (events ahead : List CheckEvent)
         → AreInOrder 0 events end → AreAhead within end ahead → IsOnTime within timing end events
         → HasRoom within timing strict end events ahead
-        → AreSeen within (wanted_in 0 events) events → found_by within timing strict end events ahead ≡ [] }
+        → AreSeen within (all_wanted_in within timing strict events) events → found_by within timing strict end events ahead ≡ [] }
 {}
 
 /// A lemma: if some of the expected queries are taken out, exactly these are missing. The next query about the same thing
@@ -79,7 +88,7 @@ pub fn what_is_taken_out_is_missing()
     ensures { (within : ℕ) (timing : Timing) (strict : Bool) (end : ℕ) (events ahead : List CheckEvent) (before taken behind : List Ask)
         → AreInOrder 0 events end → AreAhead within end ahead → IsOnTime within timing end events
         → HasRoom within timing strict end events ahead
-        → wanted_in 0 events ≡ before ++ taken ++ behind → TakesOut (kept_for within timing strict) end taken behind
+        → all_wanted_in within timing strict events ≡ before ++ taken ++ behind → TakesOut (kept_for within timing strict) end taken behind
         → AreSeen within (before ++ behind) events → found_by within timing strict end events ahead ≡ all_missing taken }
 {}
 
@@ -89,14 +98,14 @@ pub fn nothing_is_found_of_moved_queries()
     ensures { (within : ℕ) (timing : Timing) (strict : Bool) (end : ℕ) (events ahead : List CheckEvent)
         → AreInOrder 0 events end → AreAhead within end ahead → IsOnTime within timing end events
         → HasRoom within timing strict end events ahead
-        → AreSeenWithin within (wanted_in 0 events) events → found_by within timing strict end events ahead ≡ [] }
+        → AreSeenWithin within (all_wanted_in within timing strict events) events → found_by within timing strict end events ahead ≡ [] }
 {}
 
 /// A lemma: the check of a capture with these queries says that nothing is found, and no more.
 pub fn clean_captures_are_told_so()
     ensures { (c : CheckedCapture)
         → IsFaultless c.config → CameToItsEnd c → IsOnTime c.within c.config.timing (end_in c) (events_in c)
-        → AreSeenWithin c.within (wanted_in 0 (events_in c)) (events_in c) → IsClean c }
+        → AreSeenWithin c.within (all_wanted_in c.within c.config.timing c.strict (events_in c)) (events_in c) → IsClean c }
 {
     what_happens_comes_in_order();
 }
@@ -109,6 +118,18 @@ pub fn what_was_left_out_is_told()
 {
     what_happens_comes_in_order();
 }
+
+/// A lemma: without `once` each finding is reported. With it, only differences in the response, QRV and QQIC are left out,
+/// and nothing is reported only if nothing is found. A difference that follows the same one is left out.
+pub fn only_repeated_differences_are_left_out()
+    ensures all { (last : LastDifferences) (found : List (Finding ℕ)) → reported false last found ≡ found }
+    ensures others { (once : Bool) (last : LastDifferences) (found : List (Finding ℕ))
+        → others_in (reported once last found) ≡ others_in found }
+    ensures none { (additions : Additions) (found : List (Finding ℕ)) → (all_reported additions found ≡ []) ↔ (found ≡ []) }
+    ensures repeated { (moment packet moment' packet' : ℕ) (asked : Asked ℕ) (difference : Difference ℕ) (last : LastDifferences)
+        → is_of_variable difference ≡ true
+        → repeats (Differs moment' packet' asked difference) (with_finding (Differs moment packet asked difference) last) ≡ true }
+{}
 
 /// A lemma: the times of general queries, each within the tolerance. The first comes at most a query interval after the
 /// start of the capture. Each other one comes at an expected interval after the one before it. The first after a return
@@ -125,10 +146,17 @@ pub fn general_queries_are_on_time_at_these_intervals()
         → (silence_up_to within timing moment (Heard before startup) ≡ None) ↔ (moment - before ≤ query_interval timing + within) }
 {}
 
-/// A lemma: there are such checks. There are two queries for a group: one was seen as late as the tolerance allows, and
-/// one was left out. Then the role was lost, and the router was querier again.
+/// A lemma: there are such checks, whose seen queries have other packets than the expected ones. There are two queries for
+/// a group: one was seen as late as the tolerance allows, and one was left out. Then the role was lost, and the router was
+/// querier again. The other queries may also be seen at their moments, and the second one too.
 pub fn a_check_of_two_queries()
-    ensures in_order { AreInOrder 0 example_events 262000 }
-    ensures as_wanted { IsAsWanted 100 example_timing false 262000 example_expected example_events }
-    ensures room { HasRoom 100 example_timing false 262000 example_events [] }
+    ensures as_wanted { IsAsWanted 100 example_timing false 262000 example_expected (one_left_out 100) }
+    ensures late { IsExample (one_left_out 100) }
+    ensures taken_out { TakesOut (kept_for 100 example_timing false) 262000 (second_ask ∷ []) (last_ask ∷ []) }
+    ensures others_seen { AreSeen 100 (first_ask ∷ last_ask ∷ []) (one_left_out 0) }
+    ensures others_on_time { IsExample (one_left_out 0) }
+    ensures all_seen { AreSeen 100 (first_ask ∷ second_ask ∷ last_ask ∷ []) (all_answered 0) }
+    ensures all_on_time { IsExample (all_answered 0) }
+    ensures all_moved { AreSeenWithin 100 (first_ask ∷ second_ask ∷ last_ask ∷ []) (all_answered 100) }
+    ensures all_late { IsExample (all_answered 100) }
 {}

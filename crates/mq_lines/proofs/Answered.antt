@@ -39,7 +39,8 @@ answer_as_it_is (Ok message) = ap Ok (message_as_it_is message)
 answer_as_it_is (Err fault) = refl
 
 -- the line of an answer was put
-pub answer_put : {E : Type 0} (old new : Option (List ℕ)) (held left : List ℕ) (family : Family) (pseudo bytes : List ℕ) (read : Result (Message ℕ) WireFault) (answer : Result Bool E)
+pub answer_put : {E : Type 0} (old new : Option (List ℕ)) (held left : List ℕ) (family : Family) (pseudo bytes : List ℕ)
+    (read : Result (Message ℕ) WireFault) (answer : Result Bool E)
     → ((message : Message ℕ) → read ≡ Ok message → Spells family pseudo bytes message)
     → ((fault : WireFault) → read ≡ Err fault → fault_of family pseudo bytes ≡ Some fault)
     → AnswersBy old new held left (is_ok read) (line_of (answer_text family (numbered_answer (λ address. address) read))) answer
@@ -49,26 +50,31 @@ answer_put old new held left family pseudo bytes read answer spells faulty put =
       flag = is_ok read;
       line = line_of (answer_text family read);
       is_line = line_of_answer family pseudo bytes read spells faulty;
-      put = subst (λ (r : Result (Message ℕ) WireFault). AnswersBy old new held left (is_ok read) (line_of (answer_text family r)) answer) (answer_as_it_is read) put;
+      put = subst (λ (r : Result (Message ℕ) WireFault). AnswersBy old new held left (is_ok read) (line_of (answer_text family r)) answer)
+          (answer_as_it_is read) put;
     }
 
 -- a line went into an empty buffer, and then the buffer was not written whole
-pub line_broken : {E F : Type 0} (old mid new : Option (List ℕ)) (held left : List ℕ) (family : Family) (pseudo bytes : List ℕ) (flag : Bool) (e : E) → held ≡ []
+pub line_broken : {E F : Type 0} (old mid new : Option (List ℕ)) (held left : List ℕ) (family : Family) (pseudo bytes : List ℕ) (flag : Bool) (e : E)
+    → held ≡ []
     → PutsLine {E = F} old mid held left family pseudo bytes (Ok flag) → GrowsByBeginning mid new (left ++ []) → PrintsLine old new family pseudo bytes (Err e)
 line_broken old mid new held left family pseudo bytes flag e none put begun =
     record {
       flag = put.flag;
       line = put.line;
       is_line = put.is_line;
-      printed = subst (λ (text : List ℕ). GrowsByBeginning old new text) (rw none (append-nil put.line)) (broken_behind old mid new held left put.line [] put.put.1 begun);
+      printed = subst (λ (text : List ℕ). GrowsByBeginning old new text) (rw none (append-nil put.line))
+          (broken_behind old mid new held left put.line [] put.put.1 begun);
     }
 
 -- a line went into an empty buffer, and then the buffer was written whole
-pub line_printed : {E F : Type 0} (old mid new : Option (List ℕ)) (held left rest : List ℕ) (family : Family) (pseudo bytes : List ℕ) (flag : Bool) → held ≡ [] → rest ≡ []
+pub line_printed : {E F : Type 0} (old mid new : Option (List ℕ)) (held left rest : List ℕ) (family : Family) (pseudo bytes : List ℕ) (flag : Bool) →
+    held ≡ [] → rest ≡ []
     → PutsLine {E = F} old mid held left family pseudo bytes (Ok flag) → Passes mid new left rest [] → PrintsLine {E = E} old new family pseudo bytes (Ok flag)
 line_printed old mid new held left rest family pseudo bytes flag none empty put passed =
     let all = both_passed old mid new held left rest put.line [] put.put.1 passed in
-    let same : put.line ≡ all.written = sym (rw none (append-nil put.line)) ∙ all.parts ∙ ap (λ (t : List ℕ). all.written ++ t) empty ∙ append-nil all.written in
+    let same : put.line ≡ all.written = sym (rw none (append-nil put.line)) ∙ all.parts ∙ ap (λ (t : List ℕ). all.written ++ t) empty ∙
+    append-nil all.written in
     record {
       flag = put.flag;
       line = put.line;

@@ -22,7 +22,9 @@ use Rattle.mq_link.specs.Configuration.{Configuration}
 use Rattle.mq_link.specs.Counters.{Refused}
 use Rattle.mq_link.specs.Family.{per_query}
 use Rattle.mq_link.specs.Receive.{Envelope, setting_of, taken_in, taken_or_dropped, drop_reason, read_of, pseudo_of, counting_read, receipt_of}
-use Rattle.mq_link.specs.Record.{Setting, Statement, RecordOf, OlderJoin, OlderLeave, Outcome, leaving, limit_passed, unless_passed, changed_by, after_sending, sent_at_once, changed_or_refused, change_in, stated, Seen, Entrance, Stops, GoesOn, entrance, is_repeated, seen_after, judged_from, judged, all_judged}
+use Rattle.mq_link.specs.Record.{Setting, Statement, RecordOf, OlderJoin, OlderLeave, Outcome, leaving, limit_passed, unless_passed, changed_by}
+use Rattle.mq_link.specs.Record.{after_sending, sent_at_once, changed_or_refused, change_in, stated, Seen, Entrance, Stops, GoesOn, entrance}
+use Rattle.mq_link.specs.Record.{is_repeated, seen_after, judged_from, judged, all_judged}
 use Rattle.mq_link.specs.State.{Groups, LinkState, with_group}
 use Rattle.mq_link.specs.Tick.{Step, groups_expired, queries_due, tick_of, moment_of}
 
@@ -41,10 +43,12 @@ pub fits-general_messages : (n : ℕ) (configured : Timing) (now : ℕ) (e : Ele
 fits-general_messages n configured now e = fits_if n (general_is_due now (returned configured now e).role)
 
 -- what a tick sends
-fits_each : (n : ℕ) (timing : Timing) (now : ℕ) (es : List (ℕ × ScheduledGroup)) → AllFit n (flat_map (λ (e : ℕ × ScheduledGroup). messages_due n timing now e.0 e.1) es)
+fits_each : (n : ℕ) (timing : Timing) (now : ℕ) (es : List (ℕ × ScheduledGroup)) →
+    AllFit n (flat_map (λ (e : ℕ × ScheduledGroup). messages_due n timing now e.0 e.1) es)
 fits_each n timing now [] = tt
 fits_each n timing now (e ∷ es) =
-    fit_append n (messages_due n timing now e.0 e.1) (flat_map (λ (e : ℕ × ScheduledGroup). messages_due n timing now e.0 e.1) es) (all_fit n timing now e.0 e.1) (fits_each n timing now es)
+    fit_append n (messages_due n timing now e.0 e.1) (flat_map (λ (e : ℕ × ScheduledGroup). messages_due n timing now e.0 e.1) es)
+    (all_fit n timing now e.0 e.1) (fits_each n timing now es)
 
 pub fits-queries_due : (family : Family) (timing : Timing) (now : ℕ) (groups : Groups) → AllFit (per_query family) (queries_due family timing now groups)
 unfolding queries_due
@@ -54,16 +58,19 @@ pub fits-tick_of : (config : Configuration) (now : ℕ) (state : LinkState) → 
 fits-tick_of config now state =
     let moment = moment_of state now in
     let tick = tick_of config now state in
-    fit_append (per_query config.family) (general_messages config.timing moment state.election) (queries_due config.family tick.timing moment (groups_expired moment state.groups))
+    fit_append (per_query config.family) (general_messages config.timing moment state.election)
+    (queries_due config.family tick.timing moment (groups_expired moment state.groups))
     (fits-general_messages (per_query config.family) config.timing moment state.election)
     (fits-queries_due config.family tick.timing moment (groups_expired moment state.groups))
 
 -- what a record sends
-unless_refused : (n : ℕ) (name : Option Refusal) (before after : Groups) (queries : List SentQuery) → AllFit n queries → AllFit n (unless_passed name before after queries).queries
+unless_refused : (n : ℕ) (name : Option Refusal) (before after : Groups) (queries : List SentQuery) → AllFit n queries →
+    AllFit n (unless_passed name before after queries).queries
 unless_refused n (Some name) before after queries fit = tt
 unless_refused n None before after queries fit = fit
 
-fits_changed : (at : Setting) (group : ℕ) (groups : Groups) (change : Option GroupChange) → AllFit (per_query at.config.family) (changed_or_refused at group groups change).queries
+fits_changed : (at : Setting) (group : ℕ) (groups : Groups) (change : Option GroupChange) →
+    AllFit (per_query at.config.family) (changed_or_refused at group groups change).queries
 fits_changed at group groups None = tt
 fits_changed at group groups (Some change) =
     let e = changed_by at group groups change in
@@ -71,7 +78,8 @@ fits_changed at group groups (Some change) =
     unless_refused (per_query at.config.family) (limit_passed at.config.limits after (after_sending at e)) groups after (sent_at_once at group e)
     (all_fit (per_query at.config.family) at.election.timing at.now group e)
 
-pub fits-stated : (at : Setting) (group : ℕ) (statement : Statement) (groups : Groups) → AllFit (per_query at.config.family) (stated at group statement groups).queries
+pub fits-stated : (at : Setting) (group : ℕ) (statement : Statement) (groups : Groups) →
+    AllFit (per_query at.config.family) (stated at group statement groups).queries
 unfolding stated
 fits-stated at group statement groups = fits_changed at group groups (change_in at group statement groups)
 
@@ -79,43 +87,53 @@ fits_unless : (n : ℕ) (repeated : Bool) (a b : Outcome) → AllFit n a.queries
 fits_unless n true a b first second = first
 fits_unless n false a b first second = second
 
-fits_from : (at : Setting) (seen : Seen) (r : RecordView ℕ) (groups : Groups) (e : Entrance) → AllFit (per_query at.config.family) (judged_from at seen r groups e).queries
+fits_from : (at : Setting) (seen : Seen) (r : RecordView ℕ) (groups : Groups) (e : Entrance) →
+    AllFit (per_query at.config.family) (judged_from at seen r groups e).queries
 fits_from at seen r groups (Stops verdict) = tt
 fits_from at seen r groups (GoesOn kind) =
     let statement = RecordOf kind (set.from_list r.sources) in
-    fits_unless (per_query at.config.family) (is_repeated groups seen r.group) (leaving groups (Refused Repeated)) (stated at r.group statement groups) tt (fits-stated at r.group statement groups)
+    fits_unless (per_query at.config.family) (is_repeated groups seen r.group) (leaving groups (Refused Repeated))
+    (stated at r.group statement groups) tt (fits-stated at r.group statement groups)
 
 pub fits-judged : (at : Setting) (seen : Seen) (r : RecordView ℕ) (groups : Groups) → AllFit (per_query at.config.family) (judged at seen r groups).queries
 unfolding judged
 fits-judged at seen r groups = fits_from at seen r groups (entrance at.config r)
 
-pub fits-all_judged : (at : Setting) (seen : Seen) (rs : List (RecordView ℕ)) (groups : Groups) → AllFit (per_query at.config.family) (all_judged at seen rs groups).queries
+pub fits-all_judged : (at : Setting) (seen : Seen) (rs : List (RecordView ℕ)) (groups : Groups) →
+    AllFit (per_query at.config.family) (all_judged at seen rs groups).queries
 fits-all_judged at seen [] groups = tt
 fits-all_judged at seen (r ∷ rs) groups =
     let first = judged at seen r groups in
     let rest = all_judged at (seen_after at.config r groups seen) rs first.groups in
-    fit_append (per_query at.config.family) first.queries rest.queries (fits-judged at seen r groups) (fits-all_judged at (seen_after at.config r groups seen) rs first.groups)
+    fit_append (per_query at.config.family) first.queries rest.queries (fits-judged at seen r groups)
+    (fits-all_judged at (seen_after at.config r groups seen) rs first.groups)
 
 -- what a datagram sends
-fits_taken : (config : Configuration) (envelope : Envelope) (message : Message ℕ) (tick : Step) → AllFit (per_query config.family) tick.queries → AllFit (per_query config.family) (taken_in config envelope message tick).step.queries
+fits_taken : (config : Configuration) (envelope : Envelope) (message : Message ℕ) (tick : Step) → AllFit (per_query config.family) tick.queries →
+    AllFit (per_query config.family) (taken_in config envelope message tick).step.queries
 unfolding taken_in
 fits_taken config envelope (QueryMessage query) tick fit = fit
 fits_taken config envelope (OldReport version group) tick fit =
     let at = setting_of config tick.state in
-    fit_append (per_query config.family) tick.queries (stated at group (OlderJoin version) tick.state.groups).queries fit (fits-stated at group (OlderJoin version) tick.state.groups)
+    fit_append (per_query config.family) tick.queries (stated at group (OlderJoin version) tick.state.groups).queries fit
+    (fits-stated at group (OlderJoin version) tick.state.groups)
 fits_taken config envelope (LeaveMessage group) tick fit =
     let at = setting_of config tick.state in
-    fit_append (per_query config.family) tick.queries (stated at group OlderLeave tick.state.groups).queries fit (fits-stated at group OlderLeave tick.state.groups)
+    fit_append (per_query config.family) tick.queries (stated at group OlderLeave tick.state.groups).queries fit
+    (fits-stated at group OlderLeave tick.state.groups)
 fits_taken config envelope (ReportMessage records) tick fit =
     let at = setting_of config tick.state in
-    fit_append (per_query config.family) tick.queries (all_judged at map.empty records tick.state.groups).queries fit (fits-all_judged at map.empty records tick.state.groups)
+    fit_append (per_query config.family) tick.queries (all_judged at map.empty records tick.state.groups).queries fit
+    (fits-all_judged at map.empty records tick.state.groups)
 
-fits_unless_dropped : (config : Configuration) (envelope : Envelope) (tick : Step) (read : Result (Message ℕ) WireFault) (reason : Option DropReason) → AllFit (per_query config.family) tick.queries → AllFit (per_query config.family) (taken_or_dropped config envelope tick read reason).step.queries
+fits_unless_dropped : (config : Configuration) (envelope : Envelope) (tick : Step) (read : Result (Message ℕ) WireFault) (reason : Option DropReason)
+    → AllFit (per_query config.family) tick.queries → AllFit (per_query config.family) (taken_or_dropped config envelope tick read reason).step.queries
 fits_unless_dropped config envelope tick read (Some reason) fit = fit
 fits_unless_dropped config envelope tick (Err fault) None fit = fit
 fits_unless_dropped config envelope tick (Ok message) None fit = fits_taken config envelope message (counting_read (Ok message) tick) fit
 
-pub fits-receipt_of : (config : Configuration) (envelope : Envelope) (bytes : List ℕ) (now : ℕ) (state : LinkState) → AllFit (per_query config.family) (receipt_of config envelope bytes now state).step.queries
+pub fits-receipt_of : (config : Configuration) (envelope : Envelope) (bytes : List ℕ) (now : ℕ) (state : LinkState) →
+    AllFit (per_query config.family) (receipt_of config envelope bytes now state).step.queries
 fits-receipt_of config envelope bytes now state =
     let read = read_of config.family (pseudo_of config.family envelope bytes) bytes in
     fits_unless_dropped config envelope (tick_of config now state) read (drop_reason config envelope read) (fits-tick_of config now state)

@@ -55,14 +55,16 @@ one_if-unless true None = omega arith
 one_if-unless true (Some x) = omega arith
 one_if-unless false x = omega arith
 
-settled_schedules : (g g' : GroupState) (schedule : ScheduleState) → schedules_of (record { group = g; schedule = settled g schedule }) ≤ schedules_of (record { group = g'; schedule = schedule })
+settled_schedules : (g g' : GroupState) (schedule : ScheduleState) → schedules_of (record { group = g; schedule = settled g schedule }) ≤ schedules_of
+    (record { group = g'; schedule = schedule })
 settled_schedules g g' schedule =
     let a = one_if-unless (is_include g.mode) schedule.group_query in
     let b = one_if-cond (some_source (has_sendings g) g) schedule.sources_due in
     omega arith
 
 pub expired_no_more : (now : ℕ) (e : ScheduledGroup) → IfSome (if_held (group_expired now e)) (NoMore e)
-expired_no_more now e = by_test (is_vacant (expired now e.group)) (record { sources = expired_size now e.group; schedules = settled_schedules (expired now e.group) e.group e.schedule })
+expired_no_more now e = by_test (is_vacant (expired now e.group))
+    (record { sources = expired_size now e.group; schedules = settled_schedules (expired now e.group) e.group e.schedule })
   where
     by_test : (b : Bool) → NoMore e (group_expired now e) → IfSome (cond b None (Some (group_expired now e))) (NoMore e)
     by_test true h = tt
@@ -72,7 +74,8 @@ counted_at_most : (timing : Timing) (now : ℕ) (q : Option QuerySchedule) → o
 counted_at_most timing now None = omega arith
 counted_at_most timing now (Some q) = by_due (leb q.due now) (ltb 1 q.sendings)
   where
-    by_due : (due more : Bool) → one_if (is_some (cond due (cond more (Some (record { sendings = q.sendings - 1; due = now + timing.last_member_interval })) None) (Some q))) ≤ 1
+    by_due : (due more : Bool) →
+        one_if (is_some (cond due (cond more (Some (record { sendings = q.sendings - 1; due = now + timing.last_member_interval })) None) (Some q))) ≤ 1
     by_due true true = omega arith
     by_due true false = omega arith
     by_due false more = omega arith
@@ -81,7 +84,8 @@ pub round_size : (g : GroupState) (due : Bool) → size_of (cond due (sendings_c
 round_size g true = len-kept (λ s timer. Some (source_counted timer)) g.sources
 round_size g false = omega arith
 
-round_due : (timing : Timing) (now : ℕ) (g : GroupState) (d : Option ℕ) → one_if (is_some (cond (is_due now d) (sources_due_next timing now g) d)) ≤ one_if (is_some d)
+round_due : (timing : Timing) (now : ℕ) (g : GroupState) (d : Option ℕ) →
+    one_if (is_some (cond (is_due now d) (sources_due_next timing now g) d)) ≤ one_if (is_some d)
 round_due timing now g None = omega arith
 round_due timing now g (Some d) = by_due (leb d now) (some_source (has_sendings g) g)
   where
@@ -107,13 +111,15 @@ lowered_size timing now true asked g = omega arith
 lowered_size timing now false None g = omega arith
 lowered_size timing now false (Some asked) g = len-kept (λ s timer. Some (cond (asked s) (source_lowered (lowered_to timing now) timer) timer)) g.sources
 
-pub lowered_no_more : (timing : Timing) (now : ℕ) (s : Bool) (asked : Option Set) (e : ScheduledGroup) → NoMore e (record { group = lowered_by_query timing now s asked e.group; schedule = e.schedule })
+pub lowered_no_more : (timing : Timing) (now : ℕ) (s : Bool) (asked : Option Set) (e : ScheduledGroup) →
+    NoMore e (record { group = lowered_by_query timing now s asked e.group; schedule = e.schedule })
 lowered_no_more timing now s asked e = record { sources = lowered_size timing now s asked e.group; schedules = omega arith }
 
 pub same_no_more : (e : ScheduledGroup) → NoMore e e
 same_no_more e = record { sources = omega arith; schedules = omega arith }
 
-pub sources_kept : (f : ℕ → ScheduledGroup → Option ScheduledGroup) (groups : Groups) → ((k : ℕ) (e : ScheduledGroup) → IfSome (f k e) (NoMore e)) → sources_in (kept f groups) ≤ sources_in groups
+pub sources_kept : (f : ℕ → ScheduledGroup → Option ScheduledGroup) (groups : Groups) → ((k : ℕ) (e : ScheduledGroup) → IfSome (f k e) (NoMore e)) →
+    sources_in (kept f groups) ≤ sources_in groups
 sources_kept f groups no_more = total-kept sources_of f groups (λ k e. of_one (f k e) e (no_more k e))
   where
     of_one : (after : Option ScheduledGroup) (e : ScheduledGroup) → IfSome after (NoMore e) → IfSome after (λ a. sources_of a ≤ sources_of e)
@@ -121,10 +127,12 @@ sources_kept f groups no_more = total-kept sources_of f groups (λ k e. of_one (
     of_one (Some a) e h = h.sources
 
 -- Groups each of which has no more than before are within the limits that they were in.
-pub within-kept : (limits : Limits) (f : ℕ → ScheduledGroup → Option ScheduledGroup) (groups : Groups) → ((k : ℕ) (e : ScheduledGroup) → IfSome (f k e) (NoMore e)) → AreWithin limits groups → AreWithin limits (kept f groups)
+pub within-kept : (limits : Limits) (f : ℕ → ScheduledGroup → Option ScheduledGroup) (groups : Groups) →
+    ((k : ℕ) (e : ScheduledGroup) → IfSome (f k e) (NoMore e)) → AreWithin limits groups → AreWithin limits (kept f groups)
 within-kept limits f groups no_more within = record {
   group_count = let a = len-kept f groups in let b = within.group_count in omega arith;
-  group_sources = λ group. subst (λ x. sources_of (unwrap_or x unheld) ≤ limits.group_sources) (sym (get-kept f groups group)) (by_group group (map.get groups group) (within.group_sources group));
+  group_sources = λ group. subst (λ x. sources_of (unwrap_or x unheld) ≤ limits.group_sources) (sym (get-kept f groups group))
+      (by_group group (map.get groups group) (within.group_sources group));
   sources = let a = sources_kept f groups no_more in let b = within.sources in omega arith;
   scheduled = let a = total-kept schedules_of f groups (λ k e. schedules_at (f k e) e (no_more k e)) in let b = within.scheduled in omega arith;
 }
@@ -133,10 +141,12 @@ within-kept limits f groups no_more within = record {
     schedules_at None e h = tt
     schedules_at (Some a) e h = h.schedules
 
-    by_result : (after : Option ScheduledGroup) (e : ScheduledGroup) → IfSome after (NoMore e) → sources_of e ≤ limits.group_sources → sources_of (unwrap_or after unheld) ≤ limits.group_sources
+    by_result : (after : Option ScheduledGroup) (e : ScheduledGroup) → IfSome after (NoMore e) → sources_of e ≤ limits.group_sources →
+        sources_of (unwrap_or after unheld) ≤ limits.group_sources
     by_result None e h most = let n = no_sources in omega arith
     by_result (Some a) e h most = let n = h.sources in omega arith
 
-    by_group : (group : ℕ) (e : Option ScheduledGroup) → sources_of (unwrap_or e unheld) ≤ limits.group_sources → sources_of (unwrap_or (option_and_then (f group) e) unheld) ≤ limits.group_sources
+    by_group : (group : ℕ) (e : Option ScheduledGroup) → sources_of (unwrap_or e unheld) ≤ limits.group_sources →
+        sources_of (unwrap_or (option_and_then (f group) e) unheld) ≤ limits.group_sources
     by_group group None most = most
     by_group group (Some e) most = by_result (f group e) e (no_more group e) most

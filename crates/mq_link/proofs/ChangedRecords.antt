@@ -1,5 +1,6 @@
 -- Which groups records have changed, by the numbers of the groups: a record changes that which it speaks of alone.
-use Rattle.std.proofs.Common.{◌≡◌, ℕ, ◌+◌, ◌<◌, ◌≤◌, Bool, true, false, cond, ◌||◌, List, [], ◌∷◌, length, set, Option, None, Some, IfSome, MatchOption, refl, sym, ap, ◌∙◌, arith, leb, ltb}
+use Rattle.std.proofs.Common.{◌≡◌, ℕ, ◌+◌, ◌<◌, ◌≤◌, Bool, true, false, cond, ◌||◌, List, [], ◌∷◌, length, set, Option, None, Some, IfSome}
+use Rattle.std.proofs.Common.{MatchOption, refl, sym, ap, ◌∙◌, arith, leb, ltb}
 use Rattle.std.proofs.Math.Bool.{or-false}
 use Rattle.std.specs.Prelude.{slice_index}
 use Rattle.std.specs.Option.{option_map_or, unwrap_or}
@@ -31,12 +32,14 @@ use Rattle.mq_link.proofs.Recorded.{get-with_group}
 use Rattle.mq_link.proofs.TakenRecords.{again, met_once, met_other}
 
 -- host timers are no part of a filter
-changes-older_host : (version : OlderVersion) (timing : Timing) (now : ℕ) (before after : GroupState) → changes_filter before (older_host version timing now after) ≡ changes_filter before after
+changes-older_host : (version : OlderVersion) (timing : Timing) (now : ℕ) (before after : GroupState) →
+    changes_filter before (older_host version timing now after) ≡ changes_filter before after
 unfolding changes_filter
 changes-older_host V1 timing now before after = refl
 changes-older_host V2 timing now before after = refl
 
-pub changed_by_older : (version : OlderVersion) (timing : Timing) (now : ℕ) (before after left : GroupState) (changed : Bool) → changed ≡ changes_filter before after → left ≡ older_host version timing now after → changed ≡ changes_filter before left
+pub changed_by_older : (version : OlderVersion) (timing : Timing) (now : ℕ) (before after left : GroupState) (changed : Bool) →
+    changed ≡ changes_filter before after → left ≡ older_host version timing now after → changed ≡ changes_filter before left
 changed_by_older version timing now before after left changed is left_is =
     is ∙ sym (changes-older_host version timing now before after) ∙ ap (changes_filter before) (sym left_is)
 
@@ -62,8 +65,10 @@ module _ (groups : Groups) (address : ℕ) (e : ScheduledGroup) where
       ∙ ap (λ b. unwrap_or (cond b (cond (is_vacant e.group) None (Some e)) (map.get groups other)) unheld) differs
 
 -- What is done behind the change of a group keeps its filter, so whether the group has another then is known when it is changed.
-pub changed_then : (groups next : Groups) (address : ℕ) (before asked left : ScheduledGroup) (change : GroupChange) (q : Bool) (timing : Timing) (now : ℕ) (changed : Bool)
-    → before ≡ group_at groups address → changed ≡ changes_filter before.group change.group → asked ≡ after_change q timing now change before.schedule → left ≡ after_round timing now asked
+pub changed_then : (groups next : Groups) (address : ℕ) (before asked left : ScheduledGroup) (change : GroupChange) (q : Bool) (timing : Timing)
+    (now : ℕ) (changed : Bool)
+    → before ≡ group_at groups address → changed ≡ changes_filter before.group change.group → asked ≡ after_change q timing now change before.schedule
+    → left ≡ after_round timing now asked
     → next ≡ with_group groups address left → changed ≡ changes groups next address
 changed_then groups next address before asked left change q timing now changed before_is changed_is asked_is left_is next_is =
     changed_is
@@ -88,7 +93,8 @@ or_one true b one = refl
 or_one false b one = sym one
 
 -- the groups that were marked are marked still, where none is another
-pub marked_still : (s : HeldState) (left : Groups) (counts : List ℕ) (test : ℕ → Bool) → left ≡ s.groups → AreMarked s counts test → AreMarked s counts (λ address. test address || changes s.groups left address)
+pub marked_still : (s : HeldState) (left : Groups) (counts : List ℕ) (test : ℕ → Bool) → left ≡ s.groups → AreMarked s counts test →
+    AreMarked s counts (λ address. test address || changes s.groups left address)
 marked_still s left counts test same marked = record {
   seen = marked.seen;
   are_met = marked.are_met;
@@ -96,13 +102,15 @@ marked_still s left counts test same marked = record {
 }
 
 -- A group is put in the place of one, of which another filter is forwarded then or not.
-module _ (s next : HeldState) (numbered : AreNumbered s) (numbered_next : AreNumbered next) (keeps : KeepsNumbers s next) (address : ℕ) (e : ScheduledGroup) (left : next.groups ≡ with_group s.groups address e) (counts : List ℕ) (test : ℕ → Bool) (marked : AreMarked s counts test) where
+module _ (s next : HeldState) (numbered : AreNumbered s) (numbered_next : AreNumbered next) (keeps : KeepsNumbers s next) (address : ℕ)
+    (e : ScheduledGroup) (left : next.groups ≡ with_group s.groups address e) (counts : List ℕ) (test : ℕ → Bool) (marked : AreMarked s counts test) where
   still : AreMet next counts marked.seen
   still = met_still s next numbered numbered_next keeps counts marked.seen marked.are_met
 
   others_stay : (other : ℕ) → eq_by_cmp nat_cmp other address ≡ false → changes s.groups next.groups other ≡ false
   others_stay other differs =
-      ap (λ (x : ScheduledGroup). changes_filter (group_at s.groups other).group x.group) (ap (λ groups. group_at groups other) left ∙ other_then s.groups address e other differs)
+      ap (λ (x : ScheduledGroup). changes_filter (group_at s.groups other).group x.group)
+      (ap (λ groups. group_at groups other) left ∙ other_then s.groups address e other differs)
       ∙ unchanged (group_at s.groups other).group
 
   pub marked_none : changes s.groups next.groups address ≡ false → AreMarked next counts (λ other. test other || changes s.groups next.groups other)
@@ -116,14 +124,16 @@ module _ (s next : HeldState) (numbered : AreNumbered s) (numbered_next : AreNum
       by_address other true same = ap (changes s.groups next.groups) (tied other address same) ∙ none
       by_address other false differs = others_stay other differs
 
-  marked_one : (number : ℕ) → HasNumber next address number → number < length counts → changes s.groups next.groups address ≡ true → AreMarked next (counted_again counts number) (λ other. test other || changes s.groups next.groups other)
+  marked_one : (number : ℕ) → HasNumber next address number → number < length counts → changes s.groups next.groups address ≡ true →
+      AreMarked next (counted_again counts number) (λ other. test other || changes s.groups next.groups other)
   marked_one number has within one = record {
     seen = again marked.seen address;
     are_met = met_again_by_number next numbered_next counts marked.seen still address number has within;
     each = λ other. by_address other (eq_by_cmp nat_cmp other address) refl;
   }
     where
-      by_address : (other : ℕ) (b : Bool) → eq_by_cmp nat_cmp other address ≡ b → ltb 0 (met (again marked.seen address) other) ≡ (test other || changes s.groups next.groups other)
+      by_address : (other : ℕ) (b : Bool) → eq_by_cmp nat_cmp other address ≡ b → ltb 0 (met (again marked.seen address) other)
+          ≡ (test other || changes s.groups next.groups other)
       by_address other true same =
           let at = tied other address same in
           let met_then = ap (met (again marked.seen address)) at ∙ met_once marked.seen address in
@@ -138,7 +148,8 @@ module _ (s next : HeldState) (numbered : AreNumbered s) (numbered_next : AreNum
       let after = absent_unheld next.groups address absent in
       (λ i. changes_filter (before i).group (after i).group) ∙ unchanged unheld.group
 
-  pub marked_by : (changed : Bool) (number : Option ℕ) → changed ≡ changes s.groups next.groups address → MatchOption number (map.contains_key next.groups address ≡ false) (HasNumber next address)
+  pub marked_by : (changed : Bool) (number : Option ℕ) → changed ≡ changes s.groups next.groups address →
+      MatchOption number (map.contains_key next.groups address ≡ false) (HasNumber next address)
       → IfSome number (λ n. n < length counts)
       → AreMarked next (cond changed (option_map_or (counted_again counts) number counts) counts) (λ other. test other || changes s.groups next.groups other)
   marked_by false number is has within = marked_none (sym is)
@@ -166,25 +177,29 @@ met_in-again counts number within = by_test (leb 4 (slice_index counts number))
         let most = at_most_one (slice_index counts number + 1) in
         omega (arith, sums, most)
 
-pub met_in-by : (counts : List ℕ) (changed : Bool) (number : Option ℕ) → IfSome number (λ n. n < length counts) → met_in (cond changed (option_map_or (counted_again counts) number counts) counts) ≤ met_in counts + 1
+pub met_in-by : (counts : List ℕ) (changed : Bool) (number : Option ℕ) → IfSome number (λ n. n < length counts) →
+    met_in (cond changed (option_map_or (counted_again counts) number counts) counts) ≤ met_in counts + 1
 met_in-by counts false number within = omega arith
 met_in-by counts true None within = omega arith
 met_in-by counts true (Some number) within = met_in-again counts number within
 
-pub length-by : (counts : List ℕ) (changed : Bool) (number : Option ℕ) → length (cond changed (option_map_or (counted_again counts) number counts) counts) ≡ length counts
+pub length-by : (counts : List ℕ) (changed : Bool) (number : Option ℕ) →
+    length (cond changed (option_map_or (counted_again counts) number counts) counts) ≡ length counts
 length-by counts false number = refl
 length-by counts true None = refl
 length-by counts true (Some number) = length-counted_again counts number
 
 -- With the records that are left, those that are marked are the groups that all of them change; no more are marked than there were
 -- records.
-pub record AreMarkedSoFar (at : Setting) (all : List (RecordView ℕ)) (was : Groups) (left : List (RecordView ℕ)) (seen : Seen) (s : HeldState) (counts : List ℕ) : Type 0 where
+pub record AreMarkedSoFar (at : Setting) (all : List (RecordView ℕ)) (was : Groups) (left : List (RecordView ℕ)) (seen : Seen) (s : HeldState)
+    (counts : List ℕ) : Type 0 where
   pub test : ℕ → Bool
   pub marked : AreMarked s counts test
   pub changed : (address : ℕ) → (test address || changed_by_all at seen left s.groups address) ≡ changed_by_all at map.empty all was address
   pub few : met_in counts + length left ≤ length all
 
-pub none_marked_yet : (at : Setting) (all : List (RecordView ℕ)) (s : HeldState) (counts : List ℕ) → AreNone counts → AreMarkedSoFar at all s.groups all map.empty s counts
+pub none_marked_yet : (at : Setting) (all : List (RecordView ℕ)) (s : HeldState) (counts : List ℕ) → AreNone counts →
+    AreMarkedSoFar at all s.groups all map.empty s counts
 none_marked_yet at all s counts none = record {
   test = λ address. false;
   marked = unmarked s counts none;
@@ -196,9 +211,11 @@ or_assoc : (a b c : Bool) → ((a || b) || c) ≡ (a || (b || c))
 or_assoc true b c = refl
 or_assoc false b c = refl
 
-pub one_marked : (at : Setting) (all : List (RecordView ℕ)) (was : Groups) (before rest : List (RecordView ℕ)) (r : RecordView ℕ) (seen : Seen) (s next : HeldState) (counts next_counts : List ℕ)
+pub one_marked : (at : Setting) (all : List (RecordView ℕ)) (was : Groups) (before rest : List (RecordView ℕ)) (r : RecordView ℕ) (seen : Seen)
+    (s next : HeldState) (counts next_counts : List ℕ)
     → (h : AreMarkedSoFar at all was before seen s counts) → before ≡ r ∷ rest → next.groups ≡ (judged at seen r s.groups).groups
-    → AreMarked next next_counts (λ address. h.test address || changes s.groups (judged at seen r s.groups).groups address) → met_in next_counts ≤ met_in counts + 1
+    → AreMarked next next_counts (λ address. h.test address || changes s.groups (judged at seen r s.groups).groups address) →
+    met_in next_counts ≤ met_in counts + 1
     → AreMarkedSoFar at all was rest (seen_after at.config r s.groups seen) next next_counts
 one_marked at all was before rest r seen s next counts next_counts h first left marked one = record {
   test = λ address. h.test address || changes s.groups then address;

@@ -1,5 +1,6 @@
 -- The groups of a link while what is to go for them is dropped, one group after the other.
-use Rattle.std.proofs.Common.{◌≡◌, ℕ, zero, suc, ◌+◌, ◌*◌, ◌≤◌, ◌<◌, Bool, true, false, cond, refl, List, length, drop, Option, None, Some, is_some, sym, ap, ◌∙◌, subst, arith, ltb}
+use Rattle.std.proofs.Common.{◌≡◌, ℕ, zero, suc, ◌+◌, ◌*◌, ◌≤◌, ◌<◌, Bool, true, false, cond, refl, List, length, drop, Option, None, Some, is_some}
+use Rattle.std.proofs.Common.{sym, ap, ◌∙◌, subst, arith, ltb}
 use Rattle.std.proofs.lemmas.Bool.{true≢false}
 use Rattle.std.proofs.lemmas.Bool.Decides.{nat_tests}
 use Rattle.std.proofs.lemmas.List.{length-map, take_all}
@@ -44,17 +45,21 @@ cleared_silent e fits silent = λ i. record { group = group_is i; schedule = sym
     same_timer s None is = refl
     same_timer s (Some Stopped) is = refl
     same_timer s (Some (Running d zero)) is = refl
-    same_timer s (Some (Running d (suc n))) is = absurd (true≢false (sym (some_source-from (has_sendings e.group) e.group s (ap is_some is) (ap (λ t. ltb 0 (sendings_of t)) is ∙ positive n)) ∙ none))
+    same_timer s (Some (Running d (suc n))) is =
+        absurd (true≢false (sym (some_source-from (has_sendings e.group) e.group s (ap is_some is) (ap (λ t. ltb 0 (sendings_of t)) is ∙ positive n)) ∙ none))
       where
         positive : (n : ℕ) → ltb 0 (suc n) ≡ true
         positive n = grind (arith, nat_tests)
 
     group_is : (cleared e).group ≡ e.group
-    group_is = same_group e.group.mode _ e.group.sources e.group.v1 e.group.v2 (λ s. get-kept (λ s timer. Some (source_cleared timer)) e.group.sources s ∙ same_timer s (timer_at e.group s) refl)
+    group_is = same_group e.group.mode _ e.group.sources e.group.v1 e.group.v2
+        (λ s. get-kept (λ s timer. Some (source_cleared timer)) e.group.sources s ∙ same_timer s (timer_at e.group s) refl)
 
-pub left_alone : (groups : Groups) (room address : ℕ) → map.contains_key groups address ≡ true → IsServed room (group_at groups address) → (group_at groups address).schedule ≡ no_schedule → groups ≡ map.insert groups address (cleared (group_at groups address))
+pub left_alone : (groups : Groups) (room address : ℕ) → map.contains_key groups address ≡ true → IsServed room (group_at groups address) →
+    (group_at groups address).schedule ≡ no_schedule → groups ≡ map.insert groups address (cleared (group_at groups address))
 left_alone groups room address held is silent =
-    same_sources groups (map.insert groups address (group_at groups address)) (λ q. sym (map.get-insert nat_cmp_total groups address (group_at groups address) q ∙ by_test q (eq_by_cmp nat_cmp q address) refl))
+    same_sources groups (map.insert groups address (group_at groups address))
+    (λ q. sym (map.get-insert nat_cmp_total groups address (group_at groups address) q ∙ by_test q (eq_by_cmp nat_cmp q address) refl))
     ∙ ap (map.insert groups address) (sym (cleared_silent (group_at groups address) is.fits silent))
   where
     by_test : (q : ℕ) (b : Bool) → eq_by_cmp nat_cmp q address ≡ b → cond b (Some (group_at groups address)) (map.get groups q) ≡ map.get groups q
@@ -83,21 +88,25 @@ none_cleared groups count = record {
   spent = Spends-none count;
 }
 
-pub all_cleared : (groups : Groups) (from_count i : ℕ) (current : Groups) (count weight : ℕ) → AreClearedTo groups from_count i current count weight → map.len groups ≤ i → current ≡ groups_cleared groups
+pub all_cleared : (groups : Groups) (from_count i : ℕ) (current : Groups) (count weight : ℕ) → AreClearedTo groups from_count i current count weight →
+    map.len groups ≤ i → current ≡ groups_cleared groups
 unfolding groups_cleared
 all_cleared groups from_count i current count weight so_far end =
     same_sources _ _ (λ q.
     so_far.done.at q
-    ∙ ap (λ (ks : List ℕ). cond (among ks q) (Some (cleared (group_at groups q))) (map.get groups q)) (take_all i (map.keys groups) (let l = length-map (map.entries groups) (λ (e : ℕ × ScheduledGroup). e.0) in omega (arith, l, end, map.len-entries groups)))
+    ∙ ap (λ (ks : List ℕ). cond (among ks q) (Some (cleared (group_at groups q))) (map.get groups q))
+    (take_all i (map.keys groups) (let l = length-map (map.entries groups) (λ (e : ℕ × ScheduledGroup). e.0) in omega (arith, l, end, map.len-entries groups)))
     ∙ ap (λ b. cond b (Some (cleared (group_at groups q))) (map.get groups q)) (among_keys groups q)
     ∙ by_found q (map.get groups q)
     ∙ sym (get-kept (λ _ e. Some (cleared e)) groups q))
   where
-    by_found : (q : ℕ) (found : Option ScheduledGroup) → cond (is_some found) (Some (cleared (unwrap_or found unheld))) found ≡ option_and_then (λ e. Some (cleared e)) found
+    by_found : (q : ℕ) (found : Option ScheduledGroup) → cond (is_some found) (Some (cleared (unwrap_or found unheld))) found
+        ≡ option_and_then (λ e. Some (cleared e)) found
     by_found q None = refl
     by_found q (Some e) = refl
 
-module _ (groups : Groups) (from_count i : ℕ) (current : Groups) (count weight : ℕ) (so_far : AreClearedTo groups from_count i current count weight) (within : i < length (map.entries groups)) where
+module _ (groups : Groups) (from_count i : ℕ) (current : Groups) (count weight : ℕ) (so_far : AreClearedTo groups from_count i current count weight)
+    (within : i < length (map.entries groups)) where
   abbrev pub next : ℕ × ScheduledGroup
   next = entry_at (map.entries groups) i
 

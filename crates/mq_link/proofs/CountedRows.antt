@@ -5,7 +5,8 @@ use Rattle.std.proofs.lemmas.Grind.{get_or-set_at}
 use Rattle.std.specs.Prelude.{◌==◌}
 use Rattle.mq_count.specs.Streams.{counted_on}
 use Rattle.mq_link.specs.declared.answers.DropReason.{DropReason}
-use Rattle.mq_link.specs.declared.answers.DropReason.TheVariants.{Truncated, Checksum, UnknownType, QueryLength, BadSource, HopLimit, NoAlert, OwnOrZero, OlderQuery, BadGroup}
+use Rattle.mq_link.specs.declared.answers.DropReason.TheVariants.{Truncated, Checksum, UnknownType, QueryLength, BadSource, HopLimit, NoAlert}
+use Rattle.mq_link.specs.declared.answers.DropReason.TheVariants.{OwnOrZero, OlderQuery, BadGroup}
 use Rattle.mq_link.specs.declared.answers.Refusal.{Refusal}
 use Rattle.mq_link.specs.declared.answers.Refusal.TheVariants.{Long, Repeated, Groups, GroupSources, Sources, Scheduled, Memory}
 use Rattle.mq_link.specs.Counted.{count_in}
@@ -15,7 +16,8 @@ other_than : (a b : ℕ) → (a == b) ≡ false → a ≢ b
 other_than a b apart same = let is : (a == b) ≡ true = eq-eqb a b same in cc
 
 -- a row in which one count has been written
-at_name : (row : List ℕ) (place one other value : ℕ) → place + 1 ≡ one → 0 < other → place < length row → value ≡ counted_on (get_or row place 0) 1 → (b : Bool) → (other == one) ≡ b
+at_name : (row : List ℕ) (place one other value : ℕ) → place + 1 ≡ one → 0 < other → place < length row → value ≡ counted_on (get_or row place 0) 1 →
+    (b : Bool) → (other == one) ≡ b
     → get_or (set row place value) (other - 1) 0 ≡ cond b (counted_on (get_or row (other - 1) 0) 1) (get_or row (other - 1) 0)
 at_name row place one other value is some within counted true same =
     let one_is : other ≡ one = eqb-true other one same in
@@ -25,10 +27,12 @@ at_name row place one other value is some within counted false apart =
     let elsewhere : other - 1 ≢ place = λ here. other_than other one apart (omega (arith, here)) in
     get_or-set_other row place (other - 1) value 0 elsewhere
 
-pub row_counted : {X : Type 0} (number : X → ℕ) (positive : (x : X) → 0 < number x) (row : List ℕ) (place : ℕ) (name : X) (value : ℕ) → place + 1 ≡ number name → place < length row → value ≡ counted_on (get_or row place 0) 1
+pub row_counted : {X : Type 0} (number : X → ℕ) (positive : (x : X) → 0 < number x) (row : List ℕ) (place : ℕ) (name : X) (value : ℕ) →
+    place + 1 ≡ number name → place < length row → value ≡ counted_on (get_or row place 0) 1
     → count_in number (set row place value) ≡ counted_at number name 1 (count_in number row)
 row_counted number positive row place name value is within counted =
-    let each = λ (other : _). at_name row place (number name) (number other) value is (positive other) within counted (number other == number name) (λ i. number other == number name) in
+    let each = λ (other : _). at_name row place (number name) (number other) value is (positive other) within counted (number other == number name)
+    (λ i. number other == number name) in
     λ i other. each other i
 
 pub reason_positive : (reason : DropReason) → 0 < reason_number reason

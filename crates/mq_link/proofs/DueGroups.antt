@@ -1,5 +1,6 @@
 -- The entries of the groups that have a moment at or before one, and what is so of the others.
-use Rattle.std.proofs.Common.{◌≡◌, ◌==◌, cond, ℕ, zero, suc, ◌+◌, ◌<◌, ◌≤◌, Bool, true, false, ◌||◌, not, refl, List, [], ◌∷◌, ◌++◌, length, Option, None, Some, IfSome, is_some, sym, ap, ◌∙◌, subst, arith, leb}
+use Rattle.std.proofs.Common.{◌≡◌, ◌==◌, cond, ℕ, zero, suc, ◌+◌, ◌<◌, ◌≤◌, Bool, true, false, ◌||◌, not, refl, List, [], ◌∷◌, ◌++◌, length, Option}
+use Rattle.std.proofs.Common.{None, Some, IfSome, is_some, sym, ap, ◌∙◌, subst, arith, leb}
 use Rattle.std.specs.Prelude.{map as list_map}
 use Rattle.std.specs.List.{list_any, sum_by, count_by, filter, flat_map}
 use Rattle.std.specs.Option.{option_and_then}
@@ -33,7 +34,8 @@ none_due : (now : ℕ) (ms : List ℕ) → list_any (λ t. leb t now) ms ≡ fal
 none_due now [] is = tt
 none_due now (t ∷ ms) is = by_test (leb t now) refl (none_due now ms) is
   where
-    by_test : (b : Bool) → leb t now ≡ b → (list_any (λ t. leb t now) ms ≡ false → AllAbove now ms) → (b || list_any (λ t. leb t now) ms) ≡ false → (now < t) × AllAbove now ms
+    by_test : (b : Bool) → leb t now ≡ b → (list_any (λ t. leb t now) ms ≡ false → AllAbove now ms) → (b || list_any (λ t. leb t now) ms) ≡ false →
+        (now < t) × AllAbove now ms
     by_test true is later rest = absurd (true≢false rest)
     by_test false is later rest = (grind (arith, nat_tests), later rest)
 
@@ -69,7 +71,9 @@ module _ (now : ℕ) where
     filtered_due [] = refl
     filtered_due (e ∷ es) = by_test (has_due now e.1) (filtered_due es)
       where
-        by_test : (b : Bool) → filter (λ (e : ℕ × ScheduledGroup). has_due now e.1) es ≡ filtered if_due es → cond b (e ∷ filter (λ (e : ℕ × ScheduledGroup). has_due now e.1) es) (filter (λ (e : ℕ × ScheduledGroup). has_due now e.1) es) ≡ with_entry e.0 (cond b (Some e.1) None) (filtered if_due es)
+        by_test : (b : Bool) → filter (λ (e : ℕ × ScheduledGroup). has_due now e.1) es ≡ filtered if_due es →
+            cond b (e ∷ filter (λ (e : ℕ × ScheduledGroup). has_due now e.1) es) (filter (λ (e : ℕ × ScheduledGroup). has_due now e.1) es)
+            ≡ with_entry e.0 (cond b (Some e.1) None) (filtered if_due es)
         by_test true rest = ap (λ (zs : GroupEntries). e ∷ zs) rest
         by_test false rest = rest
 
@@ -120,16 +124,20 @@ module _ (now : ℕ) where
           ascending = subst (λ (es : GroupEntries). IsAscending (λ k. k) (addresses_of es)) entries_of_due all.ascending;
           held = λ i within.
               subst (λ (es : GroupEntries). map.get groups (entry_at es i).0 ≡ Some (entry_at es i).1) entries_of_due
-              (is_kept (entry_at (map.entries due_groups) i).0 (entry_at (map.entries due_groups) i).1 (map.get groups (entry_at (map.entries due_groups) i).0) (sym (found_due (entry_at (map.entries due_groups) i).0) ∙ all.held i (omega (arith, within, as_long))));
+              (is_kept (entry_at (map.entries due_groups) i).0 (entry_at (map.entries due_groups) i).1
+              (map.get groups (entry_at (map.entries due_groups) i).0)
+              (sym (found_due (entry_at (map.entries due_groups) i).0) ∙ all.held i (omega (arith, within, as_long))));
           sources = omega (arith, fewer, same, total);
           few = omega (arith, few, size, as_long);
         }
 
     -- none where no group has
     pub none_have : ((address : ℕ) (e : ScheduledGroup) → map.get groups address ≡ Some e → has_due now e ≡ false) → due_in now groups ≡ 0
-    none_have quiet = by_index (map.entries groups) (λ i within. let is = (all_entries groups).held i within in quiet (entry_at (map.entries groups) i).0 (entry_at (map.entries groups) i).1 is)
+    none_have quiet = by_index (map.entries groups)
+        (λ i within. let is = (all_entries groups).held i within in quiet (entry_at (map.entries groups) i).0 (entry_at (map.entries groups) i).1 is)
       where
-        by_index : (es : GroupEntries) → ((i : ℕ) → i < length es → has_due now (entry_at es i).1 ≡ false) → count_by (has_due now) (list_map (λ (e : ℕ × ScheduledGroup). e.1) es) ≡ 0
+        by_index : (es : GroupEntries) → ((i : ℕ) → i < length es → has_due now (entry_at es i).1 ≡ false) →
+            count_by (has_due now) (list_map (λ (e : ℕ × ScheduledGroup). e.1) es) ≡ 0
         by_index [] each = refl
         by_index (e ∷ es) each =
             let rest = by_index es (λ i within. each (suc i) (omega (arith, within))) in
@@ -138,7 +146,8 @@ module _ (now : ℕ) where
 
     module _ (room n : ℕ) (timing : Timing) (are : AreServed room groups) where
       -- nothing is done for the others
-      pub not_due_passed : (q : ℕ) (e : ScheduledGroup) → map.get groups q ≡ Some e → has_due now e ≡ false → IsPassed (ticked_group timing now) (queries_at n timing now) (q, e)
+      pub not_due_passed : (q : ℕ) (e : ScheduledGroup) → map.get groups q ≡ Some e → has_due now e ≡ false →
+          IsPassed (ticked_group timing now) (queries_at n timing now) (q, e)
       not_due_passed q e found not_due =
           let is = are q e found in
           beyond_passed n timing now q e is.held is.fits (none_due now (moments_of e) not_due)
@@ -154,7 +163,9 @@ module _ (now : ℕ) where
             where
               by_test : (b : Bool) → has_due now e.1 ≡ b
                   → flat_map (queries_at n timing now) (filter (λ (e : ℕ × ScheduledGroup). has_due now e.1) es) ≡ flat_map (queries_at n timing now) es
-                  → flat_map (queries_at n timing now) (cond b (e ∷ filter (λ (e : ℕ × ScheduledGroup). has_due now e.1) es) (filter (λ (e : ℕ × ScheduledGroup). has_due now e.1) es)) ≡ queries_at n timing now e ++ flat_map (queries_at n timing now) es
+                  → flat_map (queries_at n timing now)
+                  (cond b (e ∷ filter (λ (e : ℕ × ScheduledGroup). has_due now e.1) es) (filter (λ (e : ℕ × ScheduledGroup). has_due now e.1) es))
+                  ≡ queries_at n timing now e ++ flat_map (queries_at n timing now) es
               by_test true is rest = ap (λ (qs : List SentQuery). queries_at n timing now e ++ qs) rest
               by_test false is rest =
                   let passed = not_due_passed e.0 e.1 (each zero (omega arith)) is in
@@ -163,10 +174,13 @@ module _ (now : ℕ) where
 -- each group that is held has a moment
 pub all_running : (room : ℕ) (groups : Groups) → AreServed room groups → running_in groups ≡ map.len groups
 all_running room groups are =
-    by_index (map.entries groups) (λ i within. not_vacant (entry_at (map.entries groups) i).1.group ((are (entry_at (map.entries groups) i).0 (entry_at (map.entries groups) i).1 ((all_entries groups).held i within)).held))
+    by_index (map.entries groups)
+    (λ i within. not_vacant (entry_at (map.entries groups) i).1.group
+    ((are (entry_at (map.entries groups) i).0 (entry_at (map.entries groups) i).1 ((all_entries groups).held i within)).held))
     ∙ sym (map.len-entries groups)
   where
-    by_index : (es : GroupEntries) → ((i : ℕ) → i < length es → is_vacant (entry_at es i).1.group ≡ false) → count_by (λ (e : ScheduledGroup). not (is_vacant e.group)) (list_map (λ (e : ℕ × ScheduledGroup). e.1) es) ≡ length es
+    by_index : (es : GroupEntries) → ((i : ℕ) → i < length es → is_vacant (entry_at es i).1.group ≡ false) →
+        count_by (λ (e : ScheduledGroup). not (is_vacant e.group)) (list_map (λ (e : ℕ × ScheduledGroup). e.1) es) ≡ length es
     by_index [] each = refl
     by_index (e ∷ es) each =
         let rest = by_index es (λ i within. each (suc i) (omega (arith, within))) in

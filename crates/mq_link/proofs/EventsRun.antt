@@ -10,7 +10,8 @@ use Rattle.mq_link.specs.Run.{Event, Tick, Datagram, Happening, Happens, RunFrom
 use Rattle.mq_link.proofs.HandedOver.{HandsOver-append}
 
 -- To run all events from a link on, it is enough to run those that are left from the link that there is now.
-abbrev pub RunsOn : {O : Type 0} (takes : O → ℕ → List ℕ → Bool → O → Type 0) (events : List Event) (before : LinkValue) (old : O) (left : List Event) (now : LinkValue) (outlet : O) → Type 0
+abbrev pub RunsOn : {O : Type 0} (takes : O → ℕ → List ℕ → Bool → O → Type 0) (events : List Event) (before : LinkValue) (old : O) (left : List Event)
+    (now : LinkValue) (outlet : O) → Type 0
 RunsOn {O = O} takes events before old left now outlet =
     (after : LinkValue) (new : O) → HasRun takes left now after outlet new → HasRun takes events before after old new
 
@@ -40,17 +41,26 @@ ticked_first takes now events before between old mid same ticked after new =
     happened takes h events before between after old mid new (record { answer_is = refl; hands_out = ticked.ticks }) refl same ticked.handed
 
 -- a datagram first
-pub received_first : {O : Type 0} (takes : O → ℕ → List ℕ → Bool → O → Type 0) (envelope : Envelope) (bytes : List ℕ) (now : ℕ) (answer : Received) (events : List Event) (before between : LinkValue) (old mid : O)
+pub received_first : {O : Type 0} (takes : O → ℕ → List ℕ → Bool → O → Type 0) (envelope : Envelope) (bytes : List ℕ) (now : ℕ) (answer : Received)
+    (events : List Event) (before between : LinkValue) (old mid : O)
     → between.config ≡ before.config → HasReceived takes envelope bytes now answer before between old mid
     → RunsOn takes (Datagram envelope bytes now ∷ events) before old events between mid
 received_first takes envelope bytes now answer events before between old mid same received after new =
-    let h : Happening = record { event = Datagram envelope bytes now; answer = Some answer; messages = received.messages; answers = received.answers; after = between.state } in
+    let h : Happening = record {
+      event = Datagram envelope bytes now;
+      answer = Some answer;
+      messages = received.messages;
+      answers =
+          received.answers;
+      after = between.state;
+    } in
     happened takes h events before between after old mid new
     (record { answer_is = ap Some received.receives.answer_is; hands_out = received.receives.hands_out })
     refl same received.handed
 
 -- one more of the events that are left has been run
-pub one_more : {O : Type 0} (takes : O → ℕ → List ℕ → Bool → O → Type 0) (events left more others : List Event) (before now between : LinkValue) (old outlet mid : O)
+pub one_more : {O : Type 0} (takes : O → ℕ → List ℕ → Bool → O → Type 0) (events left more others : List Event) (before now between : LinkValue)
+    (old outlet mid : O)
     → left ≡ more → RunsOn takes events before old left now outlet → RunsOn takes more now outlet others between mid
     → RunsOn takes events before old others between mid
 one_more takes events left more others before now between old outlet mid same so_far one after new rest =

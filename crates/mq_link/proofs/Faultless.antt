@@ -41,7 +41,8 @@ inside low high n h = by_tests (ltb n low) (ltb high n) refl refl h
     by_tests false true p q h = cc
     by_tests false false p q h = record { at_least = ltb-false n low p; at_most = ltb-false high n q }
 
-none_of_four : {X : Type 0} (a b c d : Bool) (w x y z : X) → first_named ((w, a) ∷ (x, b) ∷ (y, c) ∷ (z, d) ∷ []) ≡ None → (a ≡ false) × (b ≡ false) × (c ≡ false) × (d ≡ false)
+none_of_four : {X : Type 0} (a b c d : Bool) (w x y z : X) → first_named ((w, a) ∷ (x, b) ∷ (y, c) ∷ (z, d) ∷ []) ≡ None → (a ≡ false) × (b ≡ false) ×
+    (c ≡ false) × (d ≡ false)
 none_of_four true b c d w x y z h = cc
 none_of_four false true c d w x y z h = cc
 none_of_four false false true d w x y z h = cc
@@ -58,11 +59,13 @@ response_within Igmp n h = record { at_least = let a = h.at_least in omega arith
 response_within Mld n h = record { at_least = let a = h.at_least in omega arith; at_most = let b = h.at_most in omega arith }
 
 -- so many groups, each with so many sources, and so many sources and schedules in all
-in_limits : (config : Configuration) → IsFaultless config → IsWithin 1 65535 config.limits.groups × IsWithin 1 1024 config.limits.group_sources × IsWithin 1 65535 config.limits.sources × IsWithin 1 65535 config.limits.scheduled
+in_limits : (config : Configuration) → IsFaultless config → IsWithin 1 65535 config.limits.groups × IsWithin 1 1024 config.limits.group_sources ×
+    IsWithin 1 65535 config.limits.sources × IsWithin 1 65535 config.limits.scheduled
 in_limits config h =
     let l = config.limits in
     let none = no_limit (limit_fault l) (first_none (as_fault (limit_fault l)) _ (second_none (timing_fault config.family config.timing) _ h)) in
-    let tests = none_of_four (is_outside 1 65535 l.groups) (is_outside 1 1024 l.group_sources) (is_outside 1 65535 l.sources) (is_outside 1 65535 l.scheduled) Groups GroupSources Sources Scheduled none in
+    let tests = none_of_four (is_outside 1 65535 l.groups) (is_outside 1 1024 l.group_sources) (is_outside 1 65535 l.sources)
+    (is_outside 1 65535 l.scheduled) Groups GroupSources Sources Scheduled none in
     (inside 1 65535 l.groups tests.0, inside 1 1024 l.group_sources tests.1, inside 1 65535 l.sources tests.2, inside 1 65535 l.scheduled tests.3)
 
 pub few_groups : (config : Configuration) → IsFaultless config → config.limits.groups ≤ 65535
@@ -82,11 +85,14 @@ timing_in_range config h =
     let t = config.timing in
     let low = response_unit config.family in
     let high = greatest_response config.family in
-    let tests = none_of_four (is_outside 1 7 t.robustness) (is_outside 1 31744 t.query_seconds) (is_outside low high t.response_interval || leb (query_interval t) t.response_interval) (is_outside low high t.last_member_interval) Robustness QueryInterval ResponseInterval LastMember (first_none (timing_fault config.family t) _ h) in
+    let tests = none_of_four (is_outside 1 7 t.robustness) (is_outside 1 31744 t.query_seconds)
+    (is_outside low high t.response_interval || leb (query_interval t) t.response_interval)
+    (is_outside low high t.last_member_interval) Robustness QueryInterval ResponseInterval LastMember (first_none (timing_fault config.family t) _ h) in
     record {
       robustness = inside 1 7 t.robustness tests.0;
       query_seconds = inside 1 31744 t.query_seconds tests.1;
-      response_interval = response_within config.family t.response_interval (inside low high t.response_interval (left_false (is_outside low high t.response_interval) (leb (query_interval t) t.response_interval) tests.2));
+      response_interval = response_within config.family t.response_interval
+          (inside low high t.response_interval (left_false (is_outside low high t.response_interval) (leb (query_interval t) t.response_interval) tests.2));
       last_member_interval = response_within config.family t.last_member_interval (inside low high t.last_member_interval tests.3);
     }
 
@@ -101,7 +107,8 @@ IsWellFormed-link_at config start h = record {
   groups = λ group e is. let none = none_held group in cc;
   within = record {
     group_count = let e : map.len (map.empty {X = ScheduledGroup} {R = nat_cmp}) ≡ 0 = map.len-empty nat_cmp ScheduledGroup in omega arith;
-    group_sources = λ group. subst (λ e. sources_of (unwrap_or e unheld) ≤ config.limits.group_sources) (sym (none_held group)) (let n = no_sources in omega arith);
+    group_sources = λ group. subst (λ e. sources_of (unwrap_or e unheld) ≤ config.limits.group_sources) (sym (none_held group))
+        (let n = no_sources in omega arith);
     sources = subst (λ es. sum_by sources_of (list_map (λ (e : ℕ × ScheduledGroup). e.1) es) ≤ config.limits.sources) (sym no_values) (omega arith);
     scheduled = subst (λ es. sum_by schedules_of (list_map (λ (e : ℕ × ScheduledGroup). e.1) es) ≤ config.limits.scheduled) (sym no_values) (omega arith);
   };

@@ -1,5 +1,6 @@
 -- What the numbers of groups say of the groups.
-use Rattle.std.proofs.Common.{◌≡◌, ◌==◌, cond, ℕ, zero, suc, ◌+◌, ◌<◌, ◌≤◌, Bool, true, false, ◌||◌, refl, List, [], ◌∷◌, length, get_or, Some, sym, ap, ◌∙◌, subst, arith}
+use Rattle.std.proofs.Common.{◌≡◌, ◌==◌, cond, ℕ, zero, suc, ◌+◌, ◌<◌, ◌≤◌, Bool, true, false, ◌||◌, refl, List, [], ◌∷◌, length, get_or, Some, sym}
+use Rattle.std.proofs.Common.{ap, ◌∙◌, subst, arith}
 use Rattle.std.specs.Prelude.{map as list_map}
 use Rattle.std.specs.List.{All, Contains}
 use Rattle.std.specs.Option.{option_map_or}
@@ -13,7 +14,8 @@ use Rattle.mq_sets.proofs.Ascents.{IsAscending-head, IsAscending-tail}
 use Rattle.mq_held.specs.Held.{HeldState, HasNumber, IsNumber}
 
 -- a number that some item has is that of an item with its key
-numbered_item : (items : List NumberedKey) (n : ℕ) → set_of (λ (x : NumberedKey). x.number) items n ≡ true → Contains items (record { number = n; key = key_in items n })
+numbered_item : (items : List NumberedKey) (n : ℕ) → set_of (λ (x : NumberedKey). x.number) items n ≡ true →
+    Contains items (record { number = n; key = key_in items n })
 numbered_item [] n is = absurd (false≢true is)
 numbered_item (x ∷ items) n is = by_test (x.number == n) refl is (numbered_item items n)
   where
@@ -22,7 +24,12 @@ numbered_item (x ∷ items) n is = by_test (x.number == n) refl is (numbered_ite
 
     by_test : (b : Bool) → (x.number == n) ≡ b → (b || set_of (λ (x : NumberedKey). x.number) items n) ≡ true
         → (set_of (λ (x : NumberedKey). x.number) items n ≡ true → Contains items (record { number = n; key = key_in items n }))
-        → (let y : NumberedKey = record { number = n; key = option_map_or (λ (x : NumberedKey). x.key) (cond b (Some x) (Rattle.std.specs.Prelude.find (λ (x : NumberedKey). x.number == n) items)) 0 } in Contains (x ∷ items) y)
+        → (let y : NumberedKey =
+        record {
+          number = n;
+          key = option_map_or (λ (x : NumberedKey). x.key)
+              (cond b (Some x) (Rattle.std.specs.Prelude.find (λ (x : NumberedKey). x.number == n) items)) 0;
+        } in Contains (x ∷ items) y)
     by_test true same rest later = (zero, omega arith, λ i. record { number = eqb-true x.number n same i; key = x.key })
     by_test false other rest later = let found = later rest in (suc found.0, (let l = found.1 in omega arith), at_first found.0 _ found.2)
 
@@ -32,10 +39,12 @@ number_found s n is = record { is = numbered_item s.order.items n is }
 
 -- the order says which group has a number
 pub number_stays : (old new : HeldState) (address n : ℕ) → new.order ≡ old.order → HasNumber old address n → HasNumber new address n
-number_stays old new address n same has = record { is = subst (λ (o : NumberedKeysState). Contains o.items (record { number = n; key = address })) (sym same) has.is }
+number_stays old new address n same has =
+    record { is = subst (λ (o : NumberedKeysState). Contains o.items (record { number = n; key = address })) (sym same) has.is }
 
 pub number_stayed : (old new : HeldState) (address n : ℕ) → new.order ≡ old.order → HasNumber new address n → HasNumber old address n
-number_stayed old new address n same has = record { is = subst (λ (o : NumberedKeysState). Contains o.items (record { number = n; key = address })) same has.is }
+number_stayed old new address n same has =
+    record { is = subst (λ (o : NumberedKeysState). Contains o.items (record { number = n; key = address })) same has.is }
 
 pub is_number_stays : (old new : HeldState) (n : ℕ) → new.order ≡ old.order → IsNumber old n → IsNumber new n
 is_number_stays old new n same is = ap (λ (o : NumberedKeysState). set_of (λ (x : NumberedKey). x.number) o.items n) same ∙ is

@@ -12,7 +12,9 @@ use Rattle.mq_held.proofs.Amounts.{len-with_group}
 use Rattle.mq_link.specs.declared.answers.Refusal.{Refusal}
 use Rattle.mq_link.specs.declared.answers.Refusal.TheVariants.{Repeated}
 use Rattle.mq_link.specs.Counters.{Refused}
-use Rattle.mq_link.specs.Record.{Setting, Statement, RecordOf, Seen, Entrance, Stops, GoesOn, after_sending, all_judged, change_in, changed_by, changed_or_refused, entrance, is_repeated, judged, judged_from, leaving, limit_passed, seen_after, sent_at_once, stated, unless_passed}
+use Rattle.mq_link.specs.Record.{Setting, Statement, RecordOf, Seen, Entrance, Stops, GoesOn, after_sending, all_judged, change_in, changed_by}
+use Rattle.mq_link.specs.Record.{changed_or_refused, entrance, is_repeated, judged, judged_from, leaving, limit_passed, seen_after, sent_at_once}
+use Rattle.mq_link.specs.Record.{stated, unless_passed}
 use Rattle.mq_link.specs.State.{Groups, with_group}
 
 pub one_at_most : (b : Bool) → one_if b ≤ 1
@@ -46,7 +48,8 @@ module _ (at : Setting) where
   unfolding judged
   judged_grows seen r groups = by_entrance (entrance at.config r)
     where
-      by_test : (b : Bool) (kind : Kind) → map.len (cond b (leaving groups (Refused Repeated)) (stated at r.group (RecordOf kind (set.from_list r.sources)) groups)).groups ≤ map.len groups + 1
+      by_test : (b : Bool) (kind : Kind) →
+          map.len (cond b (leaving groups (Refused Repeated)) (stated at r.group (RecordOf kind (set.from_list r.sources)) groups)).groups ≤ map.len groups + 1
       by_test true kind = omega arith
       by_test false kind = stated_grows r.group (RecordOf kind (set.from_list r.sources)) groups
 

@@ -40,10 +40,12 @@ lowered_held timing now false (Some asked) g held = IsWellFormed-sources_lowered
 
 module _ (timing : Timing) (now : ℕ) where
   pub one_lowered_held : (version : QueryVersion ℕ) (left e : ScheduledGroup) → left ≡ group_lowered timing now version e → IsHeld e.group → IsHeld left.group
-  one_lowered_held version left e is held = subst (λ (f : ScheduledGroup). IsHeld f.group) (sym is) (lowered_held timing now (suppresses version) (asked_by version) e.group held)
+  one_lowered_held version left e is held = subst (λ (f : ScheduledGroup). IsHeld f.group) (sym is)
+      (lowered_held timing now (suppresses version) (asked_by version) e.group held)
 
   pub one_lowered_size : (version : QueryVersion ℕ) (left e : ScheduledGroup) → left ≡ group_lowered timing now version e → sources_of left ≤ sources_of e
-  one_lowered_size version left e is = let same = ap sources_of is in let fewer = (lowered_no_more timing now (suppresses version) (asked_by version) e).sources in omega arith
+  one_lowered_size version left e is = let same = ap sources_of is in let fewer =
+      (lowered_no_more timing now (suppresses version) (asked_by version) e).sources in omega arith
 
   module _ (query : Query ℕ) (groups : Groups) where
     abbrev lowered_in : ℕ → ScheduledGroup → Option ScheduledGroup
@@ -54,7 +56,9 @@ module _ (timing : Timing) (now : ℕ) where
     other_stays q (Some e) other = ap (λ b. Some (cond b (group_lowered timing now query.version e) e)) (sym other)
 
     -- the group that is held is lowered
-    pub lowered_at : (left : ScheduledGroup) → map.contains_key groups query.group ≡ true → left ≡ group_lowered timing now query.version (group_at groups query.group) → map.insert groups query.group left ≡ groups_lowered timing now query groups
+    pub lowered_at : (left : ScheduledGroup) → map.contains_key groups query.group ≡ true →
+        left ≡ group_lowered timing now query.version (group_at groups query.group) → map.insert groups query.group left
+        ≡ groups_lowered timing now query groups
     unfolding groups_lowered
     lowered_at left held is =
         same_sources _ _ (λ q.
@@ -69,10 +73,12 @@ module _ (timing : Timing) (now : ℕ) where
         other_number q other false is = refl
         other_number q other true is = let same = eqb-true q query.group is in absurd (true≢false (sym (ties q query.group same) ∙ other))
 
-        by_test : (q : ℕ) (b : Bool) → eq_by_cmp nat_cmp q query.group ≡ b → cond b (Some left) (map.get groups q) ≡ option_and_then (lowered_in q) (map.get groups q)
+        by_test : (q : ℕ) (b : Bool) → eq_by_cmp nat_cmp q query.group ≡ b → cond b (Some left) (map.get groups q) ≡ option_and_then (lowered_in q)
+            (map.get groups q)
         by_test q true same =
             ap Some is
-            ∙ ap (λ b. Some (cond b (group_lowered timing now query.version (group_at groups query.group)) (group_at groups query.group))) (sym (same_number query.group))
+            ∙ ap (λ b. Some (cond b (group_lowered timing now query.version (group_at groups query.group)) (group_at groups query.group)))
+            (sym (same_number query.group))
             ∙ ap (option_and_then (lowered_in query.group)) (sym (group_found groups query.group held))
             ∙ ap (λ n. option_and_then (lowered_in n) (map.get groups n)) (sym (tied q query.group same))
         by_test q false other = other_stays q (map.get groups q) (other_number q other (eqb q query.group) refl)
@@ -93,7 +99,8 @@ pub cleared_served : (room more : ℕ) (groups : Groups) → room ≤ more → A
 unfolding groups_cleared
 cleared_served room more groups grown are =
     all-kept (λ _ e. IsServed more e) (λ _ e. Some (cleared e)) groups
-    (λ _ e s. let fewer = (cleared_no_more e).sources in let room_for = s.room_for in record { held = held_cleared e s.held; fits = fits_cleared e; room_for = omega arith })
+    (λ _ e s. let fewer = (cleared_no_more e).sources in let room_for = s.room_for in
+    record { held = held_cleared e s.held; fits = fits_cleared e; room_for = omega arith })
     (λ q e is. served_more room more e grown (are q e is))
 
 pub cleared_len : (groups : Groups) → map.len (groups_cleared groups) ≤ map.len groups
@@ -104,16 +111,20 @@ pub cleared_sources : (groups : Groups) → sources_in (groups_cleared groups) �
 unfolding groups_cleared
 cleared_sources groups = total-kept sources_of (λ _ e. Some (cleared e)) groups (λ _ e. (cleared_no_more e).sources)
 
-pub cleared_small : (most : ℕ) (groups : Groups) (address : ℕ) → sources_of (group_at groups address) ≤ most → sources_of (group_at (groups_cleared groups) address) ≤ most
+pub cleared_small : (most : ℕ) (groups : Groups) (address : ℕ) → sources_of (group_at groups address) ≤ most →
+    sources_of (group_at (groups_cleared groups) address) ≤ most
 unfolding groups_cleared
-cleared_small most groups address few = subst (λ (e : Option ScheduledGroup). sources_of (unwrap_or e unheld) ≤ most) (sym (get-kept (λ _ e. Some (cleared e)) groups address)) (by_group (map.get groups address) few)
+cleared_small most groups address few = subst (λ (e : Option ScheduledGroup). sources_of (unwrap_or e unheld) ≤ most)
+    (sym (get-kept (λ _ e. Some (cleared e)) groups address)) (by_group (map.get groups address) few)
   where
-    by_group : (e : Option ScheduledGroup) → sources_of (unwrap_or e unheld) ≤ most → sources_of (unwrap_or (option_and_then (λ e. Some (cleared e)) e) unheld) ≤ most
+    by_group : (e : Option ScheduledGroup) → sources_of (unwrap_or e unheld) ≤ most →
+        sources_of (unwrap_or (option_and_then (λ e. Some (cleared e)) e) unheld) ≤ most
     by_group None few = few
     by_group (Some e) few = let fewer = (cleared_no_more e).sources in omega arith
 
 -- and they are fit to be worked on still
-pub cleared_ready : {K A : Type 0} (room more : ℕ) (s t : Storage K A) → IsReady room s → t.held.groups ≡ groups_cleared s.held.groups → room ≤ more → IsReady more t
+pub cleared_ready : {K A : Type 0} (room more : ℕ) (s t : Storage K A) → IsReady room s → t.held.groups ≡ groups_cleared s.held.groups → room ≤ more →
+    IsReady more t
 cleared_ready room more s t ready is wide = record {
   few = let n = ap map.len is in omega (arith, n, cleared_len s.held.groups, ready.few);
   served = subst (AreServed more) (sym is) (cleared_served room more s.held.groups wide ready.served);

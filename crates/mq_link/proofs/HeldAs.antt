@@ -33,7 +33,8 @@ pub some_is : {X : Type 0} (P : X → Type 0) (x : Option X) (y : X) → IfSome 
 some_is P None y h is = cc
 some_is P (Some x) y h is = let same : x ≡ y = cc in subst P same h
 
-pub all-kept : (P : ℕ → ScheduledGroup → Type 0) (f : ℕ → ScheduledGroup → Option ScheduledGroup) (groups : Groups) → ((k : ℕ) (e : ScheduledGroup) → P k e → IfSome (f k e) (P k)) → All P groups → All P (kept f groups)
+pub all-kept : (P : ℕ → ScheduledGroup → Type 0) (f : ℕ → ScheduledGroup → Option ScheduledGroup) (groups : Groups) →
+    ((k : ℕ) (e : ScheduledGroup) → P k e → IfSome (f k e) (P k)) → All P groups → All P (kept f groups)
 all-kept P f groups keeps all group e is = by_group (map.get groups group) refl (sym (get-kept f groups group) ∙ is)
   where
     by_group : (before : Option ScheduledGroup) → map.get groups group ≡ before → option_and_then (f group) before ≡ Some e → P group e
@@ -73,16 +74,19 @@ held_unless_vacant g any not_vacant = elim any [
   | inr held ↦ held
 ]
 
-pub held_expired : (config : Configuration) (now group : ℕ) (e : ScheduledGroup) → IsHeldAs config group e → IfSome (if_held (group_expired now e)) (IsHeldAs config group)
-held_expired config now group e h = elim (is_vacant (expired now e.group)) as (λ b. is_vacant (expired now e.group) ≡ b → IfSome (cond b None (Some (group_expired now e))) (IsHeldAs config group)) [
-  | true ↦ λ _. tt
-  | false ↦ λ not_vacant. record {
-    admitted = h.admitted;
-    held = held_unless_vacant (expired now e.group) (IsAnyGroup-expired now e.group) not_vacant;
-    fits = fits_after_expiry now e.group e.schedule h.fits;
-    source_specific = λ kept_so. specific_expired now e.group (h.source_specific kept_so);
-  }
-] refl
+pub held_expired : (config : Configuration) (now group : ℕ) (e : ScheduledGroup) → IsHeldAs config group e →
+    IfSome (if_held (group_expired now e)) (IsHeldAs config group)
+held_expired config now group e h =
+    elim (is_vacant (expired now e.group)) as (λ b. is_vacant (expired now e.group) ≡ b → IfSome (cond b None (Some (group_expired now e)))
+    (IsHeldAs config group)) [
+      | true ↦ λ _. tt
+      | false ↦ λ not_vacant. record {
+        admitted = h.admitted;
+        held = held_unless_vacant (expired now e.group) (IsAnyGroup-expired now e.group) not_vacant;
+        fits = fits_after_expiry now e.group e.schedule h.fits;
+        source_specific = λ kept_so. specific_expired now e.group (h.source_specific kept_so);
+      }
+    ] refl
 
 pub settled_silent : (g : GroupState) (schedule : ScheduleState) → schedule ≡ no_schedule → settled g schedule ≡ no_schedule
 settled_silent g schedule is = ap (settled g) is ∙ by_tests (is_include g.mode) (some_source (has_sendings g) g)
@@ -104,7 +108,8 @@ specific_round : (g : GroupState) (due : Bool) → IsSourceSpecific g → IsSour
 specific_round g true h = record { include = h.include; no_v1 = h.no_v1; no_v2 = h.no_v2 }
 specific_round g false h = h
 
-pub held_round : (config : Configuration) (timing : Timing) (now group : ℕ) (e : ScheduledGroup) → IsHeldAs config group e → IsHeldAs config group (after_round timing now e)
+pub held_round : (config : Configuration) (timing : Timing) (now group : ℕ) (e : ScheduledGroup) → IsHeldAs config group e →
+    IsHeldAs config group (after_round timing now e)
 held_round config timing now group e h = record {
   admitted = h.admitted;
   held = held_after_round timing now e h.held;
@@ -118,7 +123,8 @@ silent_round timing now group e h = record { schedule = ap left h.schedule }
     left : ScheduleState → ScheduleState
     left schedule = record {
       group_query = group_counted timing now schedule.group_query;
-      sources_due = cond (is_due now schedule.sources_due) (sources_due_next timing now (cond (is_due now schedule.sources_due) (sendings_counted e.group) e.group)) schedule.sources_due;
+      sources_due = cond (is_due now schedule.sources_due)
+          (sources_due_next timing now (cond (is_due now schedule.sources_due) (sendings_counted e.group) e.group)) schedule.sources_due;
     }
 
 -- the loss of the role
@@ -142,14 +148,16 @@ pub is_from : (mode : FilterMode) → is_include mode ≡ true → mode ≡ Incl
 is_from Include h = refl
 is_from (Exclude d) h = cc
 
-fits_lowered_mode : (limit : ℕ) (e : ScheduledGroup) → IsScheduleOf e.group e.schedule → (let g = e.group in IsScheduleOf (record { mode = mode_lowered limit g.mode; sources = g.sources; v1 = g.v1; v2 = g.v2 }) e.schedule)
+fits_lowered_mode : (limit : ℕ) (e : ScheduledGroup) → IsScheduleOf e.group e.schedule →
+    (let g = e.group in IsScheduleOf (record { mode = mode_lowered limit g.mode; sources = g.sources; v1 = g.v1; v2 = g.v2 }) e.schedule)
 fits_lowered_mode limit e h = record {
   exclude_only = λ is. h.exclude_only (is_from e.group.mode (sym (lowered_include limit e.group.mode) ∙ include_is (mode_lowered limit e.group.mode) is));
   group_sendings = h.group_sendings;
   sources_sendings = h.sources_sendings;
 }
 
-sendings_lowered : (limit : ℕ) (b : Bool) (t : Option SourceTimer) → sendings_of (option_and_then (λ timer. Some (cond b (source_lowered limit timer) timer)) t) ≡ sendings_of t
+sendings_lowered : (limit : ℕ) (b : Bool) (t : Option SourceTimer) →
+    sendings_of (option_and_then (λ timer. Some (cond b (source_lowered limit timer) timer)) t) ≡ sendings_of t
 sendings_lowered limit true None = refl
 sendings_lowered limit false None = refl
 sendings_lowered limit true (Some t) = lowered t
@@ -165,26 +173,31 @@ same_tests true false f g = sym (f refl)
 same_tests false true f g = g refl
 same_tests false false f g = refl
 
-fits_sources_lowered : (timing : Timing) (now : ℕ) (asked : Set) (e : ScheduledGroup) → IsScheduleOf e.group e.schedule → IsScheduleOf (sources_lowered timing now asked e.group) e.schedule
+fits_sources_lowered : (timing : Timing) (now : ℕ) (asked : Set) (e : ScheduledGroup) → IsScheduleOf e.group e.schedule →
+    IsScheduleOf (sources_lowered timing now asked e.group) e.schedule
 fits_sources_lowered timing now asked e h = record {
   exclude_only = h.exclude_only;
   group_sendings = h.group_sendings;
-  sources_sendings = h.sources_sendings ∙ same_tests (some_source (has_sendings e.group) e.group) (some_source (has_sendings lowered) lowered) (sendings_before lowered e.group (λ s had. ap (ltb 0) (same s) ∙ had)) (sendings_before e.group lowered (λ s had. ap (ltb 0) (sym (same s)) ∙ had));
+  sources_sendings = h.sources_sendings ∙ same_tests (some_source (has_sendings e.group) e.group) (some_source (has_sendings lowered) lowered)
+      (sendings_before lowered e.group (λ s had. ap (ltb 0) (same s) ∙ had)) (sendings_before e.group lowered (λ s had. ap (ltb 0) (sym (same s)) ∙ had));
 }
   where
     lowered : GroupState
     lowered = sources_lowered timing now asked e.group
 
     same : (s : ℕ) → sendings_of (timer_at lowered s) ≡ sendings_of (timer_at e.group s)
-    same s = ap sendings_of (get-kept (λ s timer. Some (cond (asked s) (source_lowered (lowered_to timing now) timer) timer)) e.group.sources s) ∙ sendings_lowered (lowered_to timing now) (asked s) (timer_at e.group s)
+    same s = ap sendings_of (get-kept (λ s timer. Some (cond (asked s) (source_lowered (lowered_to timing now) timer) timer)) e.group.sources s) ∙
+        sendings_lowered (lowered_to timing now) (asked s) (timer_at e.group s)
 
-pub held_lowered : (config : Configuration) (timing : Timing) (now : ℕ) (s : Bool) (asked : Option Set) (group : ℕ) (e : ScheduledGroup) → IsHeldAs config group e → IsHeldAs config group (record { group = lowered_by_query timing now s asked e.group; schedule = e.schedule })
+pub held_lowered : (config : Configuration) (timing : Timing) (now : ℕ) (s : Bool) (asked : Option Set) (group : ℕ) (e : ScheduledGroup) →
+    IsHeldAs config group e → IsHeldAs config group (record { group = lowered_by_query timing now s asked e.group; schedule = e.schedule })
 held_lowered config timing now true asked group e h = h
 held_lowered config timing now false None group e h = record {
   admitted = h.admitted;
   held = IsWellFormed-group_lowered timing now e.group h.held;
   fits = fits_lowered_mode (lowered_to timing now) e h.fits;
-  source_specific = λ kept_so. let s = h.source_specific kept_so in record { include = lowered_include (lowered_to timing now) e.group.mode ∙ s.include; no_v1 = s.no_v1; no_v2 = s.no_v2 };
+  source_specific = λ kept_so. let s = h.source_specific kept_so in
+      record { include = lowered_include (lowered_to timing now) e.group.mode ∙ s.include; no_v1 = s.no_v1; no_v2 = s.no_v2 };
 }
 held_lowered config timing now false (Some asked) group e h = record {
   admitted = h.admitted;

@@ -13,20 +13,23 @@ use Rattle.mq_link.specs.Counters.{Verdict, Ignored, Refused}
 use Rattle.mq_link.specs.LeastCost.{least_by, least_judged, least_search, least_work}
 use Rattle.mq_link.specs.Moved.{moved_by_edit, moves_by, record_moves}
 use Rattle.mq_link.specs.State.{Groups, group_at, sources_of}
-use Rattle.mq_link.specs.Record.{RecordOf, Setting, leaving, stated, Seen, met, Stops, GoesOn, entrance, entrance_as, kind_named, is_repeated, judged_from, judged, seen_by, seen_after}
+use Rattle.mq_link.specs.Record.{RecordOf, Setting, leaving, stated, Seen, met, Stops, GoesOn, entrance, entrance_as, kind_named, is_repeated}
+use Rattle.mq_link.specs.Record.{judged_from, judged, seen_by, seen_after}
 
 module _ (at : Setting) (seen : Seen) (r : RecordView ℕ) (groups : Groups) where
   pub judged_stopped : (verdict : Verdict) → entrance at.config r ≡ Stops verdict → judged at seen r groups ≡ leaving groups verdict
   unfolding judged
   judged_stopped verdict is = ap (judged_from at seen r groups) is
 
-  pub judged_repeated : (kind : Kind) → entrance at.config r ≡ GoesOn kind → is_repeated groups seen r.group ≡ true → judged at seen r groups ≡ leaving groups (Refused Repeated)
+  pub judged_repeated : (kind : Kind) → entrance at.config r ≡ GoesOn kind → is_repeated groups seen r.group ≡ true →
+      judged at seen r groups ≡ leaving groups (Refused Repeated)
   unfolding judged
   judged_repeated kind is repeated =
       ap (judged_from at seen r groups) is
       ∙ ap (λ b. cond b (leaving groups (Refused Repeated)) (stated at r.group (RecordOf kind (set.from_list r.sources)) groups)) repeated
 
-  pub judged_stated : (kind : Kind) → entrance at.config r ≡ GoesOn kind → is_repeated groups seen r.group ≡ false → judged at seen r groups ≡ stated at r.group (RecordOf kind (set.from_list r.sources)) groups
+  pub judged_stated : (kind : Kind) → entrance at.config r ≡ GoesOn kind → is_repeated groups seen r.group ≡ false →
+      judged at seen r groups ≡ stated at r.group (RecordOf kind (set.from_list r.sources)) groups
   unfolding judged
   judged_stated kind is first =
       ap (judged_from at seen r groups) is
@@ -51,19 +54,26 @@ module _ (at : Setting) (seen : Seen) (r : RecordView ℕ) (groups : Groups) whe
   abbrev pub seen_once : Seen
   seen_once = cond (map.contains_key groups r.group) (map.insert seen r.group (met seen r.group + 1)) seen
 
-  pub counted_repeated : (kind : Kind) → entrance at.config r ≡ GoesOn kind → is_repeated groups seen r.group ≡ true → IsCounted seen_once (least_search groups) (search_cost groups) 0
+  pub counted_repeated : (kind : Kind) → entrance at.config r ≡ GoesOn kind → is_repeated groups seen r.group ≡ true →
+      IsCounted seen_once (least_search groups) (search_cost groups) 0
   counted_repeated kind is repeated = record {
     seen_is = ap (λ e. seen_by e r.group groups seen) is;
-    least_is = ap (λ e. least_by at e seen r groups) is ∙ ap (λ b. cond b (least_search groups) (least_search groups + (length r.sources - 1) + least_work at r.group (RecordOf kind (set.from_list r.sources)) groups)) repeated;
+    least_is = ap (λ e. least_by at e seen r groups) is ∙
+        ap (λ b. cond b (least_search groups)
+        (least_search groups + (length r.sources - 1) + least_work at r.group (RecordOf kind (set.from_list r.sources)) groups)) repeated;
     most_is = ap (λ e. cost_by e seen r groups) is ∙ ap (λ b. cond b (search_cost groups) (work_cost groups r + search_cost groups)) repeated;
-    moved_is = ap (λ e. moves_by e seen r groups) is ∙ ap (λ b. cond b 0 (5 * (sources_of (group_at groups r.group) + length r.sources) + moved_by_edit)) repeated;
+    moved_is = ap (λ e. moves_by e seen r groups) is ∙
+        ap (λ b. cond b 0 (5 * (sources_of (group_at groups r.group) + length r.sources) + moved_by_edit)) repeated;
   }
 
   pub counted_stated : (kind : Kind) → entrance at.config r ≡ GoesOn kind → is_repeated groups seen r.group ≡ false
-      → IsCounted seen_once (least_search groups + (length r.sources - 1) + least_work at r.group (RecordOf kind (set.from_list r.sources)) groups) (work_cost groups r + search_cost groups) (5 * (sources_of (group_at groups r.group) + length r.sources) + moved_by_edit)
+      → IsCounted seen_once (least_search groups + (length r.sources - 1) + least_work at r.group (RecordOf kind (set.from_list r.sources)) groups)
+      (work_cost groups r + search_cost groups) (5 * (sources_of (group_at groups r.group) + length r.sources) + moved_by_edit)
   counted_stated kind is first = record {
     seen_is = ap (λ e. seen_by e r.group groups seen) is;
-    least_is = ap (λ e. least_by at e seen r groups) is ∙ ap (λ b. cond b (least_search groups) (least_search groups + (length r.sources - 1) + least_work at r.group (RecordOf kind (set.from_list r.sources)) groups)) first;
+    least_is = ap (λ e. least_by at e seen r groups) is ∙
+        ap (λ b. cond b (least_search groups)
+        (least_search groups + (length r.sources - 1) + least_work at r.group (RecordOf kind (set.from_list r.sources)) groups)) first;
     most_is = ap (λ e. cost_by e seen r groups) is ∙ ap (λ b. cond b (search_cost groups) (work_cost groups r + search_cost groups)) first;
     moved_is = ap (λ e. moves_by e seen r groups) is ∙ ap (λ b. cond b 0 (5 * (sources_of (group_at groups r.group) + length r.sources) + moved_by_edit)) first;
   }
@@ -79,4 +89,5 @@ short_enough config r so is = by_kind (kind_named r.kind) is
 
     by_kind : (kind : Option Kind) → entrance_as config r kind ≡ GoesOn so → length r.sources ≤ config.limits.group_sources
     by_kind None h = cc
-    by_kind (Some kind) h = ltb-false config.limits.group_sources (length r.sources) (by_tests (is_admitted config.family r.group) (ltb config.limits.group_sources (length r.sources)) kind h)
+    by_kind (Some kind) h = ltb-false config.limits.group_sources (length r.sources)
+        (by_tests (is_admitted config.family r.group) (ltb config.limits.group_sources (length r.sources)) kind h)

@@ -69,7 +69,8 @@ pub round_keeps_filter : (timing : Timing) (now : ℕ) (e : ScheduledGroup) → 
 round_keeps_filter timing now e =
     same_filter (after_round timing now e).group e.group (ap is_include (same_mode (is_due now e.schedule.sources_due))) (λ s.
     ap (names (after_round timing now e).group.mode) (timer_at-after_round timing now e s)
-    ∙ ap (λ m. names m (cond (is_due now e.schedule.sources_due) (option_map source_counted (timer_at e.group s)) (timer_at e.group s))) (same_mode (is_due now e.schedule.sources_due))
+    ∙ ap (λ m. names m (cond (is_due now e.schedule.sources_due) (option_map source_counted (timer_at e.group s)) (timer_at e.group s)))
+    (same_mode (is_due now e.schedule.sources_due))
     ∙ either_named e.group.mode (is_due now e.schedule.sources_due) _ (timer_at e.group s) (counted_named e.group.mode (timer_at e.group s)))
   where
     same_mode : (b : Bool) → ◌≡◌ {A = FilterMode} (cond b (sendings_counted e.group) e.group).mode e.group.mode
@@ -93,14 +94,17 @@ sources_asked_keeps : (timing : Timing) (now : ℕ) (asked : Set) (e : Scheduled
 sources_asked_keeps timing now asked e =
     same_filter (sources_asked timing now asked e).group e.group refl (λ s.
     ap (names e.group.mode) (timer_at-sources_asked timing now asked e s)
-    ∙ either_named e.group.mode (asked s) _ (timer_at e.group s) (asked_named (lowered_to timing now) (last_member_count timing) e.group.mode (timer_at e.group s)))
+    ∙ either_named e.group.mode (asked s) _ (timer_at e.group s)
+    (asked_named (lowered_to timing now) (last_member_count timing) e.group.mode (timer_at e.group s)))
 
-pub acted_keeps_filter : (is_querier : Bool) (timing : Timing) (now : ℕ) (query_group : Bool) (query : Set) (e : ScheduledGroup) → filter_of (acted is_querier timing now query_group query e).group ≡ filter_of e.group
+pub acted_keeps_filter : (is_querier : Bool) (timing : Timing) (now : ℕ) (query_group : Bool) (query : Set) (e : ScheduledGroup) →
+    filter_of (acted is_querier timing now query_group query e).group ≡ filter_of e.group
 acted_keeps_filter false timing now query_group query e = refl
 acted_keeps_filter true timing now false query e = sources_asked_keeps timing now query e
 acted_keeps_filter true timing now true query e = sources_asked_keeps timing now query (group_asked timing now e) ∙ group_asked_keeps timing now e
 
-pub change_keeps_filter : (is_querier : Bool) (timing : Timing) (now : ℕ) (change : GroupChange) (schedule : ScheduleState) → filter_of (after_change is_querier timing now change schedule).group ≡ filter_of change.group
+pub change_keeps_filter : (is_querier : Bool) (timing : Timing) (now : ℕ) (change : GroupChange) (schedule : ScheduleState) →
+    filter_of (after_change is_querier timing now change schedule).group ≡ filter_of change.group
 change_keeps_filter is_querier timing now change schedule =
     acted_keeps_filter is_querier timing now change.query_group change.query (record { group = change.group; schedule = settled change.group schedule })
 

@@ -1,5 +1,6 @@
 -- What the number of a group, or the spot where it would go, says of the groups.
-use Rattle.std.proofs.Common.{◌≡◌, ◌==◌, ℕ, ◌+◌, ◌<◌, ◌≤◌, Bool, true, false, cond, refl, length, get_or, Option, None, Some, is_some, Result, Ok, Err, MatchResult, sym, ap, ◌∙◌, arith, ◌⊎◌, inl, inr}
+use Rattle.std.proofs.Common.{◌≡◌, ◌==◌, ℕ, ◌+◌, ◌<◌, ◌≤◌, Bool, true, false, cond, refl, length, get_or, Option, None, Some, is_some, Result, Ok}
+use Rattle.std.proofs.Common.{Err, MatchResult, sym, ap, ◌∙◌, arith, ◌⊎◌, inl, inr}
 use Rattle.std.specs.Option.{unwrap_or}
 use Rattle.std.specs.Result.{is_ok}
 use Rattle.std.specs.Ordering.{nat_cmp, eq_by_cmp}
@@ -37,7 +38,8 @@ pub spot_absent : (s : HeldState) (address : ℕ) (spot : Spot) → IsSpotFor s.
     → ((a : ℕ) → map.contains_key s.groups a ≡ true → (n : ℕ) × HasNumber s a n) → map.contains_key s.groups address ≡ false
 spot_absent s address spot is held = by_test (map.contains_key s.groups address) refl
   where
-    by_side : (n k : ℕ) → k < length s.order.items → (let x : NumberedKey = record { number = n; key = address } in get_or s.order.items k x ≡ x) → (k < rank_of s.order.pages spot) ⊎ (rank_of s.order.pages spot ≤ k) → ⊥
+    by_side : (n k : ℕ) → k < length s.order.items → (let x : NumberedKey = record { number = n; key = address } in get_or s.order.items k x ≡ x) →
+        (k < rank_of s.order.pages spot) ⊎ (rank_of s.order.pages spot ≤ k) → ⊥
     by_side n k within here (inl before) =
         let x : NumberedKey = record { number = n; key = address } in
         let below = is.goes.below k x (omega arith) before in
@@ -51,10 +53,12 @@ spot_absent s address spot is held = by_test (map.contains_key s.groups address)
 
     by_test : (b : Bool) → map.contains_key s.groups address ≡ b → b ≡ false
     by_test false there = refl
-    by_test true there = let found = held address there in absurd (by_side found.0 found.1.is.0 found.1.is.1 found.1.is.2 (cases_lt found.1.is.0 (rank_of s.order.pages spot)))
+    by_test true there = let found = held address there in
+        absurd (by_side found.0 found.1.is.0 found.1.is.1 found.1.is.2 (cases_lt found.1.is.0 (rank_of s.order.pages spot)))
 
 -- a number that was found says that its group is held, and a spot that it isn't
-pub found_or_not : (s : HeldState) (address : ℕ) (found : Result ℕ Spot) → MatchResult found (HasNumber s address) (IsSpotFor s.order.items s.order.pages address)
+pub found_or_not : (s : HeldState) (address : ℕ) (found : Result ℕ Spot) →
+    MatchResult found (HasNumber s address) (IsSpotFor s.order.items s.order.pages address)
     → ((a : ℕ) → map.contains_key s.groups a ≡ true → (n : ℕ) × HasNumber s a n) → ((a n : ℕ) → HasNumber s a n → map.contains_key s.groups a ≡ true)
     → map.contains_key s.groups address ≡ is_ok found
 found_or_not s address (Ok number) has held of_one = of_one address number has
@@ -64,7 +68,8 @@ found_or_not s address (Err spot) is held of_one = spot_absent s address spot is
 pub kept_held : (e : ScheduledGroup) → IsHeld e.group → kept_as e ≡ e
 kept_held e held = ap (λ b. cond b unheld e) (not_vacant e.group held)
 
-pub with_other : (groups : Groups) (address : ℕ) (e : ScheduledGroup) → is_vacant e.group ≡ false → map.insert groups address (kept_as e) ≡ with_group groups address e
+pub with_other : (groups : Groups) (address : ℕ) (e : ScheduledGroup) → is_vacant e.group ≡ false → map.insert groups address (kept_as e)
+    ≡ with_group groups address e
 with_other groups address e is =
     ap (λ b. map.insert groups address (cond b unheld e)) is
     ∙ sym (ap (λ b. cond b (map.remove groups address) (map.insert groups address e)) is)

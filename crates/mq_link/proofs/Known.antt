@@ -82,7 +82,8 @@ kept-known f es = same_answers _ _ (λ q.
     ∙ sym (find-entries_by (λ k. option_and_then (f k) (find nat_cmp k es)) (keys_of (ordered es)) q)
     ∙ sym (map.get-from_entries nat_cmp_total (kept_in f es) q))
 
-pub by_rule-known : {X : Type 0} (es : Entries X) (named : List ℕ) (rule : ℕ → Option X) → by_rule (map.from_entries es) (set.from_list named) rule ≡ map.from_entries (ordered (entries_by rule (keys_of es ++ named)))
+pub by_rule-known : {X : Type 0} (es : Entries X) (named : List ℕ) (rule : ℕ → Option X) → by_rule (map.from_entries es) (set.from_list named) rule
+    ≡ map.from_entries (ordered (entries_by rule (keys_of es ++ named)))
 by_rule-known es named rule = same_answers _ _ (λ q.
     get-by_rule (map.from_entries es) (set.from_list named) rule q
     ∙ (λ i. cond (is_some (map.get-from_entries nat_cmp_total es q i) || set.contains-from_list nat_cmp_total named q i) (rule q) None)
@@ -105,7 +106,8 @@ remove-known es k = same_answers _ _ (λ q.
     ∙ ap (cond (eq_by_cmp nat_cmp q k) None) (map.get-from_entries nat_cmp_total es q)
     ∙ ap (λ b. cond b None (find nat_cmp q es)) ((eq_by_cmp_equiv nat_cmp_total).symm q k)
     ∙ sym (turned (eq_by_cmp nat_cmp k q) (find nat_cmp q es) None)
-    ∙ sym (find-where_key nat_cmp (λ x. not (eq_by_cmp nat_cmp k x)) q (λ x tied. ap (λ n. not (eq_by_cmp nat_cmp k n)) (sym (nat_cmp-IsAntisymmetric q x tied))) es)
+    ∙ sym (find-where_key nat_cmp (λ x. not (eq_by_cmp nat_cmp k x)) q
+    (λ x tied. ap (λ n. not (eq_by_cmp nat_cmp k n)) (sym (nat_cmp-IsAntisymmetric q x tied))) es)
     ∙ sym (map.get-from_entries nat_cmp_total (without k es) q))
 
 -- Values that stand for others, as known groups for groups.
@@ -114,15 +116,20 @@ with_values f es = list_map (λ (e : ℕ × _). (e.0, f e.1)) es
 
 pub find-with_values : {X Y : Type 0} (f : X → Y) (es : Entries X) (q : ℕ) → find nat_cmp q (with_values f es) ≡ option_map f (find nat_cmp q es)
 find-with_values f [] q = refl
-find-with_values f (e ∷ es) q = elim (eq_by_cmp nat_cmp q e.0) as (λ b. cond b (Some (f e.1)) (find nat_cmp q (with_values f es)) ≡ option_map f (cond b (Some e.1) (find nat_cmp q es))) [ true ↦ refl | false ↦ find-with_values f es q ]
+find-with_values f (e ∷ es) q =
+    elim (eq_by_cmp nat_cmp q e.0) as
+    (λ b. cond b (Some (f e.1)) (find nat_cmp q (with_values f es)) ≡ option_map f (cond b (Some e.1) (find nat_cmp q es)))
+    [ true ↦ refl | false ↦ find-with_values f es q ]
 
 put-with_values : {X Y : Type 0} (f : X → Y) (k : ℕ) (x : X) (es : Entries X) → put nat_cmp k (f x) (with_values f es) ≡ with_values f (put nat_cmp k x es)
 put-with_values f k x [] = refl
-put-with_values f k x (e ∷ es) = elim (nat_cmp k e.0) as (λ o. by_order o ((k, f x) ∷ with_values f (e ∷ es)) ((e.0, f x) ∷ with_values f es) ((e.0, f e.1) ∷ put nat_cmp k (f x) (with_values f es)) ≡ with_values f (by_order o ((k, x) ∷ e ∷ es) ((e.0, x) ∷ es) (e ∷ put nat_cmp k x es))) [
-  | Less ↦ refl
-  | Equal ↦ refl
-  | Greater ↦ ap (λ rest. (e.0, f e.1) ∷ rest) (put-with_values f k x es)
-]
+put-with_values f k x (e ∷ es) =
+    elim (nat_cmp k e.0) as (λ o. by_order o ((k, f x) ∷ with_values f (e ∷ es)) ((e.0, f x) ∷ with_values f es)
+    ((e.0, f e.1) ∷ put nat_cmp k (f x) (with_values f es)) ≡ with_values f (by_order o ((k, x) ∷ e ∷ es) ((e.0, x) ∷ es) (e ∷ put nat_cmp k x es))) [
+      | Less ↦ refl
+      | Equal ↦ refl
+      | Greater ↦ ap (λ rest. (e.0, f e.1) ∷ rest) (put-with_values f k x es)
+    ]
 
 pub ordered-with_values : {X Y : Type 0} (f : X → Y) (es : Entries X) → ordered (with_values f es) ≡ with_values f (ordered es)
 ordered-with_values f [] = refl
@@ -132,17 +139,21 @@ pub keys-with_values : {X Y : Type 0} (f : X → Y) (es : Entries X) → keys_of
 keys-with_values f [] = refl
 keys-with_values f (e ∷ es) = ap (λ ks. e.0 ∷ ks) (keys-with_values f es)
 
-with_entry-with_values : {X Y : Type 0} (f : X → Y) (k : ℕ) (x : Option X) (es : Entries X) → with_entry k (option_map f x) (with_values f es) ≡ with_values f (with_entry k x es)
+with_entry-with_values : {X Y : Type 0} (f : X → Y) (k : ℕ) (x : Option X) (es : Entries X) → with_entry k (option_map f x) (with_values f es)
+    ≡ with_values f (with_entry k x es)
 with_entry-with_values f k None es = refl
 with_entry-with_values f k (Some x) es = refl
 
-entries_by-with_values : {X Y : Type 0} (f : X → Y) (rule : ℕ → Option Y) (known : ℕ → Option X) → ((k : ℕ) → rule k ≡ option_map f (known k)) → (ks : List ℕ) → entries_by rule ks ≡ with_values f (entries_by known ks)
+entries_by-with_values : {X Y : Type 0} (f : X → Y) (rule : ℕ → Option Y) (known : ℕ → Option X) → ((k : ℕ) → rule k ≡ option_map f (known k)) →
+    (ks : List ℕ) → entries_by rule ks ≡ with_values f (entries_by known ks)
 entries_by-with_values f rule known is [] = refl
 entries_by-with_values f rule known is (k ∷ ks) =
     (λ i. with_entry k (is k i) (entries_by-with_values f rule known is ks i)) ∙ with_entry-with_values f k (known k) (entries_by known ks)
 
 -- What is done to each value of a map of known values.
-pub kept_as : {X Y : Type 0} (f : X → Y) (what : ℕ → Y → Option Y) (known : ℕ → X → Option X) → ((k : ℕ) (x : X) → what k (f x) ≡ option_map f (known k x)) → (es : Entries X) → kept what (map.from_entries (with_values f es)) ≡ map.from_entries (with_values f (kept_in known es))
+pub kept_as : {X Y : Type 0} (f : X → Y) (what : ℕ → Y → Option Y) (known : ℕ → X → Option X) →
+    ((k : ℕ) (x : X) → what k (f x) ≡ option_map f (known k x)) → (es : Entries X) → kept what (map.from_entries (with_values f es))
+    ≡ map.from_entries (with_values f (kept_in known es))
 kept_as f what known is es =
     kept-known what (with_values f es)
     ∙ ap map.from_entries (

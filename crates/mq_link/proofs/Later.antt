@@ -25,7 +25,8 @@ use Rattle.mq_link.proofs.Ticked.{ticked_timing}
 use Rattle.mq_link.proofs.Quiet.{IsBeyond, AllAbove, above_beyond, values_above, least_above}
 
 -- what a map has after its values were replaced or left out
-all_then : (P Q : ℕ → ScheduledGroup → Type 0) (f : ℕ → ScheduledGroup → Option ScheduledGroup) (groups : Groups) → ((k : ℕ) (e : ScheduledGroup) → P k e → IfSome (f k e) (Q k)) → All P groups → All Q (kept f groups)
+all_then : (P Q : ℕ → ScheduledGroup → Type 0) (f : ℕ → ScheduledGroup → Option ScheduledGroup) (groups : Groups) →
+    ((k : ℕ) (e : ScheduledGroup) → P k e → IfSome (f k e) (Q k)) → All P groups → All Q (kept f groups)
 all_then P Q f groups gives all group e is = by_group (map.get groups group) refl (sym (get-kept f groups group) ∙ is)
   where
     by_group : (before : Option ScheduledGroup) → map.get groups group ≡ before → option_and_then (f group) before ≡ Some e → Q group e
@@ -41,9 +42,11 @@ ahead_expired m e = by_test (is_vacant (expired m e.group))
 
 all_ahead : (m : ℕ) (groups : Groups) → All (λ _ e. AllAhead m e.group) (groups_expired m groups)
 unfolding groups_expired
-all_ahead m groups = all_then (λ _ _. Unit {0}) (λ _ e. AllAhead m e.group) (λ _ e. if_held (group_expired m e)) groups (λ _ e _. ahead_expired m e) (λ _ _ _. tt)
+all_ahead m groups = all_then (λ _ _. Unit {0}) (λ _ e. AllAhead m e.group) (λ _ e. if_held (group_expired m e)) groups (λ _ e _. ahead_expired m e)
+    (λ _ _ _. tt)
 
-same_heads : (g : GroupState) (due : Bool) → (m : ℕ) → AllAhead m g → (let left = cond due (sendings_counted g) g in IfSome (group_deadline left.mode) (λ d. m < d) × IfSome left.v1 (λ d. m < d) × IfSome left.v2 (λ d. m < d))
+same_heads : (g : GroupState) (due : Bool) → (m : ℕ) → AllAhead m g →
+    (let left = cond due (sendings_counted g) g in IfSome (group_deadline left.mode) (λ d. m < d) × IfSome left.v1 (λ d. m < d) × IfSome left.v2 (λ d. m < d))
 same_heads g true m h = (h.group, h.v1, h.v2)
 same_heads g false m h = (h.group, h.v1, h.v2)
 
@@ -60,11 +63,14 @@ beyond_round timing m e positive h =
       schedule = quiet_after_round timing m e positive;
     }
 
-all_beyond : (timing : Timing) (m : ℕ) (groups : Groups) → 0 < timing.last_member_interval → All (λ _ e. AllAhead m e.group) groups → All (λ _. IsBeyond m) (groups_after_round timing m groups)
+all_beyond : (timing : Timing) (m : ℕ) (groups : Groups) → 0 < timing.last_member_interval → All (λ _ e. AllAhead m e.group) groups →
+    All (λ _. IsBeyond m) (groups_after_round timing m groups)
 unfolding groups_after_round
-all_beyond timing m groups positive all = all_then (λ _ e. AllAhead m e.group) (λ _. IsBeyond m) (λ _ e. Some (after_round timing m e)) groups (λ _ e h. beyond_round timing m e positive h) all
+all_beyond timing m groups positive all = all_then (λ _ e. AllAhead m e.group) (λ _. IsBeyond m) (λ _ e. Some (after_round timing m e)) groups
+    (λ _ e h. beyond_round timing m e positive h) all
 
-pub later_after_tick : (config : Configuration) (m : ℕ) (state : LinkState) → AreInRange config.timing → IsWellFormed config state → m < next_of (tick_at config m state).state
+pub later_after_tick : (config : Configuration) (m : ℕ) (state : LinkState) → AreInRange config.timing → IsWellFormed config state →
+    m < next_of (tick_at config m state).state
 later_after_tick config m state own h = least_above m (next_moment election.role) (moments_in groups) election_later groups_later
   where
     election : ElectionState
@@ -80,4 +86,6 @@ later_after_tick config m state own h = least_above m (next_moment election.role
     positive = let t = ticked_timing config.timing m state.election own h.timing in omega (arith, t.last_member_interval.at_least)
 
     groups_later : AllAbove m (moments_in groups)
-    groups_later = values_above m moments_of (map.entries groups) (each-entry (λ _ e. AllAbove m (moments_of e)) groups (λ q e is. above_beyond m e (all_beyond election.timing m (groups_expired m state.groups) positive (all_ahead m state.groups) q e is)))
+    groups_later = values_above m moments_of (map.entries groups)
+        (each-entry (λ _ e. AllAbove m (moments_of e)) groups
+        (λ q e is. above_beyond m e (all_beyond election.timing m (groups_expired m state.groups) positive (all_ahead m state.groups) q e is)))

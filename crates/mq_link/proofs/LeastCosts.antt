@@ -8,15 +8,10 @@ use Rattle.std.specs.FinSet as set
 use Rattle.mq_count.specs.Spending.{Spends}
 use Rattle.mq_count.proofs.Spent.{Spends-join_within}
 use Rattle.mq_table.specs.declared.kind.Kind.{Kind}
-use Rattle.mq_table.specs.OlderHosts.{hosts_of, with_sources}
+use Rattle.mq_table.specs.OlderHosts.{with_sources}
 use Rattle.mq_table.specs.Stored.{named_in}
 use Rattle.mq_table.specs.Table.{NamedSources}
-use Rattle.mq_sched.specs.Schedule.{ScheduledGroup}
-use Rattle.mq_link.specs.Changing.{acts_as}
-use Rattle.mq_link.specs.Family.{v1_mutes_leave}
-use Rattle.mq_link.specs.LeastCost.{least_merge, least_work}
-use Rattle.mq_link.specs.Record.{Statement, Setting, is_muted}
-use Rattle.mq_link.specs.State.{Groups, group_at, sources_of}
+use Rattle.mq_link.specs.LeastCost.{least_merge}
 
 -- a set has no more members than the list that it is made of
 pub few_members : (ks : List ℕ) → set.len (set.from_list {R = nat_cmp} ks) ≤ length ks
@@ -30,7 +25,8 @@ few_members (k ∷ ks) =
     by_test false is h = omega (arith, is, h)
 
 -- the merge of a group with the sources that are left of those that are named
-least_merged : {K : Type 0} (number : K → ℕ) (sources : ℕ) (kind : Kind) (is_emptied : Bool) (before left : List K) → (is_emptied ≡ false → left ≡ before) → least_merge sources (with_sources (named_in number before) (Some (kind, is_emptied))) ≤ min sources (length left)
+least_merged : {K : Type 0} (number : K → ℕ) (sources : ℕ) (kind : Kind) (is_emptied : Bool) (before left : List K)
+    → (is_emptied ≡ false → left ≡ before) → least_merge sources (with_sources (named_in number before) (Some (kind, is_emptied))) ≤ min sources (length left)
 least_merged number sources kind true before left same = let none = set.len-empty nat_cmp in omega (arith, none)
 least_merged number sources kind false before left same =
     let few = few_members (list_map number before) in
@@ -38,7 +34,8 @@ least_merged number sources kind false before left same =
     let kept = ap length (same refl) in
     omega (arith, few, all, kept)
 
-pub merge_spends : {K : Type 0} (number : K → ℕ) (sources : ℕ) (kind : Kind) (is_emptied : Bool) (before left : List K) (acts : Option (Kind × NamedSources)) (old between new : ℕ)
+pub merge_spends : {K : Type 0} (number : K → ℕ) (sources : ℕ) (kind : Kind) (is_emptied : Bool) (before left : List K)
+    (acts : Option (Kind × NamedSources)) (old between new : ℕ)
     → acts ≡ with_sources (named_in number before) (Some (kind, is_emptied))
     → (is_emptied ≡ false → left ≡ before) → length left ≤ length before
     → Spends 0 2 old between → Spends (min sources (length left)) (sources + length left) between new
@@ -46,11 +43,3 @@ pub merge_spends : {K : Type 0} (number : K → ℕ) (sources : ℕ) (kind : Kin
 merge_spends number sources kind is_emptied before left acts old between new acts_is same fewer first merge =
     subst (λ a. Spends (least_merge sources a) (sources + length before + 2) old new) (sym acts_is)
     (Spends-join_within _ _ first merge (omega (arith, least_merged number sources kind is_emptied before left same)) (omega (arith, fewer)))
-
--- the work on a group that was loaded
-pub worked : (at : Setting) (group : ℕ) (st : Statement) (groups : Groups) (before : ScheduledGroup) (mutes muted : Bool) (high old new : ℕ)
-    → mutes ≡ v1_mutes_leave at.config.family → muted ≡ is_muted at.config group st → before ≡ group_at groups group
-    → Spends (least_merge (sources_of before) (acts_as mutes muted (hosts_of before.group at.now) st)) high old new
-    → Spends (least_work at group st groups) high old new
-worked at group st groups before mutes muted high old new m u is spent =
-    subst (λ n. Spends n high old new) (λ i. least_merge (sources_of (is i)) (acts_as (m i) (u i) (hosts_of (is i).group at.now) st)) spent

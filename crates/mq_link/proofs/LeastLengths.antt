@@ -10,7 +10,8 @@ use Rattle.mq_wire.specs.declared.records.RecordView.{RecordView}
 use Rattle.mq_wire.specs.Family.{Family, Igmp, Mld, address_width, group_end}
 use Rattle.mq_wire.specs.Fields.{number_at}
 use Rattle.mq_wire.specs.Queries.{older_spans, query_spans, source_spans, older_query, current_query}
-use Rattle.mq_wire.specs.Records.{record_spans, record_end, record_at, record_source_count, auxiliary_length, record_count, records_at, spans_of_records, report_spans, report_records}
+use Rattle.mq_wire.specs.Records.{record_spans, record_end, record_at, record_source_count, auxiliary_length, record_count, records_at}
+use Rattle.mq_wire.specs.Records.{spans_of_records, report_spans, report_records}
 use Rattle.mq_wire.proofs.Addresses.{length_addresses}
 use Rattle.mq_wire.proofs.Spans.{ends_within, sum-append, sum-replicate}
 use Rattle.mq_link.specs.Cost.{least_length}
@@ -32,7 +33,8 @@ least_record width place bytes wide =
 abbrev least_of : RecordView ℕ → ℕ
 least_of r = 8 + 4 * length r.sources
 
-least_records : (width count place : ℕ) (bytes : List ℕ) → 4 ≤ width → sum_by least_of (records_at width count place bytes) ≤ sum (spans_of_records width count place bytes)
+least_records : (width count place : ℕ) (bytes : List ℕ) → 4 ≤ width →
+    sum_by least_of (records_at width count place bytes) ≤ sum (spans_of_records width count place bytes)
 least_records width zero place bytes wide = omega arith
 least_records width (suc count) place bytes wide =
     let next = record_end width place bytes in
@@ -60,9 +62,15 @@ IsLong bytes message = least_length message ≤ length bytes
 long_report : (family : Family) (bytes : List ℕ) → AreWhole bytes (report_spans family bytes) → IsLong bytes (Report (report_records family bytes))
 long_report family bytes whole =
     let records = spans_of_records (address_width family) (record_count bytes) 8 bytes in
-    omega (arith, all_within bytes (report_spans family bytes) whole, sum-append (1 ∷ 1 ∷ 2 ∷ 2 ∷ 2 ∷ []) records, least_records (address_width family) (record_count bytes) 8 bytes (wide family))
+    omega (
+      arith,
+      all_within bytes (report_spans family bytes) whole,
+      sum-append (1 ∷ 1 ∷ 2 ∷ 2 ∷ 2 ∷ []) records,
+      least_records (address_width family) (record_count bytes) 8 bytes (wide family),
+    )
 
-long_query : (family : Family) (bytes : List ℕ) (b : Bool) → AreWhole bytes (cond b (older_spans family) (query_spans family bytes)) → IsLong bytes (Query (cond b (older_query family bytes) (current_query family bytes)))
+long_query : (family : Family) (bytes : List ℕ) (b : Bool) → AreWhole bytes (cond b (older_spans family) (query_spans family bytes)) →
+    IsLong bytes (Query (cond b (older_query family bytes) (current_query family bytes)))
 long_query family bytes true whole = omega (arith, all_within bytes (older_spans family) whole, least_older family)
 long_query family bytes false whole =
     let n = number_at (group_end family + 2) 2 bytes in
@@ -75,5 +83,6 @@ long_query family bytes false whole =
 long_older : (family : Family) (bytes : List ℕ) → AreWhole bytes (older_spans family) → 8 ≤ length bytes
 long_older family bytes whole = omega (arith, all_within bytes (older_spans family) whole, least_older family)
 
-pub long_where_read : (family : Family) (pseudo bytes : List ℕ) (message : Message ℕ) → read_of family pseudo bytes ≡ Ok message → least_length message ≤ length bytes
+pub long_where_read : (family : Family) (pseudo bytes : List ℕ) (message : Message ℕ) → read_of family pseudo bytes ≡ Ok message →
+    least_length message ≤ length bytes
 long_where_read = where_read (λ family bytes message. IsLong bytes message) long_query long_report (λ family bytes version. long_older family bytes) long_older

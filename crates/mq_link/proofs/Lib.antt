@@ -48,6 +48,7 @@ pub mod HandedOut
 pub mod LinkTicked
 pub mod TranslatedRecords
 pub mod ChangedSizes
+pub mod Applied
 pub mod ChangedRecords
 pub mod StatedSteps
 pub mod RefreshedGroups

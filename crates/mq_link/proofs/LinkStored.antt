@@ -43,18 +43,21 @@ pub stored_at_start : {K A : Type 0} (config : Configuration) (start : ℕ) (sto
 stored_at_start config start storage faultless held =
     let status : Setting = record { config = config; election = election_at config.timing start; now = start } in
     record {
-      sound = subst (AreSound status) (sym (ap (λ (h : HeldState). h.groups) held)) (sound_in config (link_at config start) (IsWellFormed-link_at config start faultless));
+      sound = subst (AreSound status) (sym (ap (λ (h : HeldState). h.groups) held))
+          (sound_in config (link_at config start) (IsWellFormed-link_at config start faultless));
       group_room = ap (λ (h : HeldState). h.order.room) held;
       source_room = ap (λ (h : HeldState). h.source_room) held;
     }
 
 -- the groups are fit to be worked on, and there is room for each
-pub ready_in : {K A : Type 0} (status : Setting) (storage : Storage K A) → IsFaultless status.config → AreSound status storage.held.groups → (room : ℕ) → 2 * status.config.limits.group_sources ≤ room → IsReady room storage
+pub ready_in : {K A : Type 0} (status : Setting) (storage : Storage K A) → IsFaultless status.config → AreSound status storage.held.groups →
+    (room : ℕ) → 2 * status.config.limits.group_sources ≤ room → IsReady room storage
 ready_in status storage faultless sound room wide = record {
   few = let n = sound.within.group_count in omega (arith, n, few_groups status.config faultless);
   served = λ group e is.
       let as_held = sound.all group e is in
-      let few : sources_of e ≤ status.config.limits.group_sources = subst (λ x. sources_of (unwrap_or x unheld) ≤ status.config.limits.group_sources) is (sound.within.group_sources group) in
+      let few : sources_of e ≤ status.config.limits.group_sources =
+      subst (λ x. sources_of (unwrap_or x unheld) ≤ status.config.limits.group_sources) is (sound.within.group_sources group) in
       record { held = as_held.held; fits = as_held.fits; room_for = omega arith };
 }
 
@@ -65,11 +68,13 @@ none_reached now (t ∷ ms) h =
     let later = not_reached now t h.0 in
     rw later (none_reached now ms h.1)
 
-pub none_due : (state : LinkState) (now : ℕ) → now < next_of state → (group : ℕ) (e : ScheduledGroup) → map.get state.groups group ≡ Some e → has_due now e ≡ false
+pub none_due : (state : LinkState) (now : ℕ) → now < next_of state → (group : ℕ) (e : ScheduledGroup) → map.get state.groups group ≡ Some e →
+    has_due now e ≡ false
 none_due state now before group e is =
     let parts = above_least now (next_moment state.election.role) (moments_in state.groups) before in
     let each = above_values now moments_of (map.entries state.groups) parts.1 in
-    none_reached now (moments_of e) (from-each (λ _ e. AllAbove now (moments_of e)) (map.entries state.groups) each group e (sym (map.get-entries state.groups group) ∙ is))
+    none_reached now (moments_of e)
+    (from-each (λ _ e. AllAbove now (moments_of e)) (map.entries state.groups) each group e (sym (map.get-entries state.groups group) ∙ is))
 
 -- what is stored after a call: the groups are sound still, and the rooms stay
 pub stored_next : {K A : Type 0} (status after : Setting) (storage next : Storage K A)

@@ -1,5 +1,6 @@
 -- The numbers whose count isn't zero, and the counts.
-use Rattle.std.proofs.Common.{◌≡◌, ◌≢◌, ℕ, suc, ◌+◌, ◌<◌, ◌≤◌, Bool, true, false, cond, ◌⊎◌, inl, inr, List, [], ◌∷◌, ◌++◌, length, set, drop, refl, sym, ap, ◌∙◌, arith, ltb, length-set}
+use Rattle.std.proofs.Common.{◌≡◌, ◌≢◌, ℕ, suc, ◌+◌, ◌<◌, ◌≤◌, Bool, true, false, cond, ◌⊎◌, inl, inr, List, [], ◌∷◌, ◌++◌, length, set, drop, refl}
+use Rattle.std.proofs.Common.{sym, ap, ◌∙◌, arith, ltb, length-set}
 use Rattle.std.specs.Prelude.{slice_index}
 use Rattle.std.specs.List.{All, count_by}
 use Rattle.std.specs.Ordering.{nat_cmp, eq_by_cmp}
@@ -110,12 +111,29 @@ module _ (counts numbers : List ℕ) (known : AreListed counts numbers) (number 
             let had = known.once n in
             let had_not = ap (λ m. counts_so (slice_index counts m)) is in
             let counts_now = ap (λ m. counts_so (slice_index counted m)) is in
-            omega (arith, had, had_not, had_none, counts_now, here, sum_by-append (is_cell n) numbers (number ∷ []), sum_by-cons (is_cell n) number [], is_cell-same n number (sym is))
+            omega (
+              arith,
+              had,
+              had_not,
+              had_none,
+              counts_now,
+              here,
+              sum_by-append (is_cell n) numbers (number ∷ []),
+              sum_by-cons (is_cell n) number [],
+              is_cell-same n number (sym is),
+            )
         by_number n false differs =
             let apart : n ≢ number = λ same. true≢false (sym (ties n number same) ∙ differs) in
             let had = known.once n in
             let there = ap counts_so (elsewhere n apart) in
-            omega (arith, had, there, sum_by-append (is_cell n) numbers (number ∷ []), sum_by-cons (is_cell n) number [], is_cell-other n number (λ same. apart (sym same)))
+            omega (
+              arith,
+              had,
+              there,
+              sum_by-append (is_cell n) numbers (number ∷ []),
+              sum_by-cons (is_cell n) number [],
+              is_cell-other n number (λ same. apart (sym same)),
+            )
 
 -- Counts are set to zero, one listed number after the other: what isn't zero is of a number that is left.
 abbrev pub IsLeft : (counts numbers : List ℕ) (index : ℕ) → Type 0

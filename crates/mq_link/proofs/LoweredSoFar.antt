@@ -1,5 +1,6 @@
 -- A group some of whose sources were lowered one after the other.
-use Rattle.std.proofs.Common.{◌≡◌, ℕ, ◌+◌, ◌*◌, ◌≤◌, ◌<◌, min, Bool, false, cond, ◌||◌, List, [], ◌∷◌, ◌++◌, length, sym, ap, ◌∙◌, arith, append-nil, append_assoc, length-append, eqb}
+use Rattle.std.proofs.Common.{◌≡◌, ℕ, ◌+◌, ◌*◌, ◌≤◌, ◌<◌, min, Bool, false, cond, ◌||◌, List, [], ◌∷◌, ◌++◌, length, sym, ap, ◌∙◌, arith, append-nil}
+use Rattle.std.proofs.Common.{append_assoc, length-append, eqb}
 use Rattle.std.proofs.lemmas.Bool.Decides.{nat_tests}
 use Rattle.std.specs.List.{list_any}
 use Rattle.std.specs.Ordering.{nat_cmp}
@@ -18,7 +19,8 @@ use Rattle.mq_table.proofs.Lower.{timer_at-sources_lowered, lowered_both}
 use Rattle.mq_link.proofs.MadeEntries.{len-made}
 use Rattle.mq_link.proofs.NamedSoFar.{any_push}
 
-pub record IsLowered (timing : Timing) (now : ℕ) (all left : List ℕ) (from : StoredGroup) (from_count : ℕ) (g : StoredGroup) (count : ℕ) (done : List ℕ) : Type 0 where
+pub record IsLowered (timing : Timing) (now : ℕ) (all left : List ℕ) (from : StoredGroup) (from_count : ℕ) (g : StoredGroup) (count : ℕ)
+    (done : List ℕ) : Type 0 where
   pub parts : all ≡ done ++ left
   pub state : g.state ≡ sources_lowered timing now (λ s. list_any (λ n. eqb n s) done) from.state
   pub room : g.room ≡ from.room
@@ -51,7 +53,8 @@ one_lowered timing now all before left from old new from_count count after n don
           ∙ lowered_both timing now asked (λ s. eqb s n) from.state
           ∙ (λ i. sources_lowered timing now (λ s. same s i) from.state);
       room = room ∙ lowered.room;
-      spent = Spends-join_within 0 (length (done ++ n ∷ []) * (bitlen (size_of from.state) + 1)) lowered.spent counted (omega arith) (more (length done) _ _ _ whole digits);
+      spent = Spends-join_within 0 (length (done ++ n ∷ []) * (bitlen (size_of from.state) + 1)) lowered.spent counted (omega arith)
+          (more (length done) _ _ _ whole digits);
     }
   where
     same : (s : ℕ) → (list_any (λ k. eqb k s) done || eqb s n) ≡ list_any (λ k. eqb k s) (done ++ n ∷ [])
@@ -66,7 +69,8 @@ all_lowered timing now all left from from_count g count done lowered none =
     sym (append-nil done) ∙ ap (λ (xs : List ℕ). done ++ xs) (sym none) ∙ sym lowered.parts
 
 -- lowering the sources that a query lists is lowering their set
-pub lowered_as_set : (timing : Timing) (now : ℕ) (sources : List ℕ) (g : GroupState) → 0 < length sources → sources_lowered timing now (λ s. list_any (λ n. eqb n s) sources) g ≡ lowered_by_query timing now false (some_named sources) g
+pub lowered_as_set : (timing : Timing) (now : ℕ) (sources : List ℕ) (g : GroupState) → 0 < length sources →
+    sources_lowered timing now (λ s. list_any (λ n. eqb n s) sources) g ≡ lowered_by_query timing now false (some_named sources) g
 lowered_as_set timing now [] g some = absurd (omega arith)
 lowered_as_set timing now (n ∷ sources) g some = (λ i. sources_lowered timing now (λ s. same s i) g)
   where

@@ -1,5 +1,6 @@
 -- Maps in which each value is replaced and none is left out.
-use Rattle.std.proofs.Common.{◌≡◌, ℕ, ◌-◌, ◌+◌, Bool, true, false, cond, is_some, List, [], ◌∷◌, length, refl, sym, ap, ◌∙◌, Option, None, Some, ltb, eqb, ◌&&◌, arith}
+use Rattle.std.proofs.Common.{◌≡◌, ℕ, ◌-◌, ◌+◌, Bool, true, false, cond, is_some, List, [], ◌∷◌, length, refl, sym, ap, ◌∙◌, Option, None, Some, ltb}
+use Rattle.std.proofs.Common.{eqb, ◌&&◌, arith}
 use Rattle.std.proofs.lemmas.Bool.Decides.{nat_tests}
 use Rattle.std.specs.Prelude.{map as list_map}
 use Rattle.std.specs.Option.{option_and_then}
@@ -51,7 +52,9 @@ more_than_one (Some (Running d n)) = fewer n
     fewer n = grind (arith, nat_tests)
 
 -- the sources of a group have sendings to go after a count where one has another beside the next
-pub some_after_count : {K : Type 0} (number : K → ℕ) (g : GroupState) (row : List (Source K)) → IsAscending (number_in number) row → timers_in number row ≡ g.sources → some_source (has_sendings (sendings_counted g)) (sendings_counted g) ≡ list_any (λ (x : Source K). ltb 1 (sendings_of (Some x.timer))) row
+pub some_after_count : {K : Type 0} (number : K → ℕ) (g : GroupState) (row : List (Source K)) → IsAscending (number_in number) row →
+    timers_in number row ≡ g.sources → some_source (has_sendings (sendings_counted g)) (sendings_counted g)
+    ≡ list_any (λ (x : Source K). ltb 1 (sendings_of (Some x.timer))) row
 some_after_count number g row up is =
     ap (list_any (has_sendings (sendings_counted g))) (keys-made (λ s timer. source_counted timer) g.sources)
     ∙ (λ i. list_any (λ s. test s i) (map.keys g.sources))
@@ -62,7 +65,9 @@ some_after_count number g row up is =
     test s = ap (λ timer. ltb 0 (sendings_of timer)) (get-kept (λ s timer. Some (source_counted timer)) g.sources s) ∙ more_than_one (map.get g.sources s)
 
 -- whether the sources are due again after a round in which they are
-pub due_again : (timing : Timing) (now : ℕ) (g : GroupState) (due : Option ℕ) (some : Bool) → is_due now due ≡ true → some_source (has_sendings (sendings_counted g)) (sendings_counted g) ≡ some → some ≡ is_some (cond (is_due now due) (sources_due_next timing now (cond (is_due now due) (sendings_counted g) g)) due)
+pub due_again : (timing : Timing) (now : ℕ) (g : GroupState) (due : Option ℕ) (some : Bool) → is_due now due ≡ true →
+    some_source (has_sendings (sendings_counted g)) (sendings_counted g) ≡ some →
+    some ≡ is_some (cond (is_due now due) (sources_due_next timing now (cond (is_due now due) (sendings_counted g) g)) due)
 due_again timing now g due some is same =
     sym same
     ∙ by_some (some_source (has_sendings (sendings_counted g)) (sendings_counted g))

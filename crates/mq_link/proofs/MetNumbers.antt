@@ -1,5 +1,6 @@
 -- The counts of groups by number are those by address, whatever records meet.
-use Rattle.std.proofs.Common.{◌≡◌, ◌≢◌, ℕ, ◌+◌, ◌<◌, ◌≤◌, min, Bool, true, false, cond, ◌&&◌, ◌⊎◌, inl, inr, List, length, set, refl, sym, ap, ◌∙◌, subst, arith, leb, ltb, length-set}
+use Rattle.std.proofs.Common.{◌≡◌, ◌≢◌, ℕ, ◌+◌, ◌<◌, ◌≤◌, min, Bool, true, false, cond, ◌&&◌, ◌⊎◌, inl, inr, List, length, set, refl, sym, ap, ◌∙◌}
+use Rattle.std.proofs.Common.{subst, arith, leb, ltb, length-set}
 use Rattle.std.specs.Prelude.{slice_index}
 use Rattle.std.specs.Option.{unwrap_or}
 use Rattle.std.specs.Ordering.{nat_cmp, eq_by_cmp}
@@ -39,7 +40,8 @@ pub record AreNumbered (s : HeldState) : Type 0 where
   pub one : (address number other : ℕ) → HasNumber s address number → HasNumber s address other → number ≡ other
 
 -- Where each group that was held keeps its number, the counts stay those of the map: a new group gets a number that none had.
-module _ (s next : HeldState) (numbered : AreNumbered s) (numbered_next : AreNumbered next) (keeps : KeepsNumbers s next) (counts : List ℕ) (seen : Seen) (is : AreMet s counts seen) where
+module _ (s next : HeldState) (numbered : AreNumbered s) (numbered_next : AreNumbered next) (keeps : KeepsNumbers s next) (counts : List ℕ)
+    (seen : Seen) (is : AreMet s counts seen) where
   pub was_absent : (address : ℕ) → map.contains_key next.groups address ≡ false → map.contains_key s.groups address ≡ false
   was_absent address absent = by_test (map.contains_key s.groups address) refl
     where
@@ -66,7 +68,8 @@ module _ (s next : HeldState) (numbered : AreNumbered s) (numbered_next : AreNum
     unused = λ number some. let used = is.unused number some in (used.0, keeps used.0 number used.1);
   }
     where
-      by_test : (address number : ℕ) → HasNumber next address number → (b : Bool) → map.contains_key s.groups address ≡ b → slice_index counts number ≡ min 4 (met seen address)
+      by_test : (address number : ℕ) → HasNumber next address number → (b : Bool) → map.contains_key s.groups address ≡ b →
+          slice_index counts number ≡ min 4 (met seen address)
       by_test address number has true was =
           let had = numbered.held address was in
           let same = numbered_next.one address number had.0 has (keeps address had.0 had.1) in
@@ -85,7 +88,8 @@ length-counted_again counts number = by_test (leb 4 (slice_index counts number))
     by_test false = length-set counts number (slice_index counts number + 1)
 
 -- One record more meets a group that is held.
-module _ (s : HeldState) (numbered : AreNumbered s) (counts : List ℕ) (seen : Seen) (is : AreMet s counts seen) (address number : ℕ) (has : HasNumber s address number) (within : number < length counts) where
+module _ (s : HeldState) (numbered : AreNumbered s) (counts : List ℕ) (seen : Seen) (is : AreMet s counts seen) (address number : ℕ)
+    (has : HasNumber s address number) (within : number < length counts) where
   pub repeats_by_number : leb 4 (slice_index counts number) ≡ is_repeated s.groups seen address
   repeats_by_number =
       ap (leb 4) (is.held address number has)
@@ -106,7 +110,8 @@ module _ (s : HeldState) (numbered : AreNumbered s) (counts : List ℕ) (seen : 
   absent_still other absent = by_address (eq_by_cmp nat_cmp other address) refl
     where
       by_address : (b : Bool) → eq_by_cmp nat_cmp other address ≡ b → met (again seen address) other ≡ 0
-      by_address true same = absurd (true≢false (sym (numbered.of_one address number has) ∙ ap (map.contains_key s.groups) (sym (tied other address same)) ∙ absent))
+      by_address true same =
+          absurd (true≢false (sym (numbered.of_one address number has) ∙ ap (map.contains_key s.groups) (sym (tied other address same)) ∙ absent))
       by_address false differs = met_other seen address other differs ∙ is.absent other absent
 
   -- where it was met four times, it isn't told apart
@@ -117,7 +122,8 @@ module _ (s : HeldState) (numbered : AreNumbered s) (counts : List ℕ) (seen : 
     unused = is.unused;
   }
     where
-      by_address : (other n : ℕ) → HasNumber s other n → (b : Bool) → eq_by_cmp nat_cmp other address ≡ b → slice_index counts n ≡ min 4 (met (again seen address) other)
+      by_address : (other n : ℕ) → HasNumber s other n → (b : Bool) → eq_by_cmp nat_cmp other address ≡ b →
+          slice_index counts n ≡ min 4 (met (again seen address) other)
       by_address other n also true same =
           let at = tied other address same in
           let count = is.held other n also in
@@ -143,7 +149,8 @@ module _ (s : HeldState) (numbered : AreNumbered s) (counts : List ℕ) (seen : 
       elsewhere : (n : ℕ) → n ≢ number → slice_index counted n ≡ slice_index counts n
       elsewhere n differs = get_or-set_other counts number n (slice_index counts number + 1) 0 differs
 
-      by_address : (other n : ℕ) → HasNumber s other n → (b : Bool) → eq_by_cmp nat_cmp other address ≡ b → slice_index counted n ≡ min 4 (met (again seen address) other)
+      by_address : (other n : ℕ) → HasNumber s other n → (b : Bool) → eq_by_cmp nat_cmp other address ≡ b →
+          slice_index counted n ≡ min 4 (met (again seen address) other)
       by_address other n also true same =
           let at = tied other address same in
           let same_number = numbered.one address n number (subst (λ a. HasNumber s a n) at also) has in
@@ -151,7 +158,8 @@ module _ (s : HeldState) (numbered : AreNumbered s) (counts : List ℕ) (seen : 
           let met_then = ap (met (again seen address)) at ∙ met_once seen address in
           omega (arith, few, once_more, here, count, met_then)
       by_address other n also false differs =
-          let apart : n ≢ number = λ same. true≢false (sym (ties other address (numbered.same other address number (subst (HasNumber s other) same also) has)) ∙ differs) in
+          let apart : n ≢ number =
+          λ same. true≢false (sym (ties other address (numbered.same other address number (subst (HasNumber s other) same also) has)) ∙ differs) in
           elsewhere n apart ∙ is.held other n also ∙ ap (min 4) (sym (met_other seen address other differs))
 
       by_number : (n : ℕ) → 1 ≤ slice_index counted n → (b : Bool) → eq_by_cmp nat_cmp n number ≡ b → (a : ℕ) × HasNumber s a n
@@ -163,6 +171,7 @@ module _ (s : HeldState) (numbered : AreNumbered s) (counts : List ℕ) (seen : 
   pub met_again_by_number : AreMet s (counted_again counts number) (again seen address)
   met_again_by_number = by_test (leb 4 (slice_index counts number)) refl
     where
-      by_test : (b : Bool) → leb 4 (slice_index counts number) ≡ b → AreMet s (cond b counts (set counts number (slice_index counts number + 1))) (again seen address)
+      by_test : (b : Bool) → leb 4 (slice_index counts number) ≡ b → AreMet s (cond b counts (set counts number (slice_index counts number + 1)))
+          (again seen address)
       by_test true four = fifth (leb-true 4 (slice_index counts number) four)
       by_test false few = next_one (leb-false 4 (slice_index counts number) few)

@@ -17,7 +17,8 @@ pub paid_within : (budget : ℕ) {less before after old new : ℕ} → IsPaid le
 paid_within budget h few = let paid = h.paid in record { moved = h.moved; spends = h.spends; paid = omega arith }
 
 -- one after the other
-pub paid_join : (budget : ℕ) {first second before between after old mid new : ℕ} → IsPaid first before between old mid → IsPaid second between after mid new → first + second ≤ budget → IsPaid budget before after old new
+pub paid_join : (budget : ℕ) {first second before between after old mid new : ℕ} → IsPaid first before between old mid →
+    IsPaid second between after mid new → first + second ≤ budget → IsPaid budget before after old new
 paid_join budget h k few =
     let a = h.paid in
     let b = k.paid in

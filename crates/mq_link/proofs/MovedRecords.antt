@@ -18,19 +18,22 @@ use Rattle.mq_link.proofs.Potential.{potential, potential-empty, potential-le, p
 use Rattle.mq_link.proofs.RecordCosts.{four_times, stated_left}
 use Rattle.mq_link.proofs.TakenRecords.{again, met_once, met_more}
 
-pub record_moves_pay : (at : Setting) (seen : Seen) (r : RecordView ℕ) (groups : Groups) → record_moves at.config seen r groups + potential (seen_after at.config r groups seen) (judged at seen r groups).groups ≤ potential seen groups + own_moves r
+pub record_moves_pay : (at : Setting) (seen : Seen) (r : RecordView ℕ) (groups : Groups) →
+    record_moves at.config seen r groups + potential (seen_after at.config r groups seen) (judged at seen r groups).groups ≤ potential seen groups + own_moves r
 unfolding judged
 record_moves_pay at seen r groups = by_entrance (entrance at.config r)
   where
     by_tests : (kind : Kind) (held four : Bool) → map.contains_key groups r.group ≡ held → leb 4 (met seen r.group) ≡ four →
         cond (held && four) 0 (5 * (sources_of (group_at groups r.group) + length r.sources) + moved_by_edit)
-        + potential (cond held (again seen r.group) seen) (cond (held && four) (leaving groups (Refused Repeated)) (stated at r.group (RecordOf kind (set.from_list r.sources)) groups)).groups
+        + potential (cond held (again seen r.group) seen)
+        (cond (held && four) (leaving groups (Refused Repeated)) (stated at r.group (RecordOf kind (set.from_list r.sources)) groups)).groups
         ≤ potential seen groups + own_moves r
     by_tests kind true true held four =
         let same = potential-le seen (again seen r.group) groups (λ k. (met_more seen r.group k).0) in
         omega (arith, same)
     by_tests kind true false held four =
-        let falls = potential-falls seen (again seen r.group) groups (λ k. (met_more seen r.group k).0) r.group (met_once seen r.group) (leb-false 4 (met seen r.group) four) held in
+        let falls = potential-falls seen (again seen r.group) groups (λ k. (met_more seen r.group k).0) r.group (met_once seen r.group)
+        (leb-false 4 (met seen r.group) four) held in
         let left = stated_left at (again seen r.group) r.group kind r.sources groups in
         let own = four_times (met (again seen r.group) r.group) (length r.sources) in
         omega (arith, falls, left, own)
@@ -40,12 +43,14 @@ record_moves_pay at seen r groups = by_entrance (entrance at.config r)
         let own = four_times (met seen r.group) (length r.sources) in
         omega (arith, small, left, own)
 
-    by_entrance : (entered : Entrance) → moves_by entered seen r groups + potential (seen_by entered r.group groups seen) (judged_from at seen r groups entered).groups ≤ potential seen groups + own_moves r
+    by_entrance : (entered : Entrance) → moves_by entered seen r groups + potential (seen_by entered r.group groups seen)
+        (judged_from at seen r groups entered).groups ≤ potential seen groups + own_moves r
     by_entrance (Stops verdict) = omega arith
     by_entrance (GoesOn kind) = by_tests kind (map.contains_key groups r.group) (leb 4 (met seen r.group)) refl refl
 
 -- What the records so far have moved leaves enough for those that are left.
-pub record IsMovedSoFar (all : List (RecordView ℕ)) (held : Groups) (from from_put_by : ℕ) (left : List (RecordView ℕ)) (seen : Seen) (groups : Groups) (moved put_by : ℕ) : Type 0 where
+pub record IsMovedSoFar (all : List (RecordView ℕ)) (held : Groups) (from from_put_by : ℕ) (left : List (RecordView ℕ)) (seen : Seen)
+    (groups : Groups) (moved put_by : ℕ) : Type 0 where
   pub budget : ℕ
   pub paid : IsPaid budget from_put_by put_by from moved
   pub enough : budget + potential seen groups + sum_by own_moves left ≤ 24 * sources_in held + sum_by own_moves all
@@ -53,7 +58,8 @@ pub record IsMovedSoFar (all : List (RecordView ℕ)) (held : Groups) (from from
 pub none_moved : (all : List (RecordView ℕ)) (groups : Groups) (moved put_by : ℕ) → IsMovedSoFar all groups moved put_by all map.empty groups moved put_by
 none_moved all groups moved put_by = record { budget = 0; paid = paid_none put_by moved; enough = omega (arith, potential-empty groups) }
 
-pub one_moved : (at : Setting) (all : List (RecordView ℕ)) (held : Groups) (from from_put_by : ℕ) (before rest : List (RecordView ℕ)) (r : RecordView ℕ) (seen : Seen) (groups : Groups) (moved next put_by next_put_by : ℕ)
+pub one_moved : (at : Setting) (all : List (RecordView ℕ)) (held : Groups) (from from_put_by : ℕ) (before rest : List (RecordView ℕ))
+    (r : RecordView ℕ) (seen : Seen) (groups : Groups) (moved next put_by next_put_by : ℕ)
     → IsMovedSoFar all held from from_put_by before seen groups moved put_by
     → before ≡ r ∷ rest
     → IsPaid (record_moves at.config seen r groups) put_by next_put_by moved next
@@ -67,7 +73,9 @@ one_moved at all held from from_put_by before rest r seen groups moved next put_
       enough = omega (arith, enough, record_moves_pay at seen r groups, sum_by-cons own_moves r rest);
     }
 
-pub all_moved : (all : List (RecordView ℕ)) (held : Groups) (from from_put_by : ℕ) (left : List (RecordView ℕ)) (seen : Seen) (groups : Groups) (moved put_by : ℕ) → IsMovedSoFar all held from from_put_by left seen groups moved put_by → left ≡ [] → IsPaid (24 * sources_in held + sum_by own_moves all) from_put_by put_by from moved
+pub all_moved : (all : List (RecordView ℕ)) (held : Groups) (from from_put_by : ℕ) (left : List (RecordView ℕ)) (seen : Seen) (groups : Groups)
+    (moved put_by : ℕ) → IsMovedSoFar all held from from_put_by left seen groups moved put_by → left ≡ [] →
+    IsPaid (24 * sources_in held + sum_by own_moves all) from_put_by put_by from moved
 all_moved all held from from_put_by left seen groups moved put_by so_far none =
     let h = subst (λ left. IsMovedSoFar all held from from_put_by left seen groups moved put_by) none so_far in
     let enough = h.enough in

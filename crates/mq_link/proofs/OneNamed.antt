@@ -9,8 +9,10 @@ use Rattle.mq_table.specs.Stored.{named_in}
 pub names-none : {K : Type 0} (number : K → ℕ) (xs : List K) → xs ≡ [] → (s : ℕ) → set.contains (named_in number xs) s ≡ false
 names-none number xs none s = ap (λ ys. set.contains (named_in number ys) s) none ∙ set.contains-from_list nat_cmp_total [] s
 
-pub names-one : {K : Type 0} (number : K → ℕ) (xs : List K) (x : K) → xs ≡ x ∷ [] → (s : ℕ) → set.contains (named_in number xs) s ≡ eq_by_cmp nat_cmp s (number x)
-names-one number xs x one s = ap (λ ys. set.contains (named_in number ys) s) one ∙ set.contains-from_list nat_cmp_total (number x ∷ []) s ∙ or-false (eq_by_cmp nat_cmp s (number x))
+pub names-one : {K : Type 0} (number : K → ℕ) (xs : List K) (x : K) → xs ≡ x ∷ [] → (s : ℕ) → set.contains (named_in number xs) s
+    ≡ eq_by_cmp nat_cmp s (number x)
+names-one number xs x one s = ap (λ ys. set.contains (named_in number ys) s) one ∙ set.contains-from_list nat_cmp_total (number x ∷ []) s ∙
+    or-false (eq_by_cmp nat_cmp s (number x))
 
 -- a list of one item
 pub one_item : {X : Type 0} (xs : List X) (x : X) → length xs ≡ 1 → x ≡ get_or xs 0 x → xs ≡ x ∷ []

@@ -1,5 +1,6 @@
 -- What a group that is put, made or taken out moves is paid by five for each of its sources, and by what is put by.
-use Rattle.std.proofs.Common.{◌≡◌, cond, ℕ, ◌+◌, ◌-◌, ◌*◌, ◌/◌, ◌<◌, ◌≤◌, Bool, true, false, not, min, ⊎_elim, None, Some, IfSome, refl, length, sym, ap, ◌∙◌, arith, leb, ltb, ◌⊎◌, inl, inr}
+use Rattle.std.proofs.Common.{◌≡◌, cond, ℕ, ◌+◌, ◌-◌, ◌*◌, ◌/◌, ◌<◌, ◌≤◌, Bool, true, false, not, min, ⊎_elim, None, Some, IfSome, refl, length, sym}
+use Rattle.std.proofs.Common.{ap, ◌∙◌, arith, leb, ltb, ◌⊎◌, inl, inr}
 use Rattle.mq_held.proofs.DueInOrder.{few-running}
 use Rattle.mq_link.proofs.GrownGroups.{one_at_most}
 use Rattle.std.specs.Prelude.{slice_index}
@@ -42,9 +43,11 @@ module _ (groups : Groups) (a : ℕ) where
       omega (arith, total, total-entries runs groups, total-entries runs (map.insert groups a e))
 
 -- what is moved for a row is paid, by numbers alone
-row_paid : (limit room cells running ahead had has named left : ℕ) → named ≤ running + 1 → running ≤ room → had ≤ cells → cells + has ≤ limit + had → left ≤ running + 1
+row_paid : (limit room cells running ahead had has named left : ℕ) → named ≤ running + 1 → running ≤ room → had ≤ cells → cells + has ≤ limit + had →
+    left ≤ running + 1
     → (cond (leb has had) has (cond (leb has ahead) has (has + (cells - had + named))))
-    + min (4 * (limit / 4 + room - (cond (leb has had) ahead (cond (leb has ahead) (ahead - has) (limit + limit / 4 + room - (cells - had + has)))))) (cells - had + has + left)
+    + min (4 * (limit / 4 + room - (cond (leb has had) ahead (cond (leb has ahead) (ahead - has) (limit + limit / 4 + room - (cells - had + has))))))
+    (cells - had + has + left)
     ≤ min (4 * (limit / 4 + room - ahead)) (cells + running) + 5 * has + 1
 row_paid limit room cells running ahead had has named left few within part fits more =
     ⊎_elim
@@ -70,9 +73,11 @@ kept_size e = by_test (is_vacant e.group) refl
     by_test false is = refl
 
 -- the rows once a group is set, with what is put by then
-set_paid : (s after : HeldState) (a has : ℕ) (named : ℕ) (left : ScheduledGroup) → sources_of left ≡ has → named ≤ running_in s.groups + 1 → map.len s.groups ≤ s.order.room
+set_paid : (s after : HeldState) (a has : ℕ) (named : ℕ) (left : ScheduledGroup) → sources_of left ≡ has → named ≤ running_in s.groups + 1 →
+    map.len s.groups ≤ s.order.room
     → sources_of (group_at s.groups a) ≤ sources_in s.groups → sources_in s.groups + has ≤ s.source_room + sources_of (group_at s.groups a)
-    → after.groups ≡ map.insert s.groups a left → after.order.room ≡ s.order.room → after.source_room ≡ s.source_room → after.ahead ≡ ahead_with s (sources_of (group_at s.groups a)) has
+    → after.groups ≡ map.insert s.groups a left → after.order.room ≡ s.order.room → after.source_room ≡ s.source_room →
+    after.ahead ≡ ahead_with s (sources_of (group_at s.groups a)) has
     → moved_by_packing named s (sources_of (group_at s.groups a)) has + put_by_rows after ≤ put_by_rows s + 5 * has + 1
 set_paid s after a has named left has_is named_few few own fits groups_are rooms room_is ahead_is =
     let had = sources_of (group_at s.groups a) in
@@ -81,8 +86,10 @@ set_paid s after a has named left has_is named_few few own fits groups_are rooms
     let moments = running_set s.groups a left in
     let one = one_at_most (not (is_vacant left.group)) in
     let all = few-running s.groups in
-    let paid = row_paid s.source_room s.order.room (sources_in s.groups) (running_in s.groups) s.ahead had has named (running_in (map.insert s.groups a left)) named_few (omega (arith, all, few)) own fits (omega (arith, moments, one)) in
-    let after_is : put_by_rows after ≡ min (4 * (s.source_room / 4 + s.order.room - ahead_with s had has)) (sources_in s.groups - had + has + running_in (map.insert s.groups a left)) =
+    let paid = row_paid s.source_room s.order.room (sources_in s.groups) (running_in s.groups) s.ahead had has named
+    (running_in (map.insert s.groups a left)) named_few (omega (arith, all, few)) own fits (omega (arith, moments, one)) in
+    let after_is : put_by_rows after ≡ min (4 * (s.source_room / 4 + s.order.room - ahead_with s had has))
+    (sources_in s.groups - had + has + running_in (map.insert s.groups a left)) =
     λ i. min (4 * (room_is i / 4 + rooms i - ahead_is i)) ((ap sources_in groups_are ∙ total) i + running_in (groups_are i))
     in
     omega (arith, paid, after_is)
@@ -92,18 +99,22 @@ pub put_paid : (s after : HeldState) (a : ℕ) (e : ScheduledGroup) (old new : �
     → sources_in s.groups + sources_of e ≤ s.source_room + sources_of (group_at s.groups a)
     → after.groups ≡ map.insert s.groups a (kept_as e) → after.order ≡ s.order → after.source_room ≡ s.source_room
     → after.ahead ≡ ahead_with s (sources_of (group_at s.groups a)) (sources_of e)
-    → (let before = group_at s.groups a in let rows = moved_by_row s (is_vacant before.group) (sources_of before) (sources_of e) in Spends rows (rows + 4 + bitlen (running_in s.groups - one_if (not (is_vacant before.group)))) old new)
+    → (let before = group_at s.groups a in let rows = moved_by_row s (is_vacant before.group) (sources_of before) (sources_of e) in
+    Spends rows (rows + 4 + bitlen (running_in s.groups - one_if (not (is_vacant before.group)))) old new)
     → IsPaid (5 * sources_of e + 5 + bitlen (map.len s.groups)) (put_by_rows s) (put_by_rows after) old new
 put_paid s after a e old new few fits groups_are order_is room_is ahead_is moved =
     let before = group_at s.groups a in
     let one = one_at_most (is_vacant before.group) in
     let rooms = ap (λ (o : NumberedKeysState). o.room) order_is in
-    let paid = set_paid s after a (sources_of e) (running_in s.groups + one_if (is_vacant before.group)) (kept_as e) (kept_size e) (omega (arith, one)) few (own_sources s.groups a) fits groups_are rooms room_is ahead_is in
-    let digits = bitlen-mono (running_in s.groups - one_if (not (is_vacant before.group))) (map.len s.groups) (let all = few-running s.groups in omega (arith, all)) in
+    let paid = set_paid s after a (sources_of e) (running_in s.groups + one_if (is_vacant before.group)) (kept_as e) (kept_size e)
+    (omega (arith, one)) few (own_sources s.groups a) fits groups_are rooms room_is ahead_is in
+    let digits = bitlen-mono (running_in s.groups - one_if (not (is_vacant before.group))) (map.len s.groups)
+    (let all = few-running s.groups in omega (arith, all)) in
     paid_by (5 * sources_of e + 5 + bitlen (map.len s.groups)) moved (omega (arith, paid, digits))
 
 -- the order of the addresses has few pages, none of which has many
-module _ (s : HeldState) (few : map.len s.groups ≤ 65535) (filled : AreFilled s.order.pages) (few_pages : 128 * length s.order.pages ≤ map.len s.groups + 128) where
+module _ (s : HeldState) (few : map.len s.groups ≤ 65535) (filled : AreFilled s.order.pages)
+    (few_pages : 128 * length s.order.pages ≤ map.len s.groups + 128) where
   pages_few : length s.order.pages ≤ 512
   pages_few = omega (arith, few, few_pages)
 
@@ -120,7 +131,8 @@ module _ (s : HeldState) (few : map.len s.groups ≤ 65535) (filled : AreFilled 
           (λ (upto : place ≤ 255). rw (le-leb place 255 upto) (omega arith))
           (cases_lt 255 place)
 
-      by_room : (count : ℕ) → count ≤ 511 → spot.place ≤ count → cond (ltb count 511) (count - spot.place + 1) (256 + (length s.order.pages - spot.page) + cond (leb spot.place 255) (255 - spot.place + 1) (256 - (spot.place - 255) + 1)) ≤ 1024
+      by_room : (count : ℕ) → count ≤ 511 → spot.place ≤ count → cond (ltb count 511) (count - spot.place + 1)
+          (256 + (length s.order.pages - spot.page) + cond (leb spot.place 255) (255 - spot.place + 1) (256 - (spot.place - 255) + 1)) ≤ 1024
       by_room count within place =
           let few = behind spot.place in
           let pages = pages_few in
@@ -135,14 +147,18 @@ module _ (s : HeldState) (few : map.len s.groups ≤ 65535) (filled : AreFilled 
   -- a group is made
   pub made_paid : (after : HeldState) (a : ℕ) (spot : Spot) (e : ScheduledGroup) (old new : ℕ) → map.len s.groups ≤ s.order.room → group_at s.groups a ≡ unheld
       → IsSpotFor s.order.items s.order.pages a spot → sources_in s.groups + sources_of e ≤ s.source_room
-      → after.groups ≡ map.insert s.groups a e → after.order.room ≡ s.order.room → after.source_room ≡ s.source_room → after.ahead ≡ ahead_with s 0 (sources_of e)
+      → after.groups ≡ map.insert s.groups a e → after.order.room ≡ s.order.room → after.source_room ≡ s.source_room →
+      after.ahead ≡ ahead_with s 0 (sources_of e)
       → (let own = moved_by_insert s.order.pages spot + moved_by_new_row s (sources_of e) in Spends (own + 4) (own + 4 + bitlen (running_in s.groups)) old new)
       → IsPaid (5 * sources_of e + moved_by_edit) (put_by_rows s) (put_by_rows after) old new
   made_paid after a spot e old new room absent is fits groups_are rooms room_is ahead_is moved =
       let none : sources_of (group_at s.groups a) ≡ 0 = ap sources_of absent ∙ no_sources in
-      let ahead_then : after.ahead ≡ ahead_with s (sources_of (group_at s.groups a)) (sources_of e) = ahead_is ∙ ap (λ n. ahead_with s n (sources_of e)) (sym none) in
-      let paid = set_paid s after a (sources_of e) (running_in s.groups + 1) e refl (omega arith) room (own_sources s.groups a) (omega (arith, fits)) groups_are rooms room_is ahead_then in
-      let same : moved_by_packing (running_in s.groups + 1) s (sources_of (group_at s.groups a)) (sources_of e) ≡ moved_by_new_row s (sources_of e) = ap (λ n. moved_by_packing (running_in s.groups + 1) s n (sources_of e)) none in
+      let ahead_then : after.ahead ≡ ahead_with s (sources_of (group_at s.groups a)) (sources_of e) = ahead_is ∙
+      ap (λ n. ahead_with s n (sources_of e)) (sym none) in
+      let paid = set_paid s after a (sources_of e) (running_in s.groups + 1) e refl (omega arith) room (own_sources s.groups a)
+      (omega (arith, fits)) groups_are rooms room_is ahead_then in
+      let same : moved_by_packing (running_in s.groups + 1) s (sources_of (group_at s.groups a)) (sources_of e) ≡ moved_by_new_row s (sources_of e) =
+      ap (λ n. moved_by_packing (running_in s.groups + 1) s n (sources_of e)) none in
       let order = insert_few a spot is in
       let digits = digits_few in
       paid_by (5 * sources_of e + moved_by_edit) moved (omega (arith, paid, same, order, digits))
@@ -162,10 +178,12 @@ sources_no_more k e = by_test (is_vacant e.group)
     by_test true = tt
     by_test false = omega arith
 
-pub taken_out_paid : (s after : HeldState) (budget low old new : ℕ) → after.groups ≡ without_vacant s.groups → after.order.room ≡ s.order.room → after.source_room ≡ s.source_room → after.ahead ≡ s.ahead
+pub taken_out_paid : (s after : HeldState) (budget low old new : ℕ) → after.groups ≡ without_vacant s.groups → after.order.room ≡ s.order.room →
+    after.source_room ≡ s.source_room → after.ahead ≡ s.ahead
     → Spends low budget old new → IsPaid budget (put_by_rows s) (put_by_rows after) old new
 taken_out_paid s after budget low old new groups_are rooms room_is ahead_is moved =
-    let after_is : put_by_rows after ≡ min (4 * (s.source_room / 4 + s.order.room - s.ahead)) (sources_in (without_vacant s.groups) + running_in (without_vacant s.groups)) =
+    let after_is : put_by_rows after ≡ min (4 * (s.source_room / 4 + s.order.room - s.ahead))
+    (sources_in (without_vacant s.groups) + running_in (without_vacant s.groups)) =
     λ i. min (4 * (room_is i / 4 + rooms i - ahead_is i)) (sources_in (groups_are i) + running_in (groups_are i))
     in
     let fewer = total-kept sources_of if_running s.groups sources_no_more in

@@ -1,6 +1,7 @@
 -- What the records of a datagram may still spend on the sources of the groups that are held: each of the first four that
 -- meet a group, six comparisons for each of its sources. What a record spends falls off it, but for what it brings.
-use Rattle.std.proofs.Common.{◌≡◌, ℕ, zero, suc, ◌+◌, ◌-◌, ◌*◌, ◌<◌, ◌≤◌, Bool, true, false, cond, refl, List, [], ◌∷◌, Option, None, Some, is_some, sym, ap, ◌∙◌, subst, arith}
+use Rattle.std.proofs.Common.{◌≡◌, ℕ, zero, suc, ◌+◌, ◌-◌, ◌*◌, ◌<◌, ◌≤◌, Bool, true, false, cond, refl, List, [], ◌∷◌, Option, None, Some, is_some}
+use Rattle.std.proofs.Common.{sym, ap, ◌∙◌, subst, arith}
 use Rattle.std.proofs.Math.Nat.{mul-le-mul_left, mul-le-mul_right}
 use Rattle.std.proofs.lemmas.Bool.{true≢false}
 use Rattle.std.proofs.lemmas.List.Sums.{sum_by-cons, sum_by-le-sum_by}
@@ -28,11 +29,13 @@ potential seen groups = sum_by (left_of seen) (map.entries groups)
 
 -- What is left falls by what is met.
 module _ (before after : ℕ × ScheduledGroup → ℕ) (no_more : (e : ℕ × ScheduledGroup) → after e ≤ before e) (a falls : ℕ) where
-  pub sum-falls : (es : List (ℕ × ScheduledGroup)) (e : ScheduledGroup) → find nat_cmp a es ≡ Some e → after (a, e) + falls ≤ before (a, e) → sum_by after es + falls ≤ sum_by before es
+  pub sum-falls : (es : List (ℕ × ScheduledGroup)) (e : ScheduledGroup) → find nat_cmp a es ≡ Some e → after (a, e) + falls ≤ before (a, e) →
+      sum_by after es + falls ≤ sum_by before es
   sum-falls [] e found here = absurd (cc)
   sum-falls (x ∷ es) e found here = by_test (eq_by_cmp nat_cmp a x.0) refl found (λ is. sum-falls es e is here)
     where
-      by_test : (b : Bool) → eq_by_cmp nat_cmp a x.0 ≡ b → cond b (Some x.1) (find nat_cmp a es) ≡ Some e → (find nat_cmp a es ≡ Some e → sum_by after es + falls ≤ sum_by before es) → sum_by after (x ∷ es) + falls ≤ sum_by before (x ∷ es)
+      by_test : (b : Bool) → eq_by_cmp nat_cmp a x.0 ≡ b → cond b (Some x.1) (find nat_cmp a es) ≡ Some e →
+          (find nat_cmp a es ≡ Some e → sum_by after es + falls ≤ sum_by before es) → sum_by after (x ∷ es) + falls ≤ sum_by before (x ∷ es)
       by_test true same is behind =
           let key : a ≡ x.0 = tied a x.0 same in
           let value : x.1 ≡ e = cc in
@@ -60,14 +63,18 @@ module _ (seen after : Seen) (groups : Groups) (met_more : (k : ℕ) → met see
   pub potential-le : potential after groups ≤ potential seen groups
   potential-le = sum_by-le-sum_by (left_of after) (left_of seen) (map.entries groups) (no_more_left seen after met_more)
 
-  pub potential-falls : (a : ℕ) → met after a ≡ met seen a + 1 → met seen a < 4 → map.contains_key groups a ≡ true → potential after groups + 6 * sources_of (group_at groups a) ≤ potential seen groups
+  pub potential-falls : (a : ℕ) → met after a ≡ met seen a + 1 → met seen a < 4 → map.contains_key groups a ≡ true →
+      potential after groups + 6 * sources_of (group_at groups a) ≤ potential seen groups
   potential-falls a once few held = by_group (map.get groups a) refl held
     where
-      by_group : (found : Option ScheduledGroup) → map.get groups a ≡ found → is_some found ≡ true → potential after groups + 6 * sources_of (unwrap_or found unheld) ≤ potential seen groups
+      by_group : (found : Option ScheduledGroup) → map.get groups a ≡ found → is_some found ≡ true →
+          potential after groups + 6 * sources_of (unwrap_or found unheld) ≤ potential seen groups
       by_group None is some = absurd (true≢false (sym some))
       by_group (Some e) is some =
-          sum-falls (left_of seen) (left_of after) (no_more_left seen after met_more) a (6 * sources_of e) (map.entries groups) e (sym (map.get-entries groups a) ∙ is)
-          (subst (λ m. left_for m (sources_of e) + 6 * sources_of e ≤ left_for (met seen a) (sources_of e)) (sym once) (one_less (met seen a) (sources_of e) few))
+          sum-falls (left_of seen) (left_of after) (no_more_left seen after met_more) a (6 * sources_of e)
+          (map.entries groups) e (sym (map.get-entries groups a) ∙ is)
+          (subst (λ m. left_for m (sources_of e) + 6 * sources_of e ≤ left_for (met seen a) (sources_of e)) (sym once)
+          (one_less (met seen a) (sources_of e) few))
 
 -- before any record, all four may meet each group
 none_met : (k : ℕ) → met map.empty k ≡ 0
@@ -95,8 +102,10 @@ more_left d a b n few =
 none_left : (d n : ℕ) → n ≡ 0 → d * (6 * n) ≡ 0
 none_left d n none = ap (λ n. d * (6 * n)) none ∙ omega arith
 
-pub changed_left : (seen : Seen) (groups : Groups) (a n : ℕ) (e : ScheduledGroup) → sources_of e ≤ sources_of (group_at groups a) + n → potential seen (with_group groups a e) ≤ potential seen groups + left_for (met seen a) n
+pub changed_left : (seen : Seen) (groups : Groups) (a n : ℕ) (e : ScheduledGroup) → sources_of e ≤ sources_of (group_at groups a) + n →
+    potential seen (with_group groups a e) ≤ potential seen groups + left_for (met seen a) n
 changed_left seen groups a n e few =
-    let total = total-with_group (left_of seen) groups a (none_left (4 - met seen a) (sources_of unheld) no_sources) e (λ vacant. none_left (4 - met seen a) (sources_of e) (vacant_sources e vacant)) in
+    let total = total-with_group (left_of seen) groups a (none_left (4 - met seen a) (sources_of unheld) no_sources) e
+    (λ vacant. none_left (4 - met seen a) (sources_of e) (vacant_sources e vacant)) in
     let more = more_left (4 - met seen a) (sources_of e) (sources_of (group_at groups a)) n few in
     omega (arith, total, more)

@@ -1,5 +1,6 @@
 -- A tick before the next moment does nothing, and after a tick the next moment is later.
-use Rattle.std.proofs.Common.{◌≡◌, ℕ, ◌<◌, Bool, true, false, cond, ◌&&◌, refl, List, [], ◌∷◌, ◌++◌, Option, None, Some, IfSome, sym, ap, ◌∙◌, subst, arith, eqb}
+use Rattle.std.proofs.Common.{◌≡◌, ℕ, ◌<◌, Bool, true, false, cond, ◌&&◌, refl, List, [], ◌∷◌, ◌++◌, Option, None, Some, IfSome, sym, ap, ◌∙◌, subst}
+use Rattle.std.proofs.Common.{arith, eqb}
 use Rattle.std.specs.Prelude.{map as list_map}
 use Rattle.std.proofs.lemmas.Bool.{true≢false, lt-ltb}
 use Rattle.std.specs.List.{flat_map}
@@ -12,7 +13,8 @@ use Rattle.mq_table.specs.declared.timers.FilterMode.TheVariants.{Include, Exclu
 use Rattle.mq_table.specs.declared.timers.SourceTimer.{SourceTimer}
 use Rattle.mq_table.specs.declared.timers.SourceTimer.TheVariants.{Stopped, Running}
 use Rattle.mq_table.specs.Maps.{kept}
-use Rattle.mq_table.specs.Group.{GroupState, is_include, is_running, is_stopped, vacant, is_vacant, timer_at, deadline_of, group_deadline, IsWellFormed as IsHeld}
+use Rattle.mq_table.specs.Group.{GroupState, is_include, is_running, is_stopped, vacant, is_vacant, timer_at, deadline_of, group_deadline}
+use Rattle.mq_table.specs.Group.{IsWellFormed as IsHeld}
 use Rattle.mq_table.specs.Expiry.{ahead, mode_expired, at_zero, source_expired, held_or_vacant, expired}
 use Rattle.mq_table.specs.Expiry.{AllAhead}
 use Rattle.mq_table.proofs.Maps.{get-kept}
@@ -22,13 +24,15 @@ use Rattle.mq_table.specs.Sendings.{some_source, has_sendings}
 use Rattle.mq_sched.specs.declared.queries.QuerySchedule.{QuerySchedule}
 use Rattle.mq_sched.specs.Schedule.{ScheduleState, ScheduledGroup, settled, IsScheduleOf}
 use Rattle.mq_sched.specs.Sending.{GeneralQuery, group_due, messages_due, after_round}
-use Rattle.mq_sched.specs.Election.{Role, Querier, Other, ElectionState, deadline_ended, returned, general_is_due, after_general, ticked, general_messages, next_moment}
+use Rattle.mq_sched.specs.Election.{Role, Querier, Other, ElectionState, deadline_ended, returned, general_is_due, after_general, ticked}
+use Rattle.mq_sched.specs.Election.{general_messages, next_moment}
 use Rattle.mq_sched.specs.Rounds.{IsQuietAt}
 use Rattle.mq_sched.proofs.Rounds.{quiet_is_silent, same_round}
 use Rattle.mq_link.specs.Family.{per_query}
 use Rattle.mq_link.specs.Configuration.{Configuration}
 use Rattle.mq_link.specs.State.{Groups, LinkState, IsWellFormed}
-use Rattle.mq_link.specs.Tick.{group_expired, if_held, groups_expired, queries_due, groups_after_round, tick_at, those_of, moments_of, moments_in, least, next_of, waited}
+use Rattle.mq_link.specs.Tick.{group_expired, if_held, groups_expired, queries_due, groups_after_round, tick_at, those_of, moments_of, moments_in}
+use Rattle.mq_link.specs.Tick.{least, next_of, waited}
 use Rattle.mq_link.proofs.Known.{same_answers}
 use Rattle.mq_link.proofs.Silent.{Each, each-entry, from-each, not_reached}
 use Rattle.mq_link.proofs.HeldAs.{All}
@@ -63,11 +67,13 @@ option_above m None h = tt
 option_above m (Some d) h = (h, tt)
 
 -- the same of the values of entries
-pub above_values : {X : Type 0} (m : ℕ) (f : X → List ℕ) (es : List (ℕ × X)) → AllAbove m (flat_map f (list_map (λ (e : ℕ × X). e.1) es)) → Each (λ _ x. AllAbove m (f x)) es
+pub above_values : {X : Type 0} (m : ℕ) (f : X → List ℕ) (es : List (ℕ × X)) → AllAbove m (flat_map f (list_map (λ (e : ℕ × X). e.1) es)) →
+    Each (λ _ x. AllAbove m (f x)) es
 above_values m f [] h = tt
 above_values m f (e ∷ es) h = let r = above_parts m (f e.1) _ h in (r.0, above_values m f es r.1)
 
-pub values_above : {X : Type 0} (m : ℕ) (f : X → List ℕ) (es : List (ℕ × X)) → Each (λ _ x. AllAbove m (f x)) es → AllAbove m (flat_map f (list_map (λ (e : ℕ × X). e.1) es))
+pub values_above : {X : Type 0} (m : ℕ) (f : X → List ℕ) (es : List (ℕ × X)) → Each (λ _ x. AllAbove m (f x)) es →
+    AllAbove m (flat_map f (list_map (λ (e : ℕ × X). e.1) es))
 values_above m f [] h = tt
 values_above m f (e ∷ es) h = above_both m (f e.1) _ h.0 (values_above m f es h.1)
 
@@ -87,9 +93,11 @@ above_query : (m : ℕ) (q : Option QuerySchedule) → IfSome q (λ q. m < q.due
 above_query m None h = tt
 above_query m (Some q) h = (h, tt)
 
-at_source : (m : ℕ) (g : GroupState) → Each (λ _ t. AllAbove m (timer_moments t)) (map.entries g.sources) → (s : ℕ) (t : Option SourceTimer) → timer_at g s ≡ t → IfSome (deadline_of t) (λ d. m < d)
+at_source : (m : ℕ) (g : GroupState) → Each (λ _ t. AllAbove m (timer_moments t)) (map.entries g.sources) → (s : ℕ) (t : Option SourceTimer) →
+    timer_at g s ≡ t → IfSome (deadline_of t) (λ d. m < d)
 at_source m g each s None is = tt
-at_source m g each s (Some t) is = above_option m (deadline_of (Some t)) (from-each (λ _ t. AllAbove m (timer_moments t)) (map.entries g.sources) each s t (sym (map.get-entries g.sources s) ∙ is))
+at_source m g each s (Some t) is = above_option m (deadline_of (Some t))
+    (from-each (λ _ t. AllAbove m (timer_moments t)) (map.entries g.sources) each s t (sym (map.get-entries g.sources s) ∙ is))
 
 pub beyond : (m : ℕ) (e : ScheduledGroup) → AllAbove m (moments_of e) → IsBeyond m e
 beyond m e h =
@@ -119,7 +127,9 @@ above_beyond m e h =
     (above_both m (option_to_list g.v2) _ (option_above m g.v2 h.timers.v2)
     (above_both m (option_to_list (group_due e.schedule.group_query)) _ (above_query m e.schedule.group_query h.schedule.group)
     (above_both m (option_to_list e.schedule.sources_due) [] (option_above m e.schedule.sources_due h.schedule.sources) tt)))))
-    (values_above m timer_moments (map.entries g.sources) (each-entry (λ _ t. AllAbove m (timer_moments t)) g.sources (λ s t is. option_above m (deadline_of (Some t)) (subst (λ x. IfSome (deadline_of x) (λ d. m < d)) is (h.timers.sources s)))))
+    (values_above m timer_moments (map.entries g.sources)
+    (each-entry (λ _ t. AllAbove m (timer_moments t)) g.sources
+    (λ s t is. option_above m (deadline_of (Some t)) (subst (λ x. IfSome (deadline_of x) (λ d. m < d)) is (h.timers.sources s)))))
 
 -- Up to that moment nothing changes.
 same_mode : (m : ℕ) (mode : FilterMode) → IfSome (group_deadline mode) (λ d. m < d) → mode_expired m mode ≡ mode
@@ -130,7 +140,8 @@ same_ahead : (m : ℕ) (x : Option ℕ) → IfSome x (λ d. m < d) → option_an
 same_ahead m None h = refl
 same_ahead m (Some d) h = ap (λ b. cond b (Some d) None) (lt-ltb m d h)
 
-same_timer : (m : ℕ) (mode : FilterMode) (t : Option SourceTimer) → (mode ≡ Include → is_stopped t ≡ false) → IfSome (deadline_of t) (λ d. m < d) → option_and_then (source_expired mode m) t ≡ t
+same_timer : (m : ℕ) (mode : FilterMode) (t : Option SourceTimer) → (mode ≡ Include → is_stopped t ≡ false) → IfSome (deadline_of t) (λ d. m < d) →
+    option_and_then (source_expired mode m) t ≡ t
 same_timer m mode None stays h = refl
 same_timer m Include (Some Stopped) stays h = let s = stays refl in cc
 same_timer m (Exclude d) (Some Stopped) stays h = refl
@@ -159,11 +170,19 @@ same_expired m g held h = ap held_or_vacant same ∙ ap (λ b. cond b vacant g) 
         ∙ ap (λ mode. option_and_then (source_expired mode m) (timer_at g s)) mode_is
         ∙ same_timer m g.mode (timer_at g s) (λ is. held.none_stopped is s) (h.sources s))
 
-    same : ◌≡◌ {A = GroupState} (record { mode = mode_expired m g.mode; sources = kept (λ s. source_expired (mode_expired m g.mode) m) g.sources; v1 = option_and_then (ahead m) g.v1; v2 = option_and_then (ahead m) g.v2 }) g
+    same : ◌≡◌ {A = GroupState}
+        (record {
+          mode = mode_expired m g.mode;
+          sources = kept (λ s. source_expired (mode_expired m g.mode) m) g.sources;
+          v1 =
+              option_and_then (ahead m) g.v1;
+          v2 = option_and_then (ahead m) g.v2;
+        }) g
     same = λ i. record { mode = mode_is i; sources = sources_are i; v1 = same_ahead m g.v1 h.v1 i; v2 = same_ahead m g.v2 h.v2 i }
 
 pub same_settled : (g : GroupState) (schedule : ScheduleState) → IsScheduleOf g schedule → settled g schedule ≡ schedule
-same_settled g schedule h = λ i. record { group_query = by_mode g.mode refl i; sources_due = by_due schedule.sources_due (some_source (has_sendings g) g) h.sources_sendings i }
+same_settled g schedule h =
+    λ i. record { group_query = by_mode g.mode refl i; sources_due = by_due schedule.sources_due (some_source (has_sendings g) g) h.sources_sendings i }
   where
     by_mode : (mode : FilterMode) → g.mode ≡ mode → cond (is_include mode) None schedule.group_query ≡ schedule.group_query
     by_mode Include is = sym (h.exclude_only is)
@@ -195,11 +214,13 @@ same_groups_expired : (m : ℕ) (groups : Groups) → All (λ _ e. if_held (grou
 unfolding groups_expired
 same_groups_expired m groups all = same_kept (λ _ e. if_held (group_expired m e)) groups all
 
-same_groups_after_round : (timing : Timing) (m : ℕ) (groups : Groups) → All (λ _ e. after_round timing m e ≡ e) groups → groups_after_round timing m groups ≡ groups
+same_groups_after_round : (timing : Timing) (m : ℕ) (groups : Groups) → All (λ _ e. after_round timing m e ≡ e) groups →
+    groups_after_round timing m groups ≡ groups
 unfolding groups_after_round
 same_groups_after_round timing m groups all = same_kept (λ _ e. Some (after_round timing m e)) groups (λ q e is. ap Some (all q e is))
 
-none_due : (n : ℕ) (timing : Timing) (m : ℕ) (es : List (ℕ × ScheduledGroup)) → Each (λ _ e. IsQuietAt m e.schedule) es → flat_map (λ (e : ℕ × ScheduledGroup). messages_due n timing m e.0 e.1) es ≡ []
+none_due : (n : ℕ) (timing : Timing) (m : ℕ) (es : List (ℕ × ScheduledGroup)) → Each (λ _ e. IsQuietAt m e.schedule) es →
+    flat_map (λ (e : ℕ × ScheduledGroup). messages_due n timing m e.0 e.1) es ≡ []
 none_due n timing m [] h = refl
 none_due n timing m (e ∷ es) h = λ i. quiet_is_silent n timing m e.0 e.1 h.0 i ++ none_due n timing m es h.1 i
 
@@ -224,12 +245,22 @@ same_ticked configured m e h =
     ∙ ap (λ b. cond b (record { role = after_general e.timing m e.role; timing = e.timing }) e) (no_general m e.role h)
 
 none_general : (configured : Timing) (m : ℕ) (e : ElectionState) → m < next_moment e.role → general_messages configured m e ≡ []
-none_general configured m e h = ap (λ r. cond (general_is_due m r.role) (GeneralQuery ∷ []) []) (same_returned configured m e h) ∙ ap (λ b. cond b (GeneralQuery ∷ []) []) (no_general m e.role h)
+none_general configured m e h = ap (λ r. cond (general_is_due m r.role) (GeneralQuery ∷ []) []) (same_returned configured m e h) ∙
+    ap (λ b. cond b (GeneralQuery ∷ []) []) (no_general m e.role h)
 
 pub quiet_tick : (config : Configuration) (m : ℕ) (state : LinkState) → IsWellFormed config state → m < next_of state → tick_at config m state ≡ waited m state
 quiet_tick config m state h before = λ i. record {
-  state = record { groups = (ap (groups_after_round (ticked config.timing m state.election).timing m) expired_are ∙ same_groups_after_round (ticked config.timing m state.election).timing m state.groups rounds) i; election = election_is i; last = m; counters = state.counters };
-  queries = (none_general config.timing m state.election parts.0 i) ++ (ap (queries_due config.family (ticked config.timing m state.election).timing m) expired_are ∙ quiet_due config.family (ticked config.timing m state.election).timing m state.groups quiet) i;
+  state = record {
+    groups =
+        (ap (groups_after_round (ticked config.timing m state.election).timing m) expired_are ∙
+        same_groups_after_round (ticked config.timing m state.election).timing m state.groups rounds) i;
+    election = election_is i;
+    last = m;
+    counters = state.counters;
+  };
+  queries = (none_general config.timing m state.election parts.0 i) ++
+      (ap (queries_due config.family (ticked config.timing m state.election).timing m) expired_are ∙
+      quiet_due config.family (ticked config.timing m state.election).timing m state.groups quiet) i;
   timing = (election_is i).timing;
 }
   where
@@ -237,7 +268,9 @@ quiet_tick config m state h before = λ i. record {
     parts = above_least m (next_moment state.election.role) (moments_in state.groups) before
 
     all_beyond : All (λ _. IsBeyond m) state.groups
-    all_beyond q e is = beyond m e (from-each (λ _ e. AllAbove m (moments_of e)) (map.entries state.groups) (above_values m moments_of (map.entries state.groups) parts.1) q e (sym (map.get-entries state.groups q) ∙ is))
+    all_beyond q e is = beyond m e
+        (from-each (λ _ e. AllAbove m (moments_of e)) (map.entries state.groups) (above_values m moments_of (map.entries state.groups) parts.1) q e
+        (sym (map.get-entries state.groups q) ∙ is))
 
     election_is : ticked config.timing m state.election ≡ state.election
     election_is = same_ticked config.timing m state.election parts.0

@@ -1,5 +1,6 @@
 -- A datagram leaves a state that a link may be in.
-use Rattle.std.proofs.Common.{◌≡◌, ℕ, zero, suc, ◌+◌, ◌*◌, ◌/◌, ◌%◌, ◌^◌, ◌≤◌, ◌<◌, Bool, true, false, cond, refl, not, List, [], ◌∷◌, ◌++◌, length, Option, None, Some, IfSome, Result, Ok, Err, arith, eqb, ltb}
+use Rattle.std.proofs.Common.{◌≡◌, ℕ, zero, suc, ◌+◌, ◌*◌, ◌/◌, ◌%◌, ◌^◌, ◌≤◌, ◌<◌, Bool, true, false, cond, refl, not, List, [], ◌∷◌, ◌++◌, length}
+use Rattle.std.proofs.Common.{Option, None, Some, IfSome, Result, Ok, Err, arith, eqb, ltb}
 use Rattle.std.proofs.lemmas.Bool.{ltb-true}
 use Rattle.std.proofs.Math.Nat.{mul-le-mul_right}
 use Rattle.std.specs.Prelude.{slice_index}
@@ -23,7 +24,8 @@ use Rattle.mq_link.specs.Tick.{Step}
 use Rattle.mq_link.specs.Record.{OlderJoin, OlderLeave}
 use Rattle.mq_link.specs.Heard.{announced_by}
 use Rattle.mq_link.specs.Reading.{IsCarriedIn}
-use Rattle.mq_link.specs.Receive.{Envelope, message_in, unless_faulty, read_of, drop_reason, envelope_tests, setting_of, taken_in, counting_read, taken_or_dropped, receipt_after}
+use Rattle.mq_link.specs.Receive.{Envelope, message_in, unless_faulty, read_of, drop_reason, envelope_tests, setting_of, taken_in, counting_read}
+use Rattle.mq_link.specs.Receive.{taken_or_dropped, receipt_after}
 use Rattle.mq_link.specs.Tests.{first_named}
 use Rattle.mq_link.proofs.Ticked.{IsCarriedBy, IsWellFormed-query_heard}
 use Rattle.mq_link.specs.Sound.{AreSound}
@@ -68,7 +70,8 @@ carried_query family bytes = by_length (eqb (length bytes) (group_end family))
 igmp_carried : (bytes : List ℕ) (code : ℕ) → IfSome (option_map (λ kind. message_of Igmp kind bytes) (type_named Igmp code)) IsCarriedIn
 igmp_carried bytes code = by_tests (eqb code 0x11) (eqb code 0x12) (eqb code 0x16) (eqb code 0x17) (eqb code 0x22) refl refl refl refl refl
   where
-    by_tests : (a b c d e : Bool) → eqb code 0x11 ≡ a → eqb code 0x12 ≡ b → eqb code 0x16 ≡ c → eqb code 0x17 ≡ d → eqb code 0x22 ≡ e → IfSome (option_map (λ kind. message_of Igmp kind bytes) (type_named Igmp code)) IsCarriedIn
+    by_tests : (a b c d e : Bool) → eqb code 0x11 ≡ a → eqb code 0x12 ≡ b → eqb code 0x16 ≡ c → eqb code 0x17 ≡ d → eqb code 0x22 ≡ e →
+        IfSome (option_map (λ kind. message_of Igmp kind bytes) (type_named Igmp code)) IsCarriedIn
     by_tests true b c d e p q r s t = rw p (carried_query Igmp bytes)
     by_tests false true c d e p q r s t = rw (p, q) tt
     by_tests false false true d e p q r s t = rw (p, q, r) tt
@@ -79,7 +82,8 @@ igmp_carried bytes code = by_tests (eqb code 0x11) (eqb code 0x12) (eqb code 0x1
 mld_carried : (bytes : List ℕ) (code : ℕ) → IfSome (option_map (λ kind. message_of Mld kind bytes) (type_named Mld code)) IsCarriedIn
 mld_carried bytes code = by_tests (eqb code 130) (eqb code 131) (eqb code 132) (eqb code 143) refl refl refl refl
   where
-    by_tests : (a b c d : Bool) → eqb code 130 ≡ a → eqb code 131 ≡ b → eqb code 132 ≡ c → eqb code 143 ≡ d → IfSome (option_map (λ kind. message_of Mld kind bytes) (type_named Mld code)) IsCarriedIn
+    by_tests : (a b c d : Bool) → eqb code 130 ≡ a → eqb code 131 ≡ b → eqb code 132 ≡ c → eqb code 143 ≡ d →
+        IfSome (option_map (λ kind. message_of Mld kind bytes) (type_named Mld code)) IsCarriedIn
     by_tests true b c d p q r s = rw p (carried_query Mld bytes)
     by_tests false true c d p q r s = rw (p, q) tt
     by_tests false false true d p q r s = rw (p, q, r) tt
@@ -103,11 +107,14 @@ carried_where_read family pseudo bytes = carried_unless (fault_of family pseudo 
 pub sound_in : (config : Configuration) (state : LinkState) → IsWellFormed config state → AreSound (setting_of config state) state.groups
 sound_in config state h = record { all = h.groups; within = h.within; silent = h.silent }
 
-well_formed_with : (config : Configuration) (state : LinkState) (groups : Groups) (counters : Counters) → IsWellFormed config state → AreSound (setting_of config state) groups → IsWellFormed config (record { groups = groups; election = state.election; last = state.last; counters = counters })
+well_formed_with : (config : Configuration) (state : LinkState) (groups : Groups) (counters : Counters) → IsWellFormed config state →
+    AreSound (setting_of config state) groups →
+    IsWellFormed config (record { groups = groups; election = state.election; last = state.last; counters = counters })
 well_formed_with config state groups counters h sound = record { groups = sound.all; within = sound.within; timing = h.timing; silent = sound.silent }
 
 -- the counters have no part in it
-pub recounted : (config : Configuration) (state : LinkState) (counters : Counters) → IsWellFormed config state → IsWellFormed config (record { groups = state.groups; election = state.election; last = state.last; counters = counters })
+pub recounted : (config : Configuration) (state : LinkState) (counters : Counters) → IsWellFormed config state →
+    IsWellFormed config (record { groups = state.groups; election = state.election; last = state.last; counters = counters })
 recounted config state counters h = record { groups = h.groups; within = h.within; timing = h.timing; silent = h.silent }
 
 pub positive_in : (config : Configuration) (state : LinkState) → IsWellFormed config state → 0 < state.election.timing.robustness
@@ -123,21 +130,33 @@ admitted_if_kept [] true reason h = refl
 admitted_if_kept [] false reason h = cc
 admitted_if_kept (t ∷ tests) b reason h = admitted_if_kept tests b reason (not_first t.1 t.0 (first_named (tests ++ (reason, not b) ∷ [])) h)
 
-taken_leaves : (config : Configuration) (envelope : Envelope) (message : Message ℕ) (step : Step) → AreInRange config.timing → IsCarriedIn message → drop_reason config envelope (Ok message) ≡ None → IsWellFormed config step.state → IsWellFormed config (taken_in config envelope message step).step.state
+taken_leaves : (config : Configuration) (envelope : Envelope) (message : Message ℕ) (step : Step) → AreInRange config.timing → IsCarriedIn message →
+    drop_reason config envelope (Ok message) ≡ None → IsWellFormed config step.state → IsWellFormed config (taken_in config envelope message step).step.state
 unfolding taken_in
-taken_leaves config envelope (QueryMessage query) step own carried kept h = IsWellFormed-query_heard config step.state.last envelope.source query step.state own carried h
+taken_leaves config envelope (QueryMessage query) step own carried kept h =
+    IsWellFormed-query_heard config step.state.last envelope.source query step.state own carried h
 taken_leaves config envelope (OldReport version group) step own carried kept h =
-    well_formed_with config step.state _ _ h (stated_leaves (setting_of config step.state) group (OlderJoin version) step.state.groups (positive_in config step.state h) (admitted_if_kept (envelope_tests config.family envelope) (is_admitted config.family group) BadGroup kept) (sound_in config step.state h))
+    well_formed_with config step.state _ _ h
+    (stated_leaves (setting_of config step.state) group (OlderJoin version) step.state.groups (positive_in config step.state h)
+    (admitted_if_kept (envelope_tests config.family envelope) (is_admitted config.family group) BadGroup kept) (sound_in config step.state h))
 taken_leaves config envelope (LeaveMessage group) step own carried kept h =
-    well_formed_with config step.state _ _ h (stated_leaves (setting_of config step.state) group OlderLeave step.state.groups (positive_in config step.state h) (admitted_if_kept (envelope_tests config.family envelope) (is_admitted config.family group) BadGroup kept) (sound_in config step.state h))
+    well_formed_with config step.state _ _ h
+    (stated_leaves (setting_of config step.state) group OlderLeave step.state.groups (positive_in config step.state h)
+    (admitted_if_kept (envelope_tests config.family envelope) (is_admitted config.family group) BadGroup kept) (sound_in config step.state h))
 taken_leaves config envelope (ReportMessage records) step own carried kept h =
-    well_formed_with config step.state _ _ h (all_judged_leave (setting_of config step.state) map.empty records step.state.groups (positive_in config step.state h) (sound_in config step.state h))
+    well_formed_with config step.state _ _ h
+    (all_judged_leave (setting_of config step.state) map.empty records step.state.groups (positive_in config step.state h) (sound_in config step.state h))
 
-decided_leaves : (config : Configuration) (envelope : Envelope) (step : Step) (read : Result (Message ℕ) WireFault) (reason : Option DropReason) → AreInRange config.timing → IsCarriedWhere read → drop_reason config envelope read ≡ reason → IsWellFormed config step.state → IsWellFormed config (taken_or_dropped config envelope step read reason).step.state
+decided_leaves : (config : Configuration) (envelope : Envelope) (step : Step) (read : Result (Message ℕ) WireFault) (reason : Option DropReason) →
+    AreInRange config.timing → IsCarriedWhere read → drop_reason config envelope read ≡ reason → IsWellFormed config step.state →
+    IsWellFormed config (taken_or_dropped config envelope step read reason).step.state
 decided_leaves config envelope step read (Some reason) own carried is h = recounted config step.state _ h
 decided_leaves config envelope step (Err fault) None own carried is h = recounted config step.state _ h
-decided_leaves config envelope step (Ok message) None own carried is h = taken_leaves config envelope message (counting_read (Ok message) step) own carried is (recounted config step.state _ h)
+decided_leaves config envelope step (Ok message) None own carried is h =
+    taken_leaves config envelope message (counting_read (Ok message) step) own carried is (recounted config step.state _ h)
 
 -- What is done after a tick leaves a well-formed state well-formed.
-pub IsWellFormed-receipt_after : (config : Configuration) (envelope : Envelope) (read : Result (Message ℕ) WireFault) (step : Step) → AreInRange config.timing → IsCarriedWhere read → IsWellFormed config step.state → IsWellFormed config (receipt_after config envelope read step).step.state
-IsWellFormed-receipt_after config envelope read step own carried h = decided_leaves config envelope step read (drop_reason config envelope read) own carried refl h
+pub IsWellFormed-receipt_after : (config : Configuration) (envelope : Envelope) (read : Result (Message ℕ) WireFault) (step : Step) →
+    AreInRange config.timing → IsCarriedWhere read → IsWellFormed config step.state → IsWellFormed config (receipt_after config envelope read step).step.state
+IsWellFormed-receipt_after config envelope read step own carried h =
+    decided_leaves config envelope step read (drop_reason config envelope read) own carried refl h

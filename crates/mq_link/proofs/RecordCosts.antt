@@ -1,6 +1,7 @@
 -- What a record takes, with what is left for the records behind it, is no more than what was left before it and what it
 -- brings.
-use Rattle.std.proofs.Common.{◌≡◌, ℕ, ◌+◌, ◌-◌, ◌*◌, ◌≤◌, max, Bool, true, false, cond, ◌&&◌, refl, List, [], ◌∷◌, length, Option, None, Some, IfSome, sym, ◌∙◌, subst, arith, leb, add_assoc, add-zero, zero-add}
+use Rattle.std.proofs.Common.{◌≡◌, ℕ, ◌+◌, ◌-◌, ◌*◌, ◌≤◌, max, Bool, true, false, cond, ◌&&◌, refl, List, [], ◌∷◌, length, Option, None, Some, IfSome}
+use Rattle.std.proofs.Common.{sym, ◌∙◌, subst, arith, leb, add_assoc, add-zero, zero-add}
 use Rattle.std.proofs.Math.Nat.{le-max_right, mul-le-mul_right}
 use Rattle.std.proofs.lemmas.Bool.{leb-false}
 use Rattle.std.proofs.lemmas.List.Sums.{sum_by-cons}
@@ -25,7 +26,9 @@ use Rattle.mq_link.specs.Cost.{search_cost, work_cost, cost_by, record_cost, own
 use Rattle.mq_link.specs.Counters.{Refused}
 use Rattle.mq_link.specs.Family.{v1_mutes_leave}
 use Rattle.mq_link.specs.LeastCost.{least_judged, least_all}
-use Rattle.mq_link.specs.Record.{Setting, RecordOf, leaving, unless_passed, changed_by, after_sending, sent_at_once, changed_or_refused, change_in, is_muted, limit_passed, stated, Seen, met, Entrance, Stops, GoesOn, entrance, seen_by, seen_after, judged_from, judged}
+use Rattle.mq_link.specs.Record.{Setting, RecordOf, leaving, unless_passed, changed_by, after_sending, sent_at_once, changed_or_refused, change_in}
+use Rattle.mq_link.specs.Record.{is_muted, limit_passed, stated, Seen, met, Entrance, Stops, GoesOn, entrance, seen_by, seen_after, judged_from}
+use Rattle.mq_link.specs.Record.{judged}
 use Rattle.mq_link.specs.State.{Groups, group_at, with_group, sources_of, sources_in}
 use Rattle.mq_link.proofs.ChangedSizes.{translated_few}
 use Rattle.mq_link.proofs.KeptGroups.{absent_sources}
@@ -39,7 +42,8 @@ module _ (at : Setting) (seen : Seen) (group : ℕ) (kind : Kind) (xs : List ℕ
   abbrev may_be_left : ℕ
   may_be_left = potential seen groups + left_for (met seen group) (length xs)
 
-  by_change : (change : Option GroupChange) → IfSome change (λ c. size_of c.group ≤ sources_of (group_at groups group) + length xs) → potential seen (changed_or_refused at group groups change).groups ≤ may_be_left
+  by_change : (change : Option GroupChange) → IfSome change (λ c. size_of c.group ≤ sources_of (group_at groups group) + length xs) →
+      potential seen (changed_or_refused at group groups change).groups ≤ may_be_left
   by_change None few = omega arith
   by_change (Some change) few = by_limit (limit_passed at.config.limits (with_group groups group (after_sending at e)) (after_sending at e))
     where
@@ -52,7 +56,8 @@ module _ (at : Setting) (seen : Seen) (group : ℕ) (kind : Kind) (xs : List ℕ
           let sent = round_keeps_size at.election.timing at.now e in
           omega (arith, asked, sent)
 
-      by_limit : (passed : Option Refusal) → potential seen (unless_passed passed groups (with_group groups group (after_sending at e)) (sent_at_once at group e)).groups ≤ may_be_left
+      by_limit : (passed : Option Refusal) →
+          potential seen (unless_passed passed groups (with_group groups group (after_sending at e)) (sent_at_once at group e)).groups ≤ may_be_left
       by_limit (Some name) = omega arith
       by_limit None = changed_left seen groups group (length xs) (after_sending at e) size
 
@@ -60,7 +65,9 @@ module _ (at : Setting) (seen : Seen) (group : ℕ) (kind : Kind) (xs : List ℕ
   unfolding stated
   stated_left =
       let e = group_at groups group in
-      by_change (change_in at group (RecordOf kind (set.from_list xs)) groups) (translated_few (v1_mutes_leave at.config.family) (is_muted at.config group (RecordOf kind (set.from_list xs))) at.election.timing at.now e.group kind xs (hosts_of e.group at.now))
+      by_change (change_in at group (RecordOf kind (set.from_list xs)) groups)
+      (translated_few (v1_mutes_leave at.config.family) (is_muted at.config group (RecordOf kind (set.from_list xs))) at.election.timing at.now
+      e.group kind xs (hosts_of e.group at.now))
 
 few_digits : (n : ℕ) → n ≤ 65535 → bitlen n ≤ 16
 few_digits n few = bitlen-le 16 n (omega (arith, few))
@@ -78,13 +85,15 @@ record_pays at seen r groups few_groups = by_entrance (entrance at.config r)
 
     by_tests : (kind : Kind) (held four : Bool) → map.contains_key groups r.group ≡ held → leb 4 (met seen r.group) ≡ four →
         cond (held && four) (search_cost groups) (work_cost groups r + search_cost groups)
-        + potential (cond held (again seen r.group) seen) (cond (held && four) (leaving groups (Refused Repeated)) (stated at r.group (RecordOf kind (set.from_list r.sources)) groups)).groups
+        + potential (cond held (again seen r.group) seen)
+        (cond (held && four) (leaving groups (Refused Repeated)) (stated at r.group (RecordOf kind (set.from_list r.sources)) groups)).groups
         ≤ potential seen groups + own_cost r
     by_tests kind true true held four =
         let same = potential-le seen (again seen r.group) groups (λ k. (met_more seen r.group k).0) in
         omega (arith, search, same)
     by_tests kind true false held four =
-        let falls = potential-falls seen (again seen r.group) groups (λ k. (met_more seen r.group k).0) r.group (met_once seen r.group) (leb-false 4 (met seen r.group) four) held in
+        let falls = potential-falls seen (again seen r.group) groups (λ k. (met_more seen r.group k).0) r.group (met_once seen r.group)
+        (leb-false 4 (met seen r.group) four) held in
         let left = stated_left at (again seen r.group) r.group kind r.sources groups in
         let own = four_times (met (again seen r.group) r.group) (length r.sources) in
         omega (arith, search, falls, left, own)
@@ -94,12 +103,14 @@ record_pays at seen r groups few_groups = by_entrance (entrance at.config r)
         let own = four_times (met seen r.group) (length r.sources) in
         omega (arith, search, small, left, own)
 
-    by_entrance : (entered : Entrance) → cost_by entered seen r groups + potential (seen_by entered r.group groups seen) (judged_from at seen r groups entered).groups ≤ potential seen groups + own_cost r
+    by_entrance : (entered : Entrance) → cost_by entered seen r groups + potential (seen_by entered r.group groups seen)
+        (judged_from at seen r groups entered).groups ≤ potential seen groups + own_cost r
     by_entrance (Stops verdict) = omega arith
     by_entrance (GoesOn kind) = by_tests kind (map.contains_key groups r.group) (leb 4 (met seen r.group)) refl refl
 
 -- What the records so far have spent, at least and at most, leaves enough for those that are left.
-pub record IsPaidSoFar (at : Setting) (all : List (RecordView ℕ)) (held : Groups) (from : ℕ) (left : List (RecordView ℕ)) (seen : Seen) (groups : Groups) (m : ℕ) : Type 0 where
+pub record IsPaidSoFar (at : Setting) (all : List (RecordView ℕ)) (held : Groups) (from : ℕ) (left : List (RecordView ℕ)) (seen : Seen)
+    (groups : Groups) (m : ℕ) : Type 0 where
   pub least : ℕ
   pub most : ℕ
   pub counted : Spends least most from m
@@ -109,7 +120,8 @@ pub record IsPaidSoFar (at : Setting) (all : List (RecordView ℕ)) (held : Grou
 pub none_paid : (at : Setting) (all : List (RecordView ℕ)) (groups : Groups) (m : ℕ) → IsPaidSoFar at all groups m all map.empty groups m
 none_paid at all groups m = record { least = 0; most = 0; counted = Spends-none m; fewest = sym (zero-add _); enough = omega (arith, potential-empty groups) }
 
-pub one_paid : (at : Setting) (all : List (RecordView ℕ)) (held : Groups) (from : ℕ) (before rest : List (RecordView ℕ)) (r : RecordView ℕ) (seen : Seen) (groups : Groups) (m next : ℕ)
+pub one_paid : (at : Setting) (all : List (RecordView ℕ)) (held : Groups) (from : ℕ) (before rest : List (RecordView ℕ)) (r : RecordView ℕ)
+    (seen : Seen) (groups : Groups) (m next : ℕ)
     → map.len groups ≤ 65535
     → IsPaidSoFar at all held from before seen groups m
     → before ≡ r ∷ rest
@@ -126,7 +138,9 @@ one_paid at all held from before rest r seen groups m next few_groups so_far fir
       enough = omega (arith, enough, record_pays at seen r groups few_groups, sum_by-cons own_cost r rest);
     }
 
-pub all_paid : (at : Setting) (all : List (RecordView ℕ)) (held : Groups) (from : ℕ) (left : List (RecordView ℕ)) (seen : Seen) (groups : Groups) (m : ℕ) → IsPaidSoFar at all held from left seen groups m → left ≡ [] → Spends (least_all at map.empty all held) (24 * sources_in held + sum_by own_cost all) from m
+pub all_paid : (at : Setting) (all : List (RecordView ℕ)) (held : Groups) (from : ℕ) (left : List (RecordView ℕ)) (seen : Seen) (groups : Groups)
+    (m : ℕ) → IsPaidSoFar at all held from left seen groups m → left ≡ [] →
+    Spends (least_all at map.empty all held) (24 * sources_in held + sum_by own_cost all) from m
 all_paid at all held from left seen groups m so_far none =
     let h = subst (λ left. IsPaidSoFar at all held from left seen groups m) none so_far in
     let enough = h.enough in

@@ -33,7 +33,8 @@ few_of_report family bytes octets = rw (length_records (address_width family) (r
 igmp_few : (bytes : List ℕ) (code : ℕ) → AreOctets bytes → IfSome (option_map (λ kind. message_of Igmp kind bytes) (type_named Igmp code)) HasFew
 igmp_few bytes code octets = by_tests (eqb code 0x11) (eqb code 0x12) (eqb code 0x16) (eqb code 0x17) (eqb code 0x22) refl refl refl refl refl
   where
-    by_tests : (a b c d e : Bool) → eqb code 0x11 ≡ a → eqb code 0x12 ≡ b → eqb code 0x16 ≡ c → eqb code 0x17 ≡ d → eqb code 0x22 ≡ e → IfSome (option_map (λ kind. message_of Igmp kind bytes) (type_named Igmp code)) HasFew
+    by_tests : (a b c d e : Bool) → eqb code 0x11 ≡ a → eqb code 0x12 ≡ b → eqb code 0x16 ≡ c → eqb code 0x17 ≡ d → eqb code 0x22 ≡ e →
+        IfSome (option_map (λ kind. message_of Igmp kind bytes) (type_named Igmp code)) HasFew
     by_tests true b c d e p q r s t = rw p (omega arith)
     by_tests false true c d e p q r s t = rw (p, q) (omega arith)
     by_tests false false true d e p q r s t = rw (p, q, r) (omega arith)
@@ -44,7 +45,8 @@ igmp_few bytes code octets = by_tests (eqb code 0x11) (eqb code 0x12) (eqb code 
 mld_few : (bytes : List ℕ) (code : ℕ) → AreOctets bytes → IfSome (option_map (λ kind. message_of Mld kind bytes) (type_named Mld code)) HasFew
 mld_few bytes code octets = by_tests (eqb code 130) (eqb code 131) (eqb code 132) (eqb code 143) refl refl refl refl
   where
-    by_tests : (a b c d : Bool) → eqb code 130 ≡ a → eqb code 131 ≡ b → eqb code 132 ≡ c → eqb code 143 ≡ d → IfSome (option_map (λ kind. message_of Mld kind bytes) (type_named Mld code)) HasFew
+    by_tests : (a b c d : Bool) → eqb code 130 ≡ a → eqb code 131 ≡ b → eqb code 132 ≡ c → eqb code 143 ≡ d →
+        IfSome (option_map (λ kind. message_of Mld kind bytes) (type_named Mld code)) HasFew
     by_tests true b c d p q r s = rw p (omega arith)
     by_tests false true c d p q r s = rw (p, q) (omega arith)
     by_tests false false true d p q r s = rw (p, q, r) (omega arith)
@@ -55,14 +57,16 @@ few_in : (family : Family) (bytes : List ℕ) → AreOctets bytes → IfSome (me
 few_in Igmp bytes octets = igmp_few bytes (type_of bytes) octets
 few_in Mld bytes octets = mld_few bytes (type_of bytes) octets
 
-few_unless : (fault : Option WireFault) (found : Option (Message ℕ)) (message : Message ℕ) → IfSome found HasFew → unless_faulty fault found ≡ Ok message → HasFew message
+few_unless : (fault : Option WireFault) (found : Option (Message ℕ)) (message : Message ℕ) → IfSome found HasFew →
+    unless_faulty fault found ≡ Ok message → HasFew message
 few_unless (Some fault) found message few is = cc
 few_unless None None message few is = cc
 few_unless None (Some found) message few is =
     let same : found ≡ message = cc in
     rw (← same) few
 
-pub few_where_read : (family : Family) (pseudo bytes : List ℕ) (message : Message ℕ) → AreOctets bytes → read_of family pseudo bytes ≡ Ok message → length (records_in message) ≤ most_records
+pub few_where_read : (family : Family) (pseudo bytes : List ℕ) (message : Message ℕ) → AreOctets bytes → read_of family pseudo bytes ≡ Ok message →
+    length (records_in message) ≤ most_records
 unfolding read_of
 few_where_read family pseudo bytes message octets is =
     few_unless (fault_of family pseudo bytes) (message_in family bytes) message (few_in family bytes octets) is

@@ -1,5 +1,6 @@
 -- What is spent for a record that is heard from hosts that still want the sources that it names.
-use Rattle.std.proofs.Common.{◌≡◌, ℕ, zero, suc, ◌+◌, ◌*◌, ◌^◌, ◌/◌, ◌<◌, ◌≤◌, ◌==◌, Bool, true, false, cond, not, ◌&&◌, ◌||◌, List, [], ◌∷◌, length, get_or, min, Option, None, Some, IfSome, refl, sym, ap, ◌∙◌, arith, add-one}
+use Rattle.std.proofs.Common.{◌≡◌, ℕ, zero, suc, ◌+◌, ◌*◌, ◌^◌, ◌/◌, ◌<◌, ◌≤◌, ◌==◌, Bool, true, false, cond, not, ◌&&◌, ◌||◌, List, [], ◌∷◌, length}
+use Rattle.std.proofs.Common.{get_or, min, Option, None, Some, IfSome, refl, sym, ap, ◌∙◌, arith, add-one}
 use Rattle.std.specs.List.{list_any}
 use Rattle.std.specs.FinMap as map
 use Rattle.std.specs.FinSet as set
@@ -35,12 +36,14 @@ use Rattle.mq_link.specs.Family.{v1_mutes_leave}
 use Rattle.mq_link.specs.LeastCost.{least_merge, least_work}
 use Rattle.mq_link.specs.Record.{RecordOf, Setting, is_muted, OlderJoin as StatesJoin, OlderLeave as StatesLeave}
 use Rattle.mq_link.specs.State.{Groups, group_at, sources_of}
-use Rattle.mq_link.specs.Refreshed.{is_restart, most_asked, most_blocked, most_changed, most_copied, most_hosts, most_merged, most_started, most_tried, restarts}
+use Rattle.mq_link.specs.Refreshed.{is_restart, most_asked, most_blocked, most_changed, most_copied, most_hosts, most_merged, most_started}
+use Rattle.mq_link.specs.Refreshed.{most_tried, restarts}
 use Rattle.mq_link.proofs.LeastCosts.{few_members, merge_spends}
 use Rattle.mq_link.proofs.OneNamed.{names-one}
 
 -- no older host mutes such a record
-pub restart_as : (mutes muted : Bool) (hosts : Hosts) (kind : Kind) (named : NamedSources) → restarts kind ≡ true → translated mutes muted hosts kind named ≡ with_sources named (cond muted None (Some (kind, false)))
+pub restart_as : (mutes muted : Bool) (hosts : Hosts) (kind : Kind) (named : NamedSources) → restarts kind ≡ true →
+    translated mutes muted hosts kind named ≡ with_sources named (cond muted None (Some (kind, false)))
 restart_as mutes true hosts kind named is = refl
 restart_as mutes false hosts IsIn named is = refl
 restart_as mutes false hosts Allow named is = refl
@@ -49,7 +52,8 @@ restart_as mutes false hosts ToIn named is = absurd (true≢false (sym is))
 restart_as mutes false hosts ToEx named is = absurd (true≢false (sym is))
 restart_as mutes false hosts Block named is = absurd (true≢false (sym is))
 
-pub kept_unless : (muted : Bool) (kind : Kind) (acts : Option (Kind × Bool)) → acts ≡ cond muted None (Some (kind, false)) → IfSome acts (λ (a : Kind × Bool). ◌≡◌ {A = Kind × Bool} a (kind, false))
+pub kept_unless : (muted : Bool) (kind : Kind) (acts : Option (Kind × Bool)) → acts ≡ cond muted None (Some (kind, false)) →
+    IfSome acts (λ (a : Kind × Bool). ◌≡◌ {A = Kind × Bool} a (kind, false))
 kept_unless true kind None is = tt
 kept_unless true kind (Some a) is = cc
 kept_unless false kind None is = cc
@@ -72,8 +76,10 @@ blocks_is IsEx is = absurd (true≢false (sym is))
 blocks_is ToIn is = absurd (true≢false (sym is))
 blocks_is ToEx is = absurd (true≢false (sym is))
 
-pub none_taken_keeps : {K : Type 0} (kind : Kind) (mode : FilterMode) (row : List (Source K)) → takes_none_away kind ≡ true → (is_include mode ≡ true → list_any item_is_stopped row ≡ false) → keeps_unnamed kind mode row ≡ true
-none_taken_keeps kind mode row is none = ap (λ b. b && (not (is_include mode) || not (list_any item_is_stopped row))) is ∙ by_mode (is_include mode) (list_any item_is_stopped row) none
+pub none_taken_keeps : {K : Type 0} (kind : Kind) (mode : FilterMode) (row : List (Source K)) → takes_none_away kind ≡ true →
+    (is_include mode ≡ true → list_any item_is_stopped row ≡ false) → keeps_unnamed kind mode row ≡ true
+none_taken_keeps kind mode row is none = ap (λ b. b && (not (is_include mode) || not (list_any item_is_stopped row))) is ∙
+    by_mode (is_include mode) (list_any item_is_stopped row) none
   where
     by_mode : (b s : Bool) → (b ≡ true → s ≡ false) → (not b || not s) ≡ true
     by_mode true true none = absurd (true≢false (none refl))
@@ -81,11 +87,13 @@ none_taken_keeps kind mode row is none = ap (λ b. b && (not (is_include mode) |
     by_mode false s none = refl
 
 -- a BLOCK that isn't muted acts as one, of all sources that it names
-pub block_acts : (mutes muted : Bool) (hosts : Hosts) (named : NamedSources) (kind : Kind) (is_emptied : Bool) → translated mutes muted hosts Block named ≡ with_sources named (Some (kind, is_emptied)) → (kind ≡ Block) × (cond is_emptied set.empty named ≡ named)
+pub block_acts : (mutes muted : Bool) (hosts : Hosts) (named : NamedSources) (kind : Kind) (is_emptied : Bool) →
+    translated mutes muted hosts Block named ≡ with_sources named (Some (kind, is_emptied)) → (kind ≡ Block) × (cond is_emptied set.empty named ≡ named)
 block_acts mutes true hosts named kind is_emptied is = cc
 block_acts mutes false hosts named kind is_emptied is = by_test (hosts.v1 || hosts.v2) is
   where
-    by_test : (b : Bool) → cond b None (Some (Block, named)) ≡ with_sources named (Some (kind, is_emptied)) → (kind ≡ Block) × (cond is_emptied set.empty named ≡ named)
+    by_test : (b : Bool) → cond b None (Some (Block, named)) ≡ with_sources named (Some (kind, is_emptied)) → (kind ≡ Block) ×
+        (cond is_emptied set.empty named ≡ named)
     by_test true is = cc
     by_test false is =
         let same : ◌≡◌ {A = Kind × NamedSources} (Block, named) (kind, cond is_emptied set.empty named) = cc in
@@ -96,7 +104,8 @@ none_any : {X : Type 0} (p : X → Bool) (xs : List X) → ((k : ℕ) (d : X) �
 none_any p [] each = refl
 none_any p (x ∷ xs) each = rw (each 0 x (omega arith)) (none_any p xs (λ k d within. each (suc k) d (omega arith)))
 
-pub none_stopped_in : {K : Type 0} (number : K → ℕ) (row : List (Source K)) → IsAscending (number_in number) row → ((s : ℕ) → is_stopped (map.get (timers_in number row) s) ≡ false) → list_any item_is_stopped row ≡ false
+pub none_stopped_in : {K : Type 0} (number : K → ℕ) (row : List (Source K)) → IsAscending (number_in number) row →
+    ((s : ℕ) → is_stopped (map.get (timers_in number row) s) ≡ false) → list_any item_is_stopped row ≡ false
 none_stopped_in number row up none =
     none_any item_is_stopped row (λ k d within.
     let s = number_in number (get_or row k d) in
@@ -112,42 +121,56 @@ BlocksSo said kind is_emptied named = (k : Kind) → said ≡ Record k → block
 -- a list of one names a source
 one_names : {K : Type 0} (number : K → ℕ) (xs : List K) → length xs ≡ 1 → set.empty ≡ named_in number xs → ⊥
 one_names number [] one is = absurd (omega (arith, one))
-one_names number (x ∷ []) one is = true≢false (sym (names-one number (x ∷ []) x refl (number x) ∙ ties (number x) (number x) refl) ∙ ap (λ named. set.contains named (number x)) (sym is) ∙ set.contains-empty nat_cmp (number x))
+one_names number (x ∷ []) one is =
+    true≢false (sym (names-one number (x ∷ []) x refl (number x) ∙ ties (number x) (number x) refl) ∙ ap (λ named. set.contains named (number x))
+    (sym is) ∙ set.contains-empty nat_cmp (number x))
 one_names number (x ∷ y ∷ xs) one is = absurd (omega (arith, one))
 
 -- the merge of a group with the sources that are left of those that are named
-pub merge_by : {K : Type 0} (number : K → ℕ) (sources : ℕ) (said : StatementKind) (kind : Kind) (is_emptied : Bool) (before left : List K) (acts : Option (Kind × NamedSources)) (old between new : ℕ)
+pub merge_by : {K : Type 0} (number : K → ℕ) (sources : ℕ) (said : StatementKind) (kind : Kind) (is_emptied : Bool) (before left : List K)
+    (acts : Option (Kind × NamedSources)) (old between new : ℕ)
     → acts ≡ with_sources (named_in number before) (Some (kind, is_emptied))
     → (is_emptied ≡ false → left ≡ before) → length left ≤ length before → ActsSo said kind is_emptied → BlocksSo said kind is_emptied (named_in number before)
     → Spends 0 (most_hosts said) old between → Spends (min sources (length left)) (sources + length left) between new
     → (takes_none_away kind ≡ true → length left ≡ 1 → Spends 0 (bitlen sources) between new)
     → Spends (least_merge sources acts) (most_changed said sources (length before)) old new
-merge_by number sources said kind is_emptied before left acts old between new acts_is same fewer so blocks_so first merge halves = by_said said so blocks_so first
+merge_by number sources said kind is_emptied before left acts old between new acts_is same fewer so blocks_so first merge halves =
+    by_said said so blocks_so first
   where
     all : Spends 0 2 old between → Spends (least_merge sources acts) (sources + length before + 2) old new
     all spent = merge_spends number sources kind is_emptied before left acts old between new acts_is same fewer spent merge
 
-    by_count : (b : Bool) → (length before == 1) ≡ b → (b ≡ true → Spends 0 (bitlen sources) between new) → left ≡ before → Spends 0 0 old between → Spends 0 (cond b (bitlen sources) (sources + length before)) old new
+    by_count : (b : Bool) → (length before == 1) ≡ b → (b ≡ true → Spends 0 (bitlen sources) between new) → left ≡ before → Spends 0 0 old between →
+        Spends 0 (cond b (bitlen sources) (sources + length before)) old new
     by_count true one few is none = Spends-join_within 0 (bitlen sources) none (few refl) (omega arith) (omega arith)
     by_count false other few is none = Spends-join_within 0 (sources + length before) none merge (omega arith) (let n = ap length is in omega (arith, n))
 
     -- of a BLOCK one source that is named is left
-    by_one : (b : Bool) → (length before == 1) ≡ b → kind ≡ Block → cond is_emptied set.empty (named_in number before) ≡ named_in number before → Spends 0 2 old between → Spends 0 (cond b (bitlen sources) (sources + length before) + 2) old new
+    by_one : (b : Bool) → (length before == 1) ≡ b → kind ≡ Block → cond is_emptied set.empty (named_in number before) ≡ named_in number before →
+        Spends 0 2 old between → Spends 0 (cond b (bitlen sources) (sources + length before) + 2) old new
     by_one false other is whole spent = let most = all spent in Spends-within 0 (sources + length before + 2) most (omega arith) (omega arith)
     by_one true one is whole spent = by_emptied is_emptied refl whole
       where
         by_emptied : (e : Bool) → is_emptied ≡ e → cond e set.empty (named_in number before) ≡ named_in number before → Spends 0 (bitlen sources + 2) old new
         by_emptied true e_is gone = absurd (one_names number before (eqb-true (length before) 1 one) gone)
-        by_emptied false e_is kept = Spends-join_within 0 (bitlen sources + 2) spent (halves (ap takes_none_away is) (ap length (same e_is) ∙ eqb-true (length before) 1 one)) (omega arith) (omega arith)
+        by_emptied false e_is kept =
+            Spends-join_within 0 (bitlen sources + 2) spent (halves (ap takes_none_away is) (ap length (same e_is) ∙ eqb-true (length before) 1 one))
+            (omega arith) (omega arith)
 
-    by_block : (k : Kind) (b : Bool) → blocks k ≡ b → (b ≡ true → (kind ≡ Block) × (cond is_emptied set.empty (named_in number before) ≡ named_in number before)) → Spends 0 2 old between → Spends (least_merge sources acts) (cond b (most_merged sources (length before) + 2) (sources + length before + 2)) old new
+    by_block : (k : Kind) (b : Bool) → blocks k ≡ b →
+        (b ≡ true → (kind ≡ Block) × (cond is_emptied set.empty (named_in number before) ≡ named_in number before)) → Spends 0 2 old between →
+        Spends (least_merge sources acts) (cond b (most_merged sources (length before) + 2) (sources + length before + 2)) old new
     by_block k false other so spent = all spent
     by_block k true is so spent =
         let least = all spent in
         let most = by_one (length before == 1) refl (so refl).0 (so refl).1 spent in
         record { at_least = least.at_least; at_most = most.at_most }
 
-    by_restart : (k : Kind) (b : Bool) → restarts k ≡ b → (b ≡ true → ◌≡◌ {A = Kind × Bool} (kind, is_emptied) (k, false)) → (blocks k ≡ true → (kind ≡ Block) × (cond is_emptied set.empty (named_in number before) ≡ named_in number before)) → Spends 0 (cond b 0 2) old between → Spends (least_merge sources acts) (cond b (most_merged sources (length before)) (cond (blocks k) (most_merged sources (length before) + 2) (sources + length before + 2))) old new
+    by_restart : (k : Kind) (b : Bool) → restarts k ≡ b → (b ≡ true → ◌≡◌ {A = Kind × Bool} (kind, is_emptied) (k, false)) →
+        (blocks k ≡ true → (kind ≡ Block) × (cond is_emptied set.empty (named_in number before) ≡ named_in number before)) →
+        Spends 0 (cond b 0 2) old between →
+        Spends (least_merge sources acts)
+        (cond b (most_merged sources (length before)) (cond (blocks k) (most_merged sources (length before) + 2) (sources + length before + 2))) old new
     by_restart k false other so blocks_it spent = by_block k (blocks k) refl blocks_it spent
     by_restart k true is so blocks_it spent =
         let emptied = ap (λ (p : Kind × Bool). p.1) (so refl) in
@@ -157,19 +180,22 @@ merge_by number sources said kind is_emptied before left acts old between new ac
         let most = by_count (length before == 1) refl (λ one. halves restarts_it (ap length kept ∙ eqb-true (length before) 1 one)) kept spent in
         record { at_least = least.at_least; at_most = most.at_most }
 
-    by_said : (said : StatementKind) → ActsSo said kind is_emptied → BlocksSo said kind is_emptied (named_in number before) → Spends 0 (most_hosts said) old between → Spends (least_merge sources acts) (most_changed said sources (length before)) old new
+    by_said : (said : StatementKind) → ActsSo said kind is_emptied → BlocksSo said kind is_emptied (named_in number before) →
+        Spends 0 (most_hosts said) old between → Spends (least_merge sources acts) (most_changed said sources (length before)) old new
     by_said (Record k) so blocks_it spent = by_restart k (restarts k) refl (so k refl) (blocks_it k refl) spent
     by_said (OlderJoin version) so blocks_it spent = all spent
     by_said OlderLeave so blocks_it spent = all spent
 
 -- it asks for nothing, as what it acts as does
-pub asks_by : (said : StatementKind) (kind : Kind) (is_emptied : Bool) {P : Type 0} → ActsSo said kind is_emptied → (restarts kind ≡ true → P) → is_restart said ≡ true → P
+pub asks_by : (said : StatementKind) (kind : Kind) (is_emptied : Bool) {P : Type 0} → ActsSo said kind is_emptied → (restarts kind ≡ true → P) →
+    is_restart said ≡ true → P
 asks_by (Record k) kind is_emptied so nothing is = nothing (ap (λ (p : Kind × Bool). restarts p.0) (so k refl is) ∙ is)
 asks_by (OlderJoin version) kind is_emptied so nothing is = absurd (true≢false (sym is))
 asks_by OlderLeave kind is_emptied so nothing is = absurd (true≢false (sym is))
 
 -- so what is asked for spends nothing
-pub asks_most : {K : Type 0} (said : StatementKind) (asks : Bool) (asked : List K) (size sources named : ℕ) → (is_restart said ≡ true → (asks ≡ false) × (asked ≡ [])) → size ≤ sources + named
+pub asks_most : {K : Type 0} (said : StatementKind) (asks : Bool) (asked : List K) (size sources named : ℕ) →
+    (is_restart said ≡ true → (asks ≡ false) × (asked ≡ [])) → size ≤ sources + named
     → most_started (length asked) size + one_if asks ≤ most_asked said sources named
 asks_most said asks asked size sources named none few = by_test (is_restart said) refl
   where
@@ -207,21 +233,30 @@ twice_bitlen n =
     below m n few = let rest = above m in let twice : 2 ^ (m + 1) ≡ 2 * 2 ^ m = ap (λ k. 2 ^ k) (add-one m) ∙ double m in omega (arith, rest, few, twice)
 
 -- What was tried where the group stands, and is done on a copy then, is no more than six for each source, and so on.
-pub tried_and_copied : (said : StatementKind) (sources named groups : ℕ) → most_tried said sources named + (most_blocked said sources named + most_copied said sources named groups) ≤ 6 * (sources + named) + 17 + bitlen groups
+pub tried_and_copied : (said : StatementKind) (sources named groups : ℕ) →
+    most_tried said sources named + (most_blocked said sources named + most_copied said sources named groups) ≤ 6 * (sources + named) + 17 + bitlen groups
 tried_and_copied said sources named groups = by_said said
   where
-    by_count : (b : Bool) → (named == 1) ≡ b → 2 + cond b (bitlen sources) (sources + bitlen sources) + (0 + (cond b (bitlen sources) (sources + named) + 0 + 3 * (sources + named) + 9 + bitlen groups)) ≤ 6 * (sources + named) + 17 + bitlen groups
+    by_count : (b : Bool) → (named == 1) ≡ b →
+        2 + cond b (bitlen sources)
+        (sources + bitlen sources) + (0 + (cond b (bitlen sources) (sources + named) + 0 + 3 * (sources + named) + 9 + bitlen groups)) ≤ 6 *
+        (sources + named) + 17 + bitlen groups
     by_count true one = let n = eqb-true named 1 one in let few = twice_bitlen sources in omega (arith, n, few)
     by_count false other = let few = bitlen-few sources in omega (arith, few)
 
-    by_block : (b : Bool) → (named == 1) ≡ b → 0 + (4 + cond b (bitlen sources) 0 + (cond b (bitlen sources) (sources + named) + 2 + (2 * (sources + named) + 1) + 3 * (sources + named) + 9 + bitlen groups)) ≤ 6 * (sources + named) + 17 + bitlen groups
+    by_block : (b : Bool) → (named == 1) ≡ b →
+        0 + (4 + cond b (bitlen sources) 0 +
+        (cond b (bitlen sources) (sources + named) + 2 + (2 * (sources + named) + 1) + 3 * (sources + named) + 9 + bitlen groups)) ≤ 6 *
+        (sources + named) + 17 + bitlen groups
     by_block true one = let n = eqb-true named 1 one in let few = twice_bitlen sources in omega (arith, n, few)
     by_block false other = omega arith
 
-    others : 0 + (0 + (sources + named + 2 + (2 * (sources + named) + 1) + 3 * (sources + named) + 9 + bitlen groups)) ≤ 6 * (sources + named) + 17 + bitlen groups
+    others : 0 + (0 + (sources + named + 2 + (2 * (sources + named) + 1) + 3 * (sources + named) + 9 + bitlen groups)) ≤ 6 *
+        (sources + named) + 17 + bitlen groups
     others = omega arith
 
-    by_said : (said : StatementKind) → most_tried said sources named + (most_blocked said sources named + most_copied said sources named groups) ≤ 6 * (sources + named) + 17 + bitlen groups
+    by_said : (said : StatementKind) → most_tried said sources named + (most_blocked said sources named + most_copied said sources named groups) ≤ 6 *
+        (sources + named) + 17 + bitlen groups
     by_said (Record IsIn) = by_count (named == 1) refl
     by_said (Record Allow) = by_count (named == 1) refl
     by_said (Record Block) = by_block (named == 1) refl
@@ -232,7 +267,8 @@ tried_and_copied said sources named groups = by_said said
     by_said OlderLeave = others
 
 -- What a BLOCK spends that is done where its group stands is no more than that either.
-pub blocked_few : (said : StatementKind) (sources named groups : ℕ) → most_tried said sources named + (most_blocked said sources named + 3 * sources + 5 + bitlen groups) ≤ 6 * (sources + named) + 17 + bitlen groups
+pub blocked_few : (said : StatementKind) (sources named groups : ℕ) →
+    most_tried said sources named + (most_blocked said sources named + 3 * sources + 5 + bitlen groups) ≤ 6 * (sources + named) + 17 + bitlen groups
 blocked_few said sources named groups = by_said said
   where
     few : (b : Bool) → cond b (bitlen sources) (sources + bitlen sources) ≤ 2 * sources
@@ -243,7 +279,8 @@ blocked_few said sources named groups = by_said said
     halves true = bitlen-few sources
     halves false = omega arith
 
-    by_said : (said : StatementKind) → most_tried said sources named + (most_blocked said sources named + 3 * sources + 5 + bitlen groups) ≤ 6 * (sources + named) + 17 + bitlen groups
+    by_said : (said : StatementKind) → most_tried said sources named + (most_blocked said sources named + 3 * sources + 5 + bitlen groups) ≤ 6 *
+        (sources + named) + 17 + bitlen groups
     by_said (Record IsIn) = omega (arith, few (named == 1))
     by_said (Record Allow) = omega (arith, few (named == 1))
     by_said (Record Block) = omega (arith, halves (named == 1))
@@ -257,7 +294,8 @@ blocked_few said sources named groups = by_said said
 pub set-mono : (sources named few digits : ℕ) → few ≤ digits → most_set sources named few ≤ most_set sources named digits
 set-mono sources named few digits less = by_count (named == 1)
   where
-    by_count : (b : Bool) → cond b (bitlen sources + sources + 5 + few) (3 * sources + bitlen sources + named + 4 + few) ≤ cond b (bitlen sources + sources + 5 + digits) (3 * sources + bitlen sources + named + 4 + digits)
+    by_count : (b : Bool) → cond b (bitlen sources + sources + 5 + few) (3 * sources + bitlen sources + named + 4 + few) ≤ cond b
+        (bitlen sources + sources + 5 + digits) (3 * sources + bitlen sources + named + 4 + digits)
     by_count true = omega (arith, less)
     by_count false = omega (arith, less)
 
@@ -265,12 +303,14 @@ set-mono sources named few digits less = by_count (named == 1)
 pub set_few : (sources named groups : ℕ) → 2 + most_set sources named (bitlen groups) ≤ 6 * (sources + named) + 17 + bitlen groups
 set_few sources named groups = by_count (named == 1)
   where
-    by_count : (b : Bool) → 2 + cond b (bitlen sources + sources + 5 + bitlen groups) (3 * sources + bitlen sources + named + 4 + bitlen groups) ≤ 6 * (sources + named) + 17 + bitlen groups
+    by_count : (b : Bool) → 2 + cond b (bitlen sources + sources + 5 + bitlen groups) (3 * sources + bitlen sources + named + 4 + bitlen groups) ≤ 6 *
+        (sources + named) + 17 + bitlen groups
     by_count true = let few = bitlen-few sources in omega (arith, few)
     by_count false = let few = bitlen-few sources in omega (arith, few)
 
 -- What a statement spends at least for its merge is no more than how many sources it names.
-least_translated : (sources n : ℕ) (mutes muted : Bool) (hosts : Hosts) (kind : Kind) (named : NamedSources) → set.len named ≤ n → least_merge sources (translated mutes muted hosts kind named) ≤ min sources n
+least_translated : (sources n : ℕ) (mutes muted : Bool) (hosts : Hosts) (kind : Kind) (named : NamedSources) → set.len named ≤ n →
+    least_merge sources (translated mutes muted hosts kind named) ≤ min sources n
 least_translated sources n mutes true hosts kind named few = omega arith
 least_translated sources n mutes false hosts IsIn named few = omega (arith, few)
 least_translated sources n mutes false hosts IsEx named few = omega (arith, few)
@@ -291,7 +331,8 @@ least_translated sources n mutes false hosts ToIn named few = by_test (mutes && 
     by_test true = omega arith
     by_test false = omega (arith, few)
 
-pub least_named : {K : Type 0} (number : K → ℕ) (at : Setting) (group : ℕ) (said : StatementKind) (members : List K) (groups : Groups) → least_work at group (statement_of said (named_in number members)) groups ≤ min (sources_of (group_at groups group)) (length members)
+pub least_named : {K : Type 0} (number : K → ℕ) (at : Setting) (group : ℕ) (said : StatementKind) (members : List K) (groups : Groups) →
+    least_work at group (statement_of said (named_in number members)) groups ≤ min (sources_of (group_at groups group)) (length members)
 least_named number at group said members groups = by_said said
   where
     none : set.len (set.empty {R = nat_cmp}) ≤ length members
@@ -300,11 +341,15 @@ least_named number at group said members groups = by_said said
     few : set.len (named_in number members) ≤ length members
     few = let n = few_members (list_map number members) in let m = length-map members number in omega (arith, n, m)
 
-    by_said : (said : StatementKind) → least_work at group (statement_of said (named_in number members)) groups ≤ min (sources_of (group_at groups group)) (length members)
-    by_said (Record kind) = least_translated (sources_of (group_at groups group)) (length members) (v1_mutes_leave at.config.family) (is_muted at.config group (RecordOf kind (named_in number members))) (hosts_of (group_at groups group).group at.now) kind (named_in number members) few
+    by_said : (said : StatementKind) → least_work at group (statement_of said (named_in number members)) groups ≤ min
+        (sources_of (group_at groups group)) (length members)
+    by_said (Record kind) = least_translated (sources_of (group_at groups group)) (length members) (v1_mutes_leave at.config.family)
+        (is_muted at.config group (RecordOf kind (named_in number members))) (hosts_of (group_at groups group).group at.now) kind (named_in number members) few
     by_said (OlderJoin version) = by_test (is_muted at.config group (StatesJoin version))
       where
-        by_test : (b : Bool) → least_merge (sources_of (group_at groups group)) (cond b None (Some (IsEx, set.empty))) ≤ min (sources_of (group_at groups group)) (length members)
+        by_test : (b : Bool) → least_merge (sources_of (group_at groups group)) (cond b None (Some (IsEx, set.empty))) ≤ min
+            (sources_of (group_at groups group)) (length members)
         by_test true = omega arith
         by_test false = let n = set.len-empty nat_cmp in omega (arith, n)
-    by_said OlderLeave = least_translated (sources_of (group_at groups group)) (length members) (v1_mutes_leave at.config.family) (is_muted at.config group StatesLeave) (hosts_of (group_at groups group).group at.now) ToIn set.empty none
+    by_said OlderLeave = least_translated (sources_of (group_at groups group)) (length members) (v1_mutes_leave at.config.family)
+        (is_muted at.config group StatesLeave) (hosts_of (group_at groups group).group at.now) ToIn set.empty none

@@ -24,7 +24,8 @@ use Rattle.mq_held.proofs.Sorted.{tied, ties}
 use Rattle.mq_link.proofs.RefreshedGroups.{with_timers}
 
 -- all but the timers stays
-pub group-restarted_each : (deadline : ℕ) (xs : List ℕ) (e : ScheduledGroup) → (restarted_each deadline xs e).group ≡ with_timers e.group (restarted_each deadline xs e).group.sources
+pub group-restarted_each : (deadline : ℕ) (xs : List ℕ) (e : ScheduledGroup) → (restarted_each deadline xs e).group
+    ≡ with_timers e.group (restarted_each deadline xs e).group.sources
 group-restarted_each deadline [] e = refl
 group-restarted_each deadline (x ∷ xs) e = group-restarted_each deadline xs (restarted deadline x e)
 
@@ -33,9 +34,11 @@ schedule-restarted_each deadline [] e = refl
 schedule-restarted_each deadline (x ∷ xs) e = schedule-restarted_each deadline xs (restarted deadline x e)
 
 -- so does the size of a group
-restarted-size : (deadline source : ℕ) (timer : SourceTimer) (e : ScheduledGroup) → timer_at e.group source ≡ Some timer → sources_of (restarted deadline source e) ≡ sources_of e
+restarted-size : (deadline source : ℕ) (timer : SourceTimer) (e : ScheduledGroup) → timer_at e.group source ≡ Some timer →
+    sources_of (restarted deadline source e) ≡ sources_of e
 restarted-size deadline source timer e there =
-    map.len-insert nat_cmp_total e.group.sources source (Running deadline (sendings_of (timer_at e.group source))) ∙ ap (λ (t : Option SourceTimer). cond (is_some t) (size_of e.group) (size_of e.group + 1)) there
+    map.len-insert nat_cmp_total e.group.sources source (Running deadline (sendings_of (timer_at e.group source))) ∙
+    ap (λ (t : Option SourceTimer). cond (is_some t) (size_of e.group) (size_of e.group + 1)) there
 
 pub size-restarted_each : (deadline : ℕ) (xs : List ℕ) (e : ScheduledGroup) → has_each xs e ≡ true → sources_of (restarted_each deadline xs e) ≡ sources_of e
 size-restarted_each deadline [] e all = refl
@@ -49,16 +52,20 @@ restarted-sendings : (deadline source : ℕ) (e : ScheduledGroup) (s : ℕ) → 
 restarted-sendings deadline source e s =
     ap (λ t. ltb 0 (sendings_of t)) (timer-restarted deadline source e s) ∙ by_test (eq_by_cmp nat_cmp s source) refl
   where
-    by_test : (b : Bool) → eq_by_cmp nat_cmp s source ≡ b → ltb 0 (sendings_of (cond b (Some (Running deadline (sendings_of (timer_at e.group source)))) (timer_at e.group s))) ≡ ltb 0 (sendings_of (timer_at e.group s))
+    by_test : (b : Bool) → eq_by_cmp nat_cmp s source ≡ b →
+        ltb 0 (sendings_of (cond b (Some (Running deadline (sendings_of (timer_at e.group source)))) (timer_at e.group s)))
+        ≡ ltb 0 (sendings_of (timer_at e.group s))
     by_test true same = ap (λ q. ltb 0 (sendings_of (timer_at e.group q))) (sym (tied s source same))
     by_test false differs = refl
 
-pub sendings-restarted_each : (deadline : ℕ) (xs : List ℕ) (e : ScheduledGroup) (s : ℕ) → has_sendings (restarted_each deadline xs e).group s ≡ has_sendings e.group s
+pub sendings-restarted_each : (deadline : ℕ) (xs : List ℕ) (e : ScheduledGroup) (s : ℕ) → has_sendings (restarted_each deadline xs e).group s
+    ≡ has_sendings e.group s
 sendings-restarted_each deadline [] e s = refl
 sendings-restarted_each deadline (x ∷ xs) e s = sendings-restarted_each deadline xs (restarted deadline x e) s ∙ restarted-sendings deadline x e s
 
 -- Another filter is forwarded then exactly where one of the sources was stopped.
-module _ (deadline : ℕ) (xs : List ℕ) (e : ScheduledGroup) (all : has_each xs e ≡ true) (none_stopped : e.group.mode ≡ Include → (s : ℕ) → is_stopped (timer_at e.group s) ≡ false) where
+module _ (deadline : ℕ) (xs : List ℕ) (e : ScheduledGroup) (all : has_each xs e ≡ true)
+    (none_stopped : e.group.mode ≡ Include → (s : ℕ) → is_stopped (timer_at e.group s) ≡ false) where
   abbrev after : GroupState
   after = (restarted_each deadline xs e).group
 
@@ -92,7 +99,8 @@ module _ (deadline : ℕ) (xs : List ℕ) (e : ScheduledGroup) (all : has_each x
           ∙ (λ i. names (sym mode_is i) (sym (at s true inside) i))
       by_test false outside = λ i. names (sym mode_is i) (sym (at s false outside) i)
 
-  turned : (mode : FilterMode) (t : Option SourceTimer) (s : ℕ) → e.group.mode ≡ mode → timer_at e.group s ≡ t → is_stopped t ≡ true → not (beq (names mode t) (names mode (Some (next s)))) ≡ true
+  turned : (mode : FilterMode) (t : Option SourceTimer) (s : ℕ) → e.group.mode ≡ mode → timer_at e.group s ≡ t → is_stopped t ≡ true →
+      not (beq (names mode t) (names mode (Some (next s)))) ≡ true
   turned mode None s is here stopped = absurd (true≢false (sym stopped))
   turned mode (Some (Running d n)) s is here stopped = absurd (true≢false (sym stopped))
   turned Include (Some Stopped) s is here stopped = absurd (true≢false (sym (ap is_stopped here) ∙ none_stopped is s))
@@ -108,4 +116,5 @@ module _ (deadline : ℕ) (xs : List ℕ) (e : ScheduledGroup) (all : has_each x
           let s = found.1 in
           let inside = list_any_at (eq_by_cmp nat_cmp s) xs found.0 s found.2 (ties s (Rattle.std.specs.Prelude.slice_index_or xs found.0 s) (sym found.3)) in
           changes-at e.group after s
-          ((λ i. not (beq (names e.group.mode (timer_at e.group s)) (names (mode_is i) (at s true inside i)))) ∙ turned e.group.mode (timer_at e.group s) s refl refl found.4)
+          ((λ i. not (beq (names e.group.mode (timer_at e.group s)) (names (mode_is i) (at s true inside i)))) ∙
+          turned e.group.mode (timer_at e.group s) s refl refl found.4)

@@ -63,11 +63,14 @@ sources_unasked gmi mode ToIn X Y A s is = absurd (true≢false (sym is))
 sources_unasked gmi mode ToEx X Y A s is = absurd (true≢false (sym is))
 sources_unasked gmi mode Block X Y A s is = absurd (true≢false (sym is))
 
-pub restarts-unasked : (timing : Timing) (now : ℕ) (g : GroupState) (kind : Kind) (named : NamedSources) → restarts kind ≡ true → (change_of timing now g kind named).query_group ≡ false
+pub restarts-unasked : (timing : Timing) (now : ℕ) (g : GroupState) (kind : Kind) (named : NamedSources) → restarts kind ≡ true →
+    (change_of timing now g kind named).query_group ≡ false
 restarts-unasked timing now g kind named = group_unasked (now + membership_interval timing) g.mode kind (running g) (stopped g) (set.contains named)
 
-pub restarts-unasked_sources : (timing : Timing) (now : ℕ) (g : GroupState) (kind : Kind) (named : NamedSources) (s : ℕ) → restarts kind ≡ true → (change_of timing now g kind named).query s ≡ false
-restarts-unasked_sources timing now g kind named s = sources_unasked (now + membership_interval timing) g.mode kind (running g) (stopped g) (set.contains named) s
+pub restarts-unasked_sources : (timing : Timing) (now : ℕ) (g : GroupState) (kind : Kind) (named : NamedSources) (s : ℕ) → restarts kind ≡ true →
+    (change_of timing now g kind named).query s ≡ false
+restarts-unasked_sources timing now g kind named s = sources_unasked (now + membership_interval timing) g.mode kind (running g) (stopped g)
+    (set.contains named) s
 
 -- a list that has no number is empty
 pub none_listed : {X : Type 0} (number : X → ℕ) (xs : List X) → ((s : ℕ) → set_of number xs s ≡ false) → xs ≡ []
@@ -79,26 +82,34 @@ abbrev TimerThen : ℕ → FilterMode → Kind → ℕ → Option SourceTimer �
 TimerThen gmi mode kind s t a = (is_include mode ≡ true → is_stopped t ≡ false) → timer_then gmi mode kind s t a ≡ cond a (Some (Running gmi (sendings_of t))) t
 
 timer_kept : (gmi : ℕ) (mode : FilterMode) (kind : Kind) (s : ℕ) (t : Option SourceTimer) (a : Bool) → restarts kind ≡ true → TimerThen gmi mode kind s t a
-timer_kept gmi Include IsIn s t a is = each_case (TimerThen gmi Include IsIn s) (both _ (λ _. refl) (λ _. refl)) (both _ (λ _. refl) (λ none. absurd (true≢false (none refl)))) (λ d n. both _ (λ _. refl) (λ _. refl)) t a
-timer_kept gmi Include Allow s t a is = each_case (TimerThen gmi Include Allow s) (both _ (λ _. refl) (λ _. refl)) (both _ (λ _. refl) (λ none. absurd (true≢false (none refl)))) (λ d n. both _ (λ _. refl) (λ _. refl)) t a
-timer_kept gmi (Exclude m) IsIn s t a is = each_case (TimerThen gmi (Exclude m) IsIn s) (both _ (λ _. refl) (λ _. refl)) (both _ (λ _. refl) (λ _. refl)) (λ d n. both _ (λ _. refl) (λ _. refl)) t a
-timer_kept gmi (Exclude m) Allow s t a is = each_case (TimerThen gmi (Exclude m) Allow s) (both _ (λ _. refl) (λ _. refl)) (both _ (λ _. refl) (λ _. refl)) (λ d n. both _ (λ _. refl) (λ _. refl)) t a
+timer_kept gmi Include IsIn s t a is = each_case (TimerThen gmi Include IsIn s) (both _ (λ _. refl) (λ _. refl))
+    (both _ (λ _. refl) (λ none. absurd (true≢false (none refl)))) (λ d n. both _ (λ _. refl) (λ _. refl)) t a
+timer_kept gmi Include Allow s t a is = each_case (TimerThen gmi Include Allow s) (both _ (λ _. refl) (λ _. refl))
+    (both _ (λ _. refl) (λ none. absurd (true≢false (none refl)))) (λ d n. both _ (λ _. refl) (λ _. refl)) t a
+timer_kept gmi (Exclude m) IsIn s t a is = each_case (TimerThen gmi (Exclude m) IsIn s) (both _ (λ _. refl) (λ _. refl))
+    (both _ (λ _. refl) (λ _. refl)) (λ d n. both _ (λ _. refl) (λ _. refl)) t a
+timer_kept gmi (Exclude m) Allow s t a is = each_case (TimerThen gmi (Exclude m) Allow s) (both _ (λ _. refl) (λ _. refl))
+    (both _ (λ _. refl) (λ _. refl)) (λ d n. both _ (λ _. refl) (λ _. refl)) t a
 timer_kept gmi mode IsEx s t a is = absurd (true≢false (sym is))
 timer_kept gmi mode ToIn s t a is = absurd (true≢false (sym is))
 timer_kept gmi mode ToEx s t a is = absurd (true≢false (sym is))
 timer_kept gmi mode Block s t a is = absurd (true≢false (sym is))
 
 -- What such a record changes.
-module _ (timing : Timing) (now : ℕ) (g : GroupState) (kind : Kind) (named : NamedSources) (is : restarts kind ≡ true) (none_stopped : g.mode ≡ Include → (s : ℕ) → stopped g s ≡ false) where
+module _ (timing : Timing) (now : ℕ) (g : GroupState) (kind : Kind) (named : NamedSources) (is : restarts kind ≡ true)
+    (none_stopped : g.mode ≡ Include → (s : ℕ) → stopped g s ≡ false) where
   abbrev pub gmi : ℕ
   gmi = now + membership_interval timing
 
-  timers_then : (s : ℕ) → timer_at (change_of timing now g kind named).group s ≡ cond (set.contains named s) (Some (Running gmi (sendings_of (timer_at g s)))) (timer_at g s)
+  timers_then : (s : ℕ) → timer_at (change_of timing now g kind named).group s ≡ cond (set.contains named s)
+      (Some (Running gmi (sendings_of (timer_at g s)))) (timer_at g s)
   timers_then s =
       at_source_of (λ _ _ _ _ t. t ≡ cond (set.contains named s) (Some (Running gmi (sendings_of (timer_at g s)))) (timer_at g s)) timing now g kind named s
       (timer_kept gmi g.mode kind s (timer_at g s) (set.contains named s) is (λ include. none_stopped (is_from g.mode include) s))
 
-  pub changes-to : (timers : FinMap nat_cmp SourceTimer) → ((s : ℕ) → cond (set.contains named s) (Some (Running gmi (sendings_of (timer_at g s)))) (timer_at g s) ≡ map.get timers s) → change_of timing now g kind named ≡ asking_nothing (with_timers g timers)
+  pub changes-to : (timers : FinMap nat_cmp SourceTimer) →
+      ((s : ℕ) → cond (set.contains named s) (Some (Running gmi (sendings_of (timer_at g s)))) (timer_at g s) ≡ map.get timers s) →
+      change_of timing now g kind named ≡ asking_nothing (with_timers g timers)
   changes-to timers each =
       let sources = same_sources (change_of timing now g kind named).group.sources timers (λ s. timers_then s ∙ each s) in
       λ i. record {
@@ -110,7 +121,13 @@ module _ (timing : Timing) (now : ℕ) (g : GroupState) (kind : Kind) (named : N
 -- nothing changes where no source is to be asked for
 pub unasked : (timing : Timing) (now : ℕ) (e : ScheduledGroup) → sources_asked timing now ∅ e ≡ e
 unasked timing now e = λ i. record {
-  group = record { mode = e.group.mode; sources = same_sources (sources_asked timing now ∅ e).group.sources e.group.sources (timer_at-sources_asked timing now ∅ e) i; v1 = e.group.v1; v2 = e.group.v2 };
+  group = record {
+    mode = e.group.mode;
+    sources = same_sources (sources_asked timing now ∅ e).group.sources e.group.sources
+        (timer_at-sources_asked timing now ∅ e) i;
+    v1 = e.group.v1;
+    v2 = e.group.v2;
+  };
   schedule = record { group_query = e.schedule.group_query; sources_due = ap (λ b. cond b (Some now) e.schedule.sources_due) none i };
 }
   where
@@ -122,7 +139,8 @@ unasked timing now e = λ i. record {
     none = by_test (some_source (λ s. ∅ s && above timing now e.group s) e.group) refl
 
 -- A change that asks for nothing leaves the schedule as it is, where the group has the mode and the sendings from before.
-module _ (timing : Timing) (now : ℕ) (old new : GroupState) (schedule : ScheduleState) (fits : IsScheduleOf old schedule) (mode : new.mode ≡ old.mode) (sendings : (s : ℕ) → has_sendings new s ≡ has_sendings old s) where
+module _ (timing : Timing) (now : ℕ) (old new : GroupState) (schedule : ScheduleState) (fits : IsScheduleOf old schedule) (mode : new.mode ≡ old.mode)
+    (sendings : (s : ℕ) → has_sendings new s ≡ has_sendings old s) where
   same_some : some_source (has_sendings new) new ≡ some_source (has_sendings old) old
   same_some =
       same_tests (some_source (has_sendings new) new) (some_source (has_sendings old) old)

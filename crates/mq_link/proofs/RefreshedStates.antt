@@ -56,7 +56,8 @@ unmuted config group ToIn named is = absurd (true≢false (sym is))
 unmuted config group ToEx named is = absurd (true≢false (sym is))
 unmuted config group Block named is = absurd (true≢false (sym is))
 
-untranslated : (mutes : Bool) (timing : Timing) (now : ℕ) (g : GroupState) (kind : Kind) (named : NamedSources) → restarts kind ≡ true → translated_change mutes false timing now g kind named ≡ Some (change_of timing now g kind named)
+untranslated : (mutes : Bool) (timing : Timing) (now : ℕ) (g : GroupState) (kind : Kind) (named : NamedSources) → restarts kind ≡ true →
+    translated_change mutes false timing now g kind named ≡ Some (change_of timing now g kind named)
 untranslated mutes timing now g IsIn named is = refl
 untranslated mutes timing now g Allow named is = refl
 untranslated mutes timing now g IsEx named is = absurd (true≢false (sym is))
@@ -65,12 +66,15 @@ untranslated mutes timing now g ToEx named is = absurd (true≢false (sym is))
 untranslated mutes timing now g Block named is = absurd (true≢false (sym is))
 
 -- no limit is passed where no number grows
-pub passes_none : (limits : Limits) (groups : Groups) (a : ℕ) (e : ScheduledGroup) → AreWithin limits groups → map.contains_key groups a ≡ true → is_vacant e.group ≡ false → sources_of e ≡ sources_of (group_at groups a) → schedules_of e ≡ schedules_of (group_at groups a)
+pub passes_none : (limits : Limits) (groups : Groups) (a : ℕ) (e : ScheduledGroup) → AreWithin limits groups → map.contains_key groups a ≡ true →
+    is_vacant e.group ≡ false → sources_of e ≡ sources_of (group_at groups a) → schedules_of e ≡ schedules_of (group_at groups a)
     → limit_passed limits (with_group groups a e) e ≡ None
-passes_none limits groups a e within held other size schedules = let d = within.scheduled in passes_none_by limits groups a e within held other size (omega (arith, schedules, d))
+passes_none limits groups a e within held other size schedules = let d = within.scheduled in
+    passes_none_by limits groups a e within held other size (omega (arith, schedules, d))
 
 -- A record of a group that is held and for which nothing is due, where the change leaves the mode, the sendings and the sizes.
-module _ (at : Setting) (a : ℕ) (kind : Kind) (named : NamedSources) (groups : Groups) (is : restarts kind ≡ true) (sound : AreSound at groups) (held : map.contains_key groups a ≡ true) (quiet : IsQuietAt at.now (group_at groups a).schedule) where
+module _ (at : Setting) (a : ℕ) (kind : Kind) (named : NamedSources) (groups : Groups) (is : restarts kind ≡ true) (sound : AreSound at groups)
+    (held : map.contains_key groups a ≡ true) (quiet : IsQuietAt at.now (group_at groups a).schedule) where
   abbrev pub before : ScheduledGroup
   before = group_at groups a
 
@@ -81,12 +85,19 @@ module _ (at : Setting) (a : ℕ) (kind : Kind) (named : NamedSources) (groups :
   no_stopped = let formed = held_as.held in formed.none_stopped
 
   -- what such a change comes to
-  comes_to : (after : ScheduledGroup) → change_of at.election.timing at.now before.group kind named ≡ asking_nothing after.group → after.schedule ≡ before.schedule → after.group.mode ≡ before.group.mode
+  comes_to : (after : ScheduledGroup) → change_of at.election.timing at.now before.group kind named ≡ asking_nothing after.group →
+      after.schedule ≡ before.schedule → after.group.mode ≡ before.group.mode
       → ((s : ℕ) → has_sendings after.group s ≡ has_sendings before.group s) → sources_of after ≡ sources_of before → IsHeld after.group
       → stated at a (RecordOf kind named) groups ≡ record { verdict = Applied; groups = with_group groups a after; queries = [] }
   comes_to after change schedule mode sendings size formed =
       stated_judged at a (RecordOf kind named) groups before (asking_nothing after.group) after None did
-      ∙ (λ i. let o : Outcome = record { verdict = Applied; groups = with_group groups a (round i); queries = quiet_is_silent (per_query at.config.family) at.election.timing at.now a after quiet_then i } in o)
+      ∙ (λ i. let o : Outcome =
+      record {
+        verdict = Applied;
+        groups = with_group groups a (round i);
+        queries =
+            quiet_is_silent (per_query at.config.family) at.election.timing at.now a after quiet_then i;
+      } in o)
     where
       quiet_then : IsQuietAt at.now after.schedule
       quiet_then = subst (IsQuietAt at.now) (sym schedule) quiet
@@ -98,29 +109,34 @@ module _ (at : Setting) (a : ℕ) (kind : Kind) (named : NamedSources) (groups :
       did = record {
         before_is = refl;
         change_is =
-            ap (λ m. translated_change (v1_mutes_leave at.config.family) m at.election.timing at.now before.group kind named) (unmuted at.config a kind named is)
+            ap (λ m. translated_change (v1_mutes_leave at.config.family) m at.election.timing at.now before.group kind named)
+            (unmuted at.config a kind named is)
             ∙ untranslated (v1_mutes_leave at.config.family) at.election.timing at.now before.group kind named is
             ∙ ap Some change;
         asked_is =
             (λ i. let e : ScheduledGroup = record { group = after.group; schedule = schedule i } in e)
             ∙ sym (after-nothing at.election.timing at.now before.group after.group before.schedule held_as.fits mode sendings (is_querier at.election.role));
         passed_is =
-            sym (passes_none at.config.limits groups a after sound.within held (not_vacant after.group formed) size (ap (λ (s : ScheduleState). schedules_of (record { group = after.group; schedule = s })) schedule))
+            sym (passes_none at.config.limits groups a after sound.within held (not_vacant after.group formed) size
+            (ap (λ (s : ScheduleState). schedules_of (record { group = after.group; schedule = s })) schedule))
             ∙ (λ i. limit_passed at.config.limits (with_group groups a (sym round i)) (sym round i));
       }
 
   -- where the group has each source that is named
   pub stated-each : (sources : List ℕ) → ((s : ℕ) → set.contains named s ≡ list_any (eq_by_cmp nat_cmp s) sources) → has_each sources before ≡ true
-      → (let deadline = at.now + membership_interval at.election.timing in stated at a (RecordOf kind named) groups ≡ record { verdict = Applied; groups = with_group groups a (restarted_each deadline sources before); queries = [] })
+      → (let deadline = at.now + membership_interval at.election.timing in stated at a (RecordOf kind named) groups
+      ≡ record { verdict = Applied; groups = with_group groups a (restarted_each deadline sources before); queries = [] })
   stated-each sources names all =
       let deadline = at.now + membership_interval at.election.timing in
       let after = restarted_each deadline sources before in
       let timer : ℕ → Option SourceTimer = λ s. Some (Running deadline (sendings_of (timer_at before.group s))) in
       let group = group-restarted_each deadline sources before in
       let change =
-      changes-to at.election.timing at.now before.group kind named is no_stopped after.group.sources (λ s. ap (λ b. cond b (timer s) (timer_at before.group s)) (names s) ∙ sym (timer-restarted_each deadline sources before s))
+      changes-to at.election.timing at.now before.group kind named is no_stopped after.group.sources
+      (λ s. ap (λ b. cond b (timer s) (timer_at before.group s)) (names s) ∙ sym (timer-restarted_each deadline sources before s))
       ∙ ap asking_nothing (sym group) in
-      comes_to after change (schedule-restarted_each deadline sources before) (ap (λ (g : GroupState). g.mode) group) (sendings-restarted_each deadline sources before) (size-restarted_each deadline sources before all)
+      comes_to after change (schedule-restarted_each deadline sources before) (ap (λ (g : GroupState). g.mode) group)
+      (sendings-restarted_each deadline sources before) (size-restarted_each deadline sources before all)
       (IsWellFormed-restarted_each deadline sources before all held_as.held)
 
 -- a group that is put where it is held
@@ -128,10 +144,12 @@ pub put_is : (groups : Groups) (a : ℕ) (e : ScheduledGroup) → IsHeld e.group
 put_is groups a e formed = ap (λ b. cond b (map.remove groups a) (map.insert groups a e)) (not_vacant e.group formed)
 
 pub group_put : (groups : Groups) (a : ℕ) (e : ScheduledGroup) → group_at (map.insert groups a e) a ≡ e
-group_put groups a e = ap (λ (x : Option ScheduledGroup). unwrap_or x unheld) (map.get-insert nat_cmp_total groups a e a ∙ ap (λ b. cond b (Some e) (map.get groups a)) (ties a a refl))
+group_put groups a e = ap (λ (x : Option ScheduledGroup). unwrap_or x unheld)
+    (map.get-insert nat_cmp_total groups a e a ∙ ap (λ b. cond b (Some e) (map.get groups a)) (ties a a refl))
 
 -- what is put by stays, where a group is put that is as large
-pub put_by_same : (s after : HeldState) (a : ℕ) (e : ScheduledGroup) → after ≡ record s { groups = map.insert s.groups a e } → sources_of e ≡ sources_of (group_at s.groups a) → IsHeld e.group → IsHeld (group_at s.groups a).group → put_by_rows after ≡ put_by_rows s
+pub put_by_same : (s after : HeldState) (a : ℕ) (e : ScheduledGroup) → after ≡ record s { groups = map.insert s.groups a e } →
+    sources_of e ≡ sources_of (group_at s.groups a) → IsHeld e.group → IsHeld (group_at s.groups a).group → put_by_rows after ≡ put_by_rows s
 put_by_same s after a e is size formed was =
     let sources = sources_set s.groups a e in
     let running = running_set s.groups a e in
@@ -142,7 +160,8 @@ put_by_same s after a e is size formed was =
     ap put_by_rows is ∙ (λ i. min (4 * ((s.source_room / 4 + s.order.room) - s.ahead)) (total i + moments i))
 
 -- no source of a group of INCLUDE is stopped, whether the group is held or not
-pub none_is_stopped : (at : Setting) (a : ℕ) (groups : Groups) (e : ScheduledGroup) → e ≡ group_at groups a → AreSound at groups → is_include e.group.mode ≡ true → (s : ℕ) → is_stopped (timer_at e.group s) ≡ false
+pub none_is_stopped : (at : Setting) (a : ℕ) (groups : Groups) (e : ScheduledGroup) → e ≡ group_at groups a → AreSound at groups →
+    is_include e.group.mode ≡ true → (s : ℕ) → is_stopped (timer_at e.group s) ≡ false
 none_is_stopped at a groups e is sound include s = by_found (map.get groups a) refl
   where
     by_found : (x : Option ScheduledGroup) → map.get groups a ≡ x → is_stopped (timer_at e.group s) ≡ false
@@ -153,7 +172,8 @@ none_is_stopped at a groups e is sound include s = by_found (map.get groups a) r
         let same : e ≡ x = is ∙ ap (λ (x : Option ScheduledGroup). unwrap_or x unheld) found in
         let h = sound.all a x found in
         let formed = h.held in
-        ap (λ (e : ScheduledGroup). is_stopped (timer_at e.group s)) same ∙ formed.none_stopped (is_from x.group.mode (sym (ap (λ (e : ScheduledGroup). is_include e.group.mode) same) ∙ include)) s
+        ap (λ (e : ScheduledGroup). is_stopped (timer_at e.group s)) same ∙
+        formed.none_stopped (is_from x.group.mode (sym (ap (λ (e : ScheduledGroup). is_include e.group.mode) same) ∙ include)) s
 
 -- what holds by what an option is
 pub on_some : {X P : Type 0} (r : Option X) → (is_some r ≡ true → P) → OnSome r P

@@ -1,5 +1,6 @@
 -- The groups of a link while some of them are replaced, one after the other, each from what it was before.
-use Rattle.std.proofs.Common.{◌≡◌, ◌==◌, cond, ℕ, suc, ◌+◌, ◌<◌, ◌≤◌, Bool, true, false, ◌||◌, refl, List, [], ◌∷◌, length, take, drop, get_or, Option, Some, is_some, sym, ap, ◌∙◌, arith}
+use Rattle.std.proofs.Common.{◌≡◌, ◌==◌, cond, ℕ, suc, ◌+◌, ◌<◌, ◌≤◌, Bool, true, false, ◌||◌, refl, List, [], ◌∷◌, length, take, drop, get_or}
+use Rattle.std.proofs.Common.{Option, Some, is_some, sym, ap, ◌∙◌, arith}
 use Rattle.std.proofs.Math.Bool.{or-false}
 use Rattle.std.specs.Prelude.{map as list_map}
 use Rattle.std.specs.List.{sum_by}
@@ -38,7 +39,8 @@ entry_sources e = sources_of e.1
 
 pub sources_of_entries : (es : GroupEntries) → sum_by entry_sources es ≡ sum_by sources_of (list_map (λ (e : ℕ × ScheduledGroup). e.1) es)
 sources_of_entries [] = refl
-sources_of_entries (e ∷ es) = sum_by-cons entry_sources e es ∙ ap (λ n. sources_of e.1 + n) (sources_of_entries es) ∙ sym (sum_by-cons sources_of e.1 (list_map (λ (e : ℕ × ScheduledGroup). e.1) es))
+sources_of_entries (e ∷ es) = sum_by-cons entry_sources e es ∙ ap (λ n. sources_of e.1 + n) (sources_of_entries es) ∙
+    sym (sum_by-cons sources_of e.1 (list_map (λ (e : ℕ × ScheduledGroup). e.1) es))
 
 -- Some entries of the groups, by ascending address.
 pub record AreEntries (groups : Groups) (es : GroupEntries) : Type 0 where
@@ -50,11 +52,13 @@ pub record AreEntries (groups : Groups) (es : GroupEntries) : Type 0 where
 -- all of them are
 pub all_entries : (groups : Groups) → AreEntries groups (map.entries groups)
 all_entries groups = record {
-  ascending = IsAscending-map (λ k. k) (λ (e : ℕ × ScheduledGroup). e.0) (map.entries groups) (ascending-sorted (map.entries groups) (map.entries_sorted groups));
+  ascending = IsAscending-map (λ k. k) (λ (e : ℕ × ScheduledGroup). e.0) (map.entries groups)
+      (ascending-sorted (map.entries groups) (map.entries_sorted groups));
   held = λ i within.
       let es = map.entries groups in
       let keys = length-map es (λ (e : ℕ × ScheduledGroup). e.0) in
-      let here = slice_get-get_or (map.keys groups) i 0 (omega (arith, keys, within)) ∙ ap Some (get_or-map (λ (e : ℕ × ScheduledGroup). e.0) es i (0, unheld) 0 within) in
+      let here = slice_get-get_or (map.keys groups) i 0 (omega (arith, keys, within)) ∙
+      ap Some (get_or-map (λ (e : ℕ × ScheduledGroup). e.0) es i (0, unheld) 0 within) in
       get-place groups (entry_at es i).0 i here (0, unheld);
   sources = let same = sources_of_entries (map.entries groups) in omega arith;
   few = let n = map.len-entries groups in omega arith;
@@ -126,19 +130,23 @@ module _ (f : ScheduledGroup → ScheduledGroup) (groups : Groups) (es : GroupEn
         or_true false = refl
 
         by_test : (q : ℕ) (b : Bool) → eq_by_cmp nat_cmp q next.0 ≡ b
-            → cond b (Some (f (group_at current next.0))) (map.get current q) ≡ cond (among (take (i + 1) (addresses_of es)) q) (Some (f (group_at groups q))) (map.get groups q)
+            → cond b (Some (f (group_at current next.0))) (map.get current q) ≡ cond (among (take (i + 1) (addresses_of es)) q)
+            (Some (f (group_at groups q))) (map.get groups q)
         by_test q true same =
             let key = tied q next.0 same in
-            let there : among (take (i + 1) (addresses_of es)) q ≡ true = more q ∙ ap (λ b. among (take i (addresses_of es)) q || b) (eq-eqb next.0 q (sym key)) ∙ or_true (among (take i (addresses_of es)) q) in
+            let there : among (take (i + 1) (addresses_of es)) q ≡ true = more q ∙ ap (λ b. among (take i (addresses_of es)) q || b)
+            (eq-eqb next.0 q (sym key)) ∙ or_true (among (take i (addresses_of es)) q) in
             ap (λ (e : ScheduledGroup). Some (f e)) (next_group ∙ sym next_held ∙ ap (group_at groups) (sym key))
             ∙ ap (λ b. cond b (Some (f (group_at groups q))) (map.get groups q)) (sym there)
         by_test q false other =
             let apart : (next.0 == q) ≡ false = ne_eqb next.0 q (λ same. true≢false (sym (ties q next.0 (sym same)) ∙ other)) in
-            let there : among (take (i + 1) (addresses_of es)) q ≡ among (take i (addresses_of es)) q = more q ∙ ap (λ b. among (take i (addresses_of es)) q || b) apart ∙ or-false (among (take i (addresses_of es)) q) in
+            let there : among (take (i + 1) (addresses_of es)) q ≡ among (take i (addresses_of es)) q = more q ∙
+            ap (λ b. among (take i (addresses_of es)) q || b) apart ∙ or-false (among (take i (addresses_of es)) q) in
             so_far.at q ∙ ap (λ b. cond b (Some (f (group_at groups q))) (map.get groups q)) (sym there)
 
     -- and the sources of those before the next leave enough for its own
-    pub one_weighed : (weight : ℕ) → weight + sum_by entry_sources (drop i es) ≤ sources_in groups → weight + sources_of next.1 + sum_by entry_sources (drop (i + 1) es) ≤ sources_in groups
+    pub one_weighed : (weight : ℕ) → weight + sum_by entry_sources (drop i es) ≤ sources_in groups →
+        weight + sources_of next.1 + sum_by entry_sources (drop (i + 1) es) ≤ sources_in groups
     one_weighed weight few =
         let rest = drop-cons es i (0, unheld) within in
         let total = ap (sum_by entry_sources) rest ∙ sum_by-cons entry_sources next (drop (suc i) es) in

@@ -64,7 +64,8 @@ still_space n {a} {b} space kept =
     }
 
 -- a workspace suffices for the limits that it was made for
-pub suffices_own : (limits : Limits) (changed : List ℕ) → suffices limits (record { groups = limits.groups; group_sources = limits.group_sources; changed = changed }) ≡ true
+pub suffices_own : (limits : Limits) (changed : List ℕ) →
+    suffices limits (record { groups = limits.groups; group_sources = limits.group_sources; changed = changed }) ≡ true
 suffices_own limits changed = λ i. le-leb limits.groups limits.groups (omega arith) i && le-leb limits.group_sources limits.group_sources (omega arith) i
 
 -- a workspace that suffices has room for what the limits allow
@@ -98,7 +99,18 @@ module _ (limits : Limits) (groups group_sources : ℕ) (enough : (leb limits.gr
         record { due = omega arith; spare = omega arith; changed = omega arith; by_tick = omega arith; by_records = omega arith }
 
 -- a workspace stays one
-pub workspace_next : {K A : Type 0} (number : K → ℕ) (groups group_sources : ℕ) {scratch next : Scratch K A} {lists next_lists : Lists K A} → IsWorkspace number groups group_sources scratch lists
-    → KeepsRoom scratch next → HasSpace groups next_lists → AreNone next.met → AreNone next.changed → IsAscending number next_lists.changed.items → length next_lists.changed.items ≤ 2 * groups → IsWorkspace number groups group_sources next next_lists
+pub workspace_next : {K A : Type 0} (number : K → ℕ) (groups group_sources : ℕ) {scratch next : Scratch K A} {lists next_lists : Lists K A} →
+    IsWorkspace number groups group_sources scratch lists
+    → KeepsRoom scratch next → HasSpace groups next_lists → AreNone next.met → AreNone next.changed → IsAscending number next_lists.changed.items →
+    length next_lists.changed.items ≤ 2 * groups → IsWorkspace number groups group_sources next next_lists
 workspace_next number groups group_sources was room space none none_changed ascending few =
-    record { room = still_room groups group_sources was.room room; list_room = space; marks = room.changed ∙ was.marks; none_met = none; none_changed = none_changed; ascending = ascending; few = few }
+    record {
+      room = still_room groups group_sources was.room room;
+      list_room = space;
+      marks = room.changed ∙ was.marks;
+      none_met =
+          none;
+      none_changed = none_changed;
+      ascending = ascending;
+      few = few;
+    }

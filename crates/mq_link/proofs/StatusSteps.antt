@@ -13,7 +13,8 @@ use Rattle.mq_link.proofs.Faultless.{timing_in_range}
 use Rattle.mq_link.proofs.Intervals.{kept-election_at, kept-heard, kept-ticked}
 use Rattle.mq_link.proofs.Ticked.{heard_timing, ticked_timing}
 
-pub status_at_start : (family : Family) (config : Configuration) (election : RouterElection) (start : ℕ) → IsFaultless config → config.family ≡ family → start ≤ 2 ^ 53
+pub status_at_start : (family : Family) (config : Configuration) (election : RouterElection) (start : ℕ) → IsFaultless config →
+    config.family ≡ family → start ≤ 2 ^ 53
     → election.own ≡ config.own → election.configured ≡ config.timing → election.state ≡ election_at config.timing start → IsStatus family config election start
 status_at_start family config election start faultless is_family in_range own configured state = record {
   faultless = faultless;
@@ -26,7 +27,8 @@ status_at_start family config election start faultless is_family in_range own co
 }
 
 -- a next moment and election of the same router
-status_next : (family : Family) (config : Configuration) (election next : RouterElection) (left : ElectionState) (was now : ℕ) → IsStatus family config election was → now ≤ 2 ^ 53
+status_next : (family : Family) (config : Configuration) (election next : RouterElection) (left : ElectionState) (was now : ℕ) →
+    IsStatus family config election was → now ≤ 2 ^ 53
     → next ≡ record election { state = left } → KeepsIntervals config.timing left.timing → AreInRange left.timing → IsStatus family config next now
 status_next family config election next left was now h in_range is intervals timing = subst (λ e. IsStatus family config e now) (sym is) (record {
   faultless = h.faultless;
@@ -38,16 +40,20 @@ status_next family config election next left was now h in_range is intervals tim
   in_range = in_range;
 })
 
-pub status_ticked : (family : Family) (config : Configuration) (election next : RouterElection) (was now : ℕ) → IsStatus family config election was → now ≤ 2 ^ 53
+pub status_ticked : (family : Family) (config : Configuration) (election next : RouterElection) (was now : ℕ) → IsStatus family config election was →
+    now ≤ 2 ^ 53
     → next ≡ record election { state = ticked election.configured now election.state } → IsStatus family config next now
 status_ticked family config election next was now h in_range is =
-    status_next family config election next (ticked config.timing now election.state) was now h in_range (is ∙ (λ i. record election { state = ticked (h.configured i) now election.state }))
+    status_next family config election next (ticked config.timing now election.state) was now h in_range
+    (is ∙ (λ i. record election { state = ticked (h.configured i) now election.state }))
     (kept-ticked config.timing now election.state h.intervals)
     (ticked_timing config.timing now election.state (timing_in_range config h.faultless) h.timing)
 
-pub status_heard : (family : Family) (config : Configuration) (election next : RouterElection) (now source : ℕ) (announced : Option Announced) → IsStatus family config election now → IfSome announced IsCarried
+pub status_heard : (family : Family) (config : Configuration) (election next : RouterElection) (now source : ℕ) (announced : Option Announced) →
+    IsStatus family config election now → IfSome announced IsCarried
     → next ≡ record election { state = heard election.configured election.own now source announced election.state } → IsStatus family config next now
 status_heard family config election next now source announced h carried is =
-    status_next family config election next (heard config.timing config.own now source announced election.state) now now h h.in_range (is ∙ (λ i. record election { state = heard (h.configured i) (h.own i) now source announced election.state }))
+    status_next family config election next (heard config.timing config.own now source announced election.state) now now h h.in_range
+    (is ∙ (λ i. record election { state = heard (h.configured i) (h.own i) now source announced election.state }))
     (kept-heard config.timing config.own now source announced election.state h.intervals)
     (heard_timing config.timing config.own now source announced election.state (timing_in_range config h.faultless) carried h.timing)

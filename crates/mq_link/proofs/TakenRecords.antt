@@ -24,7 +24,8 @@ pub record Numbers : Type 0 where
   pub refused : ℕ
 
 -- with the records that are left, all comes to what the whole comes to
-pub record IsTakenSoFar {S : Type 0} (takes : S → SentQuery → S → Type 0) (at : Setting) (all : Outcomes) (whole : ℕ) (from : S) (counters : Counters) (left : List (RecordView ℕ)) (seen : Seen) (groups : Groups) (sink : S) (counted : Counters) (n : Numbers) : Type 0 where
+pub record IsTakenSoFar {S : Type 0} (takes : S → SentQuery → S → Type 0) (at : Setting) (all : Outcomes) (whole : ℕ) (from : S) (counters : Counters)
+    (left : List (RecordView ℕ)) (seen : Seen) (groups : Groups) (sink : S) (counted : Counters) (n : Numbers) : Type 0 where
   pub groups_are : (all_judged at seen left groups).groups ≡ all.groups
   pub sent : SendsOn takes from all.queries sink (all_judged at seen left groups).queries
   pub counted_are : count_verdicts (all_judged at seen left groups).verdicts counted ≡ count_verdicts all.verdicts counters
@@ -35,8 +36,10 @@ pub record IsTakenSoFar {S : Type 0} (takes : S → SentQuery → S → Type 0) 
   pub few_told : n.applied + n.ignored + n.refused + length left ≤ whole
 
 -- none is taken yet
-pub none_taken : {S : Type 0} (takes : S → SentQuery → S → Type 0) (at : Setting) (from : S) (counters : Counters) (all : List (RecordView ℕ)) (groups : Groups) → AreSound at groups
-    → IsTakenSoFar takes at (all_judged at map.empty all groups) (length all) from counters all map.empty groups from counters (record { applied = 0; ignored = 0; refused = 0 })
+pub none_taken : {S : Type 0} (takes : S → SentQuery → S → Type 0) (at : Setting) (from : S) (counters : Counters) (all : List (RecordView ℕ))
+    (groups : Groups) → AreSound at groups
+    → IsTakenSoFar takes at (all_judged at map.empty all groups) (length all) from counters all map.empty groups from counters
+    (record { applied = 0; ignored = 0; refused = 0 })
 none_taken takes at from counters all groups sound = record {
   groups_are = refl;
   sent = λ end h. h;
@@ -87,14 +90,20 @@ counted_first p n v vs =
     added n a b c d whole one = omega arith
 
 -- one more is taken
-pub one_taken : {S : Type 0} (takes : S → SentQuery → S → Type 0) (at : Setting) (all : Outcomes) (whole : ℕ) (from : S) (counters : Counters) (before rest : List (RecordView ℕ)) (r : RecordView ℕ) (seen : Seen) (groups : Groups) (sink next : S) (counted : Counters) (n : Numbers)
+pub one_taken : {S : Type 0} (takes : S → SentQuery → S → Type 0) (at : Setting) (all : Outcomes) (whole : ℕ) (from : S) (counters : Counters)
+    (before rest : List (RecordView ℕ)) (r : RecordView ℕ) (seen : Seen) (groups : Groups) (sink next : S) (counted : Counters) (n : Numbers)
     → 0 < at.election.timing.robustness
     → IsTakenSoFar takes at all whole from counters before seen groups sink counted n
     → before ≡ r ∷ rest
     → Sends takes sink (judged at seen r groups).queries next
     → (let v = (judged at seen r groups).verdict in
     IsTakenSoFar takes at all whole from counters rest (seen_after at.config r groups seen) (judged at seen r groups).groups next (count_verdict v counted)
-    (record { applied = n.applied + count_by is_applied (v ∷ []); ignored = n.ignored + count_by is_ignored (v ∷ []); refused = n.refused + count_by is_refused (v ∷ []) }))
+    (record {
+      applied = n.applied + count_by is_applied (v ∷ []);
+      ignored = n.ignored + count_by is_ignored (v ∷ []);
+      refused =
+          n.refused + count_by is_refused (v ∷ []);
+    }))
 one_taken takes at all whole from counters before rest r seen groups sink next counted n positive so_far first sent =
     let v = (judged at seen r groups).verdict in
     let later = all_judged at (seen_after at.config r groups seen) rest (judged at seen r groups).groups in
@@ -112,7 +121,8 @@ one_taken takes at all whole from counters before rest r seen groups sink next c
     }
 
 -- all are taken
-pub all_taken : {S : Type 0} (takes : S → SentQuery → S → Type 0) (at : Setting) (all : Outcomes) (whole : ℕ) (from : S) (counters : Counters) (left : List (RecordView ℕ)) (seen : Seen) (groups : Groups) (sink : S) (counted : Counters) (n : Numbers)
+pub all_taken : {S : Type 0} (takes : S → SentQuery → S → Type 0) (at : Setting) (all : Outcomes) (whole : ℕ) (from : S) (counters : Counters)
+    (left : List (RecordView ℕ)) (seen : Seen) (groups : Groups) (sink : S) (counted : Counters) (n : Numbers)
     → IsTakenSoFar takes at all whole from counters left seen groups sink counted n → left ≡ []
     → (groups ≡ all.groups) × Sends takes from all.queries sink × (counted ≡ count_verdicts all.verdicts counters)
     × (n.applied ≡ count_by is_applied all.verdicts) × (n.ignored ≡ count_by is_ignored all.verdicts) × (n.refused ≡ count_by is_refused all.verdicts)

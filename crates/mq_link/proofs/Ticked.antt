@@ -11,7 +11,8 @@ use Rattle.mq_sched.specs.Schedule.{ScheduledGroup, cleared}
 use Rattle.mq_sched.specs.Sending.{after_round}
 use Rattle.mq_sched.specs.declared.announced.Announced.{Announced}
 use Rattle.mq_sched.specs.Announcement.{IsCarried}
-use Rattle.mq_sched.specs.Election.{Role, Querier, Other, ElectionState, is_querier, deadline_ended, returned, general_is_due, after_general, ticked, heard_or, adopted, heard, loses_role}
+use Rattle.mq_sched.specs.Election.{Role, Querier, Other, ElectionState, is_querier, deadline_ended, returned, general_is_due, after_general, ticked}
+use Rattle.mq_sched.specs.Election.{heard_or, adopted, heard, loses_role}
 use Rattle.mq_wire.specs.declared.query.Query.{Query}
 use Rattle.mq_link.specs.Configuration.{Configuration}
 use Rattle.mq_link.specs.State.{Groups, LinkState, IsHeldAs, IsSilent, AreWithin, IsWellFormed}
@@ -21,7 +22,8 @@ use Rattle.mq_link.proofs.Bounds.{NoMore, expired_no_more, round_no_more, cleare
 use Rattle.mq_link.proofs.HeldAs.{All, all-kept, held_expired, silent_expired, held_round, silent_round, held_after_loss, held_lowered}
 
 -- the groups after the end of timers
-pub held-groups_expired : (config : Configuration) (now : ℕ) (groups : Groups) → All (IsHeldAs config) groups → All (IsHeldAs config) (groups_expired now groups)
+pub held-groups_expired : (config : Configuration) (now : ℕ) (groups : Groups) → All (IsHeldAs config) groups →
+    All (IsHeldAs config) (groups_expired now groups)
 unfolding groups_expired
 held-groups_expired config now groups all = all-kept (IsHeldAs config) (λ _ e. if_held (group_expired now e)) groups (held_expired config now) all
 
@@ -29,32 +31,40 @@ pub silent-groups_expired : (now : ℕ) (groups : Groups) → All (λ _. IsSilen
 unfolding groups_expired
 silent-groups_expired now groups all = all-kept (λ _. IsSilent) (λ _ e. if_held (group_expired now e)) groups (silent_expired now) all
 
-within-groups_expired : (config : Configuration) (now : ℕ) (groups : Groups) → AreWithin config.limits groups → AreWithin config.limits (groups_expired now groups)
+within-groups_expired : (config : Configuration) (now : ℕ) (groups : Groups) → AreWithin config.limits groups →
+    AreWithin config.limits (groups_expired now groups)
 unfolding groups_expired
 within-groups_expired config now groups within = within-kept config.limits (λ _ e. if_held (group_expired now e)) groups (λ _ e. expired_no_more now e) within
 
 -- and after a round
-held-groups_after_round : (config : Configuration) (timing : Timing) (now : ℕ) (groups : Groups) → All (IsHeldAs config) groups → All (IsHeldAs config) (groups_after_round timing now groups)
+held-groups_after_round : (config : Configuration) (timing : Timing) (now : ℕ) (groups : Groups) → All (IsHeldAs config) groups →
+    All (IsHeldAs config) (groups_after_round timing now groups)
 unfolding groups_after_round
-held-groups_after_round config timing now groups all = all-kept (IsHeldAs config) (λ _ e. Some (after_round timing now e)) groups (held_round config timing now) all
+held-groups_after_round config timing now groups all = all-kept (IsHeldAs config) (λ _ e. Some (after_round timing now e)) groups
+    (held_round config timing now) all
 
-silent-groups_after_round : (timing : Timing) (now : ℕ) (groups : Groups) → All (λ _. IsSilent) groups → All (λ _. IsSilent) (groups_after_round timing now groups)
+silent-groups_after_round : (timing : Timing) (now : ℕ) (groups : Groups) → All (λ _. IsSilent) groups →
+    All (λ _. IsSilent) (groups_after_round timing now groups)
 unfolding groups_after_round
 silent-groups_after_round timing now groups all = all-kept (λ _. IsSilent) (λ _ e. Some (after_round timing now e)) groups (silent_round timing now) all
 
-within-groups_after_round : (config : Configuration) (timing : Timing) (now : ℕ) (groups : Groups) → AreWithin config.limits groups → AreWithin config.limits (groups_after_round timing now groups)
+within-groups_after_round : (config : Configuration) (timing : Timing) (now : ℕ) (groups : Groups) → AreWithin config.limits groups →
+    AreWithin config.limits (groups_after_round timing now groups)
 unfolding groups_after_round
-within-groups_after_round config timing now groups within = within-kept config.limits (λ _ e. Some (after_round timing now e)) groups (λ _ e. round_no_more timing now e) within
+within-groups_after_round config timing now groups within = within-kept config.limits (λ _ e. Some (after_round timing now e)) groups
+    (λ _ e. round_no_more timing now e) within
 
 -- the election
-returned_timing : (configured : Timing) (now : ℕ) (e : ElectionState) → AreInRange configured → AreInRange e.timing → AreInRange (returned configured now e).timing
+returned_timing : (configured : Timing) (now : ℕ) (e : ElectionState) → AreInRange configured → AreInRange e.timing →
+    AreInRange (returned configured now e).timing
 returned_timing configured now e own in_force = by_test (deadline_ended now e.role)
   where
     by_test : (b : Bool) → AreInRange (cond b (record { role = Querier now 0; timing = configured }) e).timing
     by_test true = own
     by_test false = in_force
 
-pub ticked_timing : (configured : Timing) (now : ℕ) (e : ElectionState) → AreInRange configured → AreInRange e.timing → AreInRange (ticked configured now e).timing
+pub ticked_timing : (configured : Timing) (now : ℕ) (e : ElectionState) → AreInRange configured → AreInRange e.timing →
+    AreInRange (ticked configured now e).timing
 ticked_timing configured now e own in_force = by_test (general_is_due now (returned configured now e).role) (returned_timing configured now e own in_force)
   where
     r : ElectionState
@@ -90,12 +100,16 @@ pub was_other : (configured : Timing) (now : ℕ) (e : ElectionState) → is_que
 was_other configured now e h = returned_role configured now e (sym (ticked_role configured now e) ∙ h)
 
 -- A tick leaves a well-formed state well-formed.
-pub IsWellFormed-tick_at : (config : Configuration) (moment : ℕ) (state : LinkState) → AreInRange config.timing → IsWellFormed config state → IsWellFormed config (tick_at config moment state).state
+pub IsWellFormed-tick_at : (config : Configuration) (moment : ℕ) (state : LinkState) → AreInRange config.timing → IsWellFormed config state →
+    IsWellFormed config (tick_at config moment state).state
 IsWellFormed-tick_at config moment state own h = record {
-  groups = held-groups_after_round config (ticked config.timing moment state.election).timing moment (groups_expired moment state.groups) (held-groups_expired config moment state.groups h.groups);
-  within = within-groups_after_round config (ticked config.timing moment state.election).timing moment (groups_expired moment state.groups) (within-groups_expired config moment state.groups h.within);
+  groups = held-groups_after_round config (ticked config.timing moment state.election).timing moment (groups_expired moment state.groups)
+      (held-groups_expired config moment state.groups h.groups);
+  within = within-groups_after_round config (ticked config.timing moment state.election).timing moment (groups_expired moment state.groups)
+      (within-groups_expired config moment state.groups h.within);
   timing = ticked_timing config.timing moment state.election own h.timing;
-  silent = λ other. silent-groups_after_round (ticked config.timing moment state.election).timing moment (groups_expired moment state.groups) (silent-groups_expired moment state.groups (h.silent (was_other config.timing moment state.election other)));
+  silent = λ other. silent-groups_after_round (ticked config.timing moment state.election).timing moment (groups_expired moment state.groups)
+      (silent-groups_expired moment state.groups (h.silent (was_other config.timing moment state.election other)));
 }
 
 -- a query that is heard
@@ -110,7 +124,8 @@ heard_in_range configured value most own carried = by_test (eqb value 0) refl
 abbrev pub IsCarriedBy : Option Announced → Type 0
 IsCarriedBy announced = IfSome announced IsCarried
 
-adopted_timing : (configured : Timing) (is_other : Bool) (announced : Option Announced) (timing : Timing) → AreInRange configured → IsCarriedBy announced → AreInRange timing → AreInRange (adopted configured is_other announced timing)
+adopted_timing : (configured : Timing) (is_other : Bool) (announced : Option Announced) (timing : Timing) → AreInRange configured →
+    IsCarriedBy announced → AreInRange timing → AreInRange (adopted configured is_other announced timing)
 adopted_timing configured is_other None timing own carried in_force = in_force
 adopted_timing configured is_other (Some said) timing own carried in_force = record {
   robustness = heard_in_range configured.robustness said.robustness 7 own.robustness carried.robustness;
@@ -124,7 +139,8 @@ adopted_timing configured is_other (Some said) timing own carried in_force = rec
     by_test false = in_force.query_seconds
 
 -- the timing that is in force after a query
-pub heard_timing : (configured : Timing) (own now source : ℕ) (announced : Option Announced) (e : ElectionState) → AreInRange configured → IsCarriedBy announced → AreInRange e.timing → AreInRange (heard configured own now source announced e).timing
+pub heard_timing : (configured : Timing) (own now source : ℕ) (announced : Option Announced) (e : ElectionState) → AreInRange configured →
+    IsCarriedBy announced → AreInRange e.timing → AreInRange (heard configured own now source announced e).timing
 heard_timing configured own now source announced e in_range carried in_force =
     adopted_timing configured (ltb source own || not (is_querier e.role)) announced e.timing in_range carried in_force
 
@@ -147,36 +163,48 @@ within-groups_cleared : (config : Configuration) (groups : Groups) → AreWithin
 unfolding groups_cleared
 within-groups_cleared config groups within = within-kept config.limits (λ _ e. Some (cleared e)) groups (λ _ e. cleared_no_more e) within
 
-pub held-groups_lowered : (config : Configuration) (timing : Timing) (now : ℕ) (query : Query ℕ) (groups : Groups) → All (IsHeldAs config) groups → All (IsHeldAs config) (groups_lowered timing now query groups)
+pub held-groups_lowered : (config : Configuration) (timing : Timing) (now : ℕ) (query : Query ℕ) (groups : Groups) → All (IsHeldAs config) groups →
+    All (IsHeldAs config) (groups_lowered timing now query groups)
 unfolding groups_lowered
-held-groups_lowered config timing now query groups all = all-kept (IsHeldAs config) (λ group e. Some (cond (eqb group query.group) (group_lowered timing now query.version e) e)) groups (λ group e h. by_test group e h (eqb group query.group)) all
+held-groups_lowered config timing now query groups all = all-kept (IsHeldAs config)
+    (λ group e. Some (cond (eqb group query.group) (group_lowered timing now query.version e) e)) groups
+    (λ group e h. by_test group e h (eqb group query.group)) all
   where
-    by_test : (group : ℕ) (e : ScheduledGroup) → IsHeldAs config group e → (b : Bool) → IsHeldAs config group (cond b (group_lowered timing now query.version e) e)
+    by_test : (group : ℕ) (e : ScheduledGroup) → IsHeldAs config group e → (b : Bool) →
+        IsHeldAs config group (cond b (group_lowered timing now query.version e) e)
     by_test group e h true = held_lowered config timing now (suppresses query.version) (asked_by query.version) group e h
     by_test group e h false = h
 
-pub silent-groups_lowered : (timing : Timing) (now : ℕ) (query : Query ℕ) (groups : Groups) → All (λ _. IsSilent) groups → All (λ _. IsSilent) (groups_lowered timing now query groups)
+pub silent-groups_lowered : (timing : Timing) (now : ℕ) (query : Query ℕ) (groups : Groups) → All (λ _. IsSilent) groups →
+    All (λ _. IsSilent) (groups_lowered timing now query groups)
 unfolding groups_lowered
-silent-groups_lowered timing now query groups all = all-kept (λ _. IsSilent) (λ group e. Some (cond (eqb group query.group) (group_lowered timing now query.version e) e)) groups (λ group e h. by_test group e h (eqb group query.group)) all
+silent-groups_lowered timing now query groups all =
+    all-kept (λ _. IsSilent) (λ group e. Some (cond (eqb group query.group) (group_lowered timing now query.version e) e)) groups
+    (λ group e h. by_test group e h (eqb group query.group)) all
   where
     by_test : (group : ℕ) (e : ScheduledGroup) → IsSilent e → (b : Bool) → IsSilent (cond b (group_lowered timing now query.version e) e)
     by_test group e h true = record { schedule = h.schedule }
     by_test group e h false = h
 
-within-groups_lowered : (config : Configuration) (timing : Timing) (now : ℕ) (query : Query ℕ) (groups : Groups) → AreWithin config.limits groups → AreWithin config.limits (groups_lowered timing now query groups)
+within-groups_lowered : (config : Configuration) (timing : Timing) (now : ℕ) (query : Query ℕ) (groups : Groups) → AreWithin config.limits groups →
+    AreWithin config.limits (groups_lowered timing now query groups)
 unfolding groups_lowered
-within-groups_lowered config timing now query groups within = within-kept config.limits (λ group e. Some (cond (eqb group query.group) (group_lowered timing now query.version e) e)) groups (λ group e. by_test group e (eqb group query.group)) within
+within-groups_lowered config timing now query groups within =
+    within-kept config.limits (λ group e. Some (cond (eqb group query.group) (group_lowered timing now query.version e) e)) groups
+    (λ group e. by_test group e (eqb group query.group)) within
   where
     by_test : (group : ℕ) (e : ScheduledGroup) (b : Bool) → NoMore e (cond b (group_lowered timing now query.version e) e)
     by_test group e true = lowered_no_more timing now (suppresses query.version) (asked_by query.version) e
     by_test group e false = same_no_more e
 
 -- a query of no lower address leaves the role
-role_kept : (source deadline : ℕ) (role : Role) (lower : Bool) → lower ≡ false → is_querier role ≡ true → is_querier (cond lower (Other source deadline) role) ≡ true
+role_kept : (source deadline : ℕ) (role : Role) (lower : Bool) → lower ≡ false → is_querier role ≡ true →
+    is_querier (cond lower (Other source deadline) role) ≡ true
 role_kept source deadline role lower l q = ap (λ b. is_querier (cond b (Other source deadline) role)) l ∙ q
 
 -- A query that is heard leaves a well-formed state well-formed.
-pub IsWellFormed-query_heard : (config : Configuration) (now source : ℕ) (query : Query ℕ) (state : LinkState) → AreInRange config.timing → IsCarriedBy (announced_by query.version) → IsWellFormed config state → IsWellFormed config (query_heard config now source query state)
+pub IsWellFormed-query_heard : (config : Configuration) (now source : ℕ) (query : Query ℕ) (state : LinkState) → AreInRange config.timing →
+    IsCarriedBy (announced_by query.version) → IsWellFormed config state → IsWellFormed config (query_heard config now source query state)
 IsWellFormed-query_heard config now source query state own carried h = record {
   groups = held-groups_lowered config election.timing now query groups_left (held_left loses);
   within = within-groups_lowered config election.timing now query groups_left (within_left loses);
@@ -207,7 +235,8 @@ IsWellFormed-query_heard config now source query state own carried h = record {
     within_left true = within-groups_cleared config state.groups h.within
     within_left false = h.within
 
-    by_role : (below querier : Bool) → lower ≡ below → is_querier state.election.role ≡ querier → is_querier election.role ≡ false → All (λ _. IsSilent) groups_left
+    by_role : (below querier : Bool) → lower ≡ below → is_querier state.election.role ≡ querier → is_querier election.role ≡ false →
+        All (λ _. IsSilent) groups_left
     by_role true true l q other = subst (λ b. All (λ _. IsSilent) (groups_if b)) (sym (λ i. q i && l i)) (silent-groups_cleared state.groups (λ _ _ _. tt))
     by_role below false l q other = subst (λ b. All (λ _. IsSilent) (groups_if b)) (sym (λ i. q i && lower)) (h.silent q)
     by_role false true l q other = absurd (true≢false (sym (role_kept source _ state.election.role lower l q) ∙ other))

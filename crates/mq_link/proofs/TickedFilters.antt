@@ -1,5 +1,6 @@
 -- Which groups a tick changes: those that are due and have another filter once they are served.
-use Rattle.std.proofs.Common.{◌≡◌, ◌==◌, ℕ, ◌+◌, ◌<◌, ◌≤◌, Bool, true, false, cond, ◌&&◌, List, [], ◌∷◌, ◌++◌, length, take, filter, get_or, Option, None, Some, refl, sym, ap, ◌∙◌, subst, arith, append-nil}
+use Rattle.std.proofs.Common.{◌≡◌, ◌==◌, ℕ, ◌+◌, ◌<◌, ◌≤◌, Bool, true, false, cond, ◌&&◌, List, [], ◌∷◌, ◌++◌, length, take, filter, get_or, Option}
+use Rattle.std.proofs.Common.{None, Some, refl, sym, ap, ◌∙◌, subst, arith, append-nil}
 use Rattle.std.proofs.Math.Bool.{and-true}
 use Rattle.std.specs.Prelude.{map as list_map}
 use Rattle.std.specs.Bool.{then_some}
@@ -43,7 +44,8 @@ put_changes groups after address e is =
     (ap (λ (x : ScheduledGroup). filter_of x.group) (group_put groups address (kept_as e)) ∙ kept_filter e)
 
 -- its address is answered then
-pub named_where : {K : Type 0} (number : K → ℕ) (key : K) (address : ℕ) (answer test : Bool) → number key ≡ address → answer ≡ test → option_map number (then_some answer key) ≡ cond test (Some address) None
+pub named_where : {K : Type 0} (number : K → ℕ) (key : K) (address : ℕ) (answer test : Bool) → number key ≡ address → answer ≡ test →
+    option_map number (then_some answer key) ≡ cond test (Some address) None
 named_where number key address true test is same = ap Some is ∙ ap (λ b. cond b (Some address) None) same
 named_where number key address false test is same = ap (λ b. cond b (Some address) None) same
 
@@ -67,7 +69,8 @@ few_pass test (k ∷ ks) = by_test (test k) (few_pass test ks)
 
 -- what is left of a group once those that are vacant are taken out
 group_left : (groups : Groups) (address : ℕ) → group_at (without_vacant groups) address ≡ kept_as (group_at groups address)
-group_left groups address = ap (λ (found : Option ScheduledGroup). unwrap_or found unheld) (get-kept if_running groups address) ∙ by_found (map.get groups address)
+group_left groups address = ap (λ (found : Option ScheduledGroup). unwrap_or found unheld) (get-kept if_running groups address) ∙
+    by_found (map.get groups address)
   where
     by_test : (e : ScheduledGroup) (b : Bool) → unwrap_or (cond b None (Some e)) unheld ≡ cond b unheld e
     by_test e true = refl
@@ -92,20 +95,25 @@ module _ (timing : Timing) (now : ℕ) (groups : Groups) where
         let size = length-map (due_entries now groups) (λ (e : ℕ × ScheduledGroup). e.0) in
         ap (filter (turned timing now groups)) (take_more addresses i 0 (omega (arith, size, within)))
         ∙ filter-append (turned timing now groups) (take i addresses) (get_or addresses i 0 ∷ [])
-        ∙ ap (λ n. turned_to i ++ filter (turned timing now groups) (n ∷ [])) (get_or-map (λ (e : ℕ × ScheduledGroup). e.0) (due_entries now groups) i (0, unheld) 0 within)
+        ∙ ap (λ n. turned_to i ++ filter (turned timing now groups) (n ∷ []))
+        (get_or-map (λ (e : ℕ × ScheduledGroup). e.0) (due_entries now groups) i (0, unheld) 0 within)
 
-    module _ (current after : Groups) (done : IsReplacedTo (served_as timing now) groups (due_entries now groups) (are_due now groups) i current) (put : after ≡ map.insert current next.0 (served_as timing now (group_at current next.0))) where
+    module _ (current after : Groups) (done : IsReplacedTo (served_as timing now) groups (due_entries now groups) (are_due now groups) i current)
+        (put : after ≡ map.insert current next.0 (served_as timing now (group_at current next.0))) where
       -- the next changes what is left of those before it where it changes what they all were
       next_changes : changes current after next.0 ≡ turned timing now groups next.0
       next_changes =
           let es = due_entries now groups in
-          let same = next_group (served_as timing now) groups es (are_due now groups) i current done within ∙ sym (next_held (served_as timing now) groups es (are_due now groups) i current done within) in
+          let same = next_group (served_as timing now) groups es (are_due now groups) i current done within ∙
+          sym (next_held (served_as timing now) groups es (are_due now groups) i current done within) in
           ap (λ (m : Groups). changes current m next.0) put
-          ∙ ap (λ (e : ScheduledGroup). changes_filter (group_at current next.0).group e.group) (group_put current next.0 (served_as timing now (group_at current next.0)))
+          ∙ ap (λ (e : ScheduledGroup). changes_filter (group_at current next.0).group e.group)
+          (group_put current next.0 (served_as timing now (group_at current next.0)))
           ∙ ap (λ (e : ScheduledGroup). changes_filter e.group (served_as timing now e).group) same
 
       -- then its address is one more
-      pub one_turned : {K : Type 0} (number : K → ℕ) (answer : Option K) (named more : List K) → option_map number answer ≡ cond (changes current after next.0) (Some next.0) None
+      pub one_turned : {K : Type 0} (number : K → ℕ) (answer : Option K) (named more : List K) →
+          option_map number answer ≡ cond (changes current after next.0) (Some next.0) None
           → list_map number named ≡ turned_to i → more ≡ with_answer named answer → list_map number more ≡ turned_to (i + 1)
       one_turned {K = K} number answer named more is so_far more_is =
           ap (list_map number) more_is
@@ -137,16 +145,23 @@ module _ (timing : Timing) (now : ℕ) (groups : Groups) where
       omega (arith, within, size, some, fewer)
 
   -- once all are served, and those that are vacant taken out, they are all that the tick has changed
-  module _ (room : ℕ) (are : AreServed room groups) (current : Groups) (i : ℕ) (done : IsReplacedTo (served_as timing now) groups (due_entries now groups) (are_due now groups) i current) (all : length (due_entries now groups) ≤ i) where
-    changes_left : (address : ℕ) → changes groups (without_vacant current) address ≡ (turned timing now groups address && among (addresses_due now groups) address)
+  module _ (room : ℕ) (are : AreServed room groups) (current : Groups) (i : ℕ)
+      (done : IsReplacedTo (served_as timing now) groups (due_entries now groups) (are_due now groups) i current)
+      (all : length (due_entries now groups) ≤ i) where
+    changes_left : (address : ℕ) → changes groups (without_vacant current) address
+        ≡ (turned timing now groups address && among (addresses_due now groups) address)
     changes_left address =
         let before = group_at groups address in
         alike_after before.group (group_at (without_vacant current) address).group (group_at current address).group
         (ap (λ (e : ScheduledGroup). filter_of e.group) (group_left current address) ∙ kept_filter (group_at current address))
-        ∙ ap (λ (found : Option ScheduledGroup). changes_filter before.group (unwrap_or found unheld).group) (replaced_at timing now room groups are current i done all address)
+        ∙ ap (λ (found : Option ScheduledGroup). changes_filter before.group (unwrap_or found unheld).group)
+        (replaced_at timing now room groups are current i done all address)
         ∙ by_test (among (addresses_due now groups) address)
       where
-        by_test : (b : Bool) → changes_filter (group_at groups address).group (unwrap_or (cond b (Some (served_as timing now (group_at groups address))) (map.get groups address)) unheld).group ≡ (turned timing now groups address && b)
+        by_test : (b : Bool) →
+            changes_filter (group_at groups address).group
+            (unwrap_or (cond b (Some (served_as timing now (group_at groups address))) (map.get groups address)) unheld).group
+            ≡ (turned timing now groups address && b)
         by_test true = sym (and-true (turned timing now groups address))
         by_test false = unchanged (group_at groups address).group ∙ sym (and_right (turned timing now groups address) false refl)
 
@@ -154,12 +169,15 @@ module _ (timing : Timing) (now : ℕ) (groups : Groups) where
     those_turned after listed after_is listed_is =
         let addresses = addresses_due now groups in
         let size = length-map (due_entries now groups) (λ (e : ℕ × ScheduledGroup). e.0) in
-        let is : listed ≡ filter (turned timing now groups) addresses = listed_is ∙ ap (filter (turned timing now groups)) (take_all i addresses (omega (arith, size, all))) in
+        let is : listed ≡ filter (turned timing now groups) addresses = listed_is ∙
+        ap (filter (turned timing now groups)) (take_all i addresses (omega (arith, size, all))) in
         record {
-          ascending = subst (IsAscending (λ a. a)) (sym is) (AllPairs-filter (λ x y. x < y) (turned timing now groups) addresses (are_due now groups).ascending);
+          ascending = subst (IsAscending (λ a. a)) (sym is)
+              (AllPairs-filter (λ x y. x < y) (turned timing now groups) addresses (are_due now groups).ascending);
           each = λ address.
               ap (λ ks. set_of (λ a. a) ks address) is
-              ∙ any-filter_same (λ k. k == address) (turned timing now groups) (turned timing now groups address) (λ k same. ap (turned timing now groups) (eqb-true k address same)) addresses
+              ∙ any-filter_same (λ k. k == address) (turned timing now groups) (turned timing now groups address)
+              (λ k same. ap (turned timing now groups) (eqb-true k address same)) addresses
               ∙ sym (changes_left address)
               ∙ ap (λ (m : Groups). changes groups m address) (sym after_is);
         }

@@ -1,5 +1,6 @@
 -- The groups of a link while those that are due are served one after the other, by the numbers that were handed out.
-use Rattle.std.proofs.Common.{◌≡◌, cond, ℕ, ◌+◌, ◌*◌, ◌<◌, ◌≤◌, Bool, true, false, refl, List, [], ◌∷◌, ◌++◌, length, take, drop, get_or, Option, None, Some, is_some, sym, ap, ◌∙◌, subst, arith, append-nil}
+use Rattle.std.proofs.Common.{◌≡◌, cond, ℕ, ◌+◌, ◌*◌, ◌<◌, ◌≤◌, Bool, true, false, refl, List, [], ◌∷◌, ◌++◌, length, take, drop, get_or, Option}
+use Rattle.std.proofs.Common.{None, Some, is_some, sym, ap, ◌∙◌, subst, arith, append-nil}
 use Rattle.std.specs.Prelude.{map as list_map}
 use Rattle.std.specs.List.{All, sum_by, flat_map}
 use Rattle.std.specs.Option.{option_map, option_and_then, unwrap_or}
@@ -39,7 +40,8 @@ served_as timing now e = kept_as (after_round timing now (group_expired now e))
 
 -- The first i of those that are due are served: what is left of the groups, what was sent for it, and what was counted, by how many
 -- sources these groups had.
-pub record AreTickedTo {S : Type 0} (takes : S → SentQuery → S → Type 0) (n : ℕ) (timing : Timing) (now : ℕ) (groups : Groups) (from_sink : S) (from_count : ℕ) (i : ℕ) (current : Groups) (sink : S) (count weight : ℕ) : Type 0 where
+pub record AreTickedTo {S : Type 0} (takes : S → SentQuery → S → Type 0) (n : ℕ) (timing : Timing) (now : ℕ) (groups : Groups) (from_sink : S)
+    (from_count : ℕ) (i : ℕ) (current : Groups) (sink : S) (count weight : ℕ) : Type 0 where
   pub done : IsReplacedTo (served_as timing now) groups (due_entries now groups) (are_due now groups) i current
   pub sent : Sends takes from_sink (flat_map (queries_at n timing now) (take i (due_entries now groups))) sink
   pub weight_is : weight + sum_by entry_sources (drop i (due_entries now groups)) ≤ sources_in groups
@@ -48,7 +50,8 @@ pub record AreTickedTo {S : Type 0} (takes : S → SentQuery → S → Type 0) (
 
 module _ (n : ℕ) (timing : Timing) (now : ℕ) (groups : Groups) where
   -- before the first nothing is done
-  pub none_ticked : {S : Type 0} (takes : S → SentQuery → S → Type 0) (sink : S) (count : ℕ) → AreTickedTo takes n timing now groups sink count 0 groups sink count 0
+  pub none_ticked : {S : Type 0} (takes : S → SentQuery → S → Type 0) (sink : S) (count : ℕ) →
+      AreTickedTo takes n timing now groups sink count 0 groups sink count 0
   none_ticked takes sink count = record {
     done = record { at = λ q. refl; len_is = refl };
     sent = refl;
@@ -57,7 +60,8 @@ module _ (n : ℕ) (timing : Timing) (now : ℕ) (groups : Groups) where
     spent = Spends-none count;
   }
 
-  module _ {S : Type 0} (takes : S → SentQuery → S → Type 0) (from_sink : S) (from_count i : ℕ) (current : Groups) (sink : S) (count weight : ℕ) (so_far : AreTickedTo takes n timing now groups from_sink from_count i current sink count weight) (within : i < length (due_entries now groups)) where
+  module _ {S : Type 0} (takes : S → SentQuery → S → Type 0) (from_sink : S) (from_count i : ℕ) (current : Groups) (sink : S) (count weight : ℕ)
+      (so_far : AreTickedTo takes n timing now groups from_sink from_count i current sink count weight) (within : i < length (due_entries now groups)) where
     abbrev pub next : ℕ × ScheduledGroup
     next = entry_at (due_entries now groups) i
 
@@ -76,7 +80,9 @@ module _ (n : ℕ) (timing : Timing) (now : ℕ) (groups : Groups) where
         ∙ flat_map-append (queries_at n timing now) (take i es) (next ∷ [])
         ∙ ap (λ (qs : List SentQuery). flat_map (queries_at n timing now) (take i es) ++ qs) (append-nil (queries_at n timing now next))
         in
-        let sent = Sends-append takes from_sink sink new_sink (flat_map (queries_at n timing now) (take i es)) (queries_at n timing now next) so_far.sent (subst (λ (e : ScheduledGroup). Sends takes sink (messages_due n timing now next.0 (group_expired now e)) new_sink) same sends) in
+        let sent = Sends-append takes from_sink sink new_sink (flat_map (queries_at n timing now) (take i es))
+        (queries_at n timing now next) so_far.sent
+        (subst (λ (e : ScheduledGroup). Sends takes sink (messages_due n timing now next.0 (group_expired now e)) new_sink) same sends) in
         record {
           done = one_replaced (served_as timing now) groups es (are_due now groups) i current so_far.done within after after_is;
           sent = subst (λ (qs : List SentQuery). Sends takes from_sink qs new_sink) (sym more) sent;
@@ -86,9 +92,13 @@ module _ (n : ℕ) (timing : Timing) (now : ℕ) (groups : Groups) where
         }
 
 -- once all are served, and those that are vacant taken out, the groups are what a tick leaves
-module _ (timing : Timing) (now room : ℕ) (groups : Groups) (are : AreServed room groups) (current : Groups) (i : ℕ) (done : IsReplacedTo (served_as timing now) groups (due_entries now groups) (are_due now groups) i current) (all : length (due_entries now groups) ≤ i) where
+module _ (timing : Timing) (now room : ℕ) (groups : Groups) (are : AreServed room groups) (current : Groups) (i : ℕ)
+    (done : IsReplacedTo (served_as timing now) groups (due_entries now groups) (are_due now groups) i current)
+    (all : length (due_entries now groups) ≤ i) where
   pub replaced_at : (q : ℕ) → map.get current q ≡ cond (among (addresses_due now groups) q) (Some (served_as timing now (group_at groups q))) (map.get groups q)
-  replaced_at q = done.at q ∙ ap (λ (ks : List ℕ). cond (among ks q) (Some (served_as timing now (group_at groups q))) (map.get groups q)) (take_all i (addresses_of (due_entries now groups)) (let l = length-map (due_entries now groups) (λ (e : ℕ × ScheduledGroup). e.0) in omega (arith, l, all)))
+  replaced_at q = done.at q ∙ ap (λ (ks : List ℕ). cond (among ks q) (Some (served_as timing now (group_at groups q))) (map.get groups q))
+      (take_all i (addresses_of (due_entries now groups))
+      (let l = length-map (due_entries now groups) (λ (e : ℕ × ScheduledGroup). e.0) in omega (arith, l, all)))
 
   running_left : (q : ℕ) (e : ScheduledGroup) → if_running q (served_as timing now e) ≡ ticked_group timing now q e
   running_left q e = by_vacant (is_vacant (after_round timing now (group_expired now e)).group) refl
@@ -97,20 +107,26 @@ module _ (timing : Timing) (now room : ℕ) (groups : Groups) (are : AreServed r
       left = after_round timing now (group_expired now e)
 
       by_vacant : (b : Bool) → is_vacant (after_round timing now (group_expired now e)).group ≡ b
-          → if_running q (cond b unheld (after_round timing now (group_expired now e))) ≡ option_map (after_round timing now) (cond (is_vacant (group_expired now e).group) None (Some (group_expired now e)))
+          → if_running q (cond b unheld (after_round timing now (group_expired now e))) ≡ option_map (after_round timing now)
+          (cond (is_vacant (group_expired now e).group) None (Some (group_expired now e)))
       by_vacant true is =
           ap (λ b. cond b None (Some unheld)) vacant_is
-          ∙ ap (λ b. option_map (after_round timing now) (cond b None (Some (group_expired now e)))) (sym is ∙ round_keeps_vacant timing now (group_expired now e))
+          ∙ ap (λ b. option_map (after_round timing now) (cond b None (Some (group_expired now e))))
+          (sym is ∙ round_keeps_vacant timing now (group_expired now e))
       by_vacant false is =
           ap (λ b. cond b None (Some (after_round timing now (group_expired now e)))) is
-          ∙ ap (λ b. option_map (after_round timing now) (cond b None (Some (group_expired now e)))) (sym is ∙ round_keeps_vacant timing now (group_expired now e))
+          ∙ ap (λ b. option_map (after_round timing now) (cond b None (Some (group_expired now e))))
+          (sym is ∙ round_keeps_vacant timing now (group_expired now e))
 
   one_left : (q : ℕ) (found : Option ScheduledGroup) → map.get groups q ≡ found
-      → option_and_then (if_running q) (cond (is_some (option_and_then (λ e. cond (has_due now e) (Some e) None) found)) (Some (served_as timing now (unwrap_or found unheld))) found) ≡ option_and_then (ticked_group timing now q) found
+      → option_and_then (if_running q)
+      (cond (is_some (option_and_then (λ e. cond (has_due now e) (Some e) None) found)) (Some (served_as timing now (unwrap_or found unheld))) found)
+      ≡ option_and_then (ticked_group timing now q) found
   one_left q None is = refl
   one_left q (Some e) is = by_due (has_due now e) refl
     where
-      by_due : (b : Bool) → has_due now e ≡ b → option_and_then (if_running q) (cond (is_some (cond b (Some e) None)) (Some (served_as timing now e)) (Some e)) ≡ ticked_group timing now q e
+      by_due : (b : Bool) → has_due now e ≡ b →
+          option_and_then (if_running q) (cond (is_some (cond b (Some e) None)) (Some (served_as timing now e)) (Some e)) ≡ ticked_group timing now q e
       by_due true due = running_left q e
       by_due false due =
           ap (λ b. cond b None (Some e)) (not_vacant e.group (are q e is).held)
@@ -120,7 +136,8 @@ module _ (timing : Timing) (now room : ℕ) (groups : Groups) (are : AreServed r
   ticked_left =
       same_sources _ _ (λ q.
       get-kept if_running current q
-      ∙ ap (option_and_then (if_running q)) (replaced_at q ∙ ap (λ b. cond b (Some (served_as timing now (group_at groups q))) (map.get groups q)) (among_due now groups q))
+      ∙ ap (option_and_then (if_running q))
+      (replaced_at q ∙ ap (λ b. cond b (Some (served_as timing now (group_at groups q))) (map.get groups q)) (among_due now groups q))
       ∙ one_left q (map.get groups q) refl
       ∙ sym (get-kept (ticked_group timing now) groups q))
       ∙ sym (groups_ticked timing now groups)
@@ -136,7 +153,8 @@ module _ (timing : Timing) (now room : ℕ) (groups : Groups) (are : AreServed r
       by_test : (b : Bool) → among (addresses_due now groups) q ≡ b → b ≡ true
       by_test true is = refl
       by_test false is =
-          let same : map.get current q ≡ map.get groups q = replaced_at q ∙ ap (λ b. cond b (Some (served_as timing now (group_at groups q))) (map.get groups q)) is in
+          let same : map.get current q ≡ map.get groups q = replaced_at q ∙
+          ap (λ b. cond b (Some (served_as timing now (group_at groups q))) (map.get groups q)) is in
           absurd (by_found (map.get groups q) refl held (ap (λ (e : Option ScheduledGroup). is_vacant (unwrap_or e unheld).group) (sym same) ∙ vacant))
 
   -- so it is one of the numbers that were handed out
@@ -148,7 +166,8 @@ module _ (timing : Timing) (now room : ℕ) (groups : Groups) (are : AreServed r
       let q = key_in old.order.items n in
       let has = number_found old n (is_number_stayed old now_held n order_is is) in
       let held = ap (λ (m : Groups). map.contains_key m q) (sym groups_are) ∙ of_one q n has in
-      let rests : is_vacant (group_at current q).group ≡ true = (λ i. is_vacant (group_at (sym current_is i) (key_in (sym order_is i).items n)).group) ∙ vacant in
+      let rests : is_vacant (group_at current q).group ≡ true = (λ i. is_vacant (group_at (sym current_is i) (key_in (sym order_is i).items n)).group)
+      ∙ vacant in
       let found = number_at (key_in old.order.items) numbers (due_entries now groups) same q (vacant_served q held rests) in
       let k = get_or numbers found.0 0 in
       let other = subst (λ a. HasNumber old a k) found.2 (number_found old k (named found.0 0 found.1)) in

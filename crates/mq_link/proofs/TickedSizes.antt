@@ -55,7 +55,9 @@ module _ (timing : Timing) (now : ℕ) (groups : Groups) where
   moved_within after length before between left old ticked new is few due taken =
       let fewer : sources_in after ≤ sources_in groups = subst (λ g. sources_in g ≤ sources_in groups) (sym is) sources_left in
       let fewer_groups : map.len after ≤ map.len groups = subst (λ (g : Groups). map.len g ≤ map.len groups) (sym is) groups_left in
-      paid_moves (most_moved length (map.len groups + sources_in groups)) (paid_join (most_moved_by_tick groups + (24 * sources_in after + 22 * map.len after + 256 * length)) due taken (omega arith)) (omega (arith, fewer, fewer_groups, few))
+      paid_moves (most_moved length (map.len groups + sources_in groups))
+      (paid_join (most_moved_by_tick groups + (24 * sources_in after + 22 * map.len after + 256 * length)) due taken (omega arith))
+      (omega (arith, fewer, fewer_groups, few))
 
 -- what a datagram spends at least on what the tick leaves
 pub least_after_tick : (family : Family) (config : Configuration) (envelope : Envelope) (bytes : List ℕ) (now moment : ℕ) (before after : LinkState)
@@ -63,4 +65,5 @@ pub least_after_tick : (family : Family) (config : Configuration) (envelope : En
     → least_after (setting_of config after) envelope (read_in family envelope bytes) after.groups ≡ least_received config envelope bytes now before
 least_after_tick family config envelope bytes now moment before after is_family is_moment ticked =
     ap (λ (s : LinkState). least_after (setting_of config s) envelope (read_in family envelope bytes) s.groups) ticked
-    ∙ (λ i. least_after (setting_of config (tick_at config (is_moment i) before).state) envelope (read_in (sym is_family i) envelope bytes) (tick_at config (is_moment i) before).state.groups)
+    ∙ (λ i. least_after (setting_of config (tick_at config (is_moment i) before).state) envelope (read_in (sym is_family i) envelope bytes)
+    (tick_at config (is_moment i) before).state.groups)

@@ -18,11 +18,13 @@ module _ (P : GroupChange → Type 0) (mutes : Bool) (timing : Timing) (now : �
     unless true kind = tt
     unless false kind = of_named kind
 
-    emptied : (b : Bool) → IfSome (option_map (λ (r : Kind × NamedSources). change_of timing now g r.0 r.1) (cond b (Some (ToEx, set.empty)) (Some (ToEx, named)))) P
+    emptied : (b : Bool) →
+        IfSome (option_map (λ (r : Kind × NamedSources). change_of timing now g r.0 r.1) (cond b (Some (ToEx, set.empty)) (Some (ToEx, named)))) P
     emptied true = of_none
     emptied false = of_named ToEx
 
-    pub of_translated : (muted : Bool) (hosts : Hosts) (kind : Kind) → IfSome (option_map (λ (r : Kind × NamedSources). change_of timing now g r.0 r.1) (translated mutes muted hosts kind named)) P
+    pub of_translated : (muted : Bool) (hosts : Hosts) (kind : Kind) →
+        IfSome (option_map (λ (r : Kind × NamedSources). change_of timing now g r.0 r.1) (translated mutes muted hosts kind named)) P
     of_translated true hosts kind = tt
     of_translated false hosts Block = unless (hosts.v1 || hosts.v2) Block
     of_translated false hosts ToEx = emptied (hosts.v1 || hosts.v2)

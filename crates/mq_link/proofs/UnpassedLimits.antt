@@ -11,7 +11,9 @@ use Rattle.mq_link.specs.Record.{limit_passed}
 use Rattle.mq_link.specs.State.{AreWithin, Groups, group_at, one_if, schedules_in, schedules_of, sources_in, sources_of, with_group}
 use Rattle.mq_link.specs.Tests.{first_named}
 
-pub passes_none_by : (limits : Limits) (groups : Groups) (a : ℕ) (e : ScheduledGroup) → AreWithin limits groups → map.contains_key groups a ≡ true → is_vacant e.group ≡ false → sources_of e ≡ sources_of (group_at groups a) → schedules_in groups + schedules_of e ≤ limits.scheduled + schedules_of (group_at groups a)
+pub passes_none_by : (limits : Limits) (groups : Groups) (a : ℕ) (e : ScheduledGroup) → AreWithin limits groups → map.contains_key groups a ≡ true →
+    is_vacant e.group ≡ false → sources_of e ≡ sources_of (group_at groups a) →
+    schedules_in groups + schedules_of e ≤ limits.scheduled + schedules_of (group_at groups a)
     → limit_passed limits (with_group groups a e) e ≡ None
 passes_none_by limits groups a e within held other size few =
     let count = len-with_group groups a e in

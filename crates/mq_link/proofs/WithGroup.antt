@@ -12,7 +12,8 @@ use Rattle.mq_link.specs.declared.configuration.Limits.{Limits}
 use Rattle.mq_link.specs.Record.{limit_passed_by, limit_passed}
 use Rattle.mq_link.proofs.MadeEntries.{round_keeps_size, round_keeps_vacant}
 
-module _ (groups : Groups) (address : ℕ) (timing : Timing) (now : ℕ) (before after : ScheduledGroup) (was_held : Bool) (held_is : map.contains_key groups address ≡ was_held) (before_is : group_at groups address ≡ before) where
+module _ (groups : Groups) (address : ℕ) (timing : Timing) (now : ℕ) (before after : ScheduledGroup) (was_held : Bool)
+    (held_is : map.contains_key groups address ≡ was_held) (before_is : group_at groups address ≡ before) where
   abbrev pub round_left : ScheduledGroup
   round_left = after_round timing now after
 
@@ -48,7 +49,9 @@ module _ (groups : Groups) (address : ℕ) (timing : Timing) (now : ℕ) (before
   enough_schedules = let n = schedule_count in omega arith
 
   -- the limits are judged by these
-  pub judged_by : (limits : Limits) → limit_passed_by limits (map.len groups + one_if (not (is_vacant after.group)) - one_if was_held) (sources_of after) (sources_in groups + sources_of after - sources_of before) (schedules_in groups + cond (is_vacant after.group) 0 (schedules_of round_left) - schedules_of before)
+  pub judged_by : (limits : Limits) → limit_passed_by limits (map.len groups + one_if (not (is_vacant after.group)) - one_if was_held)
+      (sources_of after) (sources_in groups + sources_of after - sources_of before)
+      (schedules_in groups + cond (is_vacant after.group) 0 (schedules_of round_left) - schedules_of before)
       ≡ limit_passed limits changed_groups round_left
   judged_by limits = λ i. limit_passed_by limits (a i) (b i) (c i) (d i)
     where

@@ -31,6 +31,7 @@ pub mod Sender
 pub mod Counted
 pub mod Link
 pub mod Router
+pub mod Applying
 pub mod LinkCode
 pub mod Sound
 pub mod Events

@@ -1,6 +1,7 @@
 //! The effect of a statement for a group: it is ignored, refused, or applied.
 
-ghost use Rattle.std.specs.Prelude.{◌≡◌, ℕ, ◌+◌, ◌*◌, ◌^◌, ◌<◌, ◌≤◌, ◌||◌, Bool, [], if◌then◌else◌, false, true, length, map as list_map, IfSome, IsSome, None, OnSome, Some, vec_capacity};
+ghost use Rattle.std.specs.Prelude.{◌≡◌, ℕ, ◌+◌, ◌*◌, ◌^◌, ◌<◌, ◌≤◌, if◌then◌else◌, [], false, true, length, map as list_map};
+ghost use Rattle.std.specs.Prelude.{IfSome, IsSome, None, OnSome, Some};
 ghost use Rattle.std.specs.FinMap as map;
 ghost use Rattle.std.specs.List.{list_any};
 ghost use Rattle.std.specs.Option.{option_map, option_map_or};
@@ -17,19 +18,14 @@ ghost use Rattle.mq_sched.specs.Schedule.{ScheduledGroup};
 ghost use Rattle.mq_sched.specs.Sending.{after_change};
 ghost use Rattle.mq_held.specs.Groups.{group_at, one_if, sources_of};
 ghost use Rattle.mq_held.specs.Restarted.{most_set};
+ghost use Rattle.mq_link.specs.Applying.{CanApply, HasEffect};
 ghost use Rattle.mq_link.specs.Changing.{statement_of, acts_as, change_written};
-ghost use Rattle.mq_link.specs.Family.{is_admitted};
-ghost use Rattle.mq_link.specs.Forwarding.{changes};
-ghost use Rattle.mq_link.specs.Judging.{verdict_of};
 ghost use Rattle.mq_link.specs.LeastCost.{least_merge, least_work};
 ghost use Rattle.mq_link.specs.Record as record_spec;
-ghost use Rattle.mq_link.specs.Record.{change_stated, stated};
-ghost use Rattle.mq_link.specs.Moved.{MovesWithin, moved_by_edit};
+ghost use Rattle.mq_link.specs.Record.{change_stated};
 ghost use Rattle.mq_link.specs.Refreshed.{IsHeardAgain, is_restart, most_changed, most_copied, most_hosts, most_started, restarts};
-ghost use Rattle.mq_link.specs.Router.{HasOutcome};
-ghost use Rattle.mq_link.specs.Seen.{AreMarked, KeepsNumbers, counted_again, met_in};
-ghost use Rattle.mq_link.specs.Sound.{AreSound};
-ghost use Rattle.mq_link.specs.Storage.{HasRoom, HasRoomFor, group_stored, IsSought, KeepsRoom, KeepsRooms};
+ghost use Rattle.mq_link.specs.Seen.{counted_again};
+ghost use Rattle.mq_link.specs.Storage.{HasRoomFor, group_stored, KeepsRoom};
 
 use crate::answers::Refusal;
 use crate::family::Family;
@@ -76,7 +72,8 @@ pub(crate) struct MutingRules {
 
 /// Returns the record as which a Leave or Done acts: TO_IN of no source.
 fn leave_as(hosts: Hosts, muting: MutingRules) -> Option<(Kind, bool)>
-    ensures { (named : NamedSources) → acts_as muting.v1_mutes_leave muting.is_muted hosts (statement_of StatementKind.OlderLeave named) ≡ with_sources named result }
+    ensures { (named : NamedSources) →
+        acts_as muting.v1_mutes_leave muting.is_muted hosts (statement_of StatementKind.OlderLeave named) ≡ with_sources named result }
 {
     match translate(Kind::ToIn, hosts, muting.v1_mutes_leave, muting.is_muted) {
         Some((kind, _)) => Some((kind, true)),
@@ -100,7 +97,8 @@ fn record_as(
     now: Moment,
     m: &mut Meter,
 ) -> Option<(Kind, bool)>
-    ensures acts { (named : NamedSources) → translated muting.v1_mutes_leave muting.is_muted (hosts_of (state_of head.now map.empty) now) kind named ≡ with_sources named result }
+    ensures acts { (named : NamedSources) →
+        translated muting.v1_mutes_leave muting.is_muted (hosts_of (state_of head.now map.empty) now) kind named ≡ with_sources named result }
     ensures restarts { restarts kind ≡ true → IfSome result (λ acts. acts ≡ (kind, false)) }
     ensures spent { Spends 0 (if restarts kind then 0 else 2) m.old m.new }
 {
@@ -122,7 +120,9 @@ fn acted_as(
     now: Moment,
     m: &mut Meter,
 ) -> Option<(Kind, bool)>
-    ensures acts { (named : NamedSources) → acts_as muting.v1_mutes_leave muting.is_muted (hosts_of (state_of head.now map.empty) now) (statement_of said named) ≡ with_sources named result }
+    ensures acts { (named : NamedSources) →
+        acts_as muting.v1_mutes_leave muting.is_muted (hosts_of (state_of head.now map.empty) now) (statement_of said named)
+        ≡ with_sources named result }
     ensures restarts { (kind : Kind) → said ≡ StatementKind.Record kind → restarts kind ≡ true → IfSome result (λ acts. acts ≡ (kind, false)) }
     ensures spent { Spends 0 (most_hosts said) m.old m.new }
 {
@@ -159,7 +159,9 @@ impl<K: Key, A: Allocator> Scratch<K, A> {
         requires running { is_include stored.now.mode ≡ true → list_any item_is_stopped stored.now.sources.now ≡ false }
 
         ensures changes { let before = group_stored K.number stored.now in
-            change_stated muting.v1_mutes_leave muting.is_muted at.now.timing at.now.moment (statement_of said (named_in K.number self.old.named.members)) before ≡ change_written K.number self.new.group.state self.new.asked.items (option_map (λ loaded. loaded.asks_group) result) }
+            change_stated muting.v1_mutes_leave muting.is_muted at.now.timing at.now.moment
+            (statement_of said (named_in K.number self.old.named.members)) before
+            ≡ change_written K.number self.new.group.state self.new.asked.items (option_map (λ loaded. loaded.asks_group) result) }
         ensures changes_filter { IfSome result (λ loaded. loaded.changes_filter ≡ changes_filter (group_stored K.number stored.now) self.new.group.state) }
         ensures ascending { OnSome result (IsAscending K.number self.new.asked.items) }
         ensures held { OnSome result ((s : ℕ) → set_of K.number self.new.asked.items s ≡ true → IsSome (timer_at self.new.group.state s)) }
@@ -172,7 +174,8 @@ impl<K: Key, A: Allocator> Scratch<K, A> {
         // IS_IN, ALLOW or BLOCK that names one source, the sources take one for each binary digit of the group's number
         // of sources. At least one for each source of the shorter list: the sources of the group or those that count.
         ensures spent { let before = group_stored K.number stored.now in
-            let acts = acts_as muting.v1_mutes_leave muting.is_muted (hosts_of before at.now.moment) (statement_of said (named_in K.number self.old.named.members)) in
+            let acts = acts_as muting.v1_mutes_leave muting.is_muted (hosts_of before at.now.moment)
+            (statement_of said (named_in K.number self.old.named.members)) in
             Spends (least_merge (size_of before) acts) (most_changed said (size_of before) (length self.old.named.members)) m.old m.new }
         // A record of IS_IN or ALLOW asks for nothing.
         ensures asks { IfSome result (λ loaded. is_restart said ≡ true → (loaded.asks_group ≡ false) × (self.new.asked.items ≡ [])) }
@@ -208,7 +211,8 @@ impl<K: Key, A: Allocator> Scratch<K, A> {
         requires in_range { at.now.moment ≤ 2 ^ 53 }
         requires ascending { IsAscending K.number self.old.asked.items }
         requires held { (s : ℕ) → set_of K.number self.old.asked.items s ≡ true → IsSome (timer_at self.old.group.state s) }
-        ensures asked { let change : GroupChange = record { group = self.old.group.state; query = set_of K.number self.old.asked.items; query_group = asks_group } in
+        ensures asked { let change : GroupChange =
+            record { group = self.old.group.state; query = set_of K.number self.old.asked.items; query_group = asks_group } in
             let e : ScheduledGroup = record { group = self.new.group.state; schedule = schedule.new } in
             e ≡ after_change at.now.is_querier at.now.timing at.now.moment change schedule.old }
         ensures named { self.new.named ≡ self.old.named }
@@ -272,29 +276,12 @@ impl<F: Family> Status<F> {
         said: StatementKind,
         sink: &mut S,
     ) -> Verdict
-        requires admitted { is_admitted self.now.config.family (F.Address.number sought.address) ≡ true }
-        requires sound { AreSound self.now storage.old.held.groups }
-        requires sought { IsSought F.Address.number storage.old.held sought }
-        requires room { HasRoom self.now.config.limits.groups self.now.config.limits.group_sources work.old }
-        requires named { length work.old.named.members ≤ self.now.config.limits.group_sources }
-        requires group_room { storage.old.held.order.room ≡ self.now.config.limits.groups }
-        requires source_room { storage.old.held.source_room ≡ self.now.config.limits.sources }
-
-        ensures outcome { let said_so = statement_of said (named_in F.Address.number work.old.named.members) in
-            let outcome = stated self.now (F.Address.number sought.address) said_so storage.old.held.groups in
-            HasOutcome S.takes outcome (verdict_of result) storage.new.held.groups sink.old sink.new }
-        ensures numbers { KeepsNumbers storage.old.held storage.new.held }
-        ensures rooms { KeepsRooms storage.old storage.new }
-        ensures room { KeepsRoom work.old work.new }
-        ensures met { work.new.met ≡ work.old.met }
-        ensures changed { (before : ℕ → Bool) → AreMarked storage.old.held work.old.changed before →
-            AreMarked storage.new.held work.new.changed (λ address. before address || changes storage.old.held.groups storage.new.held.groups address) }
-        ensures one_changed { met_in work.new.changed ≤ met_in work.old.changed + 1 }
+        requires { CanApply F.Address.number self.now storage.old work.old sought }
+        ensures effect { HasEffect F.Address.number S.takes self.now sought said result storage.old storage.new work.old work.new sink.old sink.new }
         ensures spent { let said_so = statement_of said (named_in F.Address.number work.old.named.members) in
             let sizes = sources_of (group_at storage.old.held.groups (F.Address.number sought.address)) + length work.old.named.members in
-            Spends (least_work self.now (F.Address.number sought.address) said_so storage.old.held.groups) (6 * sizes + 17 + bitlen (map.len storage.old.held.groups)) storage.old.meter storage.new.meter }
-        ensures moved { let sizes = sources_of (group_at storage.old.held.groups (F.Address.number sought.address)) + length work.old.named.members in
-            MovesWithin (5 * sizes + moved_by_edit) storage.old storage.new }
+            let least = least_work self.now (F.Address.number sought.address) said_so storage.old.held.groups in
+            Spends least (6 * sizes + 17 + bitlen (map.len storage.old.held.groups)) storage.old.meter storage.new.meter }
         // A record that only sets timers anew is applied where the group is stored: no source but the named ones is
         // moved.
         ensures in_place { let size = sources_of (group_at storage.old.held.groups (F.Address.number sought.address)) in
@@ -325,29 +312,13 @@ impl<F: Family> Status<F> {
         said: StatementKind,
         sink: &mut S,
     ) -> Verdict
-        requires admitted { is_admitted self.now.config.family (F.Address.number sought.address) ≡ true }
-        requires sound { AreSound self.now storage.old.held.groups }
-        requires sought { IsSought F.Address.number storage.old.held sought }
-        requires room { HasRoom self.now.config.limits.groups self.now.config.limits.group_sources work.old }
-        requires named { length work.old.named.members ≤ self.now.config.limits.group_sources }
-        requires group_room { storage.old.held.order.room ≡ self.now.config.limits.groups }
-        requires source_room { storage.old.held.source_room ≡ self.now.config.limits.sources }
-
-        ensures outcome { let said_so = statement_of said (named_in F.Address.number work.old.named.members) in
-            let outcome = stated self.now (F.Address.number sought.address) said_so storage.old.held.groups in
-            HasOutcome S.takes outcome (verdict_of result) storage.new.held.groups sink.old sink.new }
-        ensures numbers { KeepsNumbers storage.old.held storage.new.held }
-        ensures rooms { KeepsRooms storage.old storage.new }
-        ensures room { KeepsRoom work.old work.new }
-        ensures met { work.new.met ≡ work.old.met }
-        ensures changed { (before : ℕ → Bool) → AreMarked storage.old.held work.old.changed before →
-            AreMarked storage.new.held work.new.changed (λ address. before address || changes storage.old.held.groups storage.new.held.groups address) }
-        ensures one_changed { met_in work.new.changed ≤ met_in work.old.changed + 1 }
+        requires { CanApply F.Address.number self.now storage.old work.old sought }
+        ensures effect { HasEffect F.Address.number S.takes self.now sought said result storage.old storage.new work.old work.new sink.old sink.new }
         ensures spent { let said_so = statement_of said (named_in F.Address.number work.old.named.members) in
             let size = sources_of (group_at storage.old.held.groups (F.Address.number sought.address)) in
-            Spends (least_work self.now (F.Address.number sought.address) said_so storage.old.held.groups) (most_copied said size (length work.old.named.members) (map.len storage.old.held.groups)) storage.old.meter storage.new.meter }
-        ensures moved { let sizes = sources_of (group_at storage.old.held.groups (F.Address.number sought.address)) + length work.old.named.members in
-            MovesWithin (5 * sizes + moved_by_edit) storage.old storage.new }
+            let least = least_work self.now (F.Address.number sought.address) said_so storage.old.held.groups in
+            let most = most_copied said size (length work.old.named.members) (map.len storage.old.held.groups) in
+            Spends least most storage.old.meter storage.new.meter }
     {
         self.lemma_is_sound();
         storage.held.lemma_is_numbered();

@@ -20,7 +20,7 @@ configuration_asked family own s =
 abbrev pub until_asked : Settings → Option ℕ
 until_asked s = if s.until == 2 ^ 64 - 1 then None else Some s.until
 
--- The lines of changes, and the citations, if their numbers aren't 0. No finding has the number of its packet. A check accepts what the standard's words allow.
+-- The lines of changes, and the citations, if their numbers aren't 0. No finding has the number of its packet, and all are reported. A check accepts what the standard's words allow.
 abbrev pub replay_asked : Settings → Asked
 replay_asked s = record { until = until_asked s; changes = not (s.changes == 0) }
 
@@ -28,7 +28,7 @@ abbrev pub check_asked : Settings → CheckTerms
 check_asked s = record {
   within = s.within;
   until = until_asked s;
-  additions = record { packets = false; cite = not (s.cite == 0) };
+  additions = record { packets = false; cite = not (s.cite == 0); once = false };
   strict = false;
 }
 

@@ -42,6 +42,7 @@ where
         additions: Additions {
             packets: false,
             cite: settings.cite != 0,
+            once: false,
         },
         strict: false,
     };

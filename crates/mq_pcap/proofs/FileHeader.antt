@@ -9,12 +9,14 @@ use Rattle.mq_pcap.specs.declared.form.Fraction.TheVariants.{Microseconds, Nanos
 use Rattle.mq_pcap.specs.Capture.{field, number_in, header_in, header_of}
 use Rattle.mq_pcap.proofs.Records.{number_in-append}
 
-pub field-append : (order : Endian) (place n : ℕ) (bytes more : List ℕ) → place + n ≤ length bytes → field order place n (bytes ++ more) ≡ field order place n bytes
+pub field-append : (order : Endian) (place n : ℕ) (bytes more : List ℕ) → place + n ≤ length bytes → field order place n (bytes ++ more)
+    ≡ field order place n bytes
 field-append order place n bytes more within =
     ap (number_in order n) (drop-append-le place bytes more (omega (arith, within)))
     ∙ number_in-append order n (drop place bytes) more (omega (arith, within, length-drop place bytes))
 
-header_in-append : (order : Endian) (fraction : Fraction) (bytes more : List ℕ) → 24 ≤ length bytes → header_in order fraction (bytes ++ more) ≡ header_in order fraction bytes
+header_in-append : (order : Endian) (fraction : Fraction) (bytes more : List ℕ) → 24 ≤ length bytes → header_in order fraction (bytes ++ more)
+    ≡ header_in order fraction bytes
 unfolding header_in
 header_in-append order fraction bytes more whole =
     let kind = field-append order 20 4 bytes more (omega (arith, whole)) in

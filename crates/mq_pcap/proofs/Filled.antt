@@ -33,7 +33,8 @@ front buffer part n more within fits =
     let joined = take-append-add (take n buffer) (part ++ post_of n (length buffer - n) buffer) more in
     (rw size at joined) ∙ ap (λ xs. take n buffer ++ xs) (take-append-le more part (post_of n (length buffer - n) buffer) fits)
 
-pub filled_more : (old mid new : InputState) (buffer part : List ℕ) (n more : ℕ) → length part ≡ length (mid_of n (length buffer - n) buffer) → more ≤ length part →
+pub filled_more : (old mid new : InputState) (buffer part : List ℕ) (n more : ℕ) → length part ≡ length (mid_of n (length buffer - n) buffer) →
+    more ≤ length part →
     IsFilledTo old mid buffer n → Takes mid new (take more part) → new.failed ≡ mid.failed →
     IsFilledTo old new (put_mid n (length buffer - n) buffer part) (n + more)
 filled_more old mid new buffer part n more same_length fits filled takes failed =

@@ -6,7 +6,8 @@ use Rattle.mq_pcap.specs.Frame.{mld_in, behind_options}
 use Rattle.mq_pcap.specs.Options.{has_router_alert}
 use Rattle.mq_pcap.proofs.Walk.{from_place}
 
-pub mld_behind_options : (packet payload : List ℕ) (n : ℕ) (alert : Bool) → 8 ≤ length payload → n ≡ slice_index payload 1 → n * 8 + 8 ≤ length payload → slice_index payload 0 ≡ 58 →
+pub mld_behind_options : (packet payload : List ℕ) (n : ℕ) (alert : Bool) → 8 ≤ length payload → n ≡ slice_index payload 1 →
+    n * 8 + 8 ≤ length payload → slice_index payload 0 ≡ 58 →
     alert ≡ has_router_alert (take (n * 8 + 8 - 2) (drop 2 payload)) →
     mld_in packet alert (take (length payload - (n * 8 + 8)) (drop (n * 8 + 8) payload)) ≡ behind_options packet payload
 unfolding behind_options

@@ -1,5 +1,6 @@
 -- A record whose header and body were taken one after the other.
-use Rattle.std.proofs.Common.{◌≡◌, ◌≤◌, ◌<◌, ◌+◌, ◌^◌, ◌||◌, ℕ, List, ◌++◌, length, take, drop, Some, Result, Ok, Err, refl, arith, ◌∙◌, ap, inr, subst, length-append, length-drop}
+use Rattle.std.proofs.Common.{◌≡◌, ◌≤◌, ◌<◌, ◌+◌, ◌^◌, ◌||◌, ℕ, List, ◌++◌, length, take, drop, Some, Result, Ok, Err, refl, arith, ◌∙◌, ap, inr}
+use Rattle.std.proofs.Common.{subst, length-append, length-drop}
 use Rattle.std.proofs.lemmas.Bool.{le-ltb, lt-ltb}
 use Rattle.std.proofs.lemmas.List.{take_all, take_at, length-take-le}
 use Rattle.std.specs.Prelude.{is_err}
@@ -30,22 +31,26 @@ pub length_of_header : (form : Form) (header body : List ℕ) → length header 
 length_of_header form header body size = captured_length-append form header body (omega (arith, size))
 
 -- a header that was filled was taken
-header_taken : {E : Type 0} (old mid : InputState) (header : List ℕ) (count : ℕ) → length header ≡ 16 → 16 ≤ count → Fills {E = E} old mid header (Ok count) → Takes old mid header
+header_taken : {E : Type 0} (old mid : InputState) (header : List ℕ) (count : ℕ) → length header ≡ 16 → 16 ≤ count →
+    Fills {E = E} old mid header (Ok count) → Takes old mid header
 header_taken old mid header count size whole fills =
     subst (λ bytes. Takes old mid bytes) (fills.fills.0 ∙ take_all count header (omega (arith, size))) fills.takes
 
-none_failed : {E : Type 0} (old mid new : InputState) (header body : List ℕ) (count : ℕ) (answer : Result ℕ E) → Fills {E = E} old mid header (Ok count) → Fills mid new body answer → new.failed ≡ (old.failed || is_err answer)
+none_failed : {E : Type 0} (old mid new : InputState) (header body : List ℕ) (count : ℕ) (answer : Result ℕ E) →
+    Fills {E = E} old mid header (Ok count) → Fills mid new body answer → new.failed ≡ (old.failed || is_err answer)
 none_failed old mid new header body count answer first second = rw (← or-false old.failed, ← first.failed) second.failed
 
 pub record_read : {E : Type 0} (form : Form) (number : ℕ) (old mid new : InputState) (header body rest : List ℕ) (count n m stamp : ℕ) →
-    number < endless → length header ≡ 16 → 16 ≤ count → n ≡ captured_length form header → (within : n ≤ most_bytes) → length body ≡ n → n ≤ m → (in_range : stamp ≤ 2 ^ 53) → stamp ≡ stamp_of form header →
+    number < endless → length header ≡ 16 → 16 ≤ count → n ≡ captured_length form header → (within : n ≤ most_bytes) → length body ≡ n → n ≤ m →
+    (in_range : stamp ≤ 2 ^ 53) → stamp ≡ stamp_of form header →
     Fills {E = E} old mid header (Ok count) → Fills {E = E} mid new body (Ok m) →
     Reads form number old new (body ++ rest) (Ok (Some (record { stamp_ms = stamp; length = n; within = within; in_range = in_range })))
 record_read form number old mid new header body rest count n m stamp few size whole announced within length_is filled in_range at first second =
     let lent = take_at body rest n length_is in
     record {
       bytes = header ++ body;
-      takes = Takes-trans old mid new header body (header_taken old mid header count size whole first) (subst (λ bytes. Takes mid new bytes) (second.fills.0 ∙ take_all m body (omega (arith, length_is))) second.takes);
+      takes = Takes-trans old mid new header body (header_taken old mid header count size whole first)
+          (subst (λ bytes. Takes mid new bytes) (second.fills.0 ∙ take_all m body (omega (arith, length_is))) second.takes);
       answers = (
         few,
         record {
@@ -71,9 +76,16 @@ data_cut form number old mid new header body rest count n m few size whole annou
     let says = length_of_header form header (take m body) size in
     record {
       bytes = bytes;
-      takes = Takes-trans old mid new header (take m body) (header_taken old mid header count size whole first) (subst (λ bytes. Takes mid new bytes) second.fills.0 second.takes);
+      takes = Takes-trans old mid new header (take m body) (header_taken old mid header count size whole first)
+          (subst (λ bytes. Takes mid new bytes) second.fills.0 second.takes);
       answers = (
-        rw (le-ltb (length bytes) 1 (omega (arith, taken, size)), lt-ltb number endless few, le-ltb (length bytes) 16 (omega (arith, taken, size)), le-ltb most_bytes (captured_length form bytes) (omega (arith, says, announced)), lt-ltb (length bytes) (16 + captured_length form bytes) (omega (arith, says, announced, taken, part, size))) refl,
+        rw (
+          le-ltb (length bytes) 1 (omega (arith, taken, size)),
+          lt-ltb number endless few,
+          le-ltb (length bytes) 16 (omega (arith, taken, size)),
+          le-ltb most_bytes (captured_length form bytes) (omega (arith, says, announced)),
+          lt-ltb (length bytes) (16 + captured_length form bytes) (omega (arith, says, announced, taken, part, size)),
+        ) refl,
         second.fills.2 (omega (arith, length_is)),
       );
       failed = none_failed old mid new header body count (Ok m) first second;

@@ -32,7 +32,9 @@ pub from_place : {X : Type 0} (place : ℕ) (xs : List X) → take (length xs - 
 from_place place xs = take_all (length xs - place) (drop place xs) (omega (arith, length-drop place xs))
 
 -- the same with what the code of the first option has
-pub first_option_is : (kind length_byte : ℕ) (bytes behind : List ℕ) → bytes ≡ kind ∷ behind → (kind ≡ 0 → ⊥) → length_byte ≡ slice_index behind 0 → length_byte + 1 ≤ length behind →
-    options_of bytes ≡ (kind, take (length_byte + 1 - 1) (drop 1 behind)) ∷ options_of (take (length behind - (length_byte + 1)) (drop (length_byte + 1) behind))
+pub first_option_is : (kind length_byte : ℕ) (bytes behind : List ℕ) → bytes ≡ kind ∷ behind → (kind ≡ 0 → ⊥) → length_byte ≡ slice_index behind 0 →
+    length_byte + 1 ≤ length behind →
+    options_of bytes ≡ (kind, take (length_byte + 1 - 1) (drop 1 behind)) ∷ options_of
+    (take (length behind - (length_byte + 1)) (drop (length_byte + 1) behind))
 first_option_is kind length_byte bytes behind is other at fits =
     rw (is, from_place (length_byte + 1) behind, at) (options_of-option kind behind (ne_eqb kind 0 other) (omega (arith, at)))

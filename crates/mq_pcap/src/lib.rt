@@ -5,7 +5,6 @@ pub mod fault;
 mod filling;
 pub mod form;
 pub mod frame;
-pub mod laws;
 pub mod link_type;
 mod options;
 pub mod reader;

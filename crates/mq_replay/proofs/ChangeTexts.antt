@@ -1,5 +1,6 @@
 -- The line of a group that was changed, by the row of its sources.
-use Rattle.std.proofs.Common.{◌≡◌, ℕ, ◌<◌, Bool, true, false, cond, ◌||◌, List, [], ◌∷◌, ◌++◌, Option, None, codes, length, take, drop, get_or, append_assoc, append-nil, arith, refl, sym, ap, subst, ◌∙◌, ◌+◌, ◌≤◌}
+use Rattle.std.proofs.Common.{◌≡◌, ℕ, ◌<◌, Bool, true, false, cond, ◌||◌, List, [], ◌∷◌, ◌++◌, Option, None, codes, length, take, drop, get_or}
+use Rattle.std.proofs.Common.{append_assoc, append-nil, arith, refl, sym, ap, subst, ◌∙◌, ◌+◌, ◌≤◌}
 use Rattle.std.specs.Prelude.{filter, map as list_map}
 use Rattle.std.specs.List.{flat_map, list_any}
 use Rattle.std.specs.FinMap as map
@@ -35,12 +36,14 @@ module _ {X : Type 0} (number : X → ℕ) (named : X → Bool) where
       by_name true rest = refl
       by_name false rest = rest
 
-  texts_of : (text_of : ℕ → List ℕ) (xs : List X) → flat_map text_of (list_map number (filter named xs)) ≡ flat_map (λ x. if_named (named x) (text_of (number x))) xs
+  texts_of : (text_of : ℕ → List ℕ) (xs : List X) → flat_map text_of (list_map number (filter named xs))
+      ≡ flat_map (λ x. if_named (named x) (text_of (number x))) xs
   texts_of text_of [] = refl
   texts_of text_of (x ∷ xs) = by_name (named x) (texts_of text_of xs)
     where
       by_name : (b : Bool) → flat_map text_of (list_map number (filter named xs)) ≡ flat_map (λ x. if_named (named x) (text_of (number x))) xs
-          → flat_map text_of (list_map number (cond b (x ∷ filter named xs) (filter named xs))) ≡ if_named b (text_of (number x)) ++ flat_map (λ x. if_named (named x) (text_of (number x))) xs
+          → flat_map text_of (list_map number (cond b (x ∷ filter named xs) (filter named xs))) ≡ if_named b (text_of (number x)) ++
+          flat_map (λ x. if_named (named x) (text_of (number x))) xs
       by_name true rest = ap (λ (more : List ℕ). text_of (number x) ++ more) rest
       by_name false rest = rest
 
@@ -56,7 +59,8 @@ module _ {K : Type 0} (number : K → ℕ) (family : Family) (mode : FilterMode)
   named_in_row = filter_in_row number (λ s timer. names mode timer) row up
 
   pub line-row : (moment group : ℕ)
-      → (change_start family moment group ++ name_by (is_include mode) (list_any named row)) ++ (flat_map (λ (x : Source K). named_by family mode (number x.address) x.timer) row ++ codes "\n")
+      → (change_start family moment group ++ name_by (is_include mode) (list_any named row)) ++
+      (flat_map (λ (x : Source K). named_by family mode (number x.address) x.timer) row ++ codes "\n")
       ≡ change_line family moment group stored
   line-row moment group =
       let start = change_start family moment group in
@@ -65,25 +69,32 @@ module _ {K : Type 0} (number : K → ℕ) (family : Family) (mode : FilterMode)
       let sources = list_map (number_in number) (filter named row) in
       append_assoc start name (texts ++ codes "\n")
       ∙ ap (λ (t : List ℕ). start ++ t) (sym (append_assoc name texts (codes "\n")))
-      ∙ (λ i. start ++ line_of (sym (name_of (number_in number) named (is_include mode) row) i ++ sym (texts_of (number_in number) named (named_text family (is_include mode)) row) i))
+      ∙ (λ i. start ++ line_of (sym (name_of (number_in number) named (is_include mode) row) i ++
+      sym (texts_of (number_in number) named (named_text family (is_include mode)) row) i))
       ∙ ap (λ (ss : List ℕ). start ++ line_of (filter_name (is_include mode) ss ++ flat_map (named_text family (is_include mode)) ss)) (sym named_in_row)
 
 -- the lines of groups whose addresses are numbered
 pub lines-numbered : {K : Type 0} (number : K → ℕ) (family : Family) (moment : ℕ) (groups : Groups) (addresses : List K)
-    → flat_map (λ x. change_line family moment (number x) (group_at groups (number x)).group) addresses ≡ change_lines family moment groups (list_map number addresses)
+    → flat_map (λ x. change_line family moment (number x) (group_at groups (number x)).group) addresses
+    ≡ change_lines family moment groups (list_map number addresses)
 lines-numbered number family moment groups [] = refl
 lines-numbered number family moment groups (x ∷ addresses) =
-    ap (λ (rest : List ℕ). change_line family moment (number x) (group_at groups (number x)).group ++ rest) (lines-numbered number family moment groups addresses)
+    ap (λ (rest : List ℕ). change_line family moment (number x) (group_at groups (number x)).group ++ rest)
+    (lines-numbered number family moment groups addresses)
 
 -- the line of a group that isn't held
-pub line-vacant : (family : Family) (moment group : ℕ) → (change_start family moment group ++ codes " none") ++ codes "\n" ≡ change_line family moment group vacant
+pub line-vacant : (family : Family) (moment group : ℕ) → (change_start family moment group ++ codes " none") ++
+    codes "\n" ≡ change_line family moment group vacant
 line-vacant family moment group = line-row {K = ℕ} (λ n. n) family Include [] (λ i j d before in_list. absurd (omega arith)) moment group
 
-pub line-absent : (family : Family) (moment address : ℕ) (groups : Groups) → map.contains_key groups address ≡ false → change_line family moment address vacant ≡ change_line family moment address (group_at groups address).group
-line-absent family moment address groups absent = sym (ap (λ (e : ScheduledGroup). change_line family moment address e.group) (absent_unheld groups address absent))
+pub line-absent : (family : Family) (moment address : ℕ) (groups : Groups) → map.contains_key groups address ≡ false →
+    change_line family moment address vacant ≡ change_line family moment address (group_at groups address).group
+line-absent family moment address groups absent =
+    sym (ap (λ (e : ScheduledGroup). change_line family moment address e.group) (absent_unheld groups address absent))
 
 -- the text of an item was not put whole
-pub item_broken : {X : Type 0} (text_of : X → List ℕ) (a b c : Option (List ℕ)) (held mid : List ℕ) (items : List X) (i : ℕ) (item default : X) (text : List ℕ) → i < length items → item ≡ get_or items i default → flat_map text_of items ≡ text
+pub item_broken : {X : Type 0} (text_of : X → List ℕ) (a b c : Option (List ℕ)) (held mid : List ℕ) (items : List X) (i : ℕ) (item default : X)
+    (text : List ℕ) → i < length items → item ≡ get_or items i default → flat_map text_of items ≡ text
     → Passes a b held mid (flat_map text_of (take i items)) → GrowsByBeginning b c (mid ++ text_of item) → GrowsByBeginning a c (held ++ text)
 item_broken text_of a b c held mid items i item default text within is same before begun =
     let first = flat_map text_of (take i items) in
@@ -92,11 +103,14 @@ item_broken text_of a b c held mid items i item default text within is same befo
     ap (flat_map text_of) (take_more items i default within) ∙ flat_map-append text_of (take i items) (get_or items i default ∷ [])
     ∙ ap (λ (x : _). first ++ flat_map text_of (x ∷ [])) (sym is) ∙ ap (λ (t : List ℕ). first ++ t) (append-nil (text_of item)) in
     let all : flat_map text_of items ≡ (first ++ text_of item) ++ rest =
-    sym (ap (flat_map text_of) (take-append-drop (i + 1) items)) ∙ flat_map-append text_of (take (i + 1) items) (drop (i + 1) items) ∙ ap (λ (t : List ℕ). t ++ rest) more in
-    subst (λ (t : List ℕ). GrowsByBeginning a c (held ++ t)) (sym all ∙ same) (broken_within a c held (first ++ text_of item) rest (broken_behind a b c held mid first (text_of item) before begun))
+    sym (ap (flat_map text_of) (take-append-drop (i + 1) items)) ∙ flat_map-append text_of (take (i + 1) items) (drop (i + 1) items) ∙
+    ap (λ (t : List ℕ). t ++ rest) more in
+    subst (λ (t : List ℕ). GrowsByBeginning a c (held ++ t)) (sym all ∙ same)
+    (broken_within a c held (first ++ text_of item) rest (broken_behind a b c held mid first (text_of item) before begun))
 
 -- all were put
-pub all_passed : {X : Type 0} (text_of : X → List ℕ) (a b : Option (List ℕ)) (held left : List ℕ) (items : List X) (i : ℕ) (text : List ℕ) → length items ≤ i → flat_map text_of items ≡ text
+pub all_passed : {X : Type 0} (text_of : X → List ℕ) (a b : Option (List ℕ)) (held left : List ℕ) (items : List X) (i : ℕ) (text : List ℕ) →
+    length items ≤ i → flat_map text_of items ≡ text
     → Passes a b held left (flat_map text_of (take i items)) → Passes a b held left text
 all_passed text_of a b held left items i text all same passed =
     subst (λ (t : List ℕ). Passes a b held left t) same (subst (λ (xs : List _). Passes a b held left (flat_map text_of xs)) (take_all i items all) passed)

@@ -1,6 +1,7 @@
 -- Which groups an event changes: only such that are held before it, and such that its datagram speaks of. So those among these that
 -- the link tells are all that it tells.
-use Rattle.std.proofs.Common.{◌≡◌, ℕ, ◌<◌, Bool, true, false, cond, ◌&&◌, ◌||◌, ◌==◌, List, [], ◌∷◌, ◌++◌, Option, None, Some, Result, Ok, Err, is_some, refl, sym, ap, ◌∙◌, arith}
+use Rattle.std.proofs.Common.{◌≡◌, ℕ, ◌<◌, Bool, true, false, cond, ◌&&◌, ◌||◌, ◌==◌, List, [], ◌∷◌, ◌++◌, Option, None, Some, Result, Ok, Err}
+use Rattle.std.proofs.Common.{is_some, refl, sym, ap, ◌∙◌, arith}
 use Rattle.std.specs.Prelude.{filter, map as list_map}
 use Rattle.std.specs.List.{list_any}
 use Rattle.std.specs.Option.{option_and_then, unwrap_or}
@@ -34,7 +35,9 @@ use Rattle.mq_link.specs.Configuration.{Configuration}
 use Rattle.mq_link.specs.Counters.{Refused}
 use Rattle.mq_link.specs.Forwarding.{AreThose, changed_by_all, changed_by_datagram, changed_by_read, changed_by_tick, changes}
 use Rattle.mq_link.specs.Receive.{Envelope, drop_reason, pseudo_of, read_of, setting_of}
-use Rattle.mq_link.specs.Record.{Entrance, Stops, GoesOn, Seen, Setting, Statement, RecordOf, after_sending, change_in, changed_by, changed_or_refused, entrance, is_repeated, judged, judged_from, leaving, limit_passed, seen_after, sent_at_once, stated, unless_passed}
+use Rattle.mq_link.specs.Record.{Entrance, Stops, GoesOn, Seen, Setting, Statement, RecordOf, after_sending, change_in, changed_by}
+use Rattle.mq_link.specs.Record.{changed_or_refused, entrance, is_repeated, judged, judged_from, leaving, limit_passed, seen_after, sent_at_once}
+use Rattle.mq_link.specs.Record.{stated, unless_passed}
 use Rattle.mq_link.specs.State.{LinkState}
 use Rattle.mq_link.specs.Tick.{groups_after_round, groups_expired, tick_of}
 use Rattle.mq_link.proofs.ChangedRecords.{other_then}
@@ -63,7 +66,8 @@ found : (n : ℕ) (ns : List ℕ) → is_some (map.find nat_cmp n (list_map pair
 found n [] = refl
 found n (x ∷ ns) = by_test (eq_by_cmp nat_cmp n x) (found n ns)
   where
-    by_test : (b : Bool) → is_some (map.find nat_cmp n (list_map paired ns)) ≡ is_among ns n → is_some (cond b (Some x) (map.find nat_cmp n (list_map paired ns))) ≡ (b || is_among ns n)
+    by_test : (b : Bool) → is_some (map.find nat_cmp n (list_map paired ns)) ≡ is_among ns n →
+        is_some (cond b (Some x) (map.find nat_cmp n (list_map paired ns))) ≡ (b || is_among ns n)
     by_test true rest = refl
     by_test false rest = rest
 
@@ -100,19 +104,24 @@ passed true is given = given refl
 passed false is given = refl
 
 -- where each that passes is among some, those among these that pass are all that pass
-pub are_those : (test : ℕ → Bool) (addresses listed : List ℕ) → ((n : ℕ) → test n ≡ true → is_among addresses n ≡ true) → AreThose test listed → those_among test addresses ≡ listed
+pub are_those : (test : ℕ → Bool) (addresses listed : List ℕ) → ((n : ℕ) → test n ≡ true → is_among addresses n ≡ true) → AreThose test listed →
+    those_among test addresses ≡ listed
 are_those test addresses listed given those =
-    known_by_set (λ a. a) (λ a b same. same) _ listed (AllPairs-filter (λ (x y : ℕ). x < y) test (in_order addresses) (ascending-in_order addresses)) those.ascending
-    (λ n. has-filter test n (in_order addresses) ∙ ap (λ b. test n && b) (set_of-in_order addresses n) ∙ passed (test n) (is_among addresses n) (given n) ∙ sym (those.each n))
+    known_by_set (λ a. a) (λ a b same. same) _ listed (AllPairs-filter (λ (x y : ℕ). x < y) test (in_order addresses) (ascending-in_order addresses))
+    those.ascending
+    (λ n. has-filter test n (in_order addresses) ∙ ap (λ b. test n && b) (set_of-in_order addresses n) ∙
+    passed (test n) (is_among addresses n) (given n) ∙ sym (those.each n))
 
 -- A tick changes only groups that are held.
-absent_after : (timing : Timing) (now : ℕ) (groups : Groups) (address : ℕ) → map.get groups address ≡ None → group_at (groups_after_round timing now (groups_expired now groups)) address ≡ unheld
+absent_after : (timing : Timing) (now : ℕ) (groups : Groups) (address : ℕ) → map.get groups address ≡ None →
+    group_at (groups_after_round timing now (groups_expired now groups)) address ≡ unheld
 unfolding groups_after_round groups_expired
 absent_after timing now groups address none =
     ap (λ (e : Option ScheduledGroup). unwrap_or e unheld)
     (get-kept _ _ address ∙ ap (option_and_then _) (get-kept _ groups address ∙ ap (option_and_then _) none))
 
-pub held_before : (config : Configuration) (now : ℕ) (state : LinkState) (address : ℕ) → changed_by_tick config now state address ≡ true → is_among (map.keys state.groups) address ≡ true
+pub held_before : (config : Configuration) (now : ℕ) (state : LinkState) (address : ℕ) → changed_by_tick config now state address ≡ true →
+    is_among (map.keys state.groups) address ≡ true
 held_before config now state address changed = by_test (map.contains_key state.groups address) refl
   where
     by_test : (b : Bool) → map.contains_key state.groups address ≡ b → is_among (map.keys state.groups) address ≡ true
@@ -127,11 +136,13 @@ module _ (at : Setting) (address : ℕ) where
   left_as : (groups : Groups) → changes groups groups address ≡ false
   left_as groups = unchanged (group_at groups address).group
 
-  stated_others : (group : ℕ) (statement : Statement) (groups : Groups) → eq_by_cmp nat_cmp address group ≡ false → changes groups (stated at group statement groups).groups address ≡ false
+  stated_others : (group : ℕ) (statement : Statement) (groups : Groups) → eq_by_cmp nat_cmp address group ≡ false →
+      changes groups (stated at group statement groups).groups address ≡ false
   unfolding stated
   stated_others group statement groups differs = by_change (change_in at group statement groups)
     where
-      by_limit : (e : ScheduledGroup) (passed : Option Refusal) → changes groups (unless_passed passed groups (with_group groups group (after_sending at e)) (sent_at_once at group e)).groups address ≡ false
+      by_limit : (e : ScheduledGroup) (passed : Option Refusal) →
+          changes groups (unless_passed passed groups (with_group groups group (after_sending at e)) (sent_at_once at group e)).groups address ≡ false
       by_limit e (Some name) = left_as groups
       by_limit e None =
           ap (λ (x : ScheduledGroup). changes_filter (group_at groups address).group x.group) (other_then groups group (after_sending at e) address differs)
@@ -143,11 +154,14 @@ module _ (at : Setting) (address : ℕ) where
           let e = changed_by at group groups change in
           by_limit e (limit_passed at.config.limits (with_group groups group (after_sending at e)) (after_sending at e))
 
-  judged_others : (seen : Seen) (r : RecordView ℕ) (groups : Groups) → eq_by_cmp nat_cmp address r.group ≡ false → changes groups (judged at seen r groups).groups address ≡ false
+  judged_others : (seen : Seen) (r : RecordView ℕ) (groups : Groups) → eq_by_cmp nat_cmp address r.group ≡ false →
+      changes groups (judged at seen r groups).groups address ≡ false
   unfolding judged
   judged_others seen r groups differs = by_entrance (entrance at.config r)
     where
-      by_repeated : (kind : Kind) (b : Bool) → changes groups (cond b (leaving groups (Refused Repeated)) (stated at r.group (RecordOf kind (set.from_list r.sources)) groups)).groups address ≡ false
+      by_repeated : (kind : Kind) (b : Bool) →
+          changes groups (cond b (leaving groups (Refused Repeated)) (stated at r.group (RecordOf kind (set.from_list r.sources)) groups)).groups
+          address ≡ false
       by_repeated kind true = left_as groups
       by_repeated kind false = stated_others r.group (RecordOf kind (set.from_list r.sources)) groups differs
 
@@ -155,7 +169,8 @@ module _ (at : Setting) (address : ℕ) where
       by_entrance (Stops verdict) = left_as groups
       by_entrance (GoesOn kind) = by_repeated kind (is_repeated groups seen r.group)
 
-  all_spoken_of : (seen : Seen) (records : List (RecordView ℕ)) (groups : Groups) → changed_by_all at seen records groups address ≡ true → is_among (list_map (λ r. r.group) records) address ≡ true
+  all_spoken_of : (seen : Seen) (records : List (RecordView ℕ)) (groups : Groups) → changed_by_all at seen records groups address ≡ true →
+      is_among (list_map (λ r. r.group) records) address ≡ true
   all_spoken_of seen [] groups changed = absurd (true≢false (sym changed))
   all_spoken_of seen (r ∷ rs) groups changed =
       by_group (eq_by_cmp nat_cmp address r.group) refl (all_spoken_of (seen_after at.config r groups seen) rs left)
@@ -170,14 +185,16 @@ module _ (at : Setting) (address : ℕ) where
       by_group false differs rest =
           rest (ap (λ b. b || changed_by_all at (seen_after at.config r groups seen) rs left address) (sym (judged_others seen r groups differs)) ∙ changed)
 
-  alone_spoken_of : (group : ℕ) (statement : Statement) (groups : Groups) → changes groups (stated at group statement groups).groups address ≡ true → is_among (group ∷ []) address ≡ true
+  alone_spoken_of : (group : ℕ) (statement : Statement) (groups : Groups) → changes groups (stated at group statement groups).groups address ≡ true →
+      is_among (group ∷ []) address ≡ true
   alone_spoken_of group statement groups changed = by_group (eq_by_cmp nat_cmp address group) refl
     where
       by_group : (b : Bool) → eq_by_cmp nat_cmp address group ≡ b → (b || false) ≡ true
       by_group true same = refl
       by_group false differs = absurd (true≢false (sym changed ∙ stated_others group statement groups differs))
 
-  read_spoken_of : (read : Result (Message ℕ) WireFault) (reason : Option DropReason) (groups : Groups) → changed_by_read at read reason groups address ≡ true → is_among (spoken_of read) address ≡ true
+  read_spoken_of : (read : Result (Message ℕ) WireFault) (reason : Option DropReason) (groups : Groups) →
+      changed_by_read at read reason groups address ≡ true → is_among (spoken_of read) address ≡ true
   read_spoken_of (Ok message) (Some reason) groups changed = absurd (true≢false (sym changed))
   read_spoken_of (Err fault) (Some reason) groups changed = absurd (true≢false (sym changed))
   read_spoken_of (Err fault) None groups changed = absurd (true≢false (sym changed))
@@ -195,13 +212,15 @@ either false b c d first second is = ap (λ x. c || x) (second is) ∙ or_true c
     or_true false = refl
 
 -- a datagram only such that were held, and such that it speaks of
-pub held_or_spoken_of : (config : Configuration) (envelope : Envelope) (bytes : List ℕ) (now : ℕ) (state : LinkState) (address : ℕ) → changed_by_datagram config envelope bytes now state address ≡ true
+pub held_or_spoken_of : (config : Configuration) (envelope : Envelope) (bytes : List ℕ) (now : ℕ) (state : LinkState) (address : ℕ) →
+    changed_by_datagram config envelope bytes now state address ≡ true
     → is_among (map.keys state.groups ++ spoken_of (read_of config.family (pseudo_of config.family envelope bytes) bytes)) address ≡ true
 held_or_spoken_of config envelope bytes now state address changed =
     let read = read_of config.family (pseudo_of config.family envelope bytes) bytes in
     let left = (tick_of config now state).state in
     list_any-append (eq_by_cmp nat_cmp address) (map.keys state.groups) (spoken_of read)
-    ∙ either (changed_by_tick config now state address) (changed_by_read (setting_of config left) read (drop_reason config envelope read) left.groups address) _ _
+    ∙ either (changed_by_tick config now state address)
+    (changed_by_read (setting_of config left) read (drop_reason config envelope read) left.groups address) _ _
     (held_before config now state address) (read_spoken_of (setting_of config left) address read (drop_reason config envelope read) left.groups) changed
 
 -- what a link tells is what a replay has
@@ -209,7 +228,9 @@ pub ticked_those : (config : Configuration) (now : ℕ) (state : LinkState) (lis
     → those_among (changed_by_tick config now state) (map.keys state.groups) ≡ listed
 ticked_those config now state listed those = are_those (changed_by_tick config now state) (map.keys state.groups) listed (held_before config now state) those
 
-pub received_those : (config : Configuration) (now : ℕ) (datagram : Datagram) (state : LinkState) (listed : List ℕ) → AreThose (changed_by_datagram config datagram.envelope datagram.body now state) listed
+pub received_those : (config : Configuration) (now : ℕ) (datagram : Datagram) (state : LinkState) (listed : List ℕ) →
+    AreThose (changed_by_datagram config datagram.envelope datagram.body now state) listed
     → changed_at config now datagram state ≡ listed
 received_those config now datagram state listed those =
-    are_those (changed_by_datagram config datagram.envelope datagram.body now state) _ listed (held_or_spoken_of config datagram.envelope datagram.body now state) those
+    are_those (changed_by_datagram config datagram.envelope datagram.body now state) _ listed
+    (held_or_spoken_of config datagram.envelope datagram.body now state) those

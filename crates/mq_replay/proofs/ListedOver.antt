@@ -1,5 +1,6 @@
 -- A walk that lists a capture, and the lines that it put.
-use Rattle.std.proofs.Common.{◌≡◌, ◌⊎◌, ℕ, ◌+◌, ◌||◌, Bool, true, false, List, [], ◌∷◌, ◌++◌, length, Option, None, Some, Result, Ok, Err, refl, ap, sym, subst, ◌∙◌, append_assoc, append-nil, length-append, inl, inr, arith}
+use Rattle.std.proofs.Common.{◌≡◌, ◌⊎◌, ℕ, ◌+◌, ◌||◌, Bool, true, false, List, [], ◌∷◌, ◌++◌, length, Option, None, Some, Result, Ok, Err, refl, ap}
+use Rattle.std.proofs.Common.{sym, subst, ◌∙◌, append_assoc, append-nil, length-append, inl, inr, arith}
 use Rattle.std.proofs.Math.Bool.{or-false}
 use Rattle.mq_pcap.specs.declared.fault.PcapFault.{PcapFault}
 use Rattle.mq_pcap.specs.declared.fault.PcapFault.TheVariants as fault
@@ -20,7 +21,8 @@ use Rattle.mq_replay.specs.Walking.{IsBrokenOff, IsEndedByFault, IsStopped, IsWa
 use Rattle.mq_replay.proofs.WalkedOver.{steps_counted}
 
 -- a failed read and a fault of the capture, in the terms of a listing
-ended_by : (c : ReadCapture) (old new : InputState) (f : PcapFault) → IsEndedByFault (is_read f) c f old new → IsEndedBy c.header c.packets c.end c.bytes old new (Err (answer.Pcap f))
+ended_by : (c : ReadCapture) (old new : InputState) (f : PcapFault) → IsEndedByFault (is_read f) c f old new →
+    IsEndedBy c.header c.packets c.end c.bytes old new (Err (answer.Pcap f))
 ended_by c old new fault.Read ended = ended
 ended_by c old new fault.Magic ended = ended
 ended_by c old new fault.Version ended = ended
@@ -36,11 +38,13 @@ module _ {X : Type 0} (state : X → ListingState) where
 
   record IsListedOver (link : LinkType) (at to : Place) (packets : List Captured) (x x' : X) : Type 0 where
     text : List ℕ
-    lines : (more : List Captured) (rest : List ℕ) → AreLines link to.first to.before to.number more rest → AreLines link at.first at.before at.number (packets ++ more) (text ++ rest)
+    lines : (more : List Captured) (rest : List ℕ) → AreLines link to.first to.before to.number more rest →
+        AreLines link at.first at.before at.number (packets ++ more) (text ++ rest)
     passed : Passes (state x).output.held (state x').output.held (state x).held (state x').held text
     failed : (state x').output.failed ≡ (state x).output.failed
 
-  listed_over : (link : LinkType) (at to : Place) (packets : List Captured) (x x' : X) → StepsOver takes link at packets x to x' → IsListedOver link at to packets x x'
+  listed_over : (link : LinkType) (at to : Place) (packets : List Captured) (x x' : X) → StepsOver takes link at packets x to x' →
+      IsListedOver link at to packets x x'
   listed_over link at to [] x x' steps = subst (λ (y : X). IsListedOver link at to [] x y) (sym steps.1) (record {
     text = [];
     lines = λ more rest h. subst (λ (p : Place). AreLines link p.first p.before p.number more rest) steps.0 h;
@@ -59,16 +63,25 @@ module _ {X : Type 0} (state : X → ListingState) where
       }
 
   -- the lines of all packets
-  lines_of : (form : Form) (to : Place) (packets : List Captured) (x x' : X) (over : IsListedOver form.link at_first to packets x x') → IsListing (Ok form) packets over.text
+  lines_of : (form : Form) (to : Place) (packets : List Captured) (x x' : X) (over : IsListedOver form.link at_first to packets x x') →
+      IsListing (Ok form) packets over.text
   lines_of form to packets x x' over = rw (← append-nil packets, ← append-nil over.text) (over.lines [] [] refl)
 
   abbrev Listed : (old new : InputState) (x x' : X) → ReplayFault → Type 0
-  Listed old new x x' e = PutsListing old new (state x).output.held (state x').output.held (state x).held (state x').held (Err e) × ((state x').output.failed ≡ (state x).output.failed || is_failed_write {T = Walked} (Err e)) × (e ≡ answer.Memory → ⊥)
+  Listed old new x x' e = PutsListing old new (state x).output.held (state x').output.held (state x).held (state x').held (Err e) ×
+      ((state x').output.failed ≡ (state x).output.failed || is_failed_write {T = Walked} (Err e)) × (e ≡ answer.Memory → ⊥)
 
-  by_fault : (c : ReadCapture) (old new : InputState) (x x' : X) (f : PcapFault) (header : Result Form PcapFault) → c.header ≡ header → StepsOverAll takes header c.packets x x'
-      → (text : List ℕ) × IsListing header c.packets text × Passes (state x).output.held (state x').output.held (state x).held (state x').held text × ((state x').output.failed ≡ (state x).output.failed)
-  by_fault c old new x x' f (Err g) is_header same =
-      ([], refl, subst (λ (y : X). Passes (state x).output.held (state y).output.held (state x).held (state y).held []) (sym same) (nothing_passed _ _), ap (λ (y : X). (state y).output.failed) same)
+  by_fault : (c : ReadCapture) (old new : InputState) (x x' : X) (f : PcapFault) (header : Result Form PcapFault) → c.header ≡ header →
+      StepsOverAll takes header c.packets x x'
+      → (text : List ℕ) × IsListing header c.packets text × Passes (state x).output.held (state x').output.held (state x).held (state x').held text ×
+      ((state x').output.failed ≡ (state x).output.failed)
+  by_fault c old new x x' f (Err g) is_header same = (
+    [],
+    refl,
+    subst (λ (y : X). Passes (state x).output.held (state y).output.held (state x).held (state y).held []) (sym same)
+        (nothing_passed _ _),
+    ap (λ (y : X). (state y).output.failed) same,
+  )
   by_fault c old new x x' f (Ok form) is_header (to, steps) =
       let over = listed_over form.link at_first to c.packets x x' steps in
       (over.text, lines_of form to c.packets x x' over, over.passed, over.failed)
@@ -80,14 +93,16 @@ module _ {X : Type 0} (state : X → ListingState) where
       c : ReadCapture
       c = walks.read
 
-      stopped : (it : IsStopped takes c old new x x' e) → (e' : ReplayFault) → takes (placed it.form.link it.to it.last) it.between x' (Err e') → Listed old new x x' e'
+      stopped : (it : IsStopped takes c old new x x' e) → (e' : ReplayFault) → takes (placed it.form.link it.to it.last) it.between x' (Err e') →
+          Listed old new x x' e'
       stopped it answer.Write stops =
           let over = listed_over it.form.link at_first it.to it.some x it.between it.steps in
           let puts = stops.puts in
           let line = place_text it.to.number (placed it.form.link it.to it.last).moment ++ puts.said in
           let all = over.lines (it.last ∷ []) line (line, [], sym (append-nil line), (puts.said, puts.is_said, refl), refl) in
           let listing : IsListing c.header c.packets (over.text ++ line) =
-          subst (λ (ps : List Captured). IsListing c.header ps (over.text ++ line)) (sym it.packets) (subst (λ (h : Result Form PcapFault). IsListing h (it.some ++ it.last ∷ []) (over.text ++ line)) (sym it.header) all) in (
+          subst (λ (ps : List Captured). IsListing c.header ps (over.text ++ line)) (sym it.packets)
+          (subst (λ (h : Result Form PcapFault). IsListing h (it.some ++ it.last ∷ []) (over.text ++ line)) (sym it.header) all) in (
             record {
               bytes = c.bytes;
               header = c.header;
@@ -131,7 +146,8 @@ module _ {X : Type 0} (state : X → ListingState) where
 
   -- the walk came to the end of the capture
   pub listed_well : (old new : InputState) (x x' : X) (w : Walked) → Walks takes (λ f it. it ≡ answer.Pcap f) old new x x' (Ok w)
-      → PutsListing old new (state x).output.held (state x').output.held (state x).held (state x').held (Ok w.packets) × ((state x').output.failed ≡ (state x).output.failed || false)
+      → PutsListing old new (state x).output.held (state x').output.held (state x).held (state x').held (Ok w.packets) ×
+      ((state x').output.failed ≡ (state x).output.failed || false)
   listed_well old new x x' w walks =
       let c = walks.read in
       let walked = walks.ended in
@@ -139,7 +155,8 @@ module _ {X : Type 0} (state : X → ListingState) where
       let over = listed_over walked.form.link at_first to c.packets x x' walked.steps in
       let numbered : w.packets + 1 ≡ 1 + length c.packets = steps_counted takes walked.form.link at_first to c.packets x x' walked.steps in
       let counted : w.packets ≡ length c.packets = omega (arith, numbered) in
-      let listing : IsListing c.header c.packets over.text = subst (λ (h : Result Form PcapFault). IsListing h c.packets over.text) (sym walked.header) (lines_of walked.form to c.packets x x' over) in (
+      let listing : IsListing c.header c.packets over.text = subst (λ (h : Result Form PcapFault). IsListing h c.packets over.text)
+      (sym walked.header) (lines_of walked.form to c.packets x x' over) in (
         record {
           bytes = c.bytes;
           header = c.header;

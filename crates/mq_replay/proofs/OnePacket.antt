@@ -20,23 +20,30 @@ use Rattle.mq_replay.proofs.Growing.{behind, as_behind, before_changes, taken_be
 use Rattle.mq_replay.proofs.ChangedGroups.{received_those}
 use Rattle.mq_replay.proofs.EventLines.{changes_broken, changes_put, receipt_put}
 
-packet_is : (changes : Bool) (config : Configuration) (moment number : ℕ) (carried : Carried) (link : LinkState) (datagram : Option Datagram) → datagram_of config.family carried ≡ datagram
-    → with_packet config moment number carried (begun_with changes link) ≡ taken_or_skipped config moment number carried datagram (ticked_before config moment (begun_with changes link))
+packet_is : (changes : Bool) (config : Configuration) (moment number : ℕ) (carried : Carried) (link : LinkState) (datagram : Option Datagram) →
+    datagram_of config.family carried ≡ datagram
+    → with_packet config moment number carried (begun_with changes link) ≡ taken_or_skipped config moment number carried datagram
+    (ticked_before config moment (begun_with changes link))
 unfolding with_packet
-packet_is changes config moment number carried link datagram is = ap (λ (d : Option Datagram). taken_or_skipped config moment number carried d (ticked_before config moment (begun_with changes link))) is
+packet_is changes config moment number carried link datagram is =
+    ap (λ (d : Option Datagram). taken_or_skipped config moment number carried d (ticked_before config moment (begun_with changes link))) is
 
 -- the text of a packet begins with that of the ticks before it
 packet_text : (changes : Bool) (config : Configuration) (moment number : ℕ) (carried : Carried) (link : LinkState)
-    → (more : List ℕ) × ((with_packet config moment number carried (begun_with changes link)).text ≡ (ticked_before config moment (begun_with changes link)).text ++ more)
+    → (more : List ℕ) × ((with_packet config moment number carried (begun_with changes link)).text
+    ≡ (ticked_before config moment (begun_with changes link)).text ++ more)
 packet_text changes config moment number carried link =
     let r = ticked_before config moment (begun_with changes link) in
     let d = datagram_of config.family carried in (
       (taken_or_skipped config moment number carried d (begun_with r.changes r.link)).text,
-      ap (λ (x : Replayed). x.text) (packet_is changes config moment number carried link d refl ∙ ap (taken_or_skipped config moment number carried d) (sym (as_behind r)) ∙ taken_behind config moment number carried d r.text (begun_with r.changes r.link)),
+      ap (λ (x : Replayed). x.text)
+          (packet_is changes config moment number carried link d refl ∙ ap (taken_or_skipped config moment number carried d) (sym (as_behind r)) ∙
+          taken_behind config moment number carried d r.text (begun_with r.changes r.link)),
     )
 
 -- the lines of the ticks were not put whole
-pub ticks_broken : {T U : Type 0} (changes : Bool) (before after : LinkValue) (moment number : ℕ) (carried : Carried) (old new : Option (List ℕ)) (held left : List ℕ) (e f : LineFault)
+pub ticks_broken : {T U : Type 0} (changes : Bool) (before after : LinkValue) (moment number : ℕ) (carried : Carried) (old new : Option (List ℕ))
+    (held left : List ℕ) (e f : LineFault)
     → PutsReplayed {T = T} before after (ticked_before before.config moment (begun_with changes before.state)) old new held left (Err e)
     → PutsReplayed {T = U} before after (with_packet before.config moment number carried (begun_with changes before.state)) old new held left (Err f)
 ticks_broken changes before after moment number carried old new held left e f put =
@@ -44,7 +51,8 @@ ticks_broken changes before after moment number carried old new held left e f pu
     record {
       same_config = put.same_config;
       link = tt;
-      text = subst (λ (t : List ℕ). GrowsByBeginning old new (held ++ t)) (sym said.1) (broken_within old new held (ticked_before before.config moment (begun_with changes before.state)).text said.0 put.text);
+      text = subst (λ (t : List ℕ). GrowsByBeginning old new (held ++ t)) (sym said.1)
+          (broken_within old new held (ticked_before before.config moment (begun_with changes before.state)).text said.0 put.text);
     }
 
 linked : {E : Type 0} (r : Result Unit E) {a b : LinkState} → a ≡ b → IfOk r (λ _. a ≡ b)
@@ -52,7 +60,8 @@ linked (Ok y) same = same
 linked (Err e) same = tt
 
 -- the packet was skipped
-pub packet_skipped : {T E : Type 0} (changes : Bool) (before mid : LinkValue) (moment number : ℕ) (carried : Carried) (old now new : Option (List ℕ)) (held more left : List ℕ) (x : T) (r : Result Unit E)
+pub packet_skipped : {T E : Type 0} (changes : Bool) (before mid : LinkValue) (moment number : ℕ) (carried : Carried) (old now new : Option (List ℕ))
+    (held more left : List ℕ) (x : T) (r : Result Unit E)
     → datagram_of before.config.family carried ≡ None
     → PutsReplayed {E = E} before mid (ticked_before before.config moment (begun_with changes before.state)) old now held more (Ok x)
     → Puts now new more left (skip_line moment number carried) r
@@ -63,11 +72,13 @@ packet_skipped {E = E} changes before mid moment number carried old now new held
       same_config = ticks.same_config;
       link = linked r (ticks.link ∙ sym (ap (λ (y : Replayed). y.link) is));
       text = subst (λ (t : List ℕ). Puts old new held left t r) (sym (ap (λ (y : Replayed). y.text) is))
-          (then_put old now new held more left (ticked_before before.config moment (begun_with changes before.state)).text (skip_line moment number carried) r ticks.text put);
+          (then_put old now new held more left (ticked_before before.config moment (begun_with changes before.state)).text
+          (skip_line moment number carried) r ticks.text put);
     }
 
 -- the lines of the queries that the link sends by a datagram were not put whole
-pub receipt_broken : {T : Type 0} (changes : Bool) (before after : LinkValue) (moment number : ℕ) (datagram : Datagram) (old new : Option (List ℕ)) (held left : List ℕ) (e f : LineFault) (family : Family)
+pub receipt_broken : {T : Type 0} (changes : Bool) (before after : LinkValue) (moment number : ℕ) (datagram : Datagram) (old new : Option (List ℕ))
+    (held left : List ℕ) (e f : LineFault) (family : Family)
     → family ≡ before.config.family → after.config ≡ before.config
     → ReceivesPrinting family datagram.envelope datagram.body moment before after old new held left (Err e)
     → PutsReplayed {T = T} before after (received_at before.config moment number datagram (begun_with changes before.state)) old new held left (Err f)
@@ -92,7 +103,8 @@ lined config moment number datagram r =
       text = after.text ++ receipt_line config.family moment number datagram.envelope.source receipt.answer;
     }
 
-pub receipt_lined : (changes : Bool) (before after : LinkValue) (moment number : ℕ) (datagram : Datagram) (answer : Received) (old now new : Option (List ℕ)) (held more left : List ℕ) (r : Result Unit LineFault) (family : Family) (source : ℕ)
+pub receipt_lined : (changes : Bool) (before after : LinkValue) (moment number : ℕ) (datagram : Datagram) (answer : Received)
+    (old now new : Option (List ℕ)) (held more left : List ℕ) (r : Result Unit LineFault) (family : Family) (source : ℕ)
     → family ≡ before.config.family → source ≡ datagram.envelope.source → after.config ≡ before.config
     → ReceivesPrinting family datagram.envelope datagram.body moment before after old now held more (Ok answer)
     → Puts now new more left (receipt_line family moment number source answer) r
@@ -105,39 +117,48 @@ receipt_lined changes before after moment number datagram answer old now new hel
     record {
       same_config = same;
       link = linked r received.link;
-      text = then_put old now new held more left step.text (receipt_line before.config.family moment number datagram.envelope.source receipt.answer) r received.text
+      text = then_put old now new held more left step.text (receipt_line before.config.family moment number datagram.envelope.source receipt.answer) r
+          received.text
           (subst (λ (t : List ℕ). Puts now new more left t r) (λ i. receipt_line (is_family i) moment number (is_source i) (answered i)) put);
     }
 
 -- that line was not put whole
-pub receipt_cut : {T : Type 0} (changes : Bool) (before after : LinkValue) (moment number : ℕ) (datagram : Datagram) (old new : Option (List ℕ)) (held left : List ℕ) (e f : LineFault)
+pub receipt_cut : {T : Type 0} (changes : Bool) (before after : LinkValue) (moment number : ℕ) (datagram : Datagram) (old new : Option (List ℕ))
+    (held left : List ℕ) (e f : LineFault)
     → PutsReplayed {T = Unit} before after (lined before.config moment number datagram (begun_with changes before.state)) old new held left (Err e)
     → PutsReplayed {T = T} before after (received_at before.config moment number datagram (begun_with changes before.state)) old new held left (Err f)
 unfolding received_at
 receipt_cut changes before after moment number datagram old new held left e f put =
-    changes_broken {T = Unit} before.config moment _ before after (lined before.config moment number datagram (begun_with changes before.state)) old new held left e f put
+    changes_broken {T = Unit} before.config moment _ before after (lined before.config moment number datagram (begun_with changes before.state)) old
+    new held left e f put
 
 -- and then those of the groups that it changed
-pub receipt_whole : (changes : Bool) (before after : LinkValue) (moment number : ℕ) (datagram : Datagram) (old now new : Option (List ℕ)) (held more left : List ℕ) (r : Result Unit LineFault) (family : Family)
+pub receipt_whole : (changes : Bool) (before after : LinkValue) (moment number : ℕ) (datagram : Datagram) (old now new : Option (List ℕ))
+    (held more left : List ℕ) (r : Result Unit LineFault) (family : Family)
     → family ≡ before.config.family → AreThose (changed_by_datagram before.config datagram.envelope datagram.body moment before.state) after.changed
-    → PutsReplayed {T = Unit {0}} {E = LineFault} before after (lined before.config moment number datagram (begun_with changes before.state)) old now held more (Ok tt)
+    → PutsReplayed {T = Unit {0}} {E = LineFault} before after (lined before.config moment number datagram (begun_with changes before.state)) old now
+    held more (Ok tt)
     → Puts now new more left (lines_asked changes (change_lines family moment after.state.groups after.changed)) r
     → PutsReplayed before after (received_at before.config moment number datagram (begun_with changes before.state)) old new held left r
 unfolding received_at
 receipt_whole changes before after moment number datagram old now new held more left r family is_family those put lines =
-    changes_put before.config family moment _ before after (lined before.config moment number datagram (begun_with changes before.state)) old now new held more left tt r is_family
+    changes_put before.config family moment _ before after (lined before.config moment number datagram (begun_with changes before.state)) old now new
+    held more left tt r is_family
     (received_those before.config moment datagram before.state after.changed those) put lines
 
 -- a datagram was received, from the state that the ticks left
-received_from : {T E : Type 0} (changes : Bool) (config : Configuration) (link : LinkState) (mid after : LinkValue) (moment number : ℕ) (datagram : Datagram) (now new : Option (List ℕ)) (more left : List ℕ) (r : Result T E)
+received_from : {T E : Type 0} (changes : Bool) (config : Configuration) (link : LinkState) (mid after : LinkValue) (moment number : ℕ)
+    (datagram : Datagram) (now new : Option (List ℕ)) (more left : List ℕ) (r : Result T E)
     → mid.config ≡ config → mid.state ≡ link
     → PutsReplayed mid after (received_at mid.config moment number datagram (begun_with changes mid.state)) now new more left r
     → PutsReplayed mid after (received_at config moment number datagram (begun_with changes link)) now new more left r
 received_from changes config link mid after moment number datagram now new more left r is_config is_link put =
     subst (λ (s : LinkState). PutsReplayed mid after (received_at config moment number datagram (begun_with changes s)) now new more left r) is_link
-    (subst (λ (c : Configuration). PutsReplayed mid after (received_at c moment number datagram (begun_with changes mid.state)) now new more left r) is_config put)
+    (subst (λ (c : Configuration). PutsReplayed mid after (received_at c moment number datagram (begun_with changes mid.state)) now new more left r)
+    is_config put)
 
-pub packet_received : {T E : Type 0} (changes : Bool) (before mid after : LinkValue) (moment number : ℕ) (carried : Carried) (datagram : Datagram) (old now new : Option (List ℕ)) (held more left : List ℕ) (x : T) (r : Result Unit E)
+pub packet_received : {T E : Type 0} (changes : Bool) (before mid after : LinkValue) (moment number : ℕ) (carried : Carried) (datagram : Datagram)
+    (old now new : Option (List ℕ)) (held more left : List ℕ) (x : T) (r : Result Unit E)
     → datagram_of before.config.family carried ≡ Some datagram
     → PutsReplayed {E = E} before mid (ticked_before before.config moment (begun_with changes before.state)) old now held more (Ok x)
     → PutsReplayed mid after (received_at mid.config moment number datagram (begun_with changes mid.state)) now new more left r
@@ -150,11 +171,13 @@ packet_received {E = E} changes before mid after moment number carried datagram 
     packet_is changes before.config moment number carried before.state (Some datagram) some
     ∙ ap (taken_or_skipped before.config moment number carried (Some datagram)) (sym (as_behind ticked))
     ∙ taken_behind before.config moment number carried (Some datagram) ticked.text (begun_with ticked.changes ticked.link)
-    ∙ ap (λ (b : Bool). behind ticked.text (received_at before.config moment number datagram (begun_with b ticked.link))) (before_changes before.config moment (begun_with changes before.state)) in
+    ∙ ap (λ (b : Bool). behind ticked.text (received_at before.config moment number datagram (begun_with b ticked.link)))
+    (before_changes before.config moment (begun_with changes before.state)) in
     record {
       same_config = received.same_config ∙ ticks.same_config;
       link = all_linked r _ _ _ (sym (ap (λ (y : Replayed). y.link) is)) put.link;
-      text = subst (λ (t : List ℕ). Puts old new held left t r) (sym (ap (λ (y : Replayed). y.text) is)) (then_put old now new held more left ticked.text next.text r ticks.text put.text);
+      text = subst (λ (t : List ℕ). Puts old new held left t r) (sym (ap (λ (y : Replayed). y.text) is))
+          (then_put old now new held more left ticked.text next.text r ticks.text put.text);
     }
   where
     all_linked : (r : Result Unit E) (a b c : LinkState) → b ≡ c → IfOk r (λ _. a ≡ b) → IfOk r (λ _. a ≡ c)

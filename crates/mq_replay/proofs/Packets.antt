@@ -15,11 +15,13 @@ use Rattle.mq_replay.specs.Listing.{IsSaid, place_text}
 use Rattle.mq_replay.specs.Putting.{PutsSaid, PutsPacket}
 
 -- a piece was put behind what is held, and then a line
-pub message_put : (old new : Option (List ℕ)) (held more left piece line : List ℕ) → more ≡ held ++ piece → Passes old new more left line → Passes old new held left (piece ++ line)
+pub message_put : (old new : Option (List ℕ)) (held more left piece line : List ℕ) → more ≡ held ++ piece → Passes old new more left line →
+    Passes old new held left (piece ++ line)
 message_put old new held more left piece line behind passed =
     both_passed old old new held more left piece line (held_more old old held held more [] piece (nothing_passed old held) behind) passed
 
-pub message_broken : (old new : Option (List ℕ)) (held more piece line : List ℕ) → more ≡ held ++ piece → GrowsByBeginning old new (more ++ line) → GrowsByBeginning old new (held ++ (piece ++ line))
+pub message_broken : (old new : Option (List ℕ)) (held more piece line : List ℕ) → more ≡ held ++ piece → GrowsByBeginning old new (more ++ line) →
+    GrowsByBeginning old new (held ++ (piece ++ line))
 message_broken old new held more piece line behind begun =
     broken_behind old old new held more piece line (held_more old old held held more [] piece (nothing_passed old held) behind) begun
 
@@ -43,7 +45,8 @@ some_said Cut = (codes "cut\n", refl)
 some_said Fragment = (codes "fragment\n", refl)
 
 -- what is said of a packet was put behind its number and its moment
-pub put_as_packet : {T E : Type 0} (old mid new : Option (List ℕ)) (held more left : List ℕ) (number moment : ℕ) (found carried : Carried) (r : Result T E) → found ≡ carried
+pub put_as_packet : {T E : Type 0} (old mid new : Option (List ℕ)) (held more left : List ℕ) (number moment : ℕ) (found carried : Carried)
+    (r : Result T E) → found ≡ carried
     → Passes old mid held more (place_text number moment) → PutsSaid mid new more left found r → PutsPacket old new held left number moment carried r
 put_as_packet old mid new held more left number moment found carried r same placed put =
     record {

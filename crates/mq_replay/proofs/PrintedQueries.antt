@@ -43,8 +43,10 @@ module _ {W : Type 0} (contents : W → Option (List ℕ)) (family : Family) whe
       stays_broken handed.0 messages answers new fault (ap (λ (q : QueryLines W). q.answer) first ∙ broken) handed.2 ∙ first
 
   -- Where no write had failed, the lines of all messages were put, or of those before a write failed a beginning.
-  pub record PrintedBy (moment : ℕ) (old : QueryLines W) (messages : List Outgoing) (answers : List Bool) (new : QueryLines W) (answer : Result Unit LineFault) : Type 0 where
-    pub put : Puts (contents (inner_of old.writer.now)) (contents (inner_of new.writer.now)) old.buffer.now.items new.buffer.now.items (query_lines family moment messages) answer
+  pub record PrintedBy (moment : ℕ) (old : QueryLines W) (messages : List Outgoing) (answers : List Bool) (new : QueryLines W)
+      (answer : Result Unit LineFault) : Type 0 where
+    pub put : Puts (contents (inner_of old.writer.now)) (contents (inner_of new.writer.now)) old.buffer.now.items new.buffer.now.items
+        (query_lines family moment messages) answer
     pub failed : has_failed new.writer.now ≡ has_failed old.writer.now || is_err answer
     pub all_sent : IfOk answer (λ u. answers ≡ list_map (λ message. true) messages)
 
@@ -64,7 +66,8 @@ module _ {W : Type 0} (contents : W → Option (List ℕ)) (family : Family) whe
       let messages : List Outgoing = [] in
       record {
         put = subst (λ (r : Result Unit LineFault). Puts a a held held [] r) (sym fine) (nothing_passed a held);
-        failed = subst (λ (r : Result Unit LineFault). has_failed old.writer.now ≡ has_failed old.writer.now || is_err r) (sym fine) (sym (or-false (has_failed old.writer.now)));
+        failed = subst (λ (r : Result Unit LineFault). has_failed old.writer.now ≡ has_failed old.writer.now || is_err r) (sym fine)
+            (sym (or-false (has_failed old.writer.now)));
         all_sent = subst (λ (r : Result Unit LineFault). IfOk r (λ u. none ≡ list_map (λ message. true) messages)) (sym fine) refl;
       }
 
@@ -77,12 +80,16 @@ module _ {W : Type 0} (contents : W → Option (List ℕ)) (family : Family) whe
       by_first handed.0.answer refl (λ v is. printed moment handed.0 messages answers new (handed.1.same_moment ∙ at) v is handed.2)
     where
       first : (r : Result Unit LineFault) → handed.0.answer ≡ r
-          → Puts (contents (inner_of old.writer.now)) (contents (inner_of handed.0.writer.now)) old.buffer.now.items handed.0.buffer.now.items (query_line family moment message) r
+          → Puts (contents (inner_of old.writer.now)) (contents (inner_of handed.0.writer.now)) old.buffer.now.items handed.0.buffer.now.items
+          (query_line family moment message) r
           × (has_failed handed.0.writer.now ≡ has_failed old.writer.now || is_err r)
       first r is =
           let put = subst (λ (r : Result Unit LineFault). PutsQuery contents family old message handed.0 r) fine handed.1.puts in
-          let at_moment = subst (λ (m : ℕ). Puts (contents (inner_of old.writer.now)) (contents (inner_of handed.0.writer.now)) old.buffer.now.items handed.0.buffer.now.items (query_line family m message) handed.0.answer) at put.0 in (
-            subst (λ (r : Result Unit LineFault). Puts (contents (inner_of old.writer.now)) (contents (inner_of handed.0.writer.now)) old.buffer.now.items handed.0.buffer.now.items (query_line family moment message) r) is at_moment,
+          let at_moment = subst
+          (λ (m : ℕ). Puts (contents (inner_of old.writer.now))
+          (contents (inner_of handed.0.writer.now)) old.buffer.now.items handed.0.buffer.now.items (query_line family m message) handed.0.answer) at put.0 in (
+            subst (λ (r : Result Unit LineFault). Puts (contents (inner_of old.writer.now))
+                (contents (inner_of handed.0.writer.now)) old.buffer.now.items handed.0.buffer.now.items (query_line family moment message) r) is at_moment,
             subst (λ (r : Result Unit LineFault). has_failed handed.0.writer.now ≡ has_failed old.writer.now || is_err r) is put.1,
           )
 
@@ -105,13 +112,15 @@ module _ {W : Type 0} (contents : W → Option (List ℕ)) (family : Family) whe
           let left = handed.0.buffer.now.items in
           let lines = query_lines family moment (message ∷ messages) in
           subst (λ (q : QueryLines W). Printed moment old (message ∷ messages) (answer ∷ answers) q) (sym stays) (record {
-            put = subst (λ (r : Result Unit LineFault). Puts a b held left lines r) (sym is) (broken_within a b held (query_line family moment message) (query_lines family moment messages) one.0);
+            put = subst (λ (r : Result Unit LineFault). Puts a b held left lines r) (sym is)
+                (broken_within a b held (query_line family moment message) (query_lines family moment messages) one.0);
             failed = subst (λ (r : Result Unit LineFault). has_failed handed.0.writer.now ≡ has_failed old.writer.now || is_err r) (sym is) one.1;
             all_sent = subst (λ (r : Result Unit LineFault). IfOk r (λ u. answer ∷ answers ≡ list_map (λ message. true) (message ∷ messages))) (sym is) tt;
           })
 
   -- the same by the answer that the outlet gives at the end
   pub printed_by : (moment : ℕ) (old : QueryLines W) (messages : List Outgoing) (answers : List Bool) (new : QueryLines W) (answer : Result Unit LineFault)
-      → old.moment ≡ moment → old.answer ≡ Ok tt → HandsOver takes old messages answers new → answer ≡ new.answer → PrintedBy moment old messages answers new answer
+      → old.moment ≡ moment → old.answer ≡ Ok tt → HandsOver takes old messages answers new → answer ≡ new.answer →
+      PrintedBy moment old messages answers new answer
   printed_by moment old messages answers new answer at fine handed is =
       subst (λ (r : Result Unit LineFault). PrintedBy moment old messages answers new r) (sym is) (printed moment old messages answers new at tt fine handed)

@@ -1,5 +1,6 @@
 -- The records of a capture that were read.
-use Rattle.std.proofs.Common.{◌≡◌, ℕ, ◌+◌, ◌<◌, nat_lt, Bool, true, false, List, [], ◌∷◌, ◌++◌, length, Option, None, Some, Result, Ok, Err, refl, sym, subst, append_assoc, inl, inr, arith}
+use Rattle.std.proofs.Common.{◌≡◌, ℕ, ◌+◌, ◌<◌, nat_lt, Bool, true, false, List, [], ◌∷◌, ◌++◌, length, Option, None, Some, Result, Ok, Err, refl}
+use Rattle.std.proofs.Common.{sym, subst, append_assoc, inl, inr, arith}
 use Rattle.std.proofs.lemmas.Bool.{le-ltb, lt-ltb, ltb-false}
 use Rattle.mq_pcap.specs.declared.fault.PcapFault.{PcapFault}
 use Rattle.mq_pcap.specs.declared.fault.PcapFault.TheVariants as fault
@@ -11,13 +12,15 @@ use Rattle.mq_pcap.specs.Reading.{IsAnswerTo, IsBegun, IsKnownThere, Reads}
 
 -- of lists one after the other it doesn't matter which two are put together first
 pub AreRecords-assoc : (form : Form) (number : ℕ) (first second rest : List ℕ) (some more others : List Captured) (end : Option PcapFault)
-    → AreRecords form number (first ++ (second ++ rest)) (some ++ (more ++ others)) end → AreRecords form number ((first ++ second) ++ rest) ((some ++ more) ++ others) end
+    → AreRecords form number (first ++ (second ++ rest)) (some ++ (more ++ others)) end → AreRecords form number ((first ++ second) ++ rest)
+    ((some ++ more) ++ others) end
 AreRecords-assoc form number first second rest some more others end all =
     subst (λ (bytes : List ℕ). AreRecords form number bytes ((some ++ more) ++ others) end) (sym (append_assoc first second rest))
     (subst (λ (packets : List Captured). AreRecords form number (first ++ (second ++ rest)) packets end) (sym (append_assoc some more others)) all)
 
 -- bytes that are only begun are, taken as the rest of a file, no record
-by_number : (form : Form) (number : ℕ) (bytes : List ℕ) → 0 < length bytes → IsBegun form bytes → (few : Bool) → nat_lt number endless ≡ few → (short : Bool) → nat_lt (length bytes) 16 ≡ short
+by_number : (form : Form) (number : ℕ) (bytes : List ℕ) → 0 < length bytes → IsBegun form bytes → (few : Bool) → nat_lt number endless ≡ few →
+    (short : Bool) → nat_lt (length bytes) 16 ≡ short
     → (end : Option PcapFault) × AreRecords form number bytes [] end
 by_number form number bytes some begun false many short is_short =
     let none = le-ltb (length bytes) 1 some in
@@ -38,7 +41,8 @@ begun_ends form number (byte ∷ bytes) begun =
     by_number form number (byte ∷ bytes) (omega arith) begun (nat_lt number endless) refl (nat_lt (length (byte ∷ bytes)) 16) refl
 
 -- the same of what the code names otherwise
-pub read_as : (form form' : Form) (number number' : ℕ) (mid new : InputState) (buffer : List ℕ) (a a' : Result (Option Packet) PcapFault) → form' ≡ form → number' ≡ number → a' ≡ a
+pub read_as : (form form' : Form) (number number' : ℕ) (mid new : InputState) (buffer : List ℕ) (a a' : Result (Option Packet) PcapFault) →
+    form' ≡ form → number' ≡ number → a' ≡ a
     → Reads form' number' mid new buffer a' → Reads form number mid new buffer a
 read_as form form' number number' mid new buffer a a' is_form is_number is_answer reads =
     subst (λ (f : Form). Reads f number mid new buffer a) is_form
@@ -50,7 +54,8 @@ none_left None unlike = refl
 none_left (Some x) unlike = absurd (unlike x refl)
 
 -- what is known of the bytes where a read failed, and where they have a fault
-pub begun_answer : (form : Form) (number : ℕ) (new : InputState) (buffer bytes : List ℕ) (f : PcapFault) → is_read f ≡ true → IsAnswerTo form number new buffer bytes (Err f) → IsBegun form bytes
+pub begun_answer : (form : Form) (number : ℕ) (new : InputState) (buffer bytes : List ℕ) (f : PcapFault) → is_read f ≡ true →
+    IsAnswerTo form number new buffer bytes (Err f) → IsBegun form bytes
 begun_answer form number new buffer bytes fault.Read is answers = answers
 begun_answer form number new buffer bytes fault.Magic is answers = absurd (cc)
 begun_answer form number new buffer bytes fault.Version is answers = absurd (cc)
@@ -60,7 +65,8 @@ begun_answer form number new buffer bytes (fault.CutData at) is answers = absurd
 begun_answer form number new buffer bytes (fault.TooLong at) is answers = absurd (cc)
 begun_answer form number new buffer bytes fault.Endless is answers = absurd (cc)
 
-pub faulty_answer : (form : Form) (number : ℕ) (new : InputState) (buffer bytes : List ℕ) (f : PcapFault) → is_read f ≡ false → IsAnswerTo form number new buffer bytes (Err f)
+pub faulty_answer : (form : Form) (number : ℕ) (new : InputState) (buffer bytes : List ℕ) (f : PcapFault) → is_read f ≡ false →
+    IsAnswerTo form number new buffer bytes (Err f)
     → (record_fault form number bytes ≡ Some f) × IsKnownThere f new
 faulty_answer form number new buffer bytes fault.Read is answers = absurd (cc)
 faulty_answer form number new buffer bytes fault.Magic is answers = answers

@@ -27,7 +27,8 @@ encode_lower-each [] = refl
 encode_lower-each (byte ∷ bytes) = ap (λ (rest : List ℕ). byte_text byte ++ rest) (encode_lower-each bytes)
 
 -- and so are some more of them
-pub encode_lower-next : (bytes : List ℕ) (done count : ℕ) → flat_map byte_text (take (done + count) bytes) ≡ flat_map byte_text (take done bytes) ++ encode_lower (take count (drop done bytes))
+pub encode_lower-next : (bytes : List ℕ) (done count : ℕ) → flat_map byte_text (take (done + count) bytes) ≡ flat_map byte_text (take done bytes) ++
+    encode_lower (take count (drop done bytes))
 encode_lower-next bytes done count =
     let first : List ℕ = take done bytes in
     let next : List ℕ = take count (drop done bytes) in
@@ -42,10 +43,12 @@ module _ {K : Type 0} (number : K → ℕ) (family : Family) where
   timers-row row up =
       let pair : Source K → ℕ × SourceTimer = λ x. (number x.address, x.timer) in
       let sorted = sorted-ascending (list_map pair row) (IsAscending-map key_of pair row up) in
-      ap (λ (es : List (ℕ × SourceTimer)). flat_map (λ (e : ℕ × SourceTimer). timer_text family e.0 e.1) es) (entries-from_entries (list_map pair row) sorted) ∙ each row
+      ap (λ (es : List (ℕ × SourceTimer)). flat_map (λ (e : ℕ × SourceTimer). timer_text family e.0 e.1) es)
+      (entries-from_entries (list_map pair row) sorted) ∙ each row
     where
       each : (row : List (Source K))
-          → flat_map (λ (e : ℕ × SourceTimer). timer_text family e.0 e.1) (list_map (λ (x : Source K). let e : ℕ × SourceTimer = (number x.address, x.timer) in e) row)
+          → flat_map (λ (e : ℕ × SourceTimer). timer_text family e.0 e.1)
+          (list_map (λ (x : Source K). let e : ℕ × SourceTimer = (number x.address, x.timer) in e) row)
           ≡ flat_map (λ (x : Source K). timer_text family (number x.address) x.timer) row
       each [] = refl
       each (x ∷ row) = ap (λ (rest : List ℕ). timer_text family (number x.address) x.timer ++ rest) (each row)

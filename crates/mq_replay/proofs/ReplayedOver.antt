@@ -1,5 +1,6 @@
 -- A walk that replays a capture, and what its report comes to.
-use Rattle.std.proofs.Common.{◌≡◌, ◌⊎◌, ℕ, ◌+◌, ◌≤◌, Bool, true, false, ◌||◌, List, [], ◌∷◌, ◌++◌, length, Option, None, Some, Result, Ok, Err, refl, ap, sym, subst, ◌∙◌, append_assoc, append-nil, length-append, inl, inr, max, unwrap_or, arith}
+use Rattle.std.proofs.Common.{◌≡◌, ◌⊎◌, ℕ, ◌+◌, ◌≤◌, Bool, true, false, ◌||◌, List, [], ◌∷◌, ◌++◌, length, Option, None, Some, Result, Ok, Err, refl}
+use Rattle.std.proofs.Common.{ap, sym, subst, ◌∙◌, append_assoc, append-nil, length-append, inl, inr, max, unwrap_or, arith}
 use Rattle.std.specs.Io.KnownBytes.{IsAtEnd}
 use Rattle.std.proofs.Math.Bool.{or-false}
 use Rattle.mq_pcap.specs.declared.fault.PcapFault.{PcapFault}
@@ -24,7 +25,8 @@ use Rattle.mq_replay.specs.Listing.{is_failed_write, moment_of}
 use Rattle.mq_replay.specs.PlacedPackets.{PlacedPacket}
 use Rattle.mq_replay.specs.PuttingReports.{IsReportPut, IsRestPut, PutsReport, rest_of}
 use Rattle.mq_replay.specs.Replaying.{IsEndedBy, ReadCapture, packets_text}
-use Rattle.mq_replay.specs.Report.{Replayed, Course, Report, at_the_start, with_packet, with_packets, with_all_packets, is_gap, ticked_before, ended_at, reported, report_of}
+use Rattle.mq_replay.specs.Report.{Replayed, Course, Report, at_the_start, with_packet, with_packets, with_all_packets, is_gap, ticked_before}
+use Rattle.mq_replay.specs.Report.{ended_at, reported, report_of}
 use Rattle.mq_replay.specs.ReplayLines.{end_lines}
 use Rattle.mq_replay.specs.Steps.{PutsReplayed, ReplayState, ReplaysPacket, TakesReplayed, begun_with}
 use Rattle.mq_replay.specs.Walking.{IsBrokenOff, IsEndedByFault, IsStopped, IsWalked, Place, StepsOver, StepsOverAll, Walks, at_first, place_behind, placed}
@@ -42,12 +44,14 @@ with_end config moment done = record {
 abbrev report_behind : List ℕ → Report → Report
 report_behind text report = record { text = text ++ report.text; answer = report.answer }
 
-end_behind : (config : Configuration) (moment : ℕ) (r : Replayed) → ended_at config moment r ≡ report_behind r.text (ended_at config moment (begun_with r.changes r.link))
+end_behind : (config : Configuration) (moment : ℕ) (r : Replayed) →
+    ended_at config moment r ≡ report_behind r.text (ended_at config moment (begun_with r.changes r.link))
 unfolding ended_at
 end_behind config moment r =
     let done = ticked_before config (moment + 1) (begun_with r.changes r.link) in
     let lines = end_lines config.family moment (is_querier done.link.election.role) done.link.groups done.link.counters in
-    ap (with_end config moment) (ap (ticked_before config (moment + 1)) (sym (as_behind r)) ∙ before_behind config (moment + 1) r.text (begun_with r.changes r.link))
+    ap (with_end config moment)
+    (ap (ticked_before config (moment + 1)) (sym (as_behind r)) ∙ before_behind config (moment + 1) r.text (begun_with r.changes r.link))
     ∙ (λ i. record { text = append_assoc r.text done.text lines i; answer = Ok done.link.counters })
 
 -- what is reported behind packets, of a replay of which the lines of changes are asked for or not
@@ -56,12 +60,14 @@ rest_from changes config asked last number link =
     reported config asked number None None (record { replayed = begun_with changes link; moment = last; gap = None })
 
 rest_behind : (config : Configuration) (asked : Asked) (last number : ℕ) (r : Replayed)
-    → reported config asked number None None (record { replayed = r; moment = last; gap = None }) ≡ report_behind r.text (rest_from r.changes config asked last number r.link)
+    → reported config asked number None None (record { replayed = r; moment = last; gap = None })
+    ≡ report_behind r.text (rest_from r.changes config asked last number r.link)
 rest_behind config asked last number r =
     let end = max last (unwrap_or asked.until 0) in
     elim (is_gap last end) as (λ b.
     elim b [ true ↦ record { text = r.text; answer = Err (answer.Gap number) } | false ↦ ended_at config end r ]
-    ≡ report_behind r.text (elim b [ true ↦ record { text = []; answer = Err (answer.Gap number) } | false ↦ ended_at config end (begun_with r.changes r.link) ])) [
+    ≡ report_behind r.text
+    (elim b [ true ↦ record { text = []; answer = Err (answer.Gap number) } | false ↦ ended_at config end (begun_with r.changes r.link) ])) [
       | true ↦ λ i. record { text = sym (append-nil r.text) i; answer = Err (answer.Gap number) }
       | false ↦ end_behind config end r
     ]
@@ -98,13 +104,15 @@ unfolding with_packets
 none_left config link at r = refl
 
 -- a packet behind what was replayed, of a link that has come there
-packet_of : {changes : Bool} (config : Configuration) (moment number : ℕ) (link : LinkValue) (frame : Carried) (r : Replayed) → link.config ≡ config → r.link ≡ link.state → r.changes ≡ changes
+packet_of : {changes : Bool} (config : Configuration) (moment number : ℕ) (link : LinkValue) (frame : Carried) (r : Replayed) → link.config ≡ config →
+    r.link ≡ link.state → r.changes ≡ changes
     → with_packet config moment number frame r ≡ behind r.text (with_packet link.config moment number frame (begun_with changes link.state))
 packet_of config moment number link frame r is_config is_link is_asked =
     next_packet config moment number frame r ∙ (λ i. behind r.text (with_packet (sym is_config i) moment number frame (begun_with (is_asked i) (is_link i))))
 
 -- the lines of a packet were put behind those of the packets before
-next_put : {changes : Bool} {T E : Type 0} (config : Configuration) (moment number : ℕ) (link link' : LinkValue) (frame : Carried) (before now after : Option (List ℕ)) (held more left : List ℕ) (x : T) (r : Replayed)
+next_put : {changes : Bool} {T E : Type 0} (config : Configuration) (moment number : ℕ) (link link' : LinkValue) (frame : Carried)
+    (before now after : Option (List ℕ)) (held more left : List ℕ) (x : T) (r : Replayed)
     → link.config ≡ config → r.link ≡ link.state → r.changes ≡ changes → Passes before now held more r.text
     → PutsReplayed {E = E} link link' (with_packet link.config moment number frame (begun_with changes link.state)) now after more left (Ok x)
     → ((with_packet config moment number frame r).link ≡ link'.state) × Passes before after held left (with_packet config moment number frame r).text
@@ -115,7 +123,8 @@ next_put config moment number link link' frame before now after held more left x
     )
 
 -- they were not put whole
-next_broken : {changes : Bool} {T E : Type 0} (config : Configuration) (moment number : ℕ) (link link' : LinkValue) (frame : Carried) (before now after : Option (List ℕ)) (held more left : List ℕ) (e : E) (r : Replayed)
+next_broken : {changes : Bool} {T E : Type 0} (config : Configuration) (moment number : ℕ) (link link' : LinkValue) (frame : Carried)
+    (before now after : Option (List ℕ)) (held more left : List ℕ) (e : E) (r : Replayed)
     → link.config ≡ config → r.link ≡ link.state → r.changes ≡ changes → Passes before now held more r.text
     → PutsReplayed {T = T} link link' (with_packet link.config moment number frame (begun_with changes link.state)) now after more left (Err e)
     → GrowsByBeginning before after (held ++ (with_packet config moment number frame r).text)
@@ -124,16 +133,21 @@ next_broken config moment number link link' frame before now after held more lef
     (broken_behind before now after held more r.text _ passed put.text)
 
 -- a failed read and a fault of the capture, in the terms of a replay
-faulty_report : (config : Configuration) (asked : Asked) (c : ReadCapture) (old new : InputState) (before after : Option (List ℕ)) (held left text : List ℕ) (f : PcapFault)
-    → packets_text config asked c ≡ text → (c.end ≡ Some f → report_of config asked c.header c.packets c.end ≡ record { text = text; answer = Err (answer.Pcap f) })
+faulty_report : (config : Configuration) (asked : Asked) (c : ReadCapture) (old new : InputState) (before after : Option (List ℕ))
+    (held left text : List ℕ) (f : PcapFault)
+    → packets_text config asked c ≡ text →
+    (c.end ≡ Some f → report_of config asked c.header c.packets c.end ≡ record { text = text; answer = Err (answer.Pcap f) })
     → Passes before after held left text → IsEndedByFault (is_read f) c f old new
     → IsEndedBy config asked c old new (Err (answer.Pcap f)) × IsReportPut config asked c new before after held left (Err (answer.Pcap f))
 faulty_report config asked c old new before after held left text f is_text told passed ended = by_fault f told ended
   where
-    whole : (f : PcapFault) → report_of config asked c.header c.packets c.end ≡ record { text = text; answer = Err (answer.Pcap f) } → Passes before after held left (report_of config asked c.header c.packets c.end).text
+    whole : (f : PcapFault) → report_of config asked c.header c.packets c.end ≡ record { text = text; answer = Err (answer.Pcap f) } →
+        Passes before after held left (report_of config asked c.header c.packets c.end).text
     whole f is = subst (λ (x : Report). Passes before after held left x.text) (sym is) passed
 
-    by_fault : (f : PcapFault) → (c.end ≡ Some f → report_of config asked c.header c.packets c.end ≡ record { text = text; answer = Err (answer.Pcap f) }) → IsEndedByFault (is_read f) c f old new
+    by_fault : (f : PcapFault) →
+        (c.end ≡ Some f → report_of config asked c.header c.packets c.end ≡ record { text = text; answer = Err (answer.Pcap f) }) →
+        IsEndedByFault (is_read f) c f old new
         → IsEndedBy config asked c old new (Err (answer.Pcap f)) × IsReportPut config asked c new before after held left (Err (answer.Pcap f))
     by_fault fault.Read told ended = (ended, subst (λ (t : List ℕ). Passes before after held left t) (sym is_text) passed)
     by_fault fault.Magic told ended = ((ap (λ (x : Report). x.answer) (told ended.0), ended.1, ended.2), whole fault.Magic (told ended.0))
@@ -170,11 +184,13 @@ module _ {X : Type 0} (state : X → ReplayState) where
 
   module _ (config : Configuration) (asked : Asked) (before : OutputState) (held : List ℕ) where
     -- a packet more was replayed
-    next_at : (packet : PlacedPacket) (r : Replayed) (x x' : X) → IsReplayedAt config asked before held r x → ReplaysPacket {E = Unit} packet (state x) (state x') (Ok tt)
+    next_at : (packet : PlacedPacket) (r : Replayed) (x x' : X) → IsReplayedAt config asked before held r x →
+        ReplaysPacket {E = Unit} packet (state x) (state x') (Ok tt)
         → IsReplayedAt config asked before held (with_packet config packet.moment packet.number (carried_in packet.link packet.frame) r) x'
     next_at packet r x x' at step =
         let changes = at.changes_are ∙ ap (λ (a : Asked). a.changes) (sym at.same_asked) in
-        let next = next_put {T = Unit} {E = Unit} config packet.moment packet.number (state x).link (state x').link (carried_in packet.link packet.frame) before.held (state x).output.held (state x').output.held held (state x).held (state x').held tt r
+        let next = next_put {T = Unit} {E = Unit} config packet.moment packet.number (state x).link (state x').link
+        (carried_in packet.link packet.frame) before.held (state x).output.held (state x').output.held held (state x).held (state x').held tt r
         at.same_config at.link_is changes at.passed step.puts in
         record {
           link_is = next.0;
@@ -187,10 +203,12 @@ module _ {X : Type 0} (state : X → ReplayState) where
 
     record IsReplayedOver (link : LinkType) (at to : Place) (packets : List Captured) (r : Replayed) (x' : X) : Type 0 where
       end : Replayed
-      course : (more : List Captured) → with_packets config link at.first at.before at.number (packets ++ more) r ≡ with_packets config link to.first to.before to.number more end
+      course : (more : List Captured) → with_packets config link at.first at.before at.number (packets ++ more) r
+          ≡ with_packets config link to.first to.before to.number more end
       there : IsReplayedAt config asked before held end x'
 
-    replayed_over : (link : LinkType) (at to : Place) (packets : List Captured) (r : Replayed) (x x' : X) → IsReplayedAt config asked before held r x → StepsOver takes link at packets x to x'
+    replayed_over : (link : LinkType) (at to : Place) (packets : List Captured) (r : Replayed) (x x' : X) → IsReplayedAt config asked before held r x
+        → StepsOver takes link at packets x to x'
         → IsReplayedOver link at to packets r x'
     replayed_over link at to [] r x x' here steps = record {
       end = r;
@@ -199,7 +217,8 @@ module _ {X : Type 0} (state : X → ReplayState) where
     }
     replayed_over link at to (packet ∷ packets) r x x' here steps =
         let next = with_packet config (moment_of at.first at.before packet.stamp) at.number (carried_in link packet.bytes) r in
-        let rest = replayed_over link (place_behind at packet.stamp) to packets next steps.0 x' (next_at (placed link at packet) r x steps.0 here steps.1) steps.2 in
+        let rest = replayed_over link (place_behind at packet.stamp) to packets next steps.0 x'
+        (next_at (placed link at packet) r x steps.0 here steps.1) steps.2 in
         record {
           end = rest.end;
           course = λ more. one_more config link at packet (packets ++ more) r steps.1.no_gap ∙ rest.course more;
@@ -207,20 +226,26 @@ module _ {X : Type 0} (state : X → ReplayState) where
         }
 
     -- what all packets come to
-    course_of : (form : Form) (to : Place) (packets : List Captured) (x' : X) (over : IsReplayedOver form.link at_first to packets (at_the_start config asked.changes) x')
+    course_of : (form : Form) (to : Place) (packets : List Captured) (x' : X)
+        (over : IsReplayedOver form.link at_first to packets (at_the_start config asked.changes) x')
         → with_all_packets config asked.changes form packets ≡ record { replayed = over.end; moment = to.before; gap = None }
     course_of form to packets x' over =
-        ap (λ (ps : List Captured). with_packets config form.link None 0 1 ps (at_the_start config asked.changes)) (sym (append-nil packets)) ∙ over.course [] ∙ none_left config form.link to over.end
+        ap (λ (ps : List Captured). with_packets config form.link None 0 1 ps (at_the_start config asked.changes)) (sym (append-nil packets)) ∙
+        over.course [] ∙ none_left config form.link to over.end
 
     module _ (x : X) (here : IsReplayedAt config asked before held (at_the_start config asked.changes) x) where
       -- the capture has a fault, or a read failed
-      by_fault : (c : ReadCapture) (old new : InputState) (x' : X) (f : PcapFault) (header : Result Form PcapFault) → c.header ≡ header → Captures c.bytes header c.packets c.end → IsEndedByFault (is_read f) c f old new → StepsOverAll takes header c.packets x x'
-          → IsEndedBy config asked c old new (Err (answer.Pcap f)) × IsReportPut config asked c new before.held (state x').output.held held (state x').held (Err (answer.Pcap f)) × ((state x').output.failed ≡ before.failed)
+      by_fault : (c : ReadCapture) (old new : InputState) (x' : X) (f : PcapFault) (header : Result Form PcapFault) → c.header ≡ header →
+          Captures c.bytes header c.packets c.end → IsEndedByFault (is_read f) c f old new → StepsOverAll takes header c.packets x x'
+          → IsEndedBy config asked c old new (Err (answer.Pcap f)) ×
+          IsReportPut config asked c new before.held (state x').output.held held (state x').held (Err (answer.Pcap f)) ×
+          ((state x').output.failed ≡ before.failed)
       by_fault c old new x' f (Err g) is_header captures ended same =
           let there = subst (λ (y : X). IsReplayedAt config asked before held (at_the_start config asked.changes) y) (sym same) here in
           let none : packets_text config asked c ≡ [] = rw is_header refl in
           let both = faulty_report config asked c old new before.held (state x').output.held held (state x').held [] f none
-          (λ ends. let same : g ≡ f = ap (λ (o : Option PcapFault). unwrap_or o g) (sym captures.2 ∙ ends) in rw is_header (λ i. record { text = []; answer = Err (answer.Pcap (same i)) })) there.passed ended in
+          (λ ends. let same : g ≡ f = ap (λ (o : Option PcapFault). unwrap_or o g) (sym captures.2 ∙ ends) in
+          rw is_header (λ i. record { text = []; answer = Err (answer.Pcap (same i)) })) there.passed ended in
           (both.0, both.1, there.failed)
       by_fault c old new x' f (Ok form) is_header captures ended (to, steps) =
           let over = replayed_over form.link at_first to c.packets (at_the_start config asked.changes) x x' here steps in
@@ -234,16 +259,20 @@ module _ {X : Type 0} (state : X → ReplayState) where
       abbrev stopped_at : ReadCapture → Form → List Captured → Captured → ReadCapture
       stopped_at c form some last = record { bytes = c.bytes; header = Ok form; packets = some ++ last ∷ []; end = None }
 
-      by_gap : (c : ReadCapture) (old new : InputState) (form : Form) (some : List Captured) (last : Captured) (to : Place) (between x' : X) (number : ℕ) → StepsOver takes form.link at_first some x to between → new.failed ≡ old.failed
+      by_gap : (c : ReadCapture) (old new : InputState) (form : Form) (some : List Captured) (last : Captured) (to : Place) (between x' : X)
+          (number : ℕ) → StepsOver takes form.link at_first some x to between → new.failed ≡ old.failed
           → takes (placed form.link to last) between x' (Err (answer.Gap number))
-          → IsEndedBy config asked (stopped_at c form some last) old new (Err (answer.Gap number)) × IsReportPut config asked (stopped_at c form some last) new before.held (state x').output.held held (state x').held (Err (answer.Gap number)) × ((state x').output.failed ≡ before.failed)
+          → IsEndedBy config asked (stopped_at c form some last) old new (Err (answer.Gap number)) ×
+          IsReportPut config asked (stopped_at c form some last) new before.held (state x').output.held held (state x').held (Err (answer.Gap number))
+          × ((state x').output.failed ≡ before.failed)
       by_gap c old new form some last to between x' number steps failed stops =
           let over = replayed_over form.link at_first to some (at_the_start config asked.changes) x between here steps in
           let packets = some ++ last ∷ [] in
           let course : with_all_packets config asked.changes form packets ≡ record { replayed = over.end; moment = to.before; gap = Some to.number } =
           over.course (last ∷ []) ∙ gap_before config form.link to last [] over.end stops.0 in
           let told : report_of config asked (Ok form) packets None ≡ record { text = over.end.text; answer = Err (answer.Gap number) } =
-          ap (λ (k : Course). reported config asked (length packets + 1) None k.gap k) course ∙ (λ i. record { text = over.end.text; answer = Err (answer.Gap (sym stops.1 i)) }) in
+          ap (λ (k : Course). reported config asked (length packets + 1) None k.gap k) course ∙
+          (λ i. record { text = over.end.text; answer = Err (answer.Gap (sym stops.1 i)) }) in
           let count : length packets ≡ length some + 1 = length-append some (last ∷ []) in
           let numbered : to.number ≡ 1 + length some = steps_counted takes form.link at_first to some x between steps in
           let is_number : number ≡ to.number = stops.1 in (
@@ -253,16 +282,21 @@ module _ {X : Type 0} (state : X → ReplayState) where
             ap (λ (s : ReplayState). s.output.failed) stops.2 ∙ over.there.failed,
           )
 
-      by_write : (c : ReadCapture) (old new : InputState) (form : Form) (some : List Captured) (last : Captured) (to : Place) (between x' : X) → StepsOver takes form.link at_first some x to between
+      by_write : (c : ReadCapture) (old new : InputState) (form : Form) (some : List Captured) (last : Captured) (to : Place) (between x' : X) →
+          StepsOver takes form.link at_first some x to between
           → takes (placed form.link to last) between x' (Err answer.Write)
-          → IsReportPut config asked (stopped_at c form some last) new before.held (state x').output.held held (state x').held (Err answer.Write) × ((state x').output.failed ≡ before.failed || true)
+          → IsReportPut config asked (stopped_at c form some last) new before.held (state x').output.held held (state x').held (Err answer.Write) ×
+          ((state x').output.failed ≡ before.failed || true)
       by_write c old new form some last to between x' steps stops =
           let over = replayed_over form.link at_first to some (at_the_start config asked.changes) x between here steps in
           let next = with_packet config (moment_of to.first to.before last.stamp) to.number (carried_in form.link last.bytes) over.end in
-          let course : with_all_packets config asked.changes form (some ++ last ∷ []) ≡ record { replayed = next; moment = (place_behind to last.stamp).before; gap = None } =
+          let course : with_all_packets config asked.changes form (some ++ last ∷ [])
+          ≡ record { replayed = next; moment = (place_behind to last.stamp).before; gap = None } =
           over.course (last ∷ []) ∙ one_more config form.link to last [] over.end stops.no_gap ∙ none_left config form.link (place_behind to last.stamp) next in
           let changes = over.there.changes_are ∙ ap (λ (a : Asked). a.changes) (sym over.there.same_asked) in
-          let begun = next_broken {T = Unit} {E = Unit} config (moment_of to.first to.before last.stamp) to.number (state between).link (state x').link (carried_in form.link last.bytes) before.held (state between).output.held (state x').output.held held (state between).held (state x').held tt over.end
+          let begun = next_broken {T = Unit} {E = Unit} config (moment_of to.first to.before last.stamp) to.number (state between).link
+          (state x').link (carried_in form.link last.bytes) before.held (state between).output.held (state x').output.held held (state between).held
+          (state x').held tt over.end
           over.there.same_config over.there.link_is changes over.there.passed stops.puts in (
             inl (subst (λ (k : Course). GrowsByBeginning before.held (state x').output.held (held ++ k.replayed.text)) (sym course) begun),
             stops.failed ∙ ap (λ (b : Bool). b || true) over.there.failed,
@@ -270,38 +304,45 @@ module _ {X : Type 0} (state : X → ReplayState) where
 
       -- the walk ended early
       pub reported_early : (old new : InputState) (x' : X) (e : ReplayFault) → Walks takes (λ f it. it ≡ answer.Pcap f) old new x x' (Err e)
-          → PutsReport config asked old new before.held (state x').output.held held (state x').held (Err e) × ((state x').output.failed ≡ before.failed || is_failed_write {T = Walked} (Err e)) × (e ≡ answer.Memory → ⊥)
+          → PutsReport config asked old new before.held (state x').output.held held (state x').held (Err e) ×
+          ((state x').output.failed ≡ before.failed || is_failed_write {T = Walked} (Err e)) × (e ≡ answer.Memory → ⊥)
       reported_early old new x' e walks = by_end walks.ended
         where
           Reported : ReplayFault → Type 0
-          Reported e = PutsReport config asked old new before.held (state x').output.held held (state x').held (Err e) × ((state x').output.failed ≡ before.failed || is_failed_write {T = Walked} (Err e)) × (e ≡ answer.Memory → ⊥)
+          Reported e = PutsReport config asked old new before.held (state x').output.held held (state x').held (Err e) ×
+              ((state x').output.failed ≡ before.failed || is_failed_write {T = Walked} (Err e)) × (e ≡ answer.Memory → ⊥)
 
           c : ReadCapture
           c = walks.read
 
-          stopped : (it : IsStopped takes c old new x x' e) → (e' : ReplayFault) → e ≡ e' → takes (placed it.form.link it.to it.last) it.between x' (Err e') → Reported e'
+          stopped : (it : IsStopped takes c old new x x' e) → (e' : ReplayFault) → e ≡ e' →
+              takes (placed it.form.link it.to it.last) it.between x' (Err e') → Reported e'
           stopped it (answer.Gap number) is stops =
               let all = by_gap c old new it.form it.some it.last it.to it.between x' number it.steps it.failed stops in
-              let same : c ≡ stopped_at c it.form it.some it.last = λ i. record { bytes = c.bytes; header = it.header i; packets = it.packets i; end = it.end i } in (
+              let same : c ≡ stopped_at c it.form it.some it.last =
+              λ i. record { bytes = c.bytes; header = it.header i; packets = it.packets i; end = it.end i } in (
                 record {
                   read = c;
                   takes = walks.takes_in;
                   capture = walks.capture;
                   ended = subst (λ (d : ReadCapture). IsEndedBy config asked d old new (Err (answer.Gap number))) (sym same) all.0;
-                  put = subst (λ (d : ReadCapture). IsReportPut config asked d new before.held (state x').output.held held (state x').held (Err (answer.Gap number))) (sym same) all.1;
+                  put = subst (λ (d : ReadCapture). IsReportPut config asked d new before.held (state x').output.held held (state x').held
+                      (Err (answer.Gap number))) (sym same) all.1;
                 },
                 all.2 ∙ sym (or-false before.failed),
                 λ is. absurd (cc is),
               )
           stopped it answer.Write is stops =
               let all = by_write c old new it.form it.some it.last it.to it.between x' it.steps stops in
-              let same : c ≡ stopped_at c it.form it.some it.last = λ i. record { bytes = c.bytes; header = it.header i; packets = it.packets i; end = it.end i } in (
+              let same : c ≡ stopped_at c it.form it.some it.last =
+              λ i. record { bytes = c.bytes; header = it.header i; packets = it.packets i; end = it.end i } in (
                 record {
                   read = c;
                   takes = walks.takes_in;
                   capture = walks.capture;
                   ended = tt;
-                  put = subst (λ (d : ReadCapture). IsReportPut config asked d new before.held (state x').output.held held (state x').held (Err answer.Write)) (sym same) all.0;
+                  put = subst (λ (d : ReadCapture). IsReportPut config asked d new before.held (state x').output.held held (state x').held
+                      (Err answer.Write)) (sym same) all.0;
                 },
                 all.1,
                 λ is. absurd (cc is),
@@ -327,17 +368,22 @@ module _ {X : Type 0} (state : X → ReplayState) where
           by_end (inr it) = stopped it e refl it.stops
 
       -- what stays where the walk came to the end of the capture
-      pub kept_to_the_end : (old new : InputState) (x' : X) (w : Walked) → Walks takes (λ f e. e ≡ answer.Pcap f) old new x x' (Ok w) → ((state x').asked ≡ asked) × ((state x').output.failed ≡ before.failed)
+      pub kept_to_the_end : (old new : InputState) (x' : X) (w : Walked) → Walks takes (λ f e. e ≡ answer.Pcap f) old new x x' (Ok w) →
+          ((state x').asked ≡ asked) × ((state x').output.failed ≡ before.failed)
       kept_to_the_end old new x' w walks =
           let walked = walks.ended in
-          let over = replayed_over walked.form.link at_first (record { first = walked.first; before = w.last; number = w.packets + 1 }) walks.read.packets (at_the_start config asked.changes) x x' here walked.steps in
+          let over = replayed_over walked.form.link at_first (record { first = walked.first; before = w.last; number = w.packets + 1 })
+          walks.read.packets (at_the_start config asked.changes) x x' here walked.steps in
           (over.there.same_asked, over.there.failed)
 
       -- the walk came to the end of the capture, and the end was put
-      pub reported_well : (old new : InputState) (x' : X) (w : Walked) (after : Option (List ℕ)) (left : List ℕ) (it : Result Counters ReplayFault) → Walks takes (λ f e. e ≡ answer.Pcap f) old new x x' (Ok w)
-          → IsRestPut (rest_of (state x').link.config (state x').asked w.last (w.packets + 1) (state x').link.state) (state x').output.held after (state x').held left it
+      pub reported_well : (old new : InputState) (x' : X) (w : Walked) (after : Option (List ℕ)) (left : List ℕ) (it : Result Counters ReplayFault) →
+          Walks takes (λ f e. e ≡ answer.Pcap f) old new x x' (Ok w)
+          → IsRestPut (rest_of (state x').link.config (state x').asked w.last (w.packets + 1) (state x').link.state)
+          (state x').output.held after (state x').held left it
           → PutsReport config asked old new before.held after held left it
-      reported_well old new x' w after left it walks put = by_answer it (subst (λ (r : Report). IsRestPut r (state x').output.held after (state x').held left it) rests put)
+      reported_well old new x' w after left it walks put =
+          by_answer it (subst (λ (r : Report). IsRestPut r (state x').output.held after (state x').held left it) rests put)
         where
           c : ReadCapture
           c = walks.read
@@ -364,7 +410,8 @@ module _ {X : Type 0} (state : X → ReplayState) where
           rests = λ i. rest_of (there.same_config i) (there.same_asked i) w.last (w.packets + 1) (sym there.link_is i)
 
           counted : length c.packets ≡ w.packets
-          counted = let numbered : w.packets + 1 ≡ 1 + length c.packets = steps_counted takes walked.form.link at_first to c.packets x x' walked.steps in omega (arith, numbered)
+          counted = let numbered : w.packets + 1 ≡ 1 + length c.packets = steps_counted takes walked.form.link at_first to c.packets x x' walked.steps
+              in omega (arith, numbered)
 
           told : report_of config asked c.header c.packets c.end ≡ report_behind r.text rest
           told = (λ i. report_of config asked (walked.header i) c.packets (walked.end i))
@@ -373,19 +420,25 @@ module _ {X : Type 0} (state : X → ReplayState) where
               ∙ rest_behind config asked w.last (w.packets + 1) r
               ∙ ap (λ (b : Bool). report_behind r.text (rest_from b config asked w.last (w.packets + 1) r.link)) there.changes_are
 
-          whole : Passes (state x').output.held after (state x').held left rest.text → Passes before.held after held left (report_of config asked c.header c.packets c.end).text
-          whole p = subst (λ (r : Report). Passes before.held after held left r.text) (sym told) (both_passed before.held (state x').output.held after held (state x').held left r.text rest.text there.passed p)
+          whole : Passes (state x').output.held after (state x').held left rest.text →
+              Passes before.held after held left (report_of config asked c.header c.packets c.end).text
+          whole p = subst (λ (r : Report). Passes before.held after held left r.text) (sym told)
+              (both_passed before.held (state x').output.held after held (state x').held left r.text rest.text there.passed p)
 
-          begun : GrowsByBeginning (state x').output.held after ((state x').held ++ rest.text) → GrowsByBeginning before.held after (held ++ (report_of config asked c.header c.packets c.end).text)
-          begun g = subst (λ (r : Report). GrowsByBeginning before.held after (held ++ r.text)) (sym told) (broken_behind before.held (state x').output.held after held (state x').held r.text rest.text there.passed g)
+          begun : GrowsByBeginning (state x').output.held after ((state x').held ++ rest.text) →
+              GrowsByBeginning before.held after (held ++ (report_of config asked c.header c.packets c.end).text)
+          begun g = subst (λ (r : Report). GrowsByBeginning before.held after (held ++ r.text)) (sym told)
+              (broken_behind before.held (state x').output.held after held (state x').held r.text rest.text there.passed g)
 
           answered : (report_of config asked c.header c.packets c.end).answer ≡ rest.answer
           answered = ap (λ (r : Report). r.answer) told
 
-          reports : (it : Result Counters ReplayFault) → IsEndedBy config asked c old new it → IsReportPut config asked c new before.held after held left it → PutsReport config asked old new before.held after held left it
+          reports : (it : Result Counters ReplayFault) → IsEndedBy config asked c old new it →
+              IsReportPut config asked c new before.held after held left it → PutsReport config asked old new before.held after held left it
           reports it ended put = record { read = c; takes = walks.takes_in; capture = walks.capture; ended = ended; put = put }
 
-          by_answer : (it : Result Counters ReplayFault) → IsRestPut rest (state x').output.held after (state x').held left it → PutsReport config asked old new before.held after held left it
+          by_answer : (it : Result Counters ReplayFault) → IsRestPut rest (state x').output.held after (state x').held left it →
+              PutsReport config asked old new before.held after held left it
           by_answer (Ok counters) p = reports _ (answered ∙ p.0, walked.at_end, walked.failed) (whole p.1)
           by_answer (Err (answer.Gap n)) p = reports _ (answered ∙ p.0, inr walked.at_end, walked.failed) (whole p.1)
           by_answer (Err answer.Write) p = reports _ tt (inr (walked.end, walked.at_end, begun p))

@@ -14,7 +14,8 @@ room_of_filled size slice items same filled =
     omega (arith, whole)
 
 -- what was taken stays taken with a fault that isn't refused memory
-pub taken_at_fault : (T : Type 0) {bytes old new : ℕ} (f : ReplayFault) → (f ≡ answer.Memory → ⊥) → Takes bytes old new true → Takes bytes old new (is_granted {T = T} (Err f))
+pub taken_at_fault : (T : Type 0) {bytes old new : ℕ} (f : ReplayFault) → (f ≡ answer.Memory → ⊥) → Takes bytes old new true →
+    Takes bytes old new (is_granted {T = T} (Err f))
 taken_at_fault T (answer.Pcap f) other takes = takes
 taken_at_fault T answer.Write other takes = takes
 taken_at_fault T (answer.Gap number) other takes = takes

@@ -1,5 +1,6 @@
 -- A walk over a capture: the packets that were read, and how it ends.
-use Rattle.std.proofs.Common.{◌≡◌, ◌⊎◌, ℕ, ◌+◌, ◌<◌, ◌||◌, ◌≤◌, ◌^◌, Bool, true, false, List, [], ◌∷◌, ◌++◌, length, drop, take, Option, None, Some, Result, Ok, Err, unwrap_or, refl, ap, sym, subst, ◌∙◌, append_assoc, append-nil, length-append, inl, inr, arith}
+use Rattle.std.proofs.Common.{◌≡◌, ◌⊎◌, ℕ, ◌+◌, ◌<◌, ◌||◌, ◌≤◌, ◌^◌, Bool, true, false, List, [], ◌∷◌, ◌++◌, length, drop, take, Option, None, Some}
+use Rattle.std.proofs.Common.{Result, Ok, Err, unwrap_or, refl, ap, sym, subst, ◌∙◌, append_assoc, append-nil, length-append, inl, inr, arith}
 use Rattle.std.proofs.Math.Bool.{or-false, or-true}
 use Rattle.std.proofs.Math.Seq.{drop-append_seam}
 use Rattle.std.specs.Io.KnownBytes.{IsAtEnd}
@@ -37,13 +38,18 @@ module _ {X E : Type 0} (takes : PlacedPacket → X → X → Result Unit E → 
   pub steps_on : (link : LinkType) (at to : Place) (packets : List Captured) (packet : Captured) (x mid x' : X)
       → StepsOver takes link at packets x to mid → takes (placed link to packet) mid x' (Ok tt)
       → StepsOver takes link at (packets ++ packet ∷ []) x (place_behind to packet.stamp) x'
-  steps_on link at to [] packet x mid x' steps step =
-      (x', subst (λ (p : Place). takes (placed link p packet) x x' (Ok tt)) steps.0 (subst (λ (m : X). takes (placed link to packet) m x' (Ok tt)) steps.1 step), (ap (λ (p : Place). place_behind p packet.stamp) steps.0, refl))
+  steps_on link at to [] packet x mid x' steps step = (
+    x',
+    subst (λ (p : Place). takes (placed link p packet) x x' (Ok tt)) steps.0
+        (subst (λ (m : X). takes (placed link to packet) m x' (Ok tt)) steps.1 step),
+    (ap (λ (p : Place). place_behind p packet.stamp) steps.0, refl),
+  )
   steps_on link at to (first ∷ packets) packet x mid x' steps step =
       (steps.0, steps.1, steps_on link (place_behind at first.stamp) to packets packet steps.0 mid x' steps.2 step)
 
   -- the number of the next packet
-  pub steps_counted : (link : LinkType) (at to : Place) (packets : List Captured) (x x' : X) → StepsOver takes link at packets x to x' → to.number ≡ at.number + length packets
+  pub steps_counted : (link : LinkType) (at to : Place) (packets : List Captured) (x x' : X) → StepsOver takes link at packets x to x' →
+      to.number ≡ at.number + length packets
   steps_counted link at to [] x x' steps = let same = ap (λ (p : Place). p.number) steps.0 in omega (arith, same)
   steps_counted link at to (packet ∷ packets) x x' steps =
       let rest = steps_counted link (place_behind at packet.stamp) to packets steps.0 x' steps.2 in omega (arith, rest)
@@ -54,7 +60,8 @@ module _ {X E : Type 0} (takes : PlacedPacket → X → X → Result Unit E → 
     pub bytes : List ℕ
     pub packets : List Captured
     pub takes_in : Takes old now bytes
-    pub records : (rest : List ℕ) (more : List Captured) (end : Option PcapFault) → AreRecords form to.number rest more end → AreRecords form 1 (bytes ++ rest) (packets ++ more) end
+    pub records : (rest : List ℕ) (more : List Captured) (end : Option PcapFault) → AreRecords form to.number rest more end →
+        AreRecords form 1 (bytes ++ rest) (packets ++ more) end
     pub steps : StepsOver takes form.link at_first packets x to x'
 
   pub none_walked : (form : Form) (s : InputState) (x : X) → IsWalkedTo form s s x at_first x
@@ -87,15 +94,19 @@ module _ {X E : Type 0} (takes : PlacedPacket → X → X → Result Unit E → 
       → takes (record { number = number + 1; before = last; moment = moment; link = link; frame = frame }) x x' r
       → takes (placed link' (record { first = stamps.first; before = stamps.before; number = number + 1 }) (record { stamp = stamp; bytes = frame })) x x' r
   placed_as link link' stamps stamps' last moment number stamp frame x x' r is_link is_last is_moment step =
-      subst (λ (p : PlacedPacket). takes p x x' r) (λ i. record { number = number + 1; before = is_last i; moment = is_moment i; link = is_link i; frame = frame }) step
+      subst (λ (p : PlacedPacket). takes p x x' r)
+      (λ i. record { number = number + 1; before = is_last i; moment = is_moment i; link = is_link i; frame = frame }) step
 
 -- the moments of a walk are in range
-pub moment_within : (moment : ℕ) (first : Option ℕ) (before stamp : ℕ) → moment ≡ moment_of first before stamp → stamp ≤ 2 ^ 53 → before ≤ 2 ^ 53 → moment ≤ 2 ^ 53
+pub moment_within : (moment : ℕ) (first : Option ℕ) (before stamp : ℕ) → moment ≡ moment_of first before stamp → stamp ≤ 2 ^ 53 → before ≤ 2 ^ 53 →
+    moment ≤ 2 ^ 53
 moment_within moment first before stamp is in_range before_in_range = grind (arith, is)
 
 -- the place after a packet, as the code counts it
-pub place_as : (stamps stamps' : Stamps) (moment number stamp : ℕ) → stamps' ≡ record { first = Some (unwrap_or stamps.first stamp); before = moment } → moment ≡ moment_of stamps.first stamps.before stamp
-    → place_behind (record { first = stamps.first; before = stamps.before; number = number }) stamp ≡ record { first = stamps'.first; before = stamps'.before; number = number + 1 }
+pub place_as : (stamps stamps' : Stamps) (moment number stamp : ℕ) → stamps' ≡ record { first = Some (unwrap_or stamps.first stamp); before = moment }
+    → moment ≡ moment_of stamps.first stamps.before stamp
+    → place_behind (record { first = stamps.first; before = stamps.before; number = number }) stamp
+    ≡ record { first = stamps'.first; before = stamps'.before; number = number + 1 }
 place_as stamps stamps' moment number stamp are is_moment =
     (λ i. record { first = Some (unwrap_or stamps.first stamp); before = sym is_moment i; number = number + 1 })
     ∙ ap (λ (s : Stamps). record { first = s.first; before = s.before; number = number + 1 }) (sym are)
@@ -103,7 +114,8 @@ place_as stamps stamps' moment number stamp are is_moment =
 module _ {X E : Type 0} (takes : PlacedPacket → X → X → Result Unit E → Type 0) (gives : PcapFault → E → Type 0) where
   -- the input ended
   pub walked_well : (form : Form) (old mid new : InputState) (x x' : X) (first : Option ℕ) (last packets : ℕ) (buffer : List ℕ)
-      → IsWalkedTo takes form old mid x (record { first = first; before = last; number = packets + 1 }) x' → mid.failed ≡ old.failed → packets < endless → Reads form (packets + 1) mid new buffer (Ok None)
+      → IsWalkedTo takes form old mid x (record { first = first; before = last; number = packets + 1 }) x' → mid.failed ≡ old.failed →
+      packets < endless → Reads form (packets + 1) mid new buffer (Ok None)
       → WalksBehind takes gives form old new x x' (Ok (record { packets = packets; last = last }))
   walked_well form old mid new x x' first last packets buffer walked same few reads =
       record {
@@ -161,7 +173,14 @@ module _ {X E : Type 0} (takes : PlacedPacket → X → X → Result Unit E → 
         packets = walked.packets ++ (captured packet buffer ∷ []);
         end = None;
         takes_in = Takes-trans old mid new walked.bytes reads.bytes walked.takes_in reads.takes;
-        records = walked.records reads.bytes (captured packet buffer ∷ []) None (reads.bytes, [], sym (append-nil reads.bytes), reads.answers.1, reads.answers.0, refl);
+        records = walked.records reads.bytes (captured packet buffer ∷ []) None (
+          reads.bytes,
+          [],
+          sym (append-nil reads.bytes),
+          reads.answers.1,
+          reads.answers.0,
+          refl,
+        );
         ended = inr (record {
           form = form;
           header = refl;
@@ -196,28 +215,55 @@ module _ {X E : Type 0} (takes : PlacedPacket → X → X → Result Unit E → 
       by_kind true is whole = rw is (opens.failed ∙ ap (λ (b : Bool). old.failed || b) is ∙ or-true old.failed)
       by_kind false is whole = rw is (refl, whole, opens.failed ∙ ap (λ (b : Bool). old.failed || b) is ∙ or-false old.failed)
 
-      by_answer : ((f ≡ fault.Read) × (length opens.bytes < 24)) ⊎ ((header_of opens.bytes ≡ Err f) × ((length opens.bytes ≡ 24) ⊎ IsAtEnd new.ahead)) → Walks takes gives old new x x (Err e)
+      by_answer : ((f ≡ fault.Read) × (length opens.bytes < 24)) ⊎ ((header_of opens.bytes ≡ Err f) × ((length opens.bytes ≡ 24) ⊎ IsAtEnd new.ahead))
+          → Walks takes gives old new x x (Err e)
       by_answer (inl (is, short)) =
           no_header old new x f (fault.CutHeader 0) opens.bytes e opens.takes (cut_header opens.bytes short) given
           (rw (ap is_read is) (opens.failed ∙ ap (λ (g : PcapFault). old.failed || is_read g) is ∙ or-true old.failed))
       by_answer (inr (header, whole)) = no_header old new x f f opens.bytes e opens.takes header given (by_kind (is_read f) refl whole)
 
   -- the bytes of the header come before those of the packets
-  ended_behind : (form : Form) (packets : List Captured) (end : Option PcapFault) (header bytes : List ℕ) (old mid new : InputState) (x x' : X) (r : Result Walked E) → mid.failed ≡ old.failed
+  ended_behind : (form : Form) (packets : List Captured) (end : Option PcapFault) (header bytes : List ℕ) (old mid new : InputState) (x x' : X)
+      (r : Result Walked E) → mid.failed ≡ old.failed
       → EndsWalk takes gives (record { bytes = bytes; header = Ok form; packets = packets; end = end }) mid new x x' r
       → EndsWalk takes gives (record { bytes = header ++ bytes; header = Ok form; packets = packets; end = end }) old new x x' r
   ended_behind form packets end header bytes old mid new x x' (Ok w) same it =
-      record { form = it.form; header = it.header; end = it.end; few = it.few; at_end = it.at_end; failed = it.failed ∙ same; first = it.first; steps = it.steps }
+      record {
+        form = it.form;
+        header = it.header;
+        end = it.end;
+        few = it.few;
+        at_end = it.at_end;
+        failed = it.failed ∙
+            same;
+        first = it.first;
+        steps = it.steps;
+      }
   ended_behind form packets end header bytes old mid new x x' (Err e) same (inr it) =
-      inr (record { form = it.form; header = it.header; some = it.some; last = it.last; packets = it.packets; end = it.end; to = it.to; between = it.between; steps = it.steps; stops = it.stops; failed = it.failed ∙ same })
-  ended_behind form packets end header bytes old mid new x x' (Err e) same (inl it) = inl (record { fault = it.fault; given = it.given; ended = by_kind (is_read it.fault) it.ended; steps = it.steps })
+      inr (record {
+        form = it.form;
+        header = it.header;
+        some = it.some;
+        last = it.last;
+        packets = it.packets;
+        end = it.end;
+        to = it.to;
+        between =
+            it.between;
+        steps = it.steps;
+        stops = it.stops;
+        failed = it.failed ∙ same;
+      })
+  ended_behind form packets end header bytes old mid new x x' (Err e) same (inl it) =
+      inl (record { fault = it.fault; given = it.given; ended = by_kind (is_read it.fault) it.ended; steps = it.steps })
     where
       by_kind : (b : Bool) → IsEndedByFault b (record { bytes = bytes; header = Ok form; packets = packets; end = end }) it.fault mid new
           → IsEndedByFault b (record { bytes = header ++ bytes; header = Ok form; packets = packets; end = end }) it.fault old new
       by_kind true ended = ended
       by_kind false ended = (ended.0, ended.1, ended.2 ∙ same)
 
-  pub opened_well : (old mid new : InputState) (x x' : X) (capture : PcapReader) (r : Result Walked E) → Opens old mid (Ok capture) → WalksBehind takes gives (form_of capture) mid new x x' r → Walks takes gives old new x x' r
+  pub opened_well : (old mid new : InputState) (x x' : X) (capture : PcapReader) (r : Result Walked E) → Opens old mid (Ok capture) →
+      WalksBehind takes gives (form_of capture) mid new x x' r → Walks takes gives old new x x' r
   opened_well old mid new x x' capture r opens walks =
       let size = opens.answers.0 in
       record {
@@ -228,5 +274,6 @@ module _ {X E : Type 0} (takes : PlacedPacket → X → X → Result Unit E → 
           subst (λ (bytes : List ℕ). AreRecords (form_of capture) 1 bytes walks.packets walks.end)
               (sym (ap (λ (n : ℕ). drop n (opens.bytes ++ walks.bytes)) (sym size) ∙ drop-append_seam opens.bytes walks.bytes)) walks.records,
         );
-        ended = ended_behind (form_of capture) walks.packets walks.end opens.bytes walks.bytes old mid new x x' r (opens.failed ∙ or-false old.failed) walks.ended;
+        ended = ended_behind (form_of capture) walks.packets walks.end opens.bytes walks.bytes old mid new x x' r
+            (opens.failed ∙ or-false old.failed) walks.ended;
       }

@@ -12,7 +12,8 @@ use Rattle.mq_replay.specs.Report.{Replayed}
 use Rattle.mq_replay.specs.Steps.{PutsReplayed}
 
 -- a text passed, and then nothing more was put
-pub then_nothing : (T E : Type 0) (a b c : Option (List ℕ)) (held mid left text : List ℕ) (r : Result T E) → Passes a b held mid text → Puts b c mid left [] r → Puts a c held left text r
+pub then_nothing : (T E : Type 0) (a b c : Option (List ℕ)) (held mid left text : List ℕ) (r : Result T E) → Passes a b held mid text →
+    Puts b c mid left [] r → Puts a c held left text r
 then_nothing T E a b c held mid left text r passed put =
     put_as a c held left (text ++ []) text r (append-nil text) (then_put a b c held mid left text [] r passed put)
 
@@ -26,12 +27,14 @@ packet_then_nothing T E a b c held mid left number moment carried x r line put =
       put = then_nothing T E a b c held mid left (place_text number moment ++ line.said) r line.put put;
     }
 
-still_linked : {T E : Type 0} (after : LinkValue) (replayed : Replayed) (r : Result T E) → after.state ≡ replayed.link → IfOk r (λ _. after.state ≡ replayed.link)
+still_linked : {T E : Type 0} (after : LinkValue) (replayed : Replayed) (r : Result T E) → after.state ≡ replayed.link →
+    IfOk r (λ _. after.state ≡ replayed.link)
 still_linked after replayed (Ok x) same = same
 still_linked after replayed (Err e) same = tt
 
 -- the same of a packet that was replayed
-pub replayed_then_nothing : (T E : Type 0) (before after : LinkValue) (replayed : Replayed) (a b c : Option (List ℕ)) (held mid left : List ℕ) (x : T) (r : Result T E)
+pub replayed_then_nothing : (T E : Type 0) (before after : LinkValue) (replayed : Replayed) (a b c : Option (List ℕ)) (held mid left : List ℕ) (x : T)
+    (r : Result T E)
     → PutsReplayed {T = T} {E = E} before after replayed a b held mid (Ok x) → Puts b c mid left [] r → PutsReplayed before after replayed a c held left r
 replayed_then_nothing T E before after replayed a b c held mid left x r puts put =
     record {

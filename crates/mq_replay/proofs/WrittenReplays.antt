@@ -1,5 +1,6 @@
 -- The report of a capture was put: what the replay comes to once what the buffer holds is written, or was not.
-use Rattle.std.proofs.Common.{◌≡◌, ℕ, ◌+◌, Bool, true, false, List, [], ◌++◌, length, Option, None, Some, Result, Ok, Err, refl, sym, subst, ◌∙◌, append-nil, inl, inr, arith}
+use Rattle.std.proofs.Common.{◌≡◌, ℕ, ◌+◌, Bool, true, false, List, [], ◌++◌, length, Option, None, Some, Result, Ok, Err, refl, sym, subst, ◌∙◌}
+use Rattle.std.proofs.Common.{append-nil, inl, inr, arith}
 use Rattle.std.proofs.KnownBytes.{Appends-nil}
 use Rattle.std.specs.Io.KnownBytes.{Appends}
 use Rattle.mq_pcap.specs.declared.fault.PcapFault.{PcapFault}
@@ -25,7 +26,8 @@ abbrev one_of : Bool → Report → Report → Report
 one_of b x y = elim b [ true ↦ x | false ↦ y ]
 
 -- one of two reports, of which the second doesn't end with this fault
-either_text : (b : Bool) (x y : Report) (e : ReplayFault) (text : List ℕ) → (one_of b x y).answer ≡ Err e → x.text ≡ text → (y.answer ≡ Err e → ⊥) → (one_of b x y).text ≡ text
+either_text : (b : Bool) (x y : Report) (e : ReplayFault) (text : List ℕ) → (one_of b x y).answer ≡ Err e → x.text ≡ text → (y.answer ≡ Err e → ⊥) →
+    (one_of b x y).text ≡ text
 either_text true x y e text is same unlike = same
 either_text false x y e text is same unlike = absurd (unlike is)
 
@@ -36,7 +38,8 @@ unfolding ended_at
 reported_err config asked number end (Some g) course e is = refl
 reported_err config asked number (Some f) None course e is = refl
 reported_err config asked number None None course e is =
-    either_text (is_gap course.moment (last_moment asked.until course)) (broken_off (answer.Gap number) course) (ended_at config (last_moment asked.until course) course.replayed) e course.replayed.text is refl (λ h. absurd (cc))
+    either_text (is_gap course.moment (last_moment asked.until course)) (broken_off (answer.Gap number) course)
+    (ended_at config (last_moment asked.until course) course.replayed) e course.replayed.text is refl (λ h. absurd (cc))
 
 err_text : (config : Configuration) (asked : Asked) (header : Result Form PcapFault) (packets : List Captured) (end : Option PcapFault) (e : ReplayFault)
     → (report_of config asked header packets end).answer ≡ Err e → (report_of config asked header packets end).text ≡ so_far config asked header packets
@@ -60,12 +63,14 @@ ok_end config asked (Ok form) packets end counters is =
     reported_ok config asked (length packets + 1) end course.gap course counters is
 
 -- what a buffer that held nothing passed on whole was written
-all_written : (before mid after : Option (List ℕ)) (left text : List ℕ) → Passes before mid [] left text → Passes mid after left [] [] → Appends before after text
+all_written : (before mid after : Option (List ℕ)) (left text : List ℕ) → Passes before mid [] left text → Passes mid after left [] [] →
+    Appends before after text
 all_written before mid after left text first second =
     let both = both_passed before mid after [] left [] text [] first second in
     subst (λ (t : List ℕ). Appends before after t) (sym (sym (append-nil text) ∙ both.parts ∙ append-nil both.written)) both.grows
 
-written : (config : Configuration) (asked : Asked) (c : ReadCapture) (new : InputState) (before mid after : Option (List ℕ)) (left : List ℕ) (r : Result Counters ReplayFault) → is_failed_write r ≡ false
+written : (config : Configuration) (asked : Asked) (c : ReadCapture) (new : InputState) (before mid after : Option (List ℕ)) (left : List ℕ)
+    (r : Result Counters ReplayFault) → is_failed_write r ≡ false
     → IsReportPut config asked c new before mid [] left r → Passes mid after left [] [] → IsWritten config asked c new before after r
 written config asked c new before mid after left (Ok counters) unlike put passed = all_written before mid after left _ put passed
 written config asked c new before mid after left (Err answer.Write) unlike put passed = absurd (cc)
@@ -88,8 +93,10 @@ counted_write counters (Err (answer.Gap number)) = refl
 counted_write counters (Err answer.Memory) = refl
 
 -- the report was put and the rest of it written
-pub flushed : {T : Type 0} (config : Configuration) (asked : Asked) (old new : InputState) (before mid after : Option (List ℕ)) (held left rest : List ℕ) (counters : Counters) (it : Result T ReplayFault) → held ≡ [] → rest ≡ [] → is_failed_write it ≡ false
-    → PutsReport config asked old new before mid held left (counted counters it) → Passes mid after left rest [] → Replays config asked old new before after (counted counters it)
+pub flushed : {T : Type 0} (config : Configuration) (asked : Asked) (old new : InputState) (before mid after : Option (List ℕ))
+    (held left rest : List ℕ) (counters : Counters) (it : Result T ReplayFault) → held ≡ [] → rest ≡ [] → is_failed_write it ≡ false
+    → PutsReport config asked old new before mid held left (counted counters it) → Passes mid after left rest [] →
+    Replays config asked old new before after (counted counters it)
 flushed config asked old new before mid after held left rest counters it none empty unlike puts passed =
     record {
       read = puts.read;
@@ -102,7 +109,8 @@ flushed config asked old new before mid after held left rest counters it none em
     }
 
 -- a write failed before the end of the report
-pub not_put : {T : Type 0} (config : Configuration) (asked : Asked) (old new : InputState) (before after : Option (List ℕ)) (held left : List ℕ) (counters : Counters) (it : Result T ReplayFault) → held ≡ [] → is_failed_write it ≡ true
+pub not_put : {T : Type 0} (config : Configuration) (asked : Asked) (old new : InputState) (before after : Option (List ℕ)) (held left : List ℕ)
+    (counters : Counters) (it : Result T ReplayFault) → held ≡ [] → is_failed_write it ≡ true
     → PutsReport config asked old new before after held left (counted counters it) → Replays config asked old new before after (counted counters it)
 not_put config asked old new before after held left counters (Ok x) none is puts = absurd (cc)
 not_put config asked old new before after held left counters (Err (answer.Pcap f)) none is puts = absurd (cc)
@@ -118,36 +126,50 @@ not_put config asked old new before after held left counters (Err answer.Write) 
     }
 
 -- a beginning of what was left to be written, behind a text that passed
-begun_text : (before mid after : Option (List ℕ)) (left text : List ℕ) → Passes before mid [] left text → GrowsByBeginning mid after (left ++ []) → GrowsByBeginning before after text
-begun_text before mid after left text passed begun = subst (λ (t : List ℕ). GrowsByBeginning before after t) (append-nil text) (broken_behind before mid after [] left text [] passed begun)
+begun_text : (before mid after : Option (List ℕ)) (left text : List ℕ) → Passes before mid [] left text → GrowsByBeginning mid after (left ++ []) →
+    GrowsByBeginning before after text
+begun_text before mid after left text passed begun = subst (λ (t : List ℕ). GrowsByBeginning before after t) (append-nil text)
+    (broken_behind before mid after [] left text [] passed begun)
 
 -- the report was put, and the rest of it was not written whole
-begun_of : (config : Configuration) (asked : Asked) (c : ReadCapture) (old new : InputState) (before mid after : Option (List ℕ)) (left : List ℕ) (r : Result Counters ReplayFault) → is_failed_write r ≡ false
-    → IsEndedBy config asked c old new r → IsReportPut config asked c new before mid [] left r → GrowsByBeginning mid after (left ++ []) → IsWritten config asked c new before after (Err answer.Write)
+begun_of : (config : Configuration) (asked : Asked) (c : ReadCapture) (old new : InputState) (before mid after : Option (List ℕ)) (left : List ℕ)
+    (r : Result Counters ReplayFault) → is_failed_write r ≡ false
+    → IsEndedBy config asked c old new r → IsReportPut config asked c new before mid [] left r → GrowsByBeginning mid after (left ++ []) →
+    IsWritten config asked c new before after (Err answer.Write)
 begun_of config asked c old new before mid after left (Ok counters) unlike ended put begun =
     inr (ok_end config asked c.header c.packets c.end counters ended.0, ended.1, begun_text before mid after left _ put begun)
 begun_of config asked c old new before mid after left (Err answer.Write) unlike ended put begun = absurd (cc)
 begun_of config asked c old new before mid after left (Err (answer.Gap number)) unlike ended put begun =
-    inl (subst (λ (t : List ℕ). GrowsByBeginning before after t) (err_text config asked c.header c.packets c.end _ ended.0) (begun_text before mid after left _ put begun))
+    inl (subst (λ (t : List ℕ). GrowsByBeginning before after t) (err_text config asked c.header c.packets c.end _ ended.0)
+    (begun_text before mid after left _ put begun))
 begun_of config asked c old new before mid after left (Err answer.Memory) unlike ended put begun = absurd put
 begun_of config asked c old new before mid after left (Err (answer.Pcap fault.Read)) unlike ended put begun = inl (begun_text before mid after left _ put begun)
 begun_of config asked c old new before mid after left (Err (answer.Pcap fault.Magic)) unlike ended put begun =
-    inl (subst (λ (t : List ℕ). GrowsByBeginning before after t) (err_text config asked c.header c.packets c.end _ ended.0) (begun_text before mid after left _ put begun))
+    inl (subst (λ (t : List ℕ). GrowsByBeginning before after t) (err_text config asked c.header c.packets c.end _ ended.0)
+    (begun_text before mid after left _ put begun))
 begun_of config asked c old new before mid after left (Err (answer.Pcap fault.Version)) unlike ended put begun =
-    inl (subst (λ (t : List ℕ). GrowsByBeginning before after t) (err_text config asked c.header c.packets c.end _ ended.0) (begun_text before mid after left _ put begun))
+    inl (subst (λ (t : List ℕ). GrowsByBeginning before after t) (err_text config asked c.header c.packets c.end _ ended.0)
+    (begun_text before mid after left _ put begun))
 begun_of config asked c old new before mid after left (Err (answer.Pcap fault.LinkType)) unlike ended put begun =
-    inl (subst (λ (t : List ℕ). GrowsByBeginning before after t) (err_text config asked c.header c.packets c.end _ ended.0) (begun_text before mid after left _ put begun))
+    inl (subst (λ (t : List ℕ). GrowsByBeginning before after t) (err_text config asked c.header c.packets c.end _ ended.0)
+    (begun_text before mid after left _ put begun))
 begun_of config asked c old new before mid after left (Err (answer.Pcap (fault.CutHeader at))) unlike ended put begun =
-    inl (subst (λ (t : List ℕ). GrowsByBeginning before after t) (err_text config asked c.header c.packets c.end _ ended.0) (begun_text before mid after left _ put begun))
+    inl (subst (λ (t : List ℕ). GrowsByBeginning before after t) (err_text config asked c.header c.packets c.end _ ended.0)
+    (begun_text before mid after left _ put begun))
 begun_of config asked c old new before mid after left (Err (answer.Pcap (fault.CutData at))) unlike ended put begun =
-    inl (subst (λ (t : List ℕ). GrowsByBeginning before after t) (err_text config asked c.header c.packets c.end _ ended.0) (begun_text before mid after left _ put begun))
+    inl (subst (λ (t : List ℕ). GrowsByBeginning before after t) (err_text config asked c.header c.packets c.end _ ended.0)
+    (begun_text before mid after left _ put begun))
 begun_of config asked c old new before mid after left (Err (answer.Pcap (fault.TooLong at))) unlike ended put begun =
-    inl (subst (λ (t : List ℕ). GrowsByBeginning before after t) (err_text config asked c.header c.packets c.end _ ended.0) (begun_text before mid after left _ put begun))
+    inl (subst (λ (t : List ℕ). GrowsByBeginning before after t) (err_text config asked c.header c.packets c.end _ ended.0)
+    (begun_text before mid after left _ put begun))
 begun_of config asked c old new before mid after left (Err (answer.Pcap fault.Endless)) unlike ended put begun =
-    inl (subst (λ (t : List ℕ). GrowsByBeginning before after t) (err_text config asked c.header c.packets c.end _ ended.0) (begun_text before mid after left _ put begun))
+    inl (subst (λ (t : List ℕ). GrowsByBeginning before after t) (err_text config asked c.header c.packets c.end _ ended.0)
+    (begun_text before mid after left _ put begun))
 
-pub not_flushed : {T : Type 0} (config : Configuration) (asked : Asked) (old new : InputState) (before mid after : Option (List ℕ)) (held left : List ℕ) (counters : Counters) (it : Result T ReplayFault) → held ≡ [] → is_failed_write it ≡ false
-    → PutsReport config asked old new before mid held left (counted counters it) → GrowsByBeginning mid after (left ++ []) → Replays config asked old new before after (Err answer.Write)
+pub not_flushed : {T : Type 0} (config : Configuration) (asked : Asked) (old new : InputState) (before mid after : Option (List ℕ))
+    (held left : List ℕ) (counters : Counters) (it : Result T ReplayFault) → held ≡ [] → is_failed_write it ≡ false
+    → PutsReport config asked old new before mid held left (counted counters it) → GrowsByBeginning mid after (left ++ []) →
+    Replays config asked old new before after (Err answer.Write)
 not_flushed config asked old new before mid after held left counters it none unlike puts begun =
     record {
       read = puts.read;
@@ -159,7 +181,8 @@ not_flushed config asked old new before mid after held left counters it none unl
     }
 
 -- nothing was taken and nothing written
-pub nothing_replayed : (config : Configuration) (asked : Asked) (s : InputState) (before : Option (List ℕ)) → Replays config asked s s before before (Err answer.Memory)
+pub nothing_replayed : (config : Configuration) (asked : Asked) (s : InputState) (before : Option (List ℕ)) →
+    Replays config asked s s before before (Err answer.Memory)
 nothing_replayed config asked s before =
     record {
       read = record { bytes = []; header = Err (fault.CutHeader 0); packets = []; end = Some (fault.CutHeader 0) };

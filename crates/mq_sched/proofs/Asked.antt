@@ -16,7 +16,9 @@ use Rattle.mq_sched.proofs.Rounds.{among-keys}
 use Rattle.mq_sched.specs.Sending.{sources_asked}
 
 -- the timer of a source after sources were asked for
-pub timer_at-sources_asked : (timing : Timing) (now : ℕ) (asked : Set) (e : ScheduledGroup) (s : ℕ) → timer_at (sources_asked timing now asked e).group s ≡ cond (asked s) (option_map (source_asked (lowered_to timing now) (last_member_count timing)) (timer_at e.group s)) (timer_at e.group s)
+pub timer_at-sources_asked : (timing : Timing) (now : ℕ) (asked : Set) (e : ScheduledGroup) (s : ℕ) →
+    timer_at (sources_asked timing now asked e).group s ≡ cond (asked s)
+    (option_map (source_asked (lowered_to timing now) (last_member_count timing)) (timer_at e.group s)) (timer_at e.group s)
 timer_at-sources_asked timing now asked e s = grind (arith, get-kept)
 
 -- a test passes for some source exactly where there is one that the group holds

@@ -97,7 +97,8 @@ deeper : (node below : ℕ) → 1 ≤ node → below / 2 ≡ node → bitlen bel
 deeper node below some half = let digits = bitlen-half below (omega arith) in let same = ap bitlen half in omega (arith, digits, same)
 
 -- the two nodes below one of a tree
-are_below : (nodes : List ℕ) (count node : ℕ) (b : Bool) → 1 ≤ node → node < count → HasEarlier nodes node b → AreBelow nodes count node (if b then 2 * node else 2 * node + 1) (if b then 2 * node + 1 else 2 * node)
+are_below : (nodes : List ℕ) (count node : ℕ) (b : Bool) → 1 ≤ node → node < count → HasEarlier nodes node b →
+    AreBelow nodes count node (if b then 2 * node else 2 * node + 1) (if b then 2 * node + 1 else 2 * node)
 are_below nodes count node true some below has = record {
   sums = λ f. sum_below-node f count node some below;
   first = sym has.0;
@@ -115,6 +116,7 @@ are_below nodes count node false some below has = record {
   second_deeper = deeper node (2 * node) some (omega arith);
 }
 
-pub AreBelow-from_tree : (nodes : List ℕ) (lefts : List Bool) (node : ℕ) → IsTreeBut nodes lefts 0 → 1 ≤ node → node < length lefts → AreBelow nodes (length lefts) node (first_below lefts node) (second_below lefts node)
+pub AreBelow-from_tree : (nodes : List ℕ) (lefts : List Bool) (node : ℕ) → IsTreeBut nodes lefts 0 → 1 ≤ node → node < length lefts →
+    AreBelow nodes (length lefts) node (first_below lefts node) (second_below lefts node)
 AreBelow-from_tree nodes lefts node known some below =
     are_below nodes (length lefts) node (get_or lefts node false) some below (known.each node some below (λ same. absurd (omega arith)))

@@ -37,13 +37,15 @@ held_if_sendings None e = absurd (false≢true e)
 held_if_sendings (Some t) e = refl
 
 -- where no source gains sendings, one has some only if one had before
-pub sendings_before : (old new : GroupState) → ((s : ℕ) → has_sendings new s ≡ true → has_sendings old s ≡ true) → some_source (has_sendings new) new ≡ true → some_source (has_sendings old) old ≡ true
+pub sendings_before : (old new : GroupState) → ((s : ℕ) → has_sendings new s ≡ true → has_sendings old s ≡ true) → some_source (has_sendings new) new
+    ≡ true → some_source (has_sendings old) old ≡ true
 sendings_before old new no_gain some =
     let q = some_source-gives (has_sendings new) new some in
     let had = no_gain q.0 q.2 in
     some_source-from (has_sendings old) old q.0 (held_if_sendings (timer_at old q.0) had) had
 
-pub fits_settled : (old new : GroupState) (schedule : ScheduleState) → IsScheduleOf old schedule → ((s : ℕ) → has_sendings new s ≡ true → has_sendings old s ≡ true) → IsScheduleOf new (settled new schedule)
+pub fits_settled : (old new : GroupState) (schedule : ScheduleState) → IsScheduleOf old schedule →
+    ((s : ℕ) → has_sendings new s ≡ true → has_sendings old s ≡ true) → IsScheduleOf new (settled new schedule)
 fits_settled old new schedule fits no_gain = record {
   exclude_only = λ e. ap (λ m. cond (is_include m) None schedule.group_query) e;
   group_sendings = by_mode (is_include new.mode);
@@ -64,20 +66,24 @@ by_rule_no_gain true y d n e = e
 by_rule_no_gain false true d n e = absurd (false≢true e)
 by_rule_no_gain false false d n e = absurd (false≢true e)
 
-record_no_gain : (timing : Timing) (now : ℕ) (g : GroupState) (kind : Kind) (named : NamedSources) (s : ℕ) → has_sendings (change_of timing now g kind named).group s ≡ true → has_sendings g s ≡ true
+record_no_gain : (timing : Timing) (now : ℕ) (g : GroupState) (kind : Kind) (named : NamedSources) (s : ℕ) →
+    has_sendings (change_of timing now g kind named).group s ≡ true → has_sendings g s ≡ true
 record_no_gain timing now g kind named s e =
     let l = table_row_met timing now g kind named in
     by_rule_no_gain (l.x s) (l.y s) _ (sendings_of (timer_at g s)) (ap (λ t. ltb 0 (sendings_of t)) (sym (timer_at-change_of timing now g kind named s)) ∙ e)
 
-pub fits_after_record : (timing : Timing) (now : ℕ) (g : GroupState) (schedule : ScheduleState) (kind : Kind) (named : NamedSources) → IsScheduleOf g schedule → (let new = (change_of timing now g kind named).group in IsScheduleOf new (settled new schedule))
-fits_after_record timing now g schedule kind named fits = fits_settled g (change_of timing now g kind named).group schedule fits (record_no_gain timing now g kind named)
+pub fits_after_record : (timing : Timing) (now : ℕ) (g : GroupState) (schedule : ScheduleState) (kind : Kind) (named : NamedSources) →
+    IsScheduleOf g schedule → (let new = (change_of timing now g kind named).group in IsScheduleOf new (settled new schedule))
+fits_after_record timing now g schedule kind named fits = fits_settled g (change_of timing now g kind named).group schedule fits
+    (record_no_gain timing now g kind named)
 
 -- nor does the end of timers
 zero_sendings : (mode : FilterMode) → sendings_of (at_zero mode) ≡ 0
 zero_sendings Include = refl
 zero_sendings (Exclude d) = refl
 
-expired_no_gain : (mode : FilterMode) (now : ℕ) (t : Option SourceTimer) → ltb 0 (sendings_of (option_and_then (source_expired mode now) t)) ≡ true → ltb 0 (sendings_of t) ≡ true
+expired_no_gain : (mode : FilterMode) (now : ℕ) (t : Option SourceTimer) → ltb 0 (sendings_of (option_and_then (source_expired mode now) t)) ≡ true →
+    ltb 0 (sendings_of t) ≡ true
 expired_no_gain mode now None e = e
 expired_no_gain mode now (Some Stopped) e = ap (ltb 0) (sym (zero_sendings mode)) ∙ e
 expired_no_gain mode now (Some (Running d n)) e = by_test (ltb now d) e
@@ -99,13 +105,16 @@ expiry_no_gain now g s = by_held (is_vacant kept_on)
 
     by_held : (b : Bool) → has_sendings (cond b vacant kept_on) s ≡ true → has_sendings g s ≡ true
     by_held true e = absurd (false≢true (ap (λ t. ltb 0 (sendings_of t)) (sym (map.get-empty nat_cmp s)) ∙ e))
-    by_held false e = expired_no_gain (mode_expired now g.mode) now (timer_at g s) (ap (λ t. ltb 0 (sendings_of t)) (sym (get-kept (λ s. source_expired (mode_expired now g.mode) now) g.sources s)) ∙ e)
+    by_held false e = expired_no_gain (mode_expired now g.mode) now (timer_at g s)
+        (ap (λ t. ltb 0 (sendings_of t)) (sym (get-kept (λ s. source_expired (mode_expired now g.mode) now) g.sources s)) ∙ e)
 
-pub fits_after_expiry : (now : ℕ) (g : GroupState) (schedule : ScheduleState) → IsScheduleOf g schedule → IsScheduleOf (expired now g) (settled (expired now g) schedule)
+pub fits_after_expiry : (now : ℕ) (g : GroupState) (schedule : ScheduleState) → IsScheduleOf g schedule →
+    IsScheduleOf (expired now g) (settled (expired now g) schedule)
 fits_after_expiry now g schedule fits = fits_settled g (expired now g) schedule fits (expiry_no_gain now g)
 
 -- a round
-pub fits_after_round : (timing : Timing) (now : ℕ) (e : ScheduledGroup) → IsScheduleOf e.group e.schedule → IsScheduleOf (after_round timing now e).group (after_round timing now e).schedule
+pub fits_after_round : (timing : Timing) (now : ℕ) (e : ScheduledGroup) → IsScheduleOf e.group e.schedule →
+    IsScheduleOf (after_round timing now e).group (after_round timing now e).schedule
 fits_after_round timing now e fits = record {
   exclude_only = λ m. ap (group_counted timing now) (fits.exclude_only (mode_stays (is_due now e.schedule.sources_due) m));
   group_sendings = still_some e.schedule.group_query fits.group_sendings;
@@ -120,19 +129,25 @@ fits_after_round timing now e fits = record {
     still_some None some = tt
     still_some (Some q) some = by_tests (leb q.due now) (ltb 1 q.sendings) refl
       where
-        by_tests : (due more : Bool) → ltb 1 q.sendings ≡ more → IfSome (cond due (cond more (Some (record { sendings = q.sendings - 1; due = now + timing.last_member_interval })) None) (Some q)) (λ (q : QuerySchedule). 0 < q.sendings)
+        by_tests : (due more : Bool) → ltb 1 q.sendings ≡ more →
+            IfSome (cond due (cond more (Some (record { sendings = q.sendings - 1; due = now + timing.last_member_interval })) None) (Some q))
+            (λ (q : QuerySchedule). 0 < q.sendings)
         by_tests true true e = omega (arith, ltb-true 1 q.sendings e)
         by_tests true false e = tt
         by_tests false more e = some
 
-    by_due : (b : Bool) → (let g = cond b (sendings_counted e.group) e.group in is_some (cond b (sources_due_next timing now g) e.schedule.sources_due) ≡ some_source (has_sendings g) g)
+    by_due : (b : Bool) →
+        (let g = cond b (sendings_counted e.group) e.group in is_some (cond b (sources_due_next timing now g) e.schedule.sources_due)
+        ≡ some_source (has_sendings g) g)
     by_due true = some_if (some_source (has_sendings (sendings_counted e.group)) (sendings_counted e.group)) (now + timing.last_member_interval)
     by_due false = fits.sources_sendings
 
 -- asking for the group
-pub fits_group_asked : (timing : Timing) (now : ℕ) (e : ScheduledGroup) → 0 < timing.robustness → IsScheduleOf e.group e.schedule → IsScheduleOf (group_asked timing now e).group (group_asked timing now e).schedule
+pub fits_group_asked : (timing : Timing) (now : ℕ) (e : ScheduledGroup) → 0 < timing.robustness → IsScheduleOf e.group e.schedule →
+    IsScheduleOf (group_asked timing now e).group (group_asked timing now e).schedule
 fits_group_asked timing now e positive fits = record {
-  exclude_only = λ m. ap (λ b. cond b e.schedule.group_query (Some (record { sendings = last_member_count timing; due = now }))) (included e.group.mode m) ∙ fits.exclude_only (is_included e.group.mode (included e.group.mode m));
+  exclude_only = λ m. ap (λ b. cond b e.schedule.group_query (Some (record { sendings = last_member_count timing; due = now })))
+      (included e.group.mode m) ∙ fits.exclude_only (is_included e.group.mode (included e.group.mode m));
   group_sendings = by_mode (is_include e.group.mode);
   sources_sendings = fits.sources_sendings;
 }
@@ -150,14 +165,17 @@ fits_group_asked timing now e positive fits = record {
     by_mode false = positive
 
 -- a source that is asked for and above the limit gets sendings
-gets_sendings : (limit count : ℕ) (b : Bool) (t : Option SourceTimer) → 0 < count → (b && is_ahead limit (deadline_of t)) ≡ true → (ltb 0 (sendings_of (cond b (option_map (source_asked limit count) t) t)) ≡ true) × IsSome (cond b (option_map (source_asked limit count) t) t)
+gets_sendings : (limit count : ℕ) (b : Bool) (t : Option SourceTimer) → 0 < count → (b && is_ahead limit (deadline_of t)) ≡ true →
+    (ltb 0 (sendings_of (cond b (option_map (source_asked limit count) t) t)) ≡ true) × IsSome (cond b (option_map (source_asked limit count) t) t)
 gets_sendings limit count false t positive e = absurd (false≢true e)
 gets_sendings limit count true None positive e = absurd (false≢true e)
 gets_sendings limit count true (Some Stopped) positive e = absurd (false≢true e)
-gets_sendings limit count true (Some (Running d n)) positive e = (ap (λ b. ltb 0 (sendings_of (Some (cond b (Running limit count) (Running d n))))) e ∙ lt-ltb 0 count positive, refl)
+gets_sendings limit count true (Some (Running d n)) positive e =
+    (ap (λ b. ltb 0 (sendings_of (Some (cond b (Running limit count) (Running d n))))) e ∙ lt-ltb 0 count positive, refl)
 
 -- and any other stays as it is
-not_asked : (limit count : ℕ) (b : Bool) (t : Option SourceTimer) → (b && is_ahead limit (deadline_of t)) ≡ false → cond b (option_map (source_asked limit count) t) t ≡ t
+not_asked : (limit count : ℕ) (b : Bool) (t : Option SourceTimer) → (b && is_ahead limit (deadline_of t)) ≡ false →
+    cond b (option_map (source_asked limit count) t) t ≡ t
 not_asked limit count false t e = refl
 not_asked limit count true None e = refl
 not_asked limit count true (Some Stopped) e = refl
@@ -168,7 +186,8 @@ held_if_above limit true None e = absurd (false≢true e)
 held_if_above limit false None e = absurd (false≢true e)
 held_if_above limit b (Some t) e = refl
 
-pub fits_sources_asked : (timing : Timing) (now : ℕ) (asked : Set) (e : ScheduledGroup) → 0 < timing.robustness → IsScheduleOf e.group e.schedule → IsScheduleOf (sources_asked timing now asked e).group (sources_asked timing now asked e).schedule
+pub fits_sources_asked : (timing : Timing) (now : ℕ) (asked : Set) (e : ScheduledGroup) → 0 < timing.robustness → IsScheduleOf e.group e.schedule →
+    IsScheduleOf (sources_asked timing now asked e).group (sources_asked timing now asked e).schedule
 fits_sources_asked timing now asked e positive fits = record {
   exclude_only = fits.exclude_only;
   group_sendings = fits.group_sendings;
@@ -189,19 +208,25 @@ fits_sources_asked timing now asked e positive fits = record {
         some_source-from (has_sendings after) after q.0 (ap is_some is ∙ gets.1) (ap (λ t. ltb 0 (sendings_of t)) is ∙ gets.0)
 
     none_asked : some_source (asked ∩ above timing now e.group) e.group ≡ false → (s : ℕ) → (asked s && above timing now e.group s) ≡ false
-    none_asked none s = false_from_ne_true _ (λ h. true≢false (sym (some_source-from (asked ∩ above timing now e.group) e.group s (held_if_above limit (asked s) (timer_at e.group s) h) h) ∙ none))
+    none_asked none s = false_from_ne_true _
+        (λ h. true≢false (sym (some_source-from (asked ∩ above timing now e.group) e.group s (held_if_above limit (asked s) (timer_at e.group s) h) h) ∙ none))
 
     same : some_source (asked ∩ above timing now e.group) e.group ≡ false → after.sources ≡ e.group.sources
-    same none = same_sources after.sources e.group.sources (λ s. timer_at-sources_asked timing now asked e s ∙ not_asked limit (last_member_count timing) (asked s) (timer_at e.group s) (none_asked none s))
+    same none = same_sources after.sources e.group.sources (λ s. timer_at-sources_asked timing now asked e s ∙
+        not_asked limit (last_member_count timing) (asked s) (timer_at e.group s) (none_asked none s))
 
-    by_some : (b : Bool) → some_source (asked ∩ above timing now e.group) e.group ≡ b → is_some (cond b (Some now) e.schedule.sources_due) ≡ some_source (has_sendings after) after
+    by_some : (b : Bool) → some_source (asked ∩ above timing now e.group) e.group ≡ b → is_some (cond b (Some now) e.schedule.sources_due)
+        ≡ some_source (has_sendings after) after
     by_some true some = sym (gained some)
-    by_some false none = fits.sources_sendings ∙ ap (λ (m : FinMap nat_cmp SourceTimer). list_any (λ s. ltb 0 (sendings_of (map.get m s))) (map.keys m)) (sym (same none))
+    by_some false none = fits.sources_sendings ∙
+        ap (λ (m : FinMap nat_cmp SourceTimer). list_any (λ s. ltb 0 (sendings_of (map.get m s))) (map.keys m)) (sym (same none))
 
-pub fits_acted : (is_querier : Bool) (timing : Timing) (now : ℕ) (query_group : Bool) (query : Set) (e : ScheduledGroup) → 0 < timing.robustness → IsScheduleOf e.group e.schedule → (let after = acted is_querier timing now query_group query e in IsScheduleOf after.group after.schedule)
+pub fits_acted : (is_querier : Bool) (timing : Timing) (now : ℕ) (query_group : Bool) (query : Set) (e : ScheduledGroup) → 0 < timing.robustness →
+    IsScheduleOf e.group e.schedule → (let after = acted is_querier timing now query_group query e in IsScheduleOf after.group after.schedule)
 fits_acted false timing now query_group query e positive fits = fits
 fits_acted true timing now false query e positive fits = fits_sources_asked timing now query e positive fits
-fits_acted true timing now true query e positive fits = fits_sources_asked timing now query (group_asked timing now e) positive (fits_group_asked timing now e positive fits)
+fits_acted true timing now true query e positive fits = fits_sources_asked timing now query (group_asked timing now e) positive
+    (fits_group_asked timing now e positive fits)
 
 -- dropping all
 cleared_sendings : (t : Option SourceTimer) → sendings_of (option_and_then (λ timer. Some (source_cleared timer)) t) ≡ 0
@@ -215,5 +240,6 @@ fits_cleared e = record {
   group_sendings = tt;
   sources_sendings = sym (false_from_ne_true _ (λ some.
       let q = some_source-gives (has_sendings (cleared e).group) (cleared e).group some in
-      false≢true (sym (ap (ltb 0) (ap sendings_of (get-kept (λ s timer. Some (source_cleared timer)) e.group.sources q.0) ∙ cleared_sendings (timer_at e.group q.0))) ∙ q.2)));
+      false≢true (sym (ap (ltb 0) (ap sendings_of (get-kept (λ s timer. Some (source_cleared timer)) e.group.sources q.0) ∙
+      cleared_sendings (timer_at e.group q.0))) ∙ q.2)));
 }

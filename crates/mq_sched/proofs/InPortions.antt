@@ -18,7 +18,8 @@ together_within (suc most) n (x ∷ xs) positive enough =
 pub together : (n : ℕ) (xs : List ℕ) → 0 < n → concat (portions_of n xs) ≡ xs
 together n xs positive = together_within (length xs) n xs positive (omega arith)
 
-first_full : (most n : ℕ) (xs ys : List ℕ) → (0 < length ys → length xs ≡ n) → AllButLast (λ portion. length portion ≡ n) (portions_within most n ys) → AllButLast (λ portion. length portion ≡ n) (xs ∷ portions_within most n ys)
+first_full : (most n : ℕ) (xs ys : List ℕ) → (0 < length ys → length xs ≡ n) → AllButLast (λ portion. length portion ≡ n) (portions_within most n ys)
+    → AllButLast (λ portion. length portion ≡ n) (xs ∷ portions_within most n ys)
 first_full most n xs ys full rest = grind arith
 
 full_within : (most n : ℕ) (xs : List ℕ) → AllButLast (λ portion. length portion ≡ n) (portions_within most n xs)
@@ -39,7 +40,8 @@ same_within most more n [] positive enough also = refl
 same_within zero more n (x ∷ xs) positive enough also = absurd (omega arith)
 same_within (suc most) zero n (x ∷ xs) positive enough also = absurd (omega arith)
 same_within (suc most) (suc more) n (x ∷ xs) positive enough also =
-    ap (λ portions. take n (x ∷ xs) ∷ portions) (same_within most more n (drop n (x ∷ xs)) positive (shorter n most x xs positive enough) (shorter n more x xs positive also))
+    ap (λ portions. take n (x ∷ xs) ∷ portions)
+    (same_within most more n (drop n (x ∷ xs)) positive (shorter n most x xs positive enough) (shorter n more x xs positive also))
 
 -- a full portion is the first, whatever follows
 pub first_portion : (n : ℕ) (portion rest : List ℕ) → 0 < n → length portion ≡ n → portions_of n (portion ++ rest) ≡ portion ∷ portions_of n rest

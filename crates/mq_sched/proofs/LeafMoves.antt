@@ -4,13 +4,17 @@ use Rattle.std.proofs.lemmas.Bool.Decides.{nat_tests}
 use Rattle.mq_sched.specs.DeadlineTree.{leaf_before, leaf_after}
 
 -- a leaf that is not given up is one of those that are left, and its deadline the one that comes there
-pub after_given_up : (last given_up later leaf : ℕ) → last + 1 ≤ given_up → given_up < 2 * last + 2 → 2 * last ≤ later → later < 2 * last + 2 → last + 1 ≤ leaf → leaf < 2 * last + 2 → (leaf ≡ given_up → ⊥)
-    → (last ≤ leaf_after last given_up later leaf) × (leaf_after last given_up later leaf < 2 * last) × (leaf_before last given_up later (leaf_after last given_up later leaf) ≡ leaf)
+pub after_given_up : (last given_up later leaf : ℕ) → last + 1 ≤ given_up → given_up < 2 * last + 2 → 2 * last ≤ later → later < 2 * last + 2 →
+    last + 1 ≤ leaf → leaf < 2 * last + 2 → (leaf ≡ given_up → ⊥)
+    → (last ≤ leaf_after last given_up later leaf) × (leaf_after last given_up later leaf < 2 * last) ×
+    (leaf_before last given_up later (leaf_after last given_up later leaf) ≡ leaf)
 after_given_up last given_up later leaf from below tail end low high other =
     (grind (arith, nat_tests), grind (arith, nat_tests), grind (arith, nat_tests))
 
 -- and each that is left has the deadline of one that was not given up
-pub before_given_up : (last given_up later leaf : ℕ) → last + 1 ≤ given_up → given_up < 2 * last + 2 → 2 * last ≤ later → later < 2 * last + 2 → last ≤ leaf → leaf < 2 * last
-    → (last + 1 ≤ leaf_before last given_up later leaf) × (leaf_before last given_up later leaf < 2 * last + 2) × (leaf_before last given_up later leaf ≡ given_up → ⊥) × (leaf_after last given_up later (leaf_before last given_up later leaf) ≡ leaf)
+pub before_given_up : (last given_up later leaf : ℕ) → last + 1 ≤ given_up → given_up < 2 * last + 2 → 2 * last ≤ later → later < 2 * last + 2 →
+    last ≤ leaf → leaf < 2 * last
+    → (last + 1 ≤ leaf_before last given_up later leaf) × (leaf_before last given_up later leaf < 2 * last + 2) ×
+    (leaf_before last given_up later leaf ≡ given_up → ⊥) × (leaf_after last given_up later (leaf_before last given_up later leaf) ≡ leaf)
 before_given_up last given_up later leaf from below tail end low high =
     (grind (arith, nat_tests), grind (arith, nat_tests), λ same. grind (arith, nat_tests), grind (arith, nat_tests))

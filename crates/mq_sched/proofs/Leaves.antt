@@ -92,7 +92,8 @@ module _ (nodes : List ℕ) (now leaf : ℕ) where
       let at = ap (one_if_due nodes now leaf) same in
       omega (arith, rest, at, sum_from-first (one_if_due nodes now leaf) k from))
       (λ (differs : from ≡ leaf → ⊥).
-      let rest = one_from k (from + 1) (⊎_elim (λ (below : from < leaf). omega arith) (λ (upto : leaf ≤ from). absurd (differs (omega arith))) (cases_lt from leaf)) (omega arith) in
+      let rest = one_from k (from + 1)
+      (⊎_elim (λ (below : from < leaf). omega arith) (λ (upto : leaf ≤ from). absurd (differs (omega arith))) (cases_lt from leaf)) (omega arith) in
       omega (arith, rest, one_off from differs, sum_from-first (one_if_due nodes now leaf) k from))
       (cases_eq from leaf)
 

@@ -1,5 +1,6 @@
 -- The moments of numbers, at the leaves of a tree.
-use Rattle.std.proofs.Common.{ℕ, suc, ◌+◌, ◌-◌, ◌*◌, ◌<◌, ◌≤◌, ◌≡◌, ◌==◌, Bool, true, false, cond, arith, refl, List, [], ◌∷◌, ◌++◌, length, get_or, set, map as list_map, drop, Option, None, Some, is_some, sym, ap, ◌∙◌, ⊎_elim, ◌⊎◌, length-append, length-set}
+use Rattle.std.proofs.Common.{ℕ, suc, ◌+◌, ◌-◌, ◌*◌, ◌<◌, ◌≤◌, ◌≡◌, ◌==◌, Bool, true, false, cond, arith, refl, List, [], ◌∷◌, ◌++◌, length, get_or}
+use Rattle.std.proofs.Common.{set, map as list_map, drop, Option, None, Some, is_some, sym, ap, ◌∙◌, ⊎_elim, ◌⊎◌, length-append, length-set}
 use Rattle.std.specs.Prelude.{MatchOption, if◌then◌else◌, slice_index, nat_le}
 use Rattle.std.specs.List.{All, count_by}
 use Rattle.std.specs.Ordering.{nat_cmp, eq_by_cmp}
@@ -7,7 +8,8 @@ use Rattle.std.specs.Cmp.{nat_cmp_total}
 use Rattle.std.specs.FinMap as map
 use Rattle.std.proofs.lemmas.Bool.{cases_lt, cases_eq, eq-eqb, ne_eqb, lt-ltb, le-ltb, le-leb, lt-leb, false≢true}
 use Rattle.std.proofs.lemmas.Bool.Decides.{nat_tests}
-use Rattle.std.proofs.lemmas.List.{get_or_read, get_or-drop, length-drop, get_or_default, get_or_past, get_or-set_same, get_or-set_other, get_or_append_left, get_or_push}
+use Rattle.std.proofs.lemmas.List.{get_or_read, get_or-drop, length-drop, get_or_default, get_or_past, get_or-set_same, get_or-set_other}
+use Rattle.std.proofs.lemmas.List.{get_or_append_left, get_or_push}
 use Rattle.std.proofs.lemmas.List.Folds.{list_any_at}
 use Rattle.std.proofs.lemmas.List.Sums.{sum_by-cons}
 use Rattle.std.proofs.lemmas.Option.{same_Some}
@@ -33,7 +35,9 @@ once-by_place f (x ∷ xs) base q tells =
     let first = tells 0 (omega arith) in
     ⊎_elim
     (λ (same : x ≡ q).
-    let none = count-none (λ other. other == q) xs (λ k d here. ne_eqb (get_or xs k d) q (λ equal. let next = tells (suc k) (omega (arith, here)) in absurd (omega (arith, first, next, ap f (same ∙ sym equal ∙ get_or_default xs k d 0 here))))) in
+    let none = count-none (λ other. other == q) xs
+    (λ k d here. ne_eqb (get_or xs k d) q (λ equal. let next = tells (suc k) (omega (arith, here)) in
+    absurd (omega (arith, first, next, ap f (same ∙ sym equal ∙ get_or_default xs k d 0 here))))) in
     let one : cond {A = ℕ} (x == q) 1 0 ≡ 1 = ap (λ (b : Bool). cond b 1 0) (eq-eqb x q same) in
     omega (arith, parts, one, none))
     (λ (differs : x ≡ q → ⊥).
@@ -59,7 +63,8 @@ module _ (nodes leaves numbers : List ℕ) (count : ℕ) (known : AreNumbered le
       rw (leaf-told leaf q is, le-leb count leaf is.from, lt-ltb leaf (2 * count) is.below, eq-eqb (get_or numbers leaf 0) q is.has) refl
 
   -- a number has a leaf, or none has it
-  pub moment-cases : (q : ℕ) → ((leaf : ℕ) × IsLeafOf numbers count leaf q) ⊎ (((leaf : ℕ) → IsLeafOf numbers count leaf q → ⊥) × (moment_at nodes leaves numbers count q ≡ None))
+  pub moment-cases : (q : ℕ) → ((leaf : ℕ) × IsLeafOf numbers count leaf q) ⊎
+      (((leaf : ℕ) → IsLeafOf numbers count leaf q → ⊥) × (moment_at nodes leaves numbers count q ≡ None))
   moment-cases q = grind (arith, leaf-told, lt-leb, le-leb, lt-ltb, ne_eqb, cases_eq, le-ltb, cases_lt)
 
   -- the numbers that are there
@@ -78,7 +83,9 @@ module _ (nodes leaves numbers : List ℕ) (count : ℕ) (known : AreNumbered le
       let leaf = there.0 in
       let is = there.1 in
       let at = dense-at leaf is.from ∙ is.has in
-      rw (list_any_at (eq_by_cmp nat_cmp q) (drop count numbers) (leaf - count) 0 (omega (arith, is.from, is.below, known.size, length-drop count numbers)) (same-key q (get_or (drop count numbers) (leaf - count) 0) (sym at))) refl)
+      rw (list_any_at (eq_by_cmp nat_cmp q) (drop count numbers)
+      (leaf - count) 0 (omega (arith, is.from, is.below, known.size, length-drop count numbers))
+      (same-key q (get_or (drop count numbers) (leaf - count) 0) (sym at))) refl)
       (λ (absent : ((leaf : ℕ) → IsLeafOf numbers count leaf q → ⊥) × (moment_at nodes leaves numbers count q ≡ None)).
       rw absent.1 (neither _))
       (moment-cases q)
@@ -88,7 +95,8 @@ module _ (nodes leaves numbers : List ℕ) (count : ℕ) (known : AreNumbered le
       neither false = refl
 
   -- whether a number is due, by the leaf that is told
-  pub due-at : (now q : ℕ) → IsLeafOf numbers count (get_or leaves q 0) q → is_number_due (moments_at nodes leaves numbers count) now q ≡ nat_le (get_or nodes (get_or leaves q 0) 0) now
+  pub due-at : (now q : ℕ) → IsLeafOf numbers count (get_or leaves q 0) q → is_number_due (moments_at nodes leaves numbers count) now q
+      ≡ nat_le (get_or nodes (get_or leaves q 0) 0) now
   due-at now q is = ap (has_come now) (get-moments_at q ∙ moment-there (get_or leaves q 0) q is)
 
   -- and whether it is there
@@ -114,16 +122,22 @@ module _ (nodes leaves numbers : List ℕ) (count : ℕ) (known : AreNumbered le
       let is = there.1 in
       let held : map.contains_key (moments_at nodes leaves numbers count) q ≡ true = ap is_some (get-moments_at q ∙ moment-there leaf q is) in
       let at = dense-at leaf is.from ∙ is.has in
-      let some = count-some (λ other. other == q) (drop count numbers) (leaf - count) 0 (omega (arith, is.from, is.below, known.size, length-drop count numbers)) (eq-eqb (get_or (drop count numbers) (leaf - count) 0) q at) in
-      let once = once-by_place (λ n. get_or leaves n 0) (drop count numbers) count q (λ k here. leaf-told (count + k) (get_or (drop count numbers) k 0) (dense-leaf k 0 here)) in
+      let some = count-some (λ other. other == q) (drop count numbers)
+      (leaf - count) 0 (omega (arith, is.from, is.below, known.size, length-drop count numbers)) (eq-eqb (get_or (drop count numbers) (leaf - count) 0) q at) in
+      let once = once-by_place (λ n. get_or leaves n 0)
+      (drop count numbers) count q (λ k here. leaf-told (count + k) (get_or (drop count numbers) k 0) (dense-leaf k 0 here)) in
       rw held (omega (arith, some, once)))
       (λ (absent : ((leaf : ℕ) → IsLeafOf numbers count leaf q → ⊥) × (moment_at nodes leaves numbers count q ≡ None)).
       let gone : map.contains_key (moments_at nodes leaves numbers count) q ≡ false = ap is_some (get-moments_at q ∙ absent.1) in
-      rw gone (count-none (λ other. other == q) (drop count numbers) (λ k d here. ne_eqb (get_or (drop count numbers) k d) q (λ equal. let is = dense-leaf k d here in absent.0 (count + k) (record { from = is.from; below = is.below; has = is.has ∙ equal })))))
+      rw gone (count-none (λ other. other == q) (drop count numbers)
+      (λ k d here. ne_eqb (get_or (drop count numbers) k d) q
+      (λ equal. let is = dense-leaf k d here in absent.0 (count + k) (record { from = is.from; below = is.below; has = is.has ∙ equal })))))
       (moment-cases q)
 
   -- the earliest of all moments is at the top
-  pub earliest_of_numbers : (top : Option ℕ) → map.len (moments_at nodes leaves numbers count) ≡ count → MatchOption top (count ≡ 0) (IsEarliestLeaf nodes count) → MatchOption top (moments_at nodes leaves numbers count ≡ map.empty) (IsEarliestMoment (moments_at nodes leaves numbers count))
+  pub earliest_of_numbers : (top : Option ℕ) → map.len (moments_at nodes leaves numbers count) ≡ count →
+      MatchOption top (count ≡ 0) (IsEarliestLeaf nodes count) → MatchOption top (moments_at nodes leaves numbers count ≡ map.empty)
+      (IsEarliestMoment (moments_at nodes leaves numbers count))
   earliest_of_numbers None counted none = map.empty_of_len (moments_at nodes leaves numbers count) (counted ∙ none)
   earliest_of_numbers (Some moment) counted top = record {
     is_one =
@@ -134,7 +148,8 @@ module _ (nodes leaves numbers : List ℕ) (count : ℕ) (known : AreNumbered le
         λ number other is.
         ⊎_elim
         (λ (there : (leaf : ℕ) × IsLeafOf numbers count leaf number).
-        let same : get_or nodes there.0 0 ≡ other = same_Some (get_or nodes there.0 0) other (sym (moment-there there.0 number there.1) ∙ sym (get-moments_at number) ∙ is) in
+        let same : get_or nodes there.0 0 ≡ other =
+        same_Some (get_or nodes there.0 0) other (sym (moment-there there.0 number there.1) ∙ sym (get-moments_at number) ∙ is) in
         omega (arith, same, top.least there.0 there.1.from there.1.below))
         (λ (absent : ((leaf : ℕ) → IsLeafOf numbers count leaf number → ⊥) × (moment_at nodes leaves numbers count number ≡ None)).
         let clash : None ≡ Some other = sym absent.1 ∙ sym (get-moments_at number) ∙ is in
@@ -143,7 +158,8 @@ module _ (nodes leaves numbers : List ℕ) (count : ℕ) (known : AreNumbered le
   }
 
   -- the numbers whose leaves are due
-  module _ (now : ℕ) (found : List ℕ) (due : (leaf : ℕ) → count_by (λ other. (count + other) == leaf) found ≡ (if is_leaf_due nodes count now leaf then 1 else 0)) where
+  module _ (now : ℕ) (found : List ℕ)
+      (due : (leaf : ℕ) → count_by (λ other. (count + other) == leaf) found ≡ (if is_leaf_due nodes count now leaf then 1 else 0)) where
     pub found_behind : All (λ behind. behind < length (drop count numbers)) found
     found_behind k d here =
         let leaf = count + get_or found k d in
@@ -154,7 +170,8 @@ module _ (nodes leaves numbers : List ℕ) (count : ℕ) (known : AreNumbered le
         (λ (past : 2 * count ≤ leaf). let none = rw (le-leb count leaf (omega arith), le-ltb leaf (2 * count) past) at counted in absurd (omega arith))
         (cases_lt leaf (2 * count))
 
-    pub due-numbers : (q : ℕ) → times q (list_map (slice_index (drop count numbers)) found) ≡ (if is_number_due (moments_at nodes leaves numbers count) now q then 1 else 0)
+    pub due-numbers : (q : ℕ) → times q (list_map (slice_index (drop count numbers)) found)
+        ≡ (if is_number_due (moments_at nodes leaves numbers count) now q then 1 else 0)
     due-numbers q =
         count-map (λ other. other == q) (slice_index (drop count numbers)) found
         ∙ ⊎_elim
@@ -166,8 +183,12 @@ module _ (nodes leaves numbers : List ℕ) (count : ℕ) (known : AreNumbered le
         let other = get_or found k d in
         let named = dense-leaf other 0 (found_behind k d here) in
         ⊎_elim
-        (λ (equal : count + other ≡ leaf). rw (eq-eqb (count + other) leaf equal) (eq-eqb (get_or (drop count numbers) other 0) q (sym named.has ∙ ap (λ l. get_or numbers l 0) equal ∙ is.has)))
-        (λ (differs : count + other ≡ leaf → ⊥). rw (ne_eqb (count + other) leaf differs) (ne_eqb (get_or (drop count numbers) other 0) q (λ equal. differs (sym (leaf-told (count + other) (get_or (drop count numbers) other 0) named) ∙ ap (λ n. get_or leaves n 0) equal ∙ leaf-told leaf q is))))
+        (λ (equal : count + other ≡ leaf). rw (eq-eqb (count + other) leaf equal)
+        (eq-eqb (get_or (drop count numbers) other 0) q (sym named.has ∙ ap (λ l. get_or numbers l 0) equal ∙ is.has)))
+        (λ (differs : count + other ≡ leaf → ⊥). rw (ne_eqb (count + other) leaf differs)
+        (ne_eqb (get_or (drop count numbers) other 0) q
+        (λ equal. differs (sym (leaf-told (count + other) (get_or (drop count numbers) other 0) named) ∙ ap (λ n. get_or leaves n 0) equal ∙
+        leaf-told leaf q is))))
         (cases_eq (count + other) leaf)) in
         let told = rw (le-leb count leaf is.from, lt-ltb leaf (2 * count) is.below) at (due leaf) in
         rw (get-moments_at q, moment-there leaf q is) (agree ∙ told))
@@ -177,7 +198,8 @@ module _ (nodes leaves numbers : List ℕ) (count : ℕ) (known : AreNumbered le
         (λ k d here.
         let other = get_or found k d in
         let named = dense-leaf other 0 (found_behind k d here) in
-        ne_eqb (get_or (drop count numbers) other 0) q (λ equal. absent.0 (count + other) (record { from = named.from; below = named.below; has = named.has ∙ equal })))))
+        ne_eqb (get_or (drop count numbers) other 0) q
+        (λ equal. absent.0 (count + other) (record { from = named.from; below = named.below; has = named.has ∙ equal })))))
         (moment-cases q)
 
   -- two leaves have two numbers
@@ -185,7 +207,10 @@ module _ (nodes leaves numbers : List ℕ) (count : ℕ) (known : AreNumbered le
   one-leaf leaf other q is too = sym (leaf-told leaf q is) ∙ leaf-told other q too
 
 -- a number comes, with the last leaf
-module _ (nodes after leaves numbers : List ℕ) (count n first due : ℕ) (known : AreNumbered leaves numbers count) (within : n < length leaves) (absent : (leaf : ℕ) → IsLeafOf numbers count leaf n → ⊥) (first_is : first ≡ get_or numbers count n) (last : get_or after (2 * count + 1) 0 ≡ due) (moved : 0 < count → get_or after (2 * count) 0 ≡ get_or nodes count 0) (others : (leaf : ℕ) → count < leaf → leaf < 2 * count → get_or after leaf 0 ≡ get_or nodes leaf 0) where
+module _ (nodes after leaves numbers : List ℕ) (count n first due : ℕ) (known : AreNumbered leaves numbers count) (within : n < length leaves)
+    (absent : (leaf : ℕ) → IsLeafOf numbers count leaf n → ⊥) (first_is : first ≡ get_or numbers count n)
+    (last : get_or after (2 * count + 1) 0 ≡ due) (moved : 0 < count → get_or after (2 * count) 0 ≡ get_or nodes count 0)
+    (others : (leaf : ℕ) → count < leaf → leaf < 2 * count → get_or after leaf 0 ≡ get_or nodes leaf 0) where
   abbrev pub grown_leaves : List ℕ
   grown_leaves = set (set leaves first (2 * count)) n (2 * count + 1)
 
@@ -207,7 +232,8 @@ module _ (nodes after leaves numbers : List ℕ) (count n first due : ℕ) (know
 
   at_others : (leaf : ℕ) → leaf < 2 * count → get_or grown_numbers leaf 0 ≡ get_or numbers leaf 0
   at_others leaf below =
-      get_or_append_left (numbers ++ first ∷ []) (n ∷ []) 0 leaf (omega (arith, sizes, below)) ∙ get_or_append_left numbers (first ∷ []) 0 leaf (omega (arith, known.size, below))
+      get_or_append_left (numbers ++ first ∷ []) (n ∷ []) 0 leaf (omega (arith, sizes, below)) ∙
+      get_or_append_left numbers (first ∷ []) 0 leaf (omega (arith, known.size, below))
 
   first_within : 0 < count → first < length leaves
   first_within some = rw (sym (first_leaf some).has) (known.below count (omega arith) (omega (arith, some)))
@@ -226,7 +252,8 @@ module _ (nodes after leaves numbers : List ℕ) (count n first due : ℕ) (know
         (λ (new : 2 * count ≤ leaf).
         ⊎_elim
         (λ (is : leaf ≡ 2 * count). omega (arith, all, ap (λ l. get_or grown_numbers l 0) is, at_first, first_within (omega (arith, from, is))))
-        (λ (differs : leaf ≡ 2 * count → ⊥). let is : leaf ≡ 2 * count + 1 = omega (arith, new, below, differs) in omega (arith, all, ap (λ l. get_or grown_numbers l 0) is, at_last, within))
+        (λ (differs : leaf ≡ 2 * count → ⊥). let is : leaf ≡ 2 * count + 1 = omega (arith, new, below, differs) in
+        omega (arith, all, ap (λ l. get_or grown_numbers l 0) is, at_last, within))
         (cases_eq leaf (2 * count)))
         (cases_lt leaf (2 * count));
     leaf =
@@ -236,7 +263,13 @@ module _ (nodes after leaves numbers : List ℕ) (count n first due : ℕ) (know
         let number = get_or numbers leaf 0 in
         let own : IsLeafOf numbers count leaf number = record { from = omega (arith, from); below = old; has = refl } in
         let not_n : number ≡ n → ⊥ = λ same. absent leaf (record { from = own.from; below = old; has = same }) in
-        let not_first : number ≡ first → ⊥ = λ same. absurd (omega (arith, from, one-leaf nodes leaves numbers count known leaf count first (record { from = own.from; below = old; has = same }) (first_leaf (omega (arith, from, old))))) in
+        let not_first : number ≡ first →
+        ⊥ = λ same. absurd (omega (
+          arith,
+          from,
+          one-leaf nodes leaves numbers count known leaf count first (record { from = own.from; below = old; has = same })
+              (first_leaf (omega (arith, from, old))),
+        )) in
         ap (λ m. get_or grown_leaves m 0) (at_others leaf old)
         ∙ get_or-set_other (set leaves first (2 * count)) n number (2 * count + 1) 0 not_n
         ∙ get_or-set_other leaves first number (2 * count) 0 not_first
@@ -268,7 +301,12 @@ module _ (nodes after leaves numbers : List ℕ) (count n first due : ℕ) (know
       (λ (same : leaf ≡ count).
       let some : 0 < count = omega (arith, is.below, same) in (
         2 * count,
-        record { from = omega (arith, some); below = omega arith; has = at_first ∙ sym (first_leaf some).has ∙ ap (λ l. get_or numbers l 0) (sym same) ∙ is.has },
+        record {
+          from = omega (arith, some);
+          below = omega arith;
+          has = at_first ∙ sym (first_leaf some).has ∙ ap (λ l. get_or numbers l 0) (sym same)
+              ∙ is.has;
+        },
         moved some ∙ ap (λ l. get_or nodes l 0) (sym same),
       ))
       (λ (differs : leaf ≡ count → ⊥). (
@@ -282,7 +320,8 @@ module _ (nodes after leaves numbers : List ℕ) (count n first due : ℕ) (know
   left_leaf : (leaf q : ℕ) → IsLeafOf grown_numbers (count + 1) leaf q → (leaf ≡ 2 * count + 1) ⊎ ((old : ℕ) × IsLeafOf numbers count old q)
   left_leaf leaf q is = grind (arith, at_others, first_leaf, at_first, cases_eq, cases_lt)
 
-  pub moment-made : (q : ℕ) → map.get (moments_at after grown_leaves grown_numbers (count + 1)) q ≡ map.get (map.insert (moments_at nodes leaves numbers count) n due) q
+  pub moment-made : (q : ℕ) → map.get (moments_at after grown_leaves grown_numbers (count + 1)) q
+      ≡ map.get (map.insert (moments_at nodes leaves numbers count) n due) q
   moment-made q =
       let here = moment-there after grown_leaves grown_numbers (count + 1) AreNumbered-grown in
       get-moments_at after grown_leaves grown_numbers (count + 1) AreNumbered-grown q
@@ -298,8 +337,10 @@ module _ (nodes after leaves numbers : List ℕ) (count n first due : ℕ) (know
       (λ (none : ((leaf : ℕ) → IsLeafOf numbers count leaf q → ⊥) × (moment_at nodes leaves numbers count q ≡ None)).
       ⊎_elim
       (λ (there : (leaf : ℕ) × IsLeafOf grown_numbers (count + 1) leaf q).
-      absurd (⊎_elim (λ (new : there.0 ≡ 2 * count + 1). differs (sym there.1.has ∙ ap (λ l. get_or grown_numbers l 0) new ∙ at_last)) (λ (old : (old : ℕ) × IsLeafOf numbers count old q). none.0 old.0 old.1) (left_leaf there.0 q there.1)))
-      (λ (still : ((leaf : ℕ) → IsLeafOf grown_numbers (count + 1) leaf q → ⊥) × (moment_at after grown_leaves grown_numbers (count + 1) q ≡ None)). still.1 ∙ sym none.1)
+      absurd (⊎_elim (λ (new : there.0 ≡ 2 * count + 1). differs (sym there.1.has ∙ ap (λ l. get_or grown_numbers l 0) new ∙ at_last))
+      (λ (old : (old : ℕ) × IsLeafOf numbers count old q). none.0 old.0 old.1) (left_leaf there.0 q there.1)))
+      (λ (still : ((leaf : ℕ) → IsLeafOf grown_numbers (count + 1) leaf q → ⊥) × (moment_at after grown_leaves grown_numbers (count + 1) q ≡ None)).
+      still.1 ∙ sym none.1)
       (moment-cases after grown_leaves grown_numbers (count + 1) AreNumbered-grown q))
       (moment-cases nodes leaves numbers count known q)))
       (cases_eq q n)
@@ -309,13 +350,16 @@ module _ (nodes after leaves numbers : List ℕ) (count n first due : ℕ) (know
   moments-made = map.same_map nat_cmp_total map.nat_cmp-IsAntisymmetric _ _ moment-made
 
 -- a number has another moment
-module _ (nodes after leaves numbers : List ℕ) (count n leaf due : ℕ) (known : AreNumbered leaves numbers count) (own : IsLeafOf numbers count leaf n) (changed : get_or after leaf 0 ≡ due) (others : (other : ℕ) → count ≤ other → other < 2 * count → (other ≡ leaf → ⊥) → get_or after other 0 ≡ get_or nodes other 0) where
+module _ (nodes after leaves numbers : List ℕ) (count n leaf due : ℕ) (known : AreNumbered leaves numbers count) (own : IsLeafOf numbers count leaf n)
+    (changed : get_or after leaf 0 ≡ due) (others : (other : ℕ) → count ≤ other → other < 2 * count → (other ≡ leaf → ⊥) →
+    get_or after other 0 ≡ get_or nodes other 0) where
   moment-changed : (q : ℕ) → map.get (moments_at after leaves numbers count) q ≡ map.get (map.insert (moments_at nodes leaves numbers count) n due) q
   moment-changed q =
       get-moments_at after leaves numbers count known q
       ∙ ⊎_elim
       (λ (same : q ≡ n).
-      rw (same-key q n same) (moment-there after leaves numbers count known leaf q (record { from = own.from; below = own.below; has = own.has ∙ sym same }) ∙ ap Some changed))
+      rw (same-key q n same)
+      (moment-there after leaves numbers count known leaf q (record { from = own.from; below = own.below; has = own.has ∙ sym same }) ∙ ap Some changed))
       (λ (differs : q ≡ n → ⊥).
       rw (other-key q n differs, get-moments_at nodes leaves numbers count known q)
       (⊎_elim
@@ -336,21 +380,36 @@ module _ (nodes after leaves numbers : List ℕ) (count n leaf due : ℕ) (known
   moments-changed = map.same_map nat_cmp_total map.nat_cmp-IsAntisymmetric _ _ moment-changed
 
 -- a number goes, and its leaf is given up
-module _ (nodes after leaves given numbers kept : List ℕ) (last n leaf later : ℕ) (known : AreNumbered leaves numbers (last + 1)) (own : IsLeafOf numbers (last + 1) leaf n) (tail : 2 * last ≤ later) (end : later < 2 * last + 2) (size : length kept ≡ 2 * last) (room : length given ≡ length leaves)
+module _ (nodes after leaves given numbers kept : List ℕ) (last n leaf later : ℕ) (known : AreNumbered leaves numbers (last + 1))
+    (own : IsLeafOf numbers (last + 1) leaf n) (tail : 2 * last ≤ later) (end : later < 2 * last + 2) (size : length kept ≡ 2 * last)
+    (room : length given ≡ length leaves)
     (stands : (other : ℕ) → last ≤ other → other < 2 * last → get_or after other 0 ≡ get_or nodes (leaf_before last leaf later other) 0)
-    (puts : (other : ℕ) → last < other → other < 2 * last + 2 → (other ≡ leaf → ⊥) → leaf_after last leaf later other < 2 * last → get_or kept (leaf_after last leaf later other) 0 ≡ get_or numbers other 0)
-    (gives : (other : ℕ) → last < other → other < 2 * last + 2 → (other ≡ leaf → ⊥) → get_or given (get_or numbers other 0) 0 ≡ leaf_after last leaf later other) where
+    (puts : (other : ℕ) → last < other → other < 2 * last + 2 → (other ≡ leaf → ⊥) → leaf_after last leaf later other < 2 * last →
+    get_or kept (leaf_after last leaf later other) 0 ≡ get_or numbers other 0)
+    (gives : (other : ℕ) → last < other → other < 2 * last + 2 → (other ≡ leaf → ⊥) → get_or given (get_or numbers other 0) 0
+    ≡ leaf_after last leaf later other) where
   -- where a leaf that is left was
-  was_leaf : (other : ℕ) → last ≤ other → other < 2 * last → (old : ℕ) × ((last < old) × (old < 2 * last + 2) × (old ≡ leaf → ⊥) × (leaf_after last leaf later old ≡ other) × (old ≡ leaf_before last leaf later other))
+  was_leaf : (other : ℕ) → last ≤ other → other < 2 * last → (old : ℕ) ×
+      ((last < old) × (old < 2 * last + 2) × (old ≡ leaf → ⊥) × (leaf_after last leaf later old ≡ other) × (old ≡ leaf_before last leaf later other))
   was_leaf other from below = grind (arith, before_given_up)
 
-  kept-at : (other : ℕ) → last ≤ other → other < 2 * last → (old : ℕ) × (IsLeafOf numbers (last + 1) old (get_or kept other 0) × (old ≡ leaf → ⊥) × (leaf_after last leaf later old ≡ other) × (get_or after other 0 ≡ get_or nodes old 0))
+  kept-at : (other : ℕ) → last ≤ other → other < 2 * last → (old : ℕ) ×
+      (IsLeafOf numbers (last + 1) old (get_or kept other 0) × (old ≡ leaf → ⊥) × (leaf_after last leaf later old ≡ other) ×
+      (get_or after other 0 ≡ get_or nodes old 0))
   kept-at other from below =
       let was = was_leaf other from below in
       let old = was.0 in
       let put = puts old was.1.0 was.1.1 was.1.2 (omega (arith, was.1.3, below)) in
-      let there : get_or kept other 0 ≡ get_or numbers old 0 = ap (λ l. get_or kept l 0) (sym was.1.3) ∙ put in
-      (old, (record { from = omega (arith, was.1.0); below = omega (arith, was.1.1); has = sym there }, was.1.2, was.1.3, stands other from below ∙ ap (λ l. get_or nodes l 0) (sym was.1.4)))
+      let there : get_or kept other 0 ≡ get_or numbers old 0 = ap (λ l. get_or kept l 0) (sym was.1.3) ∙ put in (
+        old,
+        (
+          record { from = omega (arith, was.1.0); below = omega (arith, was.1.1); has = sym there },
+          was.1.2,
+          was.1.3,
+          stands other from below ∙
+              ap (λ l. get_or nodes l 0) (sym was.1.4),
+        ),
+      )
 
   pub AreNumbered-left : AreNumbered given kept last
   AreNumbered-left = record {
@@ -373,7 +432,9 @@ module _ (nodes after leaves given numbers kept : List ℕ) (last n leaf later :
       let other = there.0 in
       let was = kept-at other there.1.from there.1.below in
       let old : IsLeafOf numbers (last + 1) was.0 q = record { from = was.1.0.from; below = was.1.0.below; has = was.1.0.has ∙ there.1.has } in
-      let differs : q ≡ n → ⊥ = λ same. was.1.1 (one-leaf nodes leaves numbers (last + 1) known was.0 leaf n (record { from = old.from; below = old.below; has = old.has ∙ same }) own) in
+      let differs : q ≡ n →
+      ⊥ = λ same. was.1.1 (one-leaf nodes leaves numbers (last + 1) known was.0 leaf n
+      (record { from = old.from; below = old.below; has = old.has ∙ same }) own) in
       rw (other-key q n differs)
       (moment-there after given kept last AreNumbered-left other q there.1
       ∙ ap Some was.1.3
@@ -390,7 +451,8 @@ module _ (nodes after leaves given numbers kept : List ℕ) (last n leaf later :
       let old = there.0 in
       let off : old ≡ leaf → ⊥ = λ equal. differs (sym there.1.has ∙ ap (λ l. get_or numbers l 0) equal ∙ own.has) in
       let goes = after_given_up last leaf later old own.from (omega (arith, own.below)) tail end there.1.from (omega (arith, there.1.below)) off in
-      absurd (none.0 (leaf_after last leaf later old) (record { from = goes.0; below = goes.1; has = puts old (omega (arith, there.1.from)) (omega (arith, there.1.below)) off goes.1 ∙ there.1.has })))
+      absurd (none.0 (leaf_after last leaf later old)
+      (record { from = goes.0; below = goes.1; has = puts old (omega (arith, there.1.from)) (omega (arith, there.1.below)) off goes.1 ∙ there.1.has })))
       (λ (neither : ((old : ℕ) → IsLeafOf numbers (last + 1) old q → ⊥) × (moment_at nodes leaves numbers (last + 1) q ≡ None)). sym neither.1)
       (moment-cases nodes leaves numbers (last + 1) known q)))
       (cases_eq q n))
@@ -417,12 +479,14 @@ module _ (nodes leaves numbers : List ℕ) (count n : ℕ) (known : AreNumbered 
 
   pub none-of_absent : map.contains_key (moments_at nodes leaves numbers count) n ≡ false → (leaf : ℕ) → IsLeafOf numbers count leaf n → ⊥
   none-of_absent absent leaf is =
-      absurd (false≢true (sym absent ∙ ap is_some (get-moments_at nodes leaves numbers count known n ∙ moment-there nodes leaves numbers count known leaf n is)))
+      absurd (false≢true (sym absent ∙
+      ap is_some (get-moments_at nodes leaves numbers count known n ∙ moment-there nodes leaves numbers count known leaf n is)))
 
   pub first-below : (first : ℕ) → n < length leaves → first ≡ get_or numbers count n → first < length leaves
   first-below first within is = grind (arith, get_or_default, get_or_past, cases_lt)
 
 -- in an index with these moments
 pub leaf-of_held : (nodes : List ℕ) (n : ℕ) {leaves numbers : List ℕ} {count room : ℕ} {s : DeadlinesState} → AreNumbered leaves numbers count
-    → ◌≡◌ {A = DeadlinesState} (record { moments = moments_at nodes leaves numbers count; room = room }) s → map.contains_key s.moments n ≡ true → HasLeaf leaves numbers count n
+    → ◌≡◌ {A = DeadlinesState} (record { moments = moments_at nodes leaves numbers count; room = room }) s → map.contains_key s.moments n ≡ true →
+    HasLeaf leaves numbers count n
 leaf-of_held nodes n known view there = leaf-of_there nodes _ _ _ n known (ap (λ (s : DeadlinesState). map.contains_key s.moments n) view ∙ there)

@@ -29,12 +29,16 @@ module _ (align size : ℕ) (small_align : align ≤ 16) (small_size : size ≤ 
       (up fields (up 8 (up 1 (up align 0 + size) + 1) + 8)
       + up fields (up 1 (up 8 (up (max align 1) 0 + up (max align 1) (up align 0 + 366 * size)) + 8) + 0))
       < 9223372036854775808
-  room_for_collected = below _ (rounded _ _ _ (greater _ _ small_align (greater 1 _ (omega arith) (greater 8 _ (omega arith) (greater fields 1 small_fields (omega arith)))))
+  room_for_collected =
+      below _ (rounded _ _ _ (greater _ _ small_align (greater 1 _ (omega arith) (greater 8 _ (omega arith) (greater fields 1 small_fields (omega arith)))))
       (plus _ _ _ _
-      (rounded fields _ _ small_fields (plus _ _ _ 8 (rounded 8 _ _ (omega arith) (plus _ _ _ 1 (rounded 1 _ _ (omega arith) (plus _ _ _ _ (rounded align 0 0 small_align (omega arith)) small_size)) (omega arith))) (omega arith)))
+      (rounded fields _ _ small_fields
+      (plus _ _ _ 8 (rounded 8 _ _ (omega arith)
+      (plus _ _ _ 1 (rounded 1 _ _ (omega arith) (plus _ _ _ _ (rounded align 0 0 small_align (omega arith)) small_size)) (omega arith))) (omega arith)))
       (rounded fields _ _ small_fields (plus _ _ _ 0 (rounded 1 _ _ (omega arith) (plus _ _ _ 8 (rounded 8 _ _ (omega arith)
       (plus _ _ _ _ (rounded (max align 1) 0 0 (greater align 1 small_align (omega arith)) (omega arith))
-      (rounded (max align 1) _ _ (greater align 1 small_align (omega arith)) (plus _ _ _ _ (rounded align 0 0 small_align (omega arith)) (times size small_size)))))
+      (rounded (max align 1) _ _ (greater align 1 small_align (omega arith))
+      (plus _ _ _ _ (rounded align 0 0 small_align (omega arith)) (times size small_size)))))
       (omega arith))) (omega arith)))))
     where
       below : (n : ℕ) → n ≤ 16 + 16 + 16 + 1 + 16 + 8 + 16 + (16 + (16 + 5856 + 16) + 16 + 8 + 16 + 0 + 16) + 16 → n < 9223372036854775808

@@ -1,5 +1,6 @@
 -- What a round asks for, counts down and leaves.
-use Rattle.std.proofs.Common.{◌≡◌, ℕ, ◌+◌, ◌-◌, ◌<◌, Bool, true, false, cond, not, ◌&&◌, ◌||◌, List, [], ◌∷◌, ◌++◌, filter, Option, None, Some, IfSome, refl, sym, ap, ◌∙◌, arith, eqb, ltb}
+use Rattle.std.proofs.Common.{◌≡◌, ℕ, ◌+◌, ◌-◌, ◌<◌, Bool, true, false, cond, not, ◌&&◌, ◌||◌, List, [], ◌∷◌, ◌++◌, filter, Option, None, Some}
+use Rattle.std.proofs.Common.{IfSome, refl, sym, ap, ◌∙◌, arith, eqb, ltb}
 use Rattle.std.proofs.lemmas.Bool.{false≢true, true≢false, and_parts, eqb-true, ltb-true, ltb-false, leb-false, lt-leb}
 use Rattle.std.specs.Prelude.{map as list_map}
 use Rattle.std.specs.List.{list_any, concat}
@@ -16,7 +17,8 @@ use Rattle.mq_table.proofs.Maps.{get-kept}
 use Rattle.mq_table.proofs.Places.{or_none}
 use Rattle.mq_table.specs.Sendings.{has_sendings, source_counted, sendings_counted}
 use Rattle.mq_sched.specs.Schedule.{QuerySchedule, query_sendings, ScheduleState, ScheduledGroup, IsScheduleOf}
-use Rattle.mq_sched.specs.Sending.{SentQuery, GeneralQuery, GroupQuery, SourcesQuery, is_due, group_due, sources_where, sources_queries, group_messages, source_messages, messages_due, group_counted, after_round}
+use Rattle.mq_sched.specs.Sending.{SentQuery, GeneralQuery, GroupQuery, SourcesQuery, is_due, group_due, sources_where, sources_queries}
+use Rattle.mq_sched.specs.Sending.{group_messages, source_messages, messages_due, group_counted, after_round}
 use Rattle.mq_sched.specs.Portions.{portions_of}
 use Rattle.mq_sched.proofs.InPortions.{together}
 use Rattle.mq_sched.specs.Rounds.{asked_in, asks_group, is_due_at, IsQuietAt}
@@ -33,15 +35,18 @@ asked_in-append : (xs ys : List SentQuery) (s : ℕ) → asked_in (xs ++ ys) s �
 asked_in-append [] ys s = refl
 asked_in-append (GeneralQuery ∷ xs) ys s = asked_in-append xs ys s
 asked_in-append (GroupQuery g f ∷ xs) ys s = asked_in-append xs ys s
-asked_in-append (SourcesQuery g f ss ∷ xs) ys s = ap (λ b. list_any (λ x. eqb s x) ss || b) (asked_in-append xs ys s) ∙ sym (or_assoc (list_any (λ x. eqb s x) ss) (asked_in xs s) (asked_in ys s))
+asked_in-append (SourcesQuery g f ss ∷ xs) ys s = ap (λ b. list_any (λ x. eqb s x) ss || b) (asked_in-append xs ys s) ∙
+    sym (or_assoc (list_any (λ x. eqb s x) ss) (asked_in xs s) (asked_in ys s))
 
 among-append : (xs ys : List ℕ) (s : ℕ) → list_any (λ x. eqb s x) (xs ++ ys) ≡ (list_any (λ x. eqb s x) xs || list_any (λ x. eqb s x) ys)
 among-append [] ys s = refl
 among-append (x ∷ xs) ys s = ap (λ b. eqb s x || b) (among-append xs ys s) ∙ sym (or_assoc (eqb s x) (list_any (λ x. eqb s x) xs) (list_any (λ x. eqb s x) ys))
 
-asked_in-portions : (group : ℕ) (flag : Bool) (portions : List (List ℕ)) (s : ℕ) → asked_in (list_map (SourcesQuery group flag) portions) s ≡ list_any (λ x. eqb s x) (concat portions)
+asked_in-portions : (group : ℕ) (flag : Bool) (portions : List (List ℕ)) (s : ℕ) → asked_in (list_map (SourcesQuery group flag) portions) s
+    ≡ list_any (λ x. eqb s x) (concat portions)
 asked_in-portions group flag [] s = refl
-asked_in-portions group flag (portion ∷ portions) s = ap (λ b. list_any (λ x. eqb s x) portion || b) (asked_in-portions group flag portions s) ∙ sym (among-append portion (concat portions) s)
+asked_in-portions group flag (portion ∷ portions) s = ap (λ b. list_any (λ x. eqb s x) portion || b) (asked_in-portions group flag portions s) ∙
+    sym (among-append portion (concat portions) s)
 
 asked_in-sources_queries : (n group : ℕ) (flag : Bool) (xs : List ℕ) (s : ℕ) → 0 < n → asked_in (sources_queries n group flag xs) s ≡ list_any (λ x. eqb s x) xs
 asked_in-sources_queries n group flag xs s positive = asked_in-portions group flag (portions_of n xs) s ∙ ap (list_any (λ x. eqb s x)) (together n xs positive)
@@ -55,7 +60,8 @@ among-filter p [] s = and-false (p s)
     and-false false = refl
 among-filter p (k ∷ ks) s = front (p k) ∙ one_more (eqb s k) _ (p k) (p s) _ (λ e. ap p (sym (eqb-true s k e))) (among-filter p ks s)
   where
-    front : (b : Bool) → list_any (λ x. eqb s x) (cond b (k ∷ filter p ks) (filter p ks)) ≡ cond b (eqb s k || list_any (λ x. eqb s x) (filter p ks)) (list_any (λ x. eqb s x) (filter p ks))
+    front : (b : Bool) → list_any (λ x. eqb s x) (cond b (k ∷ filter p ks) (filter p ks)) ≡ cond b (eqb s k || list_any (λ x. eqb s x) (filter p ks))
+        (list_any (λ x. eqb s x) (filter p ks))
     front true = refl
     front false = refl
 
@@ -67,24 +73,28 @@ pub among-keys : {X : Type 0} (m : FinMap nat_cmp X) (s : ℕ) → list_any (λ 
 among-keys m s = (λ i. list_any (λ x. unsigned_ties s x i) (map.keys m)) ∙ sym (map.contains_key-keys m s)
 
 -- the sources of both queries of a round together are those that have a sending to go
-both_queries : (t : Option SourceTimer) (some up : Bool) → (is_some t ≡ false → some ≡ false) → (((some && up) && is_some t) || ((some && not up) && is_some t)) ≡ some
+both_queries : (t : Option SourceTimer) (some up : Bool) → (is_some t ≡ false → some ≡ false) →
+    (((some && up) && is_some t) || ((some && not up) && is_some t)) ≡ some
 both_queries t some up held = grind (arith, true≢false)
 
 no_sendings : (t : Option SourceTimer) → is_some t ≡ false → ltb 0 (sendings_of t) ≡ false
 no_sendings None e = refl
 no_sendings (Some t) e = absurd (true≢false e)
 
-asked_in-sources_where : (n group : ℕ) (flag : Bool) (test : Set) (g : GroupState) (s : ℕ) → 0 < n → asked_in (sources_queries n group flag (sources_where test g)) s ≡ (test s && is_some (timer_at g s))
+asked_in-sources_where : (n group : ℕ) (flag : Bool) (test : Set) (g : GroupState) (s : ℕ) → 0 < n →
+    asked_in (sources_queries n group flag (sources_where test g)) s ≡ (test s && is_some (timer_at g s))
 asked_in-sources_where n group flag test g s positive = grind (arith, asked_in-sources_queries, among-filter, among-keys)
 
-asked_in-source_messages : (n : ℕ) (timing : Timing) (now group : ℕ) (e : ScheduledGroup) (s : ℕ) → 0 < n → asked_in (source_messages n timing now group e) s ≡ (is_due now e.schedule.sources_due && has_sendings e.group s)
+asked_in-source_messages : (n : ℕ) (timing : Timing) (now group : ℕ) (e : ScheduledGroup) (s : ℕ) → 0 < n →
+    asked_in (source_messages n timing now group e) s ≡ (is_due now e.schedule.sources_due && has_sendings e.group s)
 asked_in-source_messages n timing now group e s positive = grind (arith, asked_in-append, asked_in-sources_where, both_queries, no_sendings)
 
 asked_in-group_messages : (timing : Timing) (now group : ℕ) (e : ScheduledGroup) (s : ℕ) → asked_in (group_messages timing now group e) s ≡ false
 asked_in-group_messages timing now group e s = grind arith
 
 -- a round asks for the sources that have a sending to go, where they are due
-pub asked_in-messages_due : (n : ℕ) (timing : Timing) (now group : ℕ) (e : ScheduledGroup) (s : ℕ) → 0 < n → asked_in (messages_due n timing now group e) s ≡ (is_due now e.schedule.sources_due && has_sendings e.group s)
+pub asked_in-messages_due : (n : ℕ) (timing : Timing) (now group : ℕ) (e : ScheduledGroup) (s : ℕ) → 0 < n →
+    asked_in (messages_due n timing now group e) s ≡ (is_due now e.schedule.sources_due && has_sendings e.group s)
 asked_in-messages_due n timing now group e s positive = grind (arith, asked_in-append, asked_in-group_messages, asked_in-source_messages)
 
 asks_group-append : (xs ys : List SentQuery) → asks_group (xs ++ ys) ≡ (asks_group xs || asks_group ys)
@@ -98,14 +108,16 @@ no_group_query group flag [] = refl
 no_group_query group flag (portion ∷ portions) = no_group_query group flag portions
 
 -- a round asks the group where its query is due
-pub asks_group-messages_due : (n : ℕ) (timing : Timing) (now group : ℕ) (e : ScheduledGroup) → asks_group (messages_due n timing now group e) ≡ is_due now (group_due e.schedule.group_query)
+pub asks_group-messages_due : (n : ℕ) (timing : Timing) (now group : ℕ) (e : ScheduledGroup) → asks_group (messages_due n timing now group e)
+    ≡ is_due now (group_due e.schedule.group_query)
 asks_group-messages_due n timing now group e = grind (arith, asks_group-append, or-false, no_group_query)
 
 abbrev group_after : Bool → GroupState → GroupState
 group_after due g = cond due (sendings_counted g) g
 
 -- the new timer of a source after a round
-pub timer_at-after_round : (timing : Timing) (now : ℕ) (e : ScheduledGroup) (s : ℕ) → timer_at (after_round timing now e).group s ≡ cond (is_due now e.schedule.sources_due) (option_map source_counted (timer_at e.group s)) (timer_at e.group s)
+pub timer_at-after_round : (timing : Timing) (now : ℕ) (e : ScheduledGroup) (s : ℕ) → timer_at (after_round timing now e).group s
+    ≡ cond (is_due now e.schedule.sources_due) (option_map source_counted (timer_at e.group s)) (timer_at e.group s)
 timer_at-after_round timing now e s = grind (arith, get-kept)
 
 one_fewer : (t : Option SourceTimer) → ltb 0 (sendings_of t) ≡ true → sendings_of (option_map source_counted t) + 1 ≡ sendings_of t
@@ -118,31 +130,41 @@ same_deadline : (b : Bool) (t : Option SourceTimer) → deadline_of (cond b (opt
 same_deadline b t = grind arith
 
 -- a source that a round asks for has one sending fewer
-pub counted_down : (n : ℕ) (timing : Timing) (now group : ℕ) (e : ScheduledGroup) (s : ℕ) → 0 < n → asked_in (messages_due n timing now group e) s ≡ true → sendings_of (timer_at (after_round timing now e).group s) + 1 ≡ sendings_of (timer_at e.group s)
+pub counted_down : (n : ℕ) (timing : Timing) (now group : ℕ) (e : ScheduledGroup) (s : ℕ) → 0 < n → asked_in (messages_due n timing now group e) s
+    ≡ true → sendings_of (timer_at (after_round timing now e).group s) + 1 ≡ sendings_of (timer_at e.group s)
 counted_down n timing now group e s positive asked =
     let parts = and_parts _ _ (sym (asked_in-messages_due n timing now group e s positive) ∙ asked) in
-    ap (λ t. sendings_of t + 1) (timer_at-after_round timing now e s ∙ ap (λ b. cond b (option_map source_counted (timer_at e.group s)) (timer_at e.group s)) parts.0)
+    ap (λ t. sendings_of t + 1)
+    (timer_at-after_round timing now e s ∙ ap (λ b. cond b (option_map source_counted (timer_at e.group s)) (timer_at e.group s)) parts.0)
     ∙ one_fewer (timer_at e.group s) parts.1
 
 -- and any other is as it was
-pub others_stay : (n : ℕ) (timing : Timing) (now group : ℕ) (e : ScheduledGroup) (s : ℕ) → 0 < n → asked_in (messages_due n timing now group e) s ≡ false → timer_at (after_round timing now e).group s ≡ timer_at e.group s
+pub others_stay : (n : ℕ) (timing : Timing) (now group : ℕ) (e : ScheduledGroup) (s : ℕ) → 0 < n → asked_in (messages_due n timing now group e) s
+    ≡ false → timer_at (after_round timing now e).group s ≡ timer_at e.group s
 others_stay n timing now group e s positive unasked =
     timer_at-after_round timing now e s ∙ by_due (is_due now e.schedule.sources_due) (sym (asked_in-messages_due n timing now group e s positive) ∙ unasked)
   where
-    by_due : (b : Bool) → (b && has_sendings e.group s) ≡ false → cond b (option_map source_counted (timer_at e.group s)) (timer_at e.group s) ≡ timer_at e.group s
+    by_due : (b : Bool) → (b && has_sendings e.group s) ≡ false → cond b (option_map source_counted (timer_at e.group s)) (timer_at e.group s)
+        ≡ timer_at e.group s
     by_due true is = none_fewer (timer_at e.group s) is
     by_due false is = refl
 
-pub deadlines_stay : (timing : Timing) (now : ℕ) (e : ScheduledGroup) (s : ℕ) → deadline_of (timer_at (after_round timing now e).group s) ≡ deadline_of (timer_at e.group s)
+pub deadlines_stay : (timing : Timing) (now : ℕ) (e : ScheduledGroup) (s : ℕ) → deadline_of (timer_at (after_round timing now e).group s)
+    ≡ deadline_of (timer_at e.group s)
 deadlines_stay timing now e s = ap deadline_of (timer_at-after_round timing now e s) ∙ same_deadline (is_due now e.schedule.sources_due) (timer_at e.group s)
 
-group_one_fewer : (timing : Timing) (now : ℕ) (q : Option QuerySchedule) → IfSome q (λ q. 0 < q.sendings) → is_due now (group_due q) ≡ true → query_sendings (group_counted timing now q) + 1 ≡ query_sendings q
+group_one_fewer : (timing : Timing) (now : ℕ) (q : Option QuerySchedule) → IfSome q (λ q. 0 < q.sendings) → is_due now (group_due q) ≡ true →
+    query_sendings (group_counted timing now q) + 1 ≡ query_sendings q
 group_one_fewer timing now q some due = grind (arith, false≢true, ltb-true, ltb-false)
 
-pub group_counted_down : (n : ℕ) (timing : Timing) (now group : ℕ) (e : ScheduledGroup) → IsScheduleOf e.group e.schedule → asks_group (messages_due n timing now group e) ≡ true → query_sendings (after_round timing now e).schedule.group_query + 1 ≡ query_sendings e.schedule.group_query
-group_counted_down n timing now group e fits asked = group_one_fewer timing now e.schedule.group_query fits.group_sendings (sym (asks_group-messages_due n timing now group e) ∙ asked)
+pub group_counted_down : (n : ℕ) (timing : Timing) (now group : ℕ) (e : ScheduledGroup) → IsScheduleOf e.group e.schedule →
+    asks_group (messages_due n timing now group e) ≡ true → query_sendings (after_round timing now e).schedule.group_query + 1
+    ≡ query_sendings e.schedule.group_query
+group_counted_down n timing now group e fits asked = group_one_fewer timing now e.schedule.group_query fits.group_sendings
+    (sym (asks_group-messages_due n timing now group e) ∙ asked)
 
-pub group_stays : (n : ℕ) (timing : Timing) (now group : ℕ) (e : ScheduledGroup) → asks_group (messages_due n timing now group e) ≡ false → (after_round timing now e).schedule.group_query ≡ e.schedule.group_query
+pub group_stays : (n : ℕ) (timing : Timing) (now group : ℕ) (e : ScheduledGroup) → asks_group (messages_due n timing now group e) ≡ false →
+    (after_round timing now e).schedule.group_query ≡ e.schedule.group_query
 group_stays n timing now group e unasked = grind (arith, asks_group-messages_due)
 
 -- nothing is due after a round
@@ -165,7 +187,9 @@ quiet_is_silent n timing now group e quiet = grind (arith, group_not_due, not_du
 -- and stays as it is
 pub same_count : (timing : Timing) (now : ℕ) (q : Option QuerySchedule) → IfSome q (λ q. now < q.due) → group_counted timing now q ≡ q
 same_count timing now None h = refl
-same_count timing now (Some q) h = ap (λ b. cond b (cond (ltb 1 q.sendings) (Some (record { sendings = q.sendings - 1; due = now + timing.last_member_interval })) None) (Some q)) (lt-leb q.due now h)
+same_count timing now (Some q) h =
+    ap (λ b. cond b (cond (ltb 1 q.sendings) (Some (record { sendings = q.sendings - 1; due = now + timing.last_member_interval })) None) (Some q))
+    (lt-leb q.due now h)
 
 pub same_round : (timing : Timing) (now : ℕ) (e : ScheduledGroup) → IsQuietAt now e.schedule → after_round timing now e ≡ e
 same_round timing now e h = grind (arith, not_due, same_count)

@@ -15,10 +15,14 @@ use Rattle.mq_sched.specs.Sending.{sources_asked, acted, is_due, after_round}
 asked_runs : (limit count : ℕ) (b : Bool) (t : SourceTimer) → is_running (Some (cond b (source_asked limit count t) t)) ≡ is_running (Some t)
 asked_runs limit count b t = grind arith
 
-held_sources_asked : (timing : Timing) (now : ℕ) (asked : Set) (e : ScheduledGroup) → IsWellFormed e.group → IsWellFormed (sources_asked timing now asked e).group
-held_sources_asked timing now asked e = IsWellFormed-replaced e.group e.group.mode (λ s t. cond (asked s) (source_asked (lowered_to timing now) (last_member_count timing) t) t) (λ m. m) (λ s t. asked_runs (lowered_to timing now) (last_member_count timing) (asked s) t)
+held_sources_asked : (timing : Timing) (now : ℕ) (asked : Set) (e : ScheduledGroup) → IsWellFormed e.group →
+    IsWellFormed (sources_asked timing now asked e).group
+held_sources_asked timing now asked e =
+    IsWellFormed-replaced e.group e.group.mode (λ s t. cond (asked s) (source_asked (lowered_to timing now) (last_member_count timing) t) t) (λ m. m)
+    (λ s t. asked_runs (lowered_to timing now) (last_member_count timing) (asked s) t)
 
-pub held_acted : (is_querier : Bool) (timing : Timing) (now : ℕ) (query_group : Bool) (query : Set) (e : ScheduledGroup) → IsWellFormed e.group → IsWellFormed (acted is_querier timing now query_group query e).group
+pub held_acted : (is_querier : Bool) (timing : Timing) (now : ℕ) (query_group : Bool) (query : Set) (e : ScheduledGroup) → IsWellFormed e.group →
+    IsWellFormed (acted is_querier timing now query_group query e).group
 held_acted is_querier timing now query_group query e held = grind (arith, held_sources_asked, IsWellFormed-group_lowered)
 
 counted_runs : (t : SourceTimer) → is_running (Some (source_counted t)) ≡ is_running (Some t)

@@ -1,5 +1,6 @@
 -- How many nodes are written above one that has another deadline.
-use Rattle.std.proofs.Common.{ℕ, zero, suc, ◌+◌, ◌-◌, ◌*◌, ◌/◌, ◌%◌, ◌<◌, ◌≤◌, ◌≡◌, ◌&&◌, Bool, true, false, cond, eqb, leb, not, refl, arith, sym, ap, ◌∙◌, List, length, get_or, set, ⊎_elim}
+use Rattle.std.proofs.Common.{ℕ, zero, suc, ◌+◌, ◌-◌, ◌*◌, ◌/◌, ◌%◌, ◌<◌, ◌≤◌, ◌≡◌, ◌&&◌, Bool, true, false, cond, eqb, leb, not, refl, arith, sym}
+use Rattle.std.proofs.Common.{ap, ◌∙◌, List, length, get_or, set, ⊎_elim}
 use Rattle.std.specs.Bool.{beq}
 use Rattle.std.proofs.lemmas.Bool.{cases_lt, cond-false, cond-true, eq-eqb, eqb-false, eqb-true, le-leb, false≢true, lt-leb, ne_eqb}
 use Rattle.std.proofs.lemmas.List.{get_or-set_other, get_or-set_same}
@@ -25,12 +26,14 @@ module _ (before after : List Bool) where
   same-levels (suc first) (suc second) node low high =
       ap (λ n. cond (leb node 1) 0 (cond (stays before after node) 0 (1 + n))) (same-levels first second (node / 2) (omega (arith, low)) (omega (arith, high)))
 
-  one-level : (node : ℕ) → 1 < node → written_above before after node node ≡ cond (stays before after node) 0 (1 + written_above before after (node / 2) (node / 2))
+  one-level : (node : ℕ) → 1 < node → written_above before after node node
+      ≡ cond (stays before after node) 0 (1 + written_above before after (node / 2) (node / 2))
   unfolding written_above
   one-level node some = grind (arith, same-levels, cond-false, lt-leb)
 
   -- the node above one is written, and those above that
-  pub written-next : (node : ℕ) → 1 < node → stays before after node ≡ false → written_above before after node node ≡ 1 + written_above before after (node / 2) (node / 2)
+  pub written-next : (node : ℕ) → 1 < node → stays before after node ≡ false → written_above before after node node
+      ≡ 1 + written_above before after (node / 2) (node / 2)
   written-next node some goes_on = one-level node some ∙ cond-false (stays before after node) 0 _ goes_on
 
   -- no node is written above one at which the writing ends
@@ -47,7 +50,8 @@ module _ (before after : List Bool) where
   few-levels zero node low = omega arith
   few-levels (suc levels) node low =
       ⊎_elim
-      (λ (top : node < 2). let none = cond-true (leb node 1) 0 (cond (stays before after node) 0 (1 + written_above before after levels (node / 2))) (le-leb node 1 (omega (arith, top))) in omega (arith, none))
+      (λ (top : node < 2). let none = cond-true (leb node 1) 0 (cond (stays before after node) 0 (1 + written_above before after levels (node / 2)))
+      (le-leb node 1 (omega (arith, top))) in omega (arith, none))
       (λ (some : 2 ≤ node).
       let here = cond-false (leb node 1) 0 (cond (stays before after node) 0 (1 + written_above before after levels (node / 2))) (lt-leb node 1 some) in
       let above = few-levels levels (node / 2) (omega (arith, low, some)) in
@@ -61,7 +65,8 @@ module _ (before after : List Bool) where
   written-few node = few-levels node node (omega arith)
 
 -- whether a node has the deadline of the other one below it, by its side
-pub keeps_other-told : (side is_right : Bool) (node : ℕ) → is_right ≡ eqb (node % 2) 1 → not (eqb (cond side (2 * (node / 2)) (2 * (node / 2) + 1)) node) ≡ cond side is_right (not is_right)
+pub keeps_other-told : (side is_right : Bool) (node : ℕ) → is_right ≡ eqb (node % 2) 1 →
+    not (eqb (cond side (2 * (node / 2)) (2 * (node / 2) + 1)) node) ≡ cond side is_right (not is_right)
 keeps_other-told side is_right node is = grind (arith, eqb-true, ne_eqb, eq-eqb, eqb-false, cases_lt)
 
 -- a test of two sides says whether they are the same
@@ -74,11 +79,13 @@ beq-other a b differs same = grind (arith, false≢true)
 both-keep : (side before is_right : Bool) → side ≡ is_right → side ≡ before → (cond before is_right (not is_right) && cond side is_right (not is_right)) ≡ true
 both-keep side before is_right right same = grind (arith, false≢true)
 
-one-does_not : (side before is_right : Bool) → (side ≡ is_right → side ≡ before → ⊥) → (cond before is_right (not is_right) && cond side is_right (not is_right)) ≡ false
+one-does_not : (side before is_right : Bool) → (side ≡ is_right → side ≡ before → ⊥) →
+    (cond before is_right (not is_right) && cond side is_right (not is_right)) ≡ false
 one-does_not side before is_right differs = grind arith
 
 module _ (before after : List Bool) (node : ℕ) (side : Bool) (told : get_or after (node / 2) false ≡ side) where
-  both : stays before after node ≡ (cond (get_or before (node / 2) false) (eqb (node % 2) 1) (not (eqb (node % 2) 1)) && cond side (eqb (node % 2) 1) (not (eqb (node % 2) 1)))
+  both : stays before after node
+      ≡ (cond (get_or before (node / 2) false) (eqb (node % 2) 1) (not (eqb (node % 2) 1)) && cond side (eqb (node % 2) 1) (not (eqb (node % 2) 1)))
   both = grind (arith, keeps_other-told)
 
   -- the writing ends at a node with the deadline of the other one below it, which it had
@@ -93,6 +100,9 @@ module _ (before after : List Bool) (node : ℕ) (side : Bool) (told : get_or af
 pub written-more : (before lefts : List Bool) (from node written : ℕ) (side : Bool) → 1 < node → node / 2 < length lefts
     → get_or lefts (node / 2) false ≡ get_or before (node / 2) false
     → (side ≡ eqb (node % 2) 1 → side ≡ get_or lefts (node / 2) false → ⊥)
-    → ((after : List Bool) → ((i : ℕ) → node ≤ i → get_or after i false ≡ get_or lefts i false) → written_above before after from from ≡ written + written_above before after node node)
-    → (after : List Bool) → ((i : ℕ) → node / 2 ≤ i → get_or after i false ≡ get_or (set lefts (node / 2) side) i false) → written_above before after from from ≡ written + 1 + written_above before after (node / 2) (node / 2)
-written-more before lefts from node written side some within same differs so_far after agrees = grind (arith, get_or-set_same, get_or-set_other, written-next, goes-on)
+    → ((after : List Bool) → ((i : ℕ) → node ≤ i → get_or after i false ≡ get_or lefts i false) → written_above before after from from
+    ≡ written + written_above before after node node)
+    → (after : List Bool) → ((i : ℕ) → node / 2 ≤ i → get_or after i false ≡ get_or (set lefts (node / 2) side) i false) →
+    written_above before after from from ≡ written + 1 + written_above before after (node / 2) (node / 2)
+written-more before lefts from node written side some within same differs so_far after agrees =
+    grind (arith, get_or-set_same, get_or-set_other, written-next, goes-on)

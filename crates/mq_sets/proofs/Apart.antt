@@ -23,11 +23,13 @@ apart-set (e ∷ extents) (suc place) y alone apart = (
 )
 
 -- a row behind all cells has none in common with those within them
-pub apart-behind : {T : Type 0} (cells : List T) (extents : List Extent) (y : Extent) → y.start ≡ length cells → All (IsWithin cells) extents → All (IsApart y) extents
+pub apart-behind : {T : Type 0} (cells : List T) (extents : List Extent) (y : Extent) → y.start ≡ length cells → All (IsWithin cells) extents →
+    All (IsApart y) extents
 apart-behind cells extents y start within = All-weaker (IsWithin cells) (IsApart y) (λ e inside. inr (omega (arith, start, inside))) extents within
 
 -- a row that is no longer than the one whose place it takes
-pub apart-shorter : (extents : List Extent) (place : ℕ) (e y : Extent) → place < length extents → e ≡ get_or extents place e → y.start ≡ e.start → y.length ≤ e.length → AreApart extents → AreApart (set extents place y)
+pub apart-shorter : (extents : List Extent) (place : ℕ) (e y : Extent) → place < length extents → e ≡ get_or extents place e → y.start ≡ e.start →
+    y.length ≤ e.length → AreApart extents → AreApart (set extents place y)
 apart-shorter [] place e y in_list here start short apart = apart
 apart-shorter (x ∷ extents) zero e y in_list here start short apart =
     (All-weaker (IsApart x) (IsApart y) (λ z. by_side z) extents apart.0, apart.1)

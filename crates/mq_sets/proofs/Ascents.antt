@@ -26,7 +26,8 @@ module _ {X : Type 0} (number : X → ℕ) where
   IsAscending-cons x xs above up = AllPairs-cons (λ x y. number x < number y) x xs above up
 
   -- two ascending lists, one after the other
-  pub IsAscending-append : (t : ℕ) (xs ys : List X) → IsAscending number xs → IsAscending number ys → All (λ x. number x < t) xs → All (λ y. t ≤ number y) ys → IsAscending number (xs ++ ys)
+  pub IsAscending-append : (t : ℕ) (xs ys : List X) → IsAscending number xs → IsAscending number ys → All (λ x. number x < t) xs →
+      All (λ y. t ≤ number y) ys → IsAscending number (xs ++ ys)
   IsAscending-append t [] ys up_xs up_ys below above = up_ys
   IsAscending-append t (x ∷ xs) ys up_xs up_ys below above =
       let rest = IsAscending-append t xs ys (IsAscending-tail x xs up_xs) up_ys (All-tail (λ x. number x < t) x xs below) above in

@@ -1,5 +1,6 @@
 -- Items in cells: what a write, an append, an insert and a remove leave of them.
-use Rattle.std.proofs.Common.{ℕ, zero, suc, ◌+◌, ◌<◌, ◌≤◌, ◌≡◌, ◌==◌, Bool, cond, arith, refl, List, [], ◌∷◌, ◌++◌, length, map, take, drop, set, get_or, sym, ap, ◌∙◌, subst, ⊎_elim, length-append}
+use Rattle.std.proofs.Common.{ℕ, zero, suc, ◌+◌, ◌<◌, ◌≤◌, ◌≡◌, ◌==◌, Bool, cond, arith, refl, List, [], ◌∷◌, ◌++◌, length, map, take, drop, set}
+use Rattle.std.proofs.Common.{get_or, sym, ap, ◌∙◌, subst, ⊎_elim, length-append}
 use Rattle.std.specs.List.{All, insert, remove}
 use Rattle.std.proofs.lemmas.Bool.{eq-eqb}
 use Rattle.std.proofs.lemmas.Bool.Decides.{eqb_tells}
@@ -33,7 +34,9 @@ times-some cells cell k d in_list same = grind (arith, get_or-le-sum_by, is_cell
 
 times-past : (cells : List ℕ) (bound cell : ℕ) → All (λ other. other < bound) cells → bound ≤ cell → times cell cells ≡ 0
 times-past cells bound cell below past =
-    let few = sum_by-le (is_cell cell) 0 cells (λ k d in_list. let other = is_cell-other cell (get_or cells k d) (λ same. absurd (omega (arith, past, same, below k d in_list))) in omega (arith, other)) in
+    let few = sum_by-le (is_cell cell) 0 cells
+    (λ k d in_list. let other = is_cell-other cell (get_or cells k d) (λ same. absurd (omega (arith, past, same, below k d in_list))) in
+    omega (arith, other)) in
     omega (arith, few)
 
 module _ {X : Type 0} (P : X → Type 0) (xs : List X) where
@@ -58,7 +61,8 @@ module _ {T : Type 0} where
       flat_map-cons (item_in cells) cell order ∙ rw (here, rest) refl
 
   -- a cell that no item has is written
-  others-read : (cells : List T) (cell : ℕ) (item : T) (order : List ℕ) → times cell order ≡ 0 → map (λ n. get_or (set cells cell item) n item) order ≡ map (λ n. get_or cells n item) order
+  others-read : (cells : List T) (cell : ℕ) (item : T) (order : List ℕ) → times cell order ≡ 0 → map (λ n. get_or (set cells cell item) n item) order
+      ≡ map (λ n. get_or cells n item) order
   others-read cells cell item order none =
       map-agree (λ n. get_or (set cells cell item) n item) (λ n. get_or cells n item) order
       (λ k d in_list. get_or-set_other cells cell (get_or order k d) item item (λ same. absurd (omega (arith, none, times-some order cell k d in_list same))))
@@ -67,7 +71,8 @@ module _ {T : Type 0} where
   within-set cells order cell item within =
       All-weaker (IsCell cells) (IsCell (set cells cell item)) (λ n h. omega (arith, h, length-set cells cell item)) order within
 
-  items_in-set_other : (cells : List T) (order : List ℕ) (cell : ℕ) (item : T) → All (IsCell cells) order → times cell order ≡ 0 → items_in (set cells cell item) order ≡ items_in cells order
+  items_in-set_other : (cells : List T) (order : List ℕ) (cell : ℕ) (item : T) → All (IsCell cells) order → times cell order ≡ 0 →
+      items_in (set cells cell item) order ≡ items_in cells order
   items_in-set_other cells order cell item within none =
       items_in-map (set cells cell item) order item (within-set cells order cell item within)
       ∙ others-read cells cell item order none
@@ -81,9 +86,11 @@ module _ {T : Type 0} where
   -- a cell more at the end
   pub items_in-append : (cells : List T) (order : List ℕ) (item : T) → All (IsCell cells) order → items_in (cells ++ item ∷ []) order ≡ items_in cells order
   items_in-append cells order item within =
-      let after : All (IsCell (cells ++ item ∷ [])) order = All-weaker (IsCell cells) (IsCell (cells ++ item ∷ [])) (λ n h. omega (arith, h, length-append cells (item ∷ []))) order within in
+      let after : All (IsCell (cells ++ item ∷ [])) order = All-weaker (IsCell cells) (IsCell (cells ++ item ∷ []))
+      (λ n h. omega (arith, h, length-append cells (item ∷ []))) order within in
       items_in-map (cells ++ item ∷ []) order item after
-      ∙ map-agree (λ n. get_or (cells ++ item ∷ []) n item) (λ n. get_or cells n item) order (λ k d in_list. get_or_append_left cells (item ∷ []) item (get_or order k d) (within k d in_list))
+      ∙ map-agree (λ n. get_or (cells ++ item ∷ []) n item)
+      (λ n. get_or cells n item) order (λ k d in_list. get_or_append_left cells (item ∷ []) item (get_or order k d) (within k d in_list))
       ∙ sym (items_in-map cells order item within)
 
 -- a cell comes into the order, or leaves it
@@ -107,7 +114,8 @@ module _ {T : Type 0} (cells : List T) (order free : List ℕ) where
     AreSlots-remove is =
         let here : IsCell cells cell = subst (IsCell cells) (sym is) (known.within place cell in_list) in
         record {
-          within = All-append (IsCell cells) (take place order) (drop (suc place) order) (All-take (IsCell cells) place order known.within) (All-drop (IsCell cells) (suc place) order known.within);
+          within = All-append (IsCell cells) (take place order) (drop (suc place) order) (All-take (IsCell cells) place order known.within)
+              (All-drop (IsCell cells) (suc place) order known.within);
           free_within = All-append (IsCell cells) free (cell ∷ []) known.free_within (All-cons (IsCell cells) cell [] here (All-nil (IsCell cells)));
           once =
               λ n.
@@ -125,19 +133,27 @@ module _ {T : Type 0} (cells : List T) (order free : List ℕ) (item : T) where
       record {
         within = within-set cells (cell ∷ order) cell item (All-cons (IsCell cells) cell order last known.within);
         free_within = within-set cells free cell item (All-front (IsCell cells) free (cell ∷ []) known.free_within);
-        once = λ n. omega (arith, known.once n, sum_by-cons (is_cell n) cell order, sum_by-append (is_cell n) free (cell ∷ []), sum_by-cons (is_cell n) cell []);
+        once = λ n. omega (
+          arith,
+          known.once n,
+          sum_by-cons (is_cell n) cell order,
+          sum_by-append (is_cell n) free (cell ∷ []),
+          sum_by-cons (is_cell n) cell [],
+        );
         each = omega (arith, known.each, length-append free (cell ∷ []), length-set cells cell item);
       }
 
   pub kept-filled : (cell : ℕ) → AreSlots cells order (free ++ cell ∷ []) → items_in (set cells cell item) order ≡ items_in cells order
   kept-filled cell known =
-      let none : times cell order ≡ 0 = omega (arith, known.once cell, sum_by-append (is_cell cell) free (cell ∷ []), sum_by-cons (is_cell cell) cell [], is_cell-same cell cell refl) in
+      let none : times cell order ≡ 0 =
+      omega (arith, known.once cell, sum_by-append (is_cell cell) free (cell ∷ []), sum_by-cons (is_cell cell) cell [], is_cell-same cell cell refl) in
       items_in-set_other cells order cell item known.within none
 
   pub AreSlots-appended : (cell : ℕ) → cell ≡ length cells → AreSlots cells order free → AreSlots (cells ++ item ∷ []) (cell ∷ order) free
   AreSlots-appended cell is known =
       let longer = length-append cells (item ∷ []) in
-      let more : (xs : List ℕ) → All (IsCell cells) xs → All (IsCell (cells ++ item ∷ [])) xs = λ xs h. All-weaker (IsCell cells) (IsCell (cells ++ item ∷ [])) (λ n b. omega (arith, b, longer)) xs h in
+      let more : (xs : List ℕ) → All (IsCell cells) xs → All (IsCell (cells ++ item ∷ [])) xs = λ xs h. All-weaker (IsCell cells)
+      (IsCell (cells ++ item ∷ [])) (λ n b. omega (arith, b, longer)) xs h in
       record {
         within = All-cons (IsCell (cells ++ item ∷ [])) cell order (omega (arith, is, longer)) (more order known.within);
         free_within = more free known.free_within;
@@ -150,7 +166,13 @@ module _ {T : Type 0} (cells : List T) (order free : List ℕ) (item : T) where
           ⊎_elim
           (λ here.
           let past : length cells ≤ n = omega (arith, is, here.1) in
-          omega (arith, sum_by-cons (is_cell n) cell order, is_cell-same n cell here.1, times-past order (length cells) n known.within past, times-past free (length cells) n known.free_within past))
+          omega (
+            arith,
+            sum_by-cons (is_cell n) cell order,
+            is_cell-same n cell here.1,
+            times-past order (length cells) n known.within past,
+            times-past free (length cells) n known.free_within past,
+          ))
           (λ other.
           omega (arith, known.once n, sum_by-cons (is_cell n) cell order, is_cell-other n cell other.1))
           (eqb_tells cell n)

@@ -19,18 +19,23 @@ module _ {X : Type 0} (number : X → ℕ) where
   set_of-first x xs = rw (eq-eqb (number x) (number x) refl) refl
 
   -- the first items of two lists of one set: neither is below the other
-  not_below : (x : X) (xs : List X) (y : X) (ys : List X) → IsAscending number (y ∷ ys) → ((n : ℕ) → set_of number (x ∷ xs) n ≡ set_of number (y ∷ ys) n) → number x < number y → ⊥
+  not_below : (x : X) (xs : List X) (y : X) (ys : List X) → IsAscending number (y ∷ ys) →
+      ((n : ℕ) → set_of number (x ∷ xs) n ≡ set_of number (y ∷ ys) n) → number x < number y → ⊥
   not_below x xs y ys up same below =
       let above : All (λ z. number x < number z) (y ∷ ys) =
-      All-cons (λ z. number x < number z) y ys below (All-weaker (λ z. number y < number z) (λ z. number x < number z) (λ z h. omega arith) ys (IsAscending-head number y ys up)) in
+      All-cons (λ z. number x < number z) y ys below
+      (All-weaker (λ z. number y < number z) (λ z. number x < number z) (λ z h. omega arith) ys (IsAscending-head number y ys up)) in
       false≢true (sym (set_of-above (y ∷ ys) (number x) above) ∙ sym (same (number x)) ∙ set_of-first x xs)
 
-  same_rest : (x : X) (xs : List X) (y : X) (ys : List X) → number x ≡ number y → IsAscending number (x ∷ xs) → IsAscending number (y ∷ ys) → ((n : ℕ) → set_of number (x ∷ xs) n ≡ set_of number (y ∷ ys) n) → (n : ℕ) → set_of number xs n ≡ set_of number ys n
+  same_rest : (x : X) (xs : List X) (y : X) (ys : List X) → number x ≡ number y → IsAscending number (x ∷ xs) → IsAscending number (y ∷ ys) →
+      ((n : ℕ) → set_of number (x ∷ xs) n ≡ set_of number (y ∷ ys) n) → (n : ℕ) → set_of number xs n ≡ set_of number ys n
   same_rest x xs y ys first up_x up_y same n =
       ⊎_elim
       (λ is.
-      let in_xs = set_of-above xs n (All-weaker (λ z. number x < number z) (λ z. n < number z) (λ z h. omega (arith, is.1)) xs (IsAscending-head number x xs up_x)) in
-      let in_ys = set_of-above ys n (All-weaker (λ z. number y < number z) (λ z. n < number z) (λ z h. omega (arith, is.1)) ys (IsAscending-head number y ys up_y)) in
+      let in_xs = set_of-above xs n
+      (All-weaker (λ z. number x < number z) (λ z. n < number z) (λ z h. omega (arith, is.1)) xs (IsAscending-head number x xs up_x)) in
+      let in_ys = set_of-above ys n
+      (All-weaker (λ z. number y < number z) (λ z. n < number z) (λ z h. omega (arith, is.1)) ys (IsAscending-head number y ys up_y)) in
       in_xs ∙ sym in_ys)
       (λ other. rw (← first, other.0) at (same n))
       (eqb_tells (number x) n)
@@ -47,7 +52,8 @@ module _ {X : Type 0} (number : X → ℕ) where
       (λ (above : number y < number x). absurd (not_below y ys x xs up_x (λ n. sym (same n)) above))
       (λ (upto : number x ≤ number y).
       let first : number x ≡ number y = omega arith in
-      let rest = known_by_set one_value xs ys (IsAscending-tail number x xs up_x) (IsAscending-tail number y ys up_y) (same_rest x xs y ys first up_x up_y same) in
+      let rest = known_by_set one_value xs ys (IsAscending-tail number x xs up_x) (IsAscending-tail number y ys up_y)
+      (same_rest x xs y ys first up_x up_y same) in
       rw (one_value x y first, rest) refl)
       (cases_lt (number y) (number x)))
       (cases_lt (number x) (number y))

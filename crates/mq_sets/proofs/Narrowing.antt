@@ -21,11 +21,13 @@ pub record IsNarrowed {X : Type 0} (number : X → ℕ) (xs : List X) (n old m l
   pub spent : Spends (min 1 (length xs - (high - low))) (bitlen (length xs) - bitlen (high - low)) old m
 
 -- a comparison that halves what is left
-pub spent_by_halving : {old mid new : ℕ} (all left less : ℕ) → 0 < left → left ≤ all → less ≤ left / 2 → Spends (min 1 (all - left)) (bitlen all - bitlen left) old mid → Spends 1 1 mid new → Spends (min 1 (all - less)) (bitlen all - bitlen less) old new
+pub spent_by_halving : {old mid new : ℕ} (all left less : ℕ) → 0 < left → left ≤ all → less ≤ left / 2 →
+    Spends (min 1 (all - left)) (bitlen all - bitlen left) old mid → Spends 1 1 mid new → Spends (min 1 (all - less)) (bitlen all - bitlen less) old new
 spent_by_halving all left less some within half before one =
     Spends-join_within _ _ before one (omega arith) (omega (arith, bitlen-half left some, bitlen-mono less (left / 2) half, bitlen-mono left all within))
 
-module _ {X : Type 0} (number : X → ℕ) (xs : List X) (n middle : ℕ) (x : X) (up : IsAscending number xs) (in_list : middle < length xs) (here : x ≡ get_or xs middle x) where
+module _ {X : Type 0} (number : X → ℕ) (xs : List X) (n middle : ℕ) (x : X) (up : IsAscending number xs) (in_list : middle < length xs)
+    (here : x ≡ get_or xs middle x) where
   -- what stands at or before an item below n is below n
   below_to : number x < n → AllWithin (λ y. number y < n) xs 0 (middle + 1)
   below_to low k d from upto =
@@ -45,7 +47,8 @@ module _ {X : Type 0} (number : X → ℕ) (xs : List X) (n middle : ℕ) (x : X
       (cases_lt middle k)
 
   -- the step of the loop where the item in the middle is below n
-  pub IsNarrowed-to_above : {old m new low high : ℕ} → IsNarrowed number xs n old m low high → low < high → middle ≡ low + (high - low) / 2 → Less ≡ nat_cmp (number x) n → Spends 1 1 m new → IsNarrowed number xs n old new (middle + 1) high
+  pub IsNarrowed-to_above : {old m new low high : ℕ} → IsNarrowed number xs n old m low high → low < high → middle ≡ low + (high - low) / 2 →
+      Less ≡ nat_cmp (number x) n → Spends 1 1 m new → IsNarrowed number xs n old new (middle + 1) high
   IsNarrowed-to_above {low = low} {high = high} known some half less one = record {
     ordered = omega arith;
     within = known.within;
@@ -55,7 +58,8 @@ module _ {X : Type 0} (number : X → ℕ) (xs : List X) (n middle : ℕ) (x : X
   }
 
   -- the step of the loop where it is above
-  pub IsNarrowed-to_below : {old m new low high : ℕ} → IsNarrowed number xs n old m low high → low < high → middle ≡ low + (high - low) / 2 → Greater ≡ nat_cmp (number x) n → Spends 1 1 m new → IsNarrowed number xs n old new low middle
+  pub IsNarrowed-to_below : {old m new low high : ℕ} → IsNarrowed number xs n old m low high → low < high → middle ≡ low + (high - low) / 2 →
+      Greater ≡ nat_cmp (number x) n → Spends 1 1 m new → IsNarrowed number xs n old new low middle
   IsNarrowed-to_below {low = low} {high = high} known some half greater one = record {
     ordered = omega arith;
     within = omega (arith, in_list);
@@ -65,10 +69,13 @@ module _ {X : Type 0} (number : X → ℕ) (xs : List X) (n middle : ℕ) (x : X
   }
 
 -- what was spent where the item was found
-pub spent_to_found : {X : Type 0} (number : X → ℕ) (xs : List X) (n : ℕ) {old m new low high : ℕ} → IsNarrowed number xs n old m low high → low < high → Spends 1 1 m new → Spends (min 1 (length xs)) (bitlen (length xs)) old new
+pub spent_to_found : {X : Type 0} (number : X → ℕ) (xs : List X) (n : ℕ) {old m new low high : ℕ} → IsNarrowed number xs n old m low high →
+    low < high → Spends 1 1 m new → Spends (min 1 (length xs)) (bitlen (length xs)) old new
 spent_to_found number xs n {low = low} {high = high} known some one =
-    Spends-join_within _ _ known.spent one (omega arith) (omega (arith, bitlen-half (high - low) (omega arith), bitlen-mono (high - low) (length xs) (omega (arith, known.within))))
+    Spends-join_within _ _ known.spent one (omega arith)
+    (omega (arith, bitlen-half (high - low) (omega arith), bitlen-mono (high - low) (length xs) (omega (arith, known.within))))
 
 -- the place for an item that was not found
-pub place_left : {X : Type 0} (number : X → ℕ) (xs : List X) (n : ℕ) {old m low high : ℕ} → IsNarrowed number xs n old m low high → high ≤ low → IsPlaceFor number xs n low
+pub place_left : {X : Type 0} (number : X → ℕ) (xs : List X) (n : ℕ) {old m low high : ℕ} → IsNarrowed number xs n old m low high → high ≤ low →
+    IsPlaceFor number xs n low
 place_left number xs n known none = grind arith

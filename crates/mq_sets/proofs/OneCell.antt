@@ -20,7 +20,8 @@ module _ {T : Type 0} where
   set-front (x ∷ cells) (suc n) zero v below fits = ap (λ xs. v ∷ xs) (sym (take-append-drop n cells))
   set-front (x ∷ cells) (suc n) (suc p) v below fits = ap (λ xs. x ∷ xs) (set-front cells n p v (omega arith) (omega arith))
 
-  set-within : (cells : List T) (s n p at stop : ℕ) (v : T) → at ≡ s + p → stop ≡ s + n → p < n → stop ≤ length cells → set cells at v ≡ take s cells ++ (set (take n (drop s cells)) p v ++ drop stop cells)
+  set-within : (cells : List T) (s n p at stop : ℕ) (v : T) → at ≡ s + p → stop ≡ s + n → p < n → stop ≤ length cells →
+      set cells at v ≡ take s cells ++ (set (take n (drop s cells)) p v ++ drop stop cells)
   set-within [] s n p at stop v at_is stop_is below fits = absurd (omega (arith, stop_is, below, fits))
   set-within (x ∷ cells) zero n p at stop v at_is stop_is below fits =
       let at_p : p ≡ at = omega (arith, at_is) in
@@ -34,7 +35,8 @@ module _ {T : Type 0} where
       ap (λ xs. x ∷ xs) (set-within cells s n p at stop v (omega (arith, at_is)) (omega (arith, stop_is)) below (omega arith))
 
   -- the rows, once a cell of one of them is another
-  pub rows-one_cell : (cells : List T) (extents : List Extent) (place : ℕ) (e : Extent) (p at : ℕ) (v : T) → place < length extents → e ≡ get_or extents place e → All (IsWithin cells) extents → AreApart extents → p < e.length → at ≡ e.start + p
+  pub rows-one_cell : (cells : List T) (extents : List Extent) (place : ℕ) (e : Extent) (p at : ℕ) (v : T) → place < length extents →
+      e ≡ get_or extents place e → All (IsWithin cells) extents → AreApart extents → p < e.length → at ≡ e.start + p
       → rows_of (set cells at v) extents ≡ set (rows_of cells extents) place (set (get_or (rows_of cells extents) place []) p v)
   rows-one_cell cells extents place e p at v in_list here within apart below at_is =
       let inside : IsWithin cells e = subst (IsWithin cells) (sym here) (within place e in_list) in
@@ -42,7 +44,8 @@ module _ {T : Type 0} where
       let size : e.length ≡ length row = sym (length-set (cells_of cells e) p v ∙ length-cells_of cells e inside) in
       let stop : e.start + length row ≡ e.start + e.length = omega (arith, size) in
       let all = set-within cells e.start e.length p at (e.start + length row) v at_is stop below (omega (arith, stop, inside)) in
-      let own : get_or (rows_of cells extents) place [] ≡ cells_of cells e = get_or-map (cells_of cells) extents place e [] in_list ∙ ap (cells_of cells) (sym here) in
+      let own : get_or (rows_of cells extents) place [] ≡ cells_of cells e = get_or-map (cells_of cells) extents place e [] in_list ∙
+      ap (cells_of cells) (sym here) in
       ap (λ xs. rows_of xs extents) all
       ∙ ap (rows_of (take e.start cells ++ (row ++ drop (e.start + length row) cells))) (sym (set-same extents place e in_list here))
       ∙ rows-written cells row e e refl size (omega (arith, size)) inside extents place in_list here apart

@@ -1,5 +1,6 @@
 -- Rows that are packed in the order in which a list names them.
-use Rattle.std.proofs.Common.{ℕ, suc, ◌+◌, ◌<◌, ◌≤◌, ◌≡◌, arith, refl, List, [], ◌∷◌, ◌++◌, length, map, take, set, get_or, sym, ap, ◌∙◌, subst, ⊎_elim, length-append}
+use Rattle.std.proofs.Common.{ℕ, suc, ◌+◌, ◌<◌, ◌≤◌, ◌≡◌, arith, refl, List, [], ◌∷◌, ◌++◌, length, map, take, set, get_or, sym, ap, ◌∙◌, subst}
+use Rattle.std.proofs.Common.{⊎_elim, length-append}
 use Rattle.std.specs.List.{All, sum_by}
 use Rattle.std.proofs.lemmas.Bool.{cases_lt, cases_eq}
 use Rattle.std.proofs.Math.Seq.{map-set_same}
@@ -20,7 +21,8 @@ abbrev pub size_of : List Extent → ℕ → ℕ
 size_of extents n = (get_or extents n none).length
 
 -- extents of which each two have no cell in common
-pub AreApart-from_pairs : (extents : List Extent) → ((a b : ℕ) (d : Extent) → a < b → b < length extents → IsApart (get_or extents a d) (get_or extents b d)) → AreApart extents
+pub AreApart-from_pairs : (extents : List Extent) →
+    ((a b : ℕ) (d : Extent) → a < b → b < length extents → IsApart (get_or extents a d) (get_or extents b d)) → AreApart extents
 AreApart-from_pairs [] pairs = tt
 AreApart-from_pairs (e ∷ extents) pairs = (
   λ j d in_list. pairs 0 (suc j) d (omega arith) (omega (arith, in_list)),
@@ -41,7 +43,8 @@ same-sums f h x (n ∷ numbers) same absent =
     omega (arith, rest, same n differs, sum_by-cons f n numbers, sum_by-cons h n numbers)
 
 -- the rows that are named have all cells together
-pub named-sum : (numbers : List ℕ) (extents : List Extent) → All (λ n. n < length extents) numbers → ((n : ℕ) → times n numbers ≤ 1) → ((n : ℕ) → 0 < size_of extents n → 1 ≤ times n numbers) → sum_by (size_of extents) numbers ≡ cells_said extents
+pub named-sum : (numbers : List ℕ) (extents : List Extent) → All (λ n. n < length extents) numbers → ((n : ℕ) → times n numbers ≤ 1) →
+    ((n : ℕ) → 0 < size_of extents n → 1 ≤ times n numbers) → sum_by (size_of extents) numbers ≡ cells_said extents
 named-sum [] extents within once each =
     let few = sum_by-le (λ (e : Extent). e.length) 0 extents (λ k d in_list.
     ⊎_elim
@@ -56,7 +59,8 @@ named-sum (x ∷ numbers) extents within once each =
     let here : x < length extents = All-head (λ n. n < length extents) x numbers within in
     let parts : (n : ℕ) → times n (x ∷ numbers) ≡ is_cell n x + times n numbers = λ n. sum_by-cons (is_cell n) x numbers in
     let absent : times x numbers ≡ 0 = omega (arith, parts x, once x, is_cell-same x x refl) in
-    let others : (n : ℕ) → (n ≡ x → ⊥) → size_of extents n ≡ size_of after n = λ n differs. ap (λ (e : Extent). e.length) (sym (get_or-set_other extents x n none none differs)) in
+    let others : (n : ℕ) → (n ≡ x → ⊥) → size_of extents n ≡ size_of after n = λ n differs. ap (λ (e : Extent). e.length)
+    (sym (get_or-set_other extents x n none none differs)) in
     let emptied : size_of after x ≡ 0 = ap (λ (e : Extent). e.length) (get_or-set_same extents x none none here) in
     let rest = named-sum numbers after
     (λ k d in_list. omega (arith, length-set extents x none, All-tail (λ n. n < length extents) x numbers within k d in_list))
@@ -76,12 +80,15 @@ pub record IsPackedBy {T : Type 0} (cells packed : List T) (from extents : List 
   pub rest : (n : ℕ) (d : Extent) → times n numbers ≡ 0 → get_or extents n d ≡ get_or from n d
   pub within : (n : ℕ) (d : Extent) → n < length from → 1 ≤ times n numbers → IsWithin packed (get_or extents n d)
   pub row : (n : ℕ) (d : Extent) → n < length from → 1 ≤ times n numbers → cells_of packed (get_or extents n d) ≡ cells_of cells (get_or from n d)
-  pub apart : (a b : ℕ) (d : Extent) → a < length from → b < length from → (a ≡ b → ⊥) → 1 ≤ times a numbers → 1 ≤ times b numbers → IsApart (get_or extents a d) (get_or extents b d)
+  pub apart : (a b : ℕ) (d : Extent) → a < length from → b < length from → (a ≡ b → ⊥) → 1 ≤ times a numbers → 1 ≤ times b numbers →
+      IsApart (get_or extents a d) (get_or extents b d)
   pub filled : length packed ≡ sum_by (size_of from) numbers
 
 module _ {T : Type 0} (cells : List T) (from : List Extent) where
   -- one row more, that of number x
-  module _ (packed : List T) (extents : List Extent) (numbers : List ℕ) (x : ℕ) (e y : Extent) (in_list : x < length from) (absent : times x numbers ≡ 0) (here : e ≡ get_or extents x e) (inside : All (IsWithin cells) from) (size_is : y.length ≡ e.length) (start_is : 0 < y.length → y.start ≡ length packed) (placed_is : IsPlaced y) (known : IsPackedBy cells packed from extents numbers) where
+  module _ (packed : List T) (extents : List Extent) (numbers : List ℕ) (x : ℕ) (e y : Extent) (in_list : x < length from)
+      (absent : times x numbers ≡ 0) (here : e ≡ get_or extents x e) (inside : All (IsWithin cells) from) (size_is : y.length ≡ e.length)
+      (start_is : 0 < y.length → y.start ≡ length packed) (placed_is : IsPlaced y) (known : IsPackedBy cells packed from extents numbers) where
     more : List T
     more = cells_of cells e
 
@@ -136,7 +143,9 @@ module _ {T : Type 0} (cells : List T) (from : List Extent) where
           λ n d in_n some.
           ⊎_elim
           (λ (same : n ≡ x). rw (same, at_x d) (y_row ∙ ap (cells_of cells) (e_from ∙ get_or_default from x e d in_list)))
-          (λ (differs : n ≡ x → ⊥). rw (at_other n d differs) (cells_of-append packed (cells_of cells e) (get_or extents n d) (known.within n d in_n (before n differs some)) ∙ known.row n d in_n (before n differs some)))
+          (λ (differs : n ≡ x → ⊥). rw (at_other n d differs)
+          (cells_of-append packed (cells_of cells e) (get_or extents n d) (known.within n d in_n (before n differs some)) ∙
+          known.row n d in_n (before n differs some)))
           (cases_eq n x);
       apart =
           λ a b d in_a in_b differ some_a some_b.
@@ -147,17 +156,26 @@ module _ {T : Type 0} (cells : List T) (from : List Extent) where
           (λ (a_differs : a ≡ x → ⊥).
           ⊎_elim
           (λ (b_is : b ≡ x).
-          rw (b_is, at_x d, at_other a d a_differs) (apart-turned y (get_or extents a d) (y_apart (get_or extents a d) (known.within a d in_a (before a a_differs some_a)))))
+          rw (b_is, at_x d, at_other a d a_differs)
+          (apart-turned y (get_or extents a d) (y_apart (get_or extents a d) (known.within a d in_a (before a a_differs some_a)))))
           (λ (b_differs : b ≡ x → ⊥).
           rw (at_other a d a_differs, at_other b d b_differs) (known.apart a b d in_a in_b differ (before a a_differs some_a) (before b b_differs some_b)))
           (cases_eq b x))
           (cases_eq a x);
       filled =
-          omega (arith, longer, known.filled, sum_by_push (size_of from) numbers x, ap (λ (z : Extent). z.length) e_from, ap (λ (z : Extent). z.length) (get_or_default from x e none in_list));
+          omega (
+            arith,
+            longer,
+            known.filled,
+            sum_by_push (size_of from) numbers x,
+            ap (λ (z : Extent). z.length) e_from,
+            ap (λ (z : Extent). z.length) (get_or_default from x e none in_list),
+          );
     }
 
   -- all rows that have cells are packed
-  module _ (packed : List T) (extents : List Extent) (numbers : List ℕ) (inside : All (IsWithin cells) from) (named : NamesRows (map (λ (e : Extent). e.length) from) numbers) (known : IsPackedBy cells packed from extents numbers) where
+  module _ (packed : List T) (extents : List Extent) (numbers : List ℕ) (inside : All (IsWithin cells) from)
+      (named : NamesRows (map (λ (e : Extent). e.length) from) numbers) (known : IsPackedBy cells packed from extents numbers) where
     -- a row that isn't named has no cells
     unnamed : (n : ℕ) (d : Extent) → n < length from → times n numbers ≤ 0 → (get_or extents n d).length ≡ 0
     unnamed n d in_list absent =
@@ -221,7 +239,9 @@ pub record IsNext {T : Type 0} (cells packed : List T) (from : List Extent) (num
   pub inside : e.start + e.length ≤ length cells
   pub fits : length packed + e.length ≤ cells_said from
 
-pub IsNext-named : {T : Type 0} (cells packed : List T) (from extents : List Extent) (numbers : List ℕ) (k x : ℕ) (e : Extent) → k < length numbers → x ≡ get_or numbers k x → e ≡ get_or extents x e → All (IsWithin cells) from → NamesRows (map (λ (z : Extent). z.length) from) numbers → IsPackedBy cells packed from extents (take k numbers) → IsNext cells packed from (take k numbers) x e
+pub IsNext-named : {T : Type 0} (cells packed : List T) (from extents : List Extent) (numbers : List ℕ) (k x : ℕ) (e : Extent) → k < length numbers →
+    x ≡ get_or numbers k x → e ≡ get_or extents x e → All (IsWithin cells) from → NamesRows (map (λ (z : Extent). z.length) from) numbers →
+    IsPackedBy cells packed from extents (take k numbers) → IsNext cells packed from (take k numbers) x e
 IsNext-named cells packed from extents numbers k x e in_list is here inside named known =
     let absent = absent-yet numbers k x in_list is named.once in
     let below : x < length from = omega (arith, named.within k x in_list, is, length-map from (λ (z : Extent). z.length)) in

@@ -1,5 +1,6 @@
 -- How full pages are: what an insert, a split and a list of full pages keep of it.
-use Rattle.std.proofs.Common.{ℕ, zero, suc, ◌+◌, ◌-◌, ◌*◌, min, refl, ⊎_elim, ◌<◌, ◌≤◌, ◌≡◌, List, [], ◌∷◌, ◌++◌, length, set, get_or, arith, sum, length-append, length-set}
+use Rattle.std.proofs.Common.{ℕ, zero, suc, ◌+◌, ◌-◌, ◌*◌, min, refl, ⊎_elim, ◌<◌, ◌≤◌, ◌≡◌, List, [], ◌∷◌, ◌++◌, length, set, get_or, arith, sum}
+use Rattle.std.proofs.Common.{length-append, length-set}
 use Rattle.std.specs.List.{All}
 use Rattle.std.proofs.lemmas.Bool.{cases_lt}
 use Rattle.std.proofs.lemmas.List.Sums.{sum_by-cons}
@@ -59,7 +60,8 @@ small_pairs-halved (x ∷ []) ys some none =
     let positive = All-head (λ n. 1 ≤ n) x (511 ∷ ys) some in
     omega (arith, rest, positive)
 small_pairs-halved (x ∷ y ∷ xs) ys some none =
-    let rest = small_pairs-halved (y ∷ xs) ys (All-tail (λ n. 1 ≤ n) x (y ∷ (xs ++ 511 ∷ ys)) some) (omega (arith, none, small_pairs-tail x (y ∷ (xs ++ 511 ∷ ys)))) in
+    let rest = small_pairs-halved (y ∷ xs) ys (All-tail (λ n. 1 ≤ n) x (y ∷ (xs ++ 511 ∷ ys)) some)
+    (omega (arith, none, small_pairs-tail x (y ∷ (xs ++ 511 ∷ ys)))) in
     omega (arith, rest, none)
 
 -- what holds of each page, where one page becomes two
@@ -123,7 +125,8 @@ All-at P [] x ys all = All-head P x ys all
 All-at P (z ∷ xs) x ys all = All-at P xs x ys (All-tail P z (xs ++ x ∷ ys) all)
 
 -- a page loses a number and takes in the one behind it
-pub filled-right : (xs ys : List ℕ) (s less y : ℕ) → s ≡ less + 1 → min (min less y) (less + y - 255) ≡ 0 → AreFilled (xs ++ s ∷ y ∷ ys) → AreFilled (xs ++ (less + y) ∷ ys)
+pub filled-right : (xs ys : List ℕ) (s less y : ℕ) → s ≡ less + 1 → min (min less y) (less + y - 255) ≡ 0 → AreFilled (xs ++ s ∷ y ∷ ys) →
+    AreFilled (xs ++ (less + y) ∷ ys)
 filled-right xs ys s less y one small known =
     let long = length-append xs (s ∷ y ∷ ys) in
     let short = length-append xs ((less + y) ∷ ys) in
@@ -147,10 +150,12 @@ filled-right xs ys s less y one small known =
 
     All-once : (xs : List ℕ) (s : ℕ) (ys : List ℕ) → All (λ n. 1 ≤ n) (xs ++ s ∷ ys) → All (λ n. 1 ≤ n) (xs ++ s ∷ [])
     All-once [] s ys all = All-cons (λ n. 1 ≤ n) s [] (All-head (λ n. 1 ≤ n) s ys all) (All-nil (λ n. 1 ≤ n))
-    All-once (x ∷ xs) s ys all = All-cons (λ n. 1 ≤ n) x (xs ++ s ∷ []) (All-head (λ n. 1 ≤ n) x (xs ++ s ∷ ys) all) (All-once xs s ys (All-tail (λ n. 1 ≤ n) x (xs ++ s ∷ ys) all))
+    All-once (x ∷ xs) s ys all = All-cons (λ n. 1 ≤ n) x (xs ++ s ∷ []) (All-head (λ n. 1 ≤ n) x (xs ++ s ∷ ys) all)
+        (All-once xs s ys (All-tail (λ n. 1 ≤ n) x (xs ++ s ∷ ys) all))
 
 -- a page loses a number and goes into the one before it
-pub filled-left : (xs ys : List ℕ) (x s less : ℕ) → s ≡ less + 1 → min (min x less) (x + less - 255) ≡ 0 → AreFilled (xs ++ x ∷ s ∷ ys) → AreFilled (xs ++ (x + less) ∷ ys)
+pub filled-left : (xs ys : List ℕ) (x s less : ℕ) → s ≡ less + 1 → min (min x less) (x + less - 255) ≡ 0 → AreFilled (xs ++ x ∷ s ∷ ys) →
+    AreFilled (xs ++ (x + less) ∷ ys)
 filled-left xs ys x s less one small known =
     let long = length-append xs (x ∷ s ∷ ys) in
     let short = length-append xs ((x + less) ∷ ys) in
@@ -174,7 +179,8 @@ filled-left xs ys x s less one small known =
     behind (y ∷ ys) none first = omega (arith, none, first, one)
 
 -- a page loses a number and stays as it is else
-pub filled-less : (xs ys : List ℕ) (s less : ℕ) → s ≡ less + 1 → ((k : ℕ) → length xs ≡ k + 1 → (1 ≤ less) × (256 ≤ get_or xs k 0 + less)) → (0 < length ys → (1 ≤ less) × (256 ≤ less + get_or ys 0 0)) → AreFilled (xs ++ s ∷ ys) → AreFilled (xs ++ less ∷ ys)
+pub filled-less : (xs ys : List ℕ) (s less : ℕ) → s ≡ less + 1 → ((k : ℕ) → length xs ≡ k + 1 → (1 ≤ less) × (256 ≤ get_or xs k 0 + less)) →
+    (0 < length ys → (1 ≤ less) × (256 ≤ less + get_or ys 0 0)) → AreFilled (xs ++ s ∷ ys) → AreFilled (xs ++ less ∷ ys)
 filled-less xs ys s less one left right known =
     let long = length-append xs (s ∷ ys) in
     let same = length-append xs (less ∷ ys) in
@@ -192,7 +198,8 @@ filled-less xs ys s less one left right known =
   where
     All-other : (P : ℕ → Type 0) (xs ys : List ℕ) (a b : ℕ) → (P a → P b) → All P (xs ++ a ∷ ys) → All P (xs ++ b ∷ ys)
     All-other P [] ys a b turns all = All-cons P b ys (turns (All-head P a ys all)) (All-tail P a ys all)
-    All-other P (x ∷ xs) ys a b turns all = All-cons P x (xs ++ b ∷ ys) (All-head P x (xs ++ a ∷ ys) all) (All-other P xs ys a b turns (All-tail P x (xs ++ a ∷ ys) all))
+    All-other P (x ∷ xs) ys a b turns all = All-cons P x (xs ++ b ∷ ys) (All-head P x (xs ++ a ∷ ys) all)
+        (All-other P xs ys a b turns (All-tail P x (xs ++ a ∷ ys) all))
 
     some_left : 1 ≤ length xs + length ys → 1 ≤ less
     some_left more =

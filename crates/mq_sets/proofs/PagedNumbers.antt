@@ -1,7 +1,9 @@
 -- Numbers in pages, as one list: what an edit of a page is there.
-use Rattle.std.proofs.Common.{ℕ, suc, ◌+◌, ◌-◌, ◌*◌, ◌<◌, ◌≤◌, ◌≡◌, List, [], ◌∷◌, ◌++◌, length, map, take, drop, set, get_or, refl, sym, ap, ◌∙◌, subst, arith, sum, add-one, append_assoc, length-append, length-take, length-drop}
+use Rattle.std.proofs.Common.{ℕ, suc, ◌+◌, ◌-◌, ◌*◌, ◌<◌, ◌≤◌, ◌≡◌, List, [], ◌∷◌, ◌++◌, length, map, take, drop, set, get_or, refl, sym, ap, ◌∙◌}
+use Rattle.std.proofs.Common.{subst, arith, sum, add-one, append_assoc, length-append, length-take, length-drop}
 use Rattle.std.specs.List.{insert}
-use Rattle.std.proofs.lemmas.List.{set_split, set-get_or, take-map, take-append-drop, map-set, take_more_set, drop-set-lt, get_or-map, drop-map, length-map, map-append, take_at, get_or_at}
+use Rattle.std.proofs.lemmas.List.{set_split, set-get_or, take-map, take-append-drop, map-set, take_more_set, drop-set-lt, get_or-map, drop-map}
+use Rattle.std.proofs.lemmas.List.{length-map, map-append, take_at, get_or_at}
 use Rattle.std.proofs.lemmas.List.Sums.{sum-map, sum_by_more}
 use Rattle.std.proofs.lemmas.List.Concat.{flat_map-append, length-flat_map, get_or-flat_map}
 use Rattle.std.proofs.lemmas.List.Edits.{insert-append_left, insert-append_right, length-insert}
@@ -20,10 +22,12 @@ pub in_parts : {X : Type 0} (xs : List X) (i : ℕ) (d : X) → i < length xs �
 in_parts xs i d within = sym (set-get_or xs i d) ∙ set_split xs i (get_or xs i d) within
 
 -- the numbers around a page
-pub numbers-set : (pages : List (List ℕ)) (i : ℕ) (page : List ℕ) → i < length pages → numbers_in (set pages i page) ≡ numbers_in (take i pages) ++ (page ++ numbers_in (drop (suc i) pages))
+pub numbers-set : (pages : List (List ℕ)) (i : ℕ) (page : List ℕ) → i < length pages → numbers_in (set pages i page) ≡ numbers_in (take i pages) ++
+    (page ++ numbers_in (drop (suc i) pages))
 numbers-set pages i page within = ap numbers_in (set_split pages i page within) ∙ flat_map-append (λ p. p) (take i pages) (page ∷ drop (suc i) pages)
 
-pub numbers-parts : (pages : List (List ℕ)) (i : ℕ) → i < length pages → numbers_in pages ≡ numbers_in (take i pages) ++ (get_or pages i [] ++ numbers_in (drop (suc i) pages))
+pub numbers-parts : (pages : List (List ℕ)) (i : ℕ) → i < length pages → numbers_in pages ≡ numbers_in (take i pages) ++
+    (get_or pages i [] ++ numbers_in (drop (suc i) pages))
 numbers-parts pages i within = ap numbers_in (sym (set-get_or pages i [])) ∙ numbers-set pages i (get_or pages i []) within
 
 -- how many numbers there are
@@ -34,14 +38,16 @@ pub length-numbers-take : (pages : List (List ℕ)) (i : ℕ) → length (number
 length-numbers-take pages i = length-numbers (take i pages) ∙ ap sum (sym (take-map length i pages))
 
 -- a number that is put into a page
-pub numbers-insert : (pages : List (List ℕ)) (i place number : ℕ) → i < length pages → place ≤ length (get_or pages i []) → numbers_in (set pages i (insert (get_or pages i []) place number)) ≡ insert (numbers_in pages) (sum (take i (map length pages)) + place) number
+pub numbers-insert : (pages : List (List ℕ)) (i place number : ℕ) → i < length pages → place ≤ length (get_or pages i []) →
+    numbers_in (set pages i (insert (get_or pages i []) place number)) ≡ insert (numbers_in pages) (sum (take i (map length pages)) + place) number
 numbers-insert pages i place number within fits =
     let front = numbers_in (take i pages) in
     let page = get_or pages i [] in
     let behind = numbers_in (drop (suc i) pages) in
     let before = length-numbers-take pages i in
     let rank = sum (take i (map length pages)) + place in
-    let there : insert (front ++ (page ++ behind)) rank number ≡ front ++ insert (page ++ behind) (rank - sum (take i (map length pages))) number = insert-append_right front (page ++ behind) (sum (take i (map length pages))) rank number before (omega arith) in
+    let there : insert (front ++ (page ++ behind)) rank number ≡ front ++ insert (page ++ behind) (rank - sum (take i (map length pages))) number =
+    insert-append_right front (page ++ behind) (sum (take i (map length pages))) rank number before (omega arith) in
     let at : rank - sum (take i (map length pages)) ≡ place = omega arith in
     numbers-set pages i (insert page place number) within
     ∙ ap (λ xs. front ++ xs) (sym (insert-append_left page behind place number fits) ∙ ap (λ k. insert (page ++ behind) k number) (sym at))
@@ -52,7 +58,8 @@ numbers-insert pages i place number within fits =
 abbrev pub halved : List (List ℕ) → ℕ → List (List ℕ)
 halved pages i = take i pages ++ take 255 (get_or pages i []) ∷ drop 255 (get_or pages i []) ∷ drop (suc i) pages
 
-pub halved-is : (pages : List (List ℕ)) (i : ℕ) → i < length pages → insert (set pages i (take 255 (get_or pages i []))) (i + 1) (drop 255 (get_or pages i [])) ≡ halved pages i
+pub halved-is : (pages : List (List ℕ)) (i : ℕ) → i < length pages → insert (set pages i (take 255 (get_or pages i []))) (i + 1)
+    (drop 255 (get_or pages i [])) ≡ halved pages i
 halved-is pages i within = grind (arith, take_more_set, drop-set-lt, add-one, append_assoc)
 
 pub numbers-halved : (pages : List (List ℕ)) (i : ℕ) → i < length pages → numbers_in (halved pages i) ≡ numbers_in pages
@@ -60,11 +67,13 @@ numbers-halved pages i within =
     let page = get_or pages i [] in
     let behind = numbers_in (drop (suc i) pages) in
     flat_map-append (λ p. p) (take i pages) (take 255 page ∷ drop 255 page ∷ drop (suc i) pages)
-    ∙ ap (λ xs. numbers_in (take i pages) ++ xs) (sym (append_assoc (take 255 page) (drop 255 page) behind) ∙ ap (λ xs. xs ++ behind) (take-append-drop 255 page))
+    ∙ ap (λ xs. numbers_in (take i pages) ++ xs)
+    (sym (append_assoc (take 255 page) (drop 255 page) behind) ∙ ap (λ xs. xs ++ behind) (take-append-drop 255 page))
     ∙ sym (numbers-parts pages i within)
 
 -- the sizes of the pages where one of them becomes two
-pub sizes-halved : (pages : List (List ℕ)) (i : ℕ) → i < length pages → length (get_or pages i []) ≡ 511 → map length (halved pages i) ≡ take i (map length pages) ++ 255 ∷ 256 ∷ drop (suc i) (map length pages)
+pub sizes-halved : (pages : List (List ℕ)) (i : ℕ) → i < length pages → length (get_or pages i []) ≡ 511 →
+    map length (halved pages i) ≡ take i (map length pages) ++ 255 ∷ 256 ∷ drop (suc i) (map length pages)
 sizes-halved pages i within full =
     let page = get_or pages i [] in
     let first : length (take 255 page) ≡ 255 = omega (arith, length-take 255 page, full) in
@@ -72,19 +81,22 @@ sizes-halved pages i within full =
     map-append length (take i pages) (take 255 page ∷ drop 255 page ∷ drop (suc i) pages)
     ∙ rw (first, second, take-map length i pages, drop-map length (suc i) pages) refl
 
-sizes-full : (pages : List (List ℕ)) (i : ℕ) → i < length pages → length (get_or pages i []) ≡ 511 → map length pages ≡ take i (map length pages) ++ 511 ∷ drop (suc i) (map length pages)
+sizes-full : (pages : List (List ℕ)) (i : ℕ) → i < length pages → length (get_or pages i []) ≡ 511 → map length pages ≡ take i (map length pages) ++
+    511 ∷ drop (suc i) (map length pages)
 sizes-full pages i within full =
     let same = length-map pages length in
     let here : get_or (map length pages) i 0 ≡ 511 = get_or-map length pages i [] 0 within ∙ full in
     in_parts (map length pages) i 0 (omega (arith, same, within)) ∙ ap (λ n. take i (map length pages) ++ n ∷ drop (suc i) (map length pages)) here
 
-pub filled-halved : (pages : List (List ℕ)) (i : ℕ) → i < length pages → length (get_or pages i []) ≡ 511 → AreFilled (map length pages) → AreFilled (map length (halved pages i))
+pub filled-halved : (pages : List (List ℕ)) (i : ℕ) → i < length pages → length (get_or pages i []) ≡ 511 → AreFilled (map length pages) →
+    AreFilled (map length (halved pages i))
 filled-halved pages i within full known =
     let before : AreFilled (take i (map length pages) ++ 511 ∷ drop (suc i) (map length pages)) = subst AreFilled (sizes-full pages i within full) known in
     subst AreFilled (sym (sizes-halved pages i within full)) (AreFilled-halved (take i (map length pages)) (drop (suc i) (map length pages)) before)
 
 -- there is room for one page more
-pub room-halved : (pages : List (List ℕ)) (i limit : ℕ) → i < length pages → length (get_or pages i []) ≡ 511 → AreFilled (map length pages) → length (numbers_in pages) < 128 * limit → length pages < limit
+pub room-halved : (pages : List (List ℕ)) (i limit : ℕ) → i < length pages → length (get_or pages i []) ≡ 511 → AreFilled (map length pages) →
+    length (numbers_in pages) < 128 * limit → length pages < limit
 room-halved pages i limit within full known room =
     let after = filled-halved pages i within full known in
     let few = few_pages (map length (halved pages i)) after.pairs in
@@ -96,12 +108,15 @@ room-halved pages i limit within full known room =
 
 -- what stands before the two halves
 front-halved : (pages : List (List ℕ)) (i : ℕ) → i < length pages → take i (halved pages i) ≡ take i pages
-front-halved pages i within = take_at (take i pages) (take 255 (get_or pages i []) ∷ drop 255 (get_or pages i []) ∷ drop (suc i) pages) i (omega (arith, length-take i pages, within))
+front-halved pages i within = take_at (take i pages) (take 255 (get_or pages i []) ∷ drop 255 (get_or pages i []) ∷ drop (suc i) pages) i
+    (omega (arith, length-take i pages, within))
 
 pub first-halved : (pages : List (List ℕ)) (i : ℕ) → i < length pages → get_or (halved pages i) i [] ≡ take 255 (get_or pages i [])
-first-halved pages i within = get_or_at (take i pages) (take 255 (get_or pages i [])) (drop 255 (get_or pages i []) ∷ drop (suc i) pages) [] i (omega (arith, length-take i pages, within))
+first-halved pages i within = get_or_at (take i pages) (take 255 (get_or pages i [])) (drop 255 (get_or pages i []) ∷ drop (suc i) pages) [] i
+    (omega (arith, length-take i pages, within))
 
-halved-later : (pages : List (List ℕ)) (i : ℕ) → halved pages i ≡ (take i pages ++ take 255 (get_or pages i []) ∷ []) ++ drop 255 (get_or pages i []) ∷ drop (suc i) pages
+halved-later : (pages : List (List ℕ)) (i : ℕ) → halved pages i ≡ (take i pages ++ take 255 (get_or pages i []) ∷ []) ++
+    drop 255 (get_or pages i []) ∷ drop (suc i) pages
 halved-later pages i = sym (append_assoc (take i pages) (take 255 (get_or pages i []) ∷ []) (drop 255 (get_or pages i []) ∷ drop (suc i) pages))
 
 length-later : (pages : List (List ℕ)) (i : ℕ) → i < length pages → length (take i pages ++ take 255 (get_or pages i []) ∷ []) ≡ i + 1
@@ -113,7 +128,8 @@ second-halved pages i within = grind (arith, halved-later, get_or_at, length-lat
 pub rank-halved : (pages : List (List ℕ)) (i : ℕ) → i < length pages → sum (take i (map length (halved pages i))) ≡ sum (take i (map length pages))
 rank-halved pages i within = ap sum (take-map length i (halved pages i) ∙ ap (map length) (front-halved pages i within) ∙ sym (take-map length i pages))
 
-pub rank-halved_later : (pages : List (List ℕ)) (i : ℕ) → i < length pages → length (get_or pages i []) ≡ 511 → sum (take (i + 1) (map length (halved pages i))) ≡ sum (take i (map length pages)) + 255
+pub rank-halved_later : (pages : List (List ℕ)) (i : ℕ) → i < length pages → length (get_or pages i []) ≡ 511 →
+    sum (take (i + 1) (map length (halved pages i))) ≡ sum (take i (map length pages)) + 255
 rank-halved_later pages i within full =
     let more = sum_by_more (λ n. n) (map length (halved pages i)) i 0 in
     let long = ap length (sizes-halved pages i within full) in
@@ -127,17 +143,20 @@ rank-halved_later pages i within full =
     omega (arith, step, here, front)
 
 -- a page that has one number more
-pub filled-insert : (pages : List (List ℕ)) (i place number : ℕ) → i < length pages → place ≤ length (get_or pages i []) → length (get_or pages i []) < 511 → AreFilled (map length pages) → AreFilled (map length (set pages i (insert (get_or pages i []) place number)))
+pub filled-insert : (pages : List (List ℕ)) (i place number : ℕ) → i < length pages → place ≤ length (get_or pages i []) →
+    length (get_or pages i []) < 511 → AreFilled (map length pages) → AreFilled (map length (set pages i (insert (get_or pages i []) place number)))
 filled-insert pages i place number within fits room known =
     let page = get_or pages i [] in
     let longer = length-insert page place number fits in
     let same = length-map pages length in
     let here : get_or (map length pages) i 0 ≡ length page = get_or-map length pages i [] 0 within in
     subst AreFilled (sym (map-set length pages i (insert page place number)))
-    (AreFilled-grown (map length pages) i (length (insert page place number)) (omega (arith, same, within)) (omega (arith, here, longer)) (omega (arith, longer, room)) (omega (arith, longer)) known)
+    (AreFilled-grown (map length pages) i (length (insert page place number)) (omega (arith, same, within)) (omega (arith, here, longer))
+    (omega (arith, longer, room)) (omega (arith, longer)) known)
 
 -- a number that is put into the first half of a full page, or into the second
-module _ (pages : List (List ℕ)) (i place number : ℕ) (after : List (List ℕ)) (within : i < length pages) (full : length (get_or pages i []) ≡ 511) (known : AreFilled (map length pages)) where
+module _ (pages : List (List ℕ)) (i place number : ℕ) (after : List (List ℕ)) (within : i < length pages) (full : length (get_or pages i []) ≡ 511)
+    (known : AreFilled (map length pages)) where
   pub first-fits : place ≤ 255 → place ≤ length (get_or (halved pages i) i [])
   first-fits fits = omega (arith, ap length (first-halved pages i within), length-take 255 (get_or pages i []), full)
 
@@ -151,29 +170,41 @@ module _ (pages : List (List ℕ)) (i place number : ℕ) (after : List (List �
   second-room = omega (arith, ap length (second-halved pages i within), length-drop 255 (get_or pages i []), full)
 
   pub in-halved : i + 1 < length (halved pages i)
-  in-halved = omega (arith, length-append (take i pages) (take 255 (get_or pages i []) ∷ drop 255 (get_or pages i []) ∷ drop (suc i) pages), length-take i pages, within)
+  in-halved = omega (
+    arith,
+    length-append (take i pages) (take 255 (get_or pages i []) ∷ drop 255 (get_or pages i []) ∷ drop (suc i) pages),
+    length-take i pages,
+    within,
+  )
 
-  pub numbers-first : after ≡ set (halved pages i) i (insert (get_or (halved pages i) i []) place number) → place ≤ 255 → numbers_in after ≡ insert (numbers_in pages) (sum (take i (map length pages)) + place) number
+  pub numbers-first : after ≡ set (halved pages i) i (insert (get_or (halved pages i) i []) place number) → place ≤ 255 →
+      numbers_in after ≡ insert (numbers_in pages) (sum (take i (map length pages)) + place) number
   numbers-first is fits = grind (arith, numbers-insert, in-halved, first-fits, numbers-halved, rank-halved)
 
   pub filled-first : after ≡ set (halved pages i) i (insert (get_or (halved pages i) i []) place number) → place ≤ 255 → AreFilled (map length after)
   filled-first is fits =
-      subst (λ xs. AreFilled (map length xs)) (sym is) (filled-insert (halved pages i) i place number (omega (arith, in-halved)) (first-fits fits) first-room (filled-halved pages i within full known))
+      subst (λ xs. AreFilled (map length xs)) (sym is)
+      (filled-insert (halved pages i) i place number (omega (arith, in-halved)) (first-fits fits) first-room (filled-halved pages i within full known))
 
-  pub numbers-second : after ≡ set (halved pages i) (i + 1) (insert (get_or (halved pages i) (i + 1) []) (place - 255) number) → 255 < place → place ≤ 511 → numbers_in after ≡ insert (numbers_in pages) (sum (take i (map length pages)) + place) number
+  pub numbers-second : after ≡ set (halved pages i) (i + 1) (insert (get_or (halved pages i) (i + 1) []) (place - 255) number) → 255 < place →
+      place ≤ 511 → numbers_in after ≡ insert (numbers_in pages) (sum (take i (map length pages)) + place) number
   numbers-second is behind fits = grind (arith, rank-halved_later, numbers-insert, in-halved, second-fits, numbers-halved)
 
-  pub filled-second : after ≡ set (halved pages i) (i + 1) (insert (get_or (halved pages i) (i + 1) []) (place - 255) number) → place ≤ 511 → AreFilled (map length after)
+  pub filled-second : after ≡ set (halved pages i) (i + 1) (insert (get_or (halved pages i) (i + 1) []) (place - 255) number) → place ≤ 511 →
+      AreFilled (map length after)
   filled-second is fits =
-      subst (λ xs. AreFilled (map length xs)) (sym is) (filled-insert (halved pages i) (i + 1) (place - 255) number in-halved (second-fits fits) second-room (filled-halved pages i within full known))
+      subst (λ xs. AreFilled (map length xs)) (sym is)
+      (filled-insert (halved pages i) (i + 1) (place - 255) number in-halved (second-fits fits) second-room (filled-halved pages i within full known))
 
 -- where a number of a page stands among all
-pub rank-below : (pages : List (List ℕ)) (i j : ℕ) → i < length pages → j < length (get_or pages i []) → length (numbers_in (take i pages)) + j < length (numbers_in pages)
+pub rank-below : (pages : List (List ℕ)) (i j : ℕ) → i < length pages → j < length (get_or pages i []) →
+    length (numbers_in (take i pages)) + j < length (numbers_in pages)
 rank-below pages i j within inside =
     let whole = ap length (numbers-parts pages i within) in
     let front = numbers_in (take i pages) in
     let behind = numbers_in (drop (suc i) pages) in
     omega (arith, whole, length-append front (get_or pages i [] ++ behind), length-append (get_or pages i []) behind, inside)
 
-pub number-there : (pages : List (List ℕ)) (i j : ℕ) → i < length pages → j < length (get_or pages i []) → get_or (numbers_in pages) (length (numbers_in (take i pages)) + j) 0 ≡ get_or (get_or pages i []) j 0
+pub number-there : (pages : List (List ℕ)) (i j : ℕ) → i < length pages → j < length (get_or pages i []) →
+    get_or (numbers_in pages) (length (numbers_in (take i pages)) + j) 0 ≡ get_or (get_or pages i []) j 0
 number-there pages i j within inside = get_or-flat_map (λ p. p) pages i j [] 0 within inside

@@ -1,5 +1,6 @@
 -- Pages that are filled one after the other with the numbers of a list.
-use Rattle.std.proofs.Common.{ℕ, ◌+◌, ◌-◌, ◌*◌, ◌<◌, ◌≤◌, ◌≡◌, min, refl, arith, List, [], ◌∷◌, ◌++◌, length, map, take, drop, sym, ap, ◌∙◌, subst, length-append, length-take, length-drop}
+use Rattle.std.proofs.Common.{ℕ, ◌+◌, ◌-◌, ◌*◌, ◌<◌, ◌≤◌, ◌≡◌, min, refl, arith, List, [], ◌∷◌, ◌++◌, length, map, take, drop, sym, ap, ◌∙◌, subst}
+use Rattle.std.proofs.Common.{length-append, length-take, length-drop}
 use Rattle.std.specs.List.{All}
 use Rattle.std.proofs.Math.Seq.{take-add}
 use Rattle.std.proofs.lemmas.List.{append-nil, map-append, length-map}
@@ -21,8 +22,10 @@ AreFilled-behind xs a full room some =
     let long = length-append xs (a ∷ []) in
     record {
       some = omega (arith, long);
-      within = All-append (λ n. n ≤ 511) xs (a ∷ []) (All-weaker (λ n. n ≡ 384) (λ n. n ≤ 511) (λ n h. omega (arith, h)) xs full) (All-cons (λ n. n ≤ 511) a [] room (All-nil (λ n. n ≤ 511)));
-      none_empty = λ two. All-append (λ n. 1 ≤ n) xs (a ∷ []) (All-weaker (λ n. n ≡ 384) (λ n. 1 ≤ n) (λ n h. omega (arith, h)) xs full) (All-cons (λ n. 1 ≤ n) a [] (some (omega (arith, two, long))) (All-nil (λ n. 1 ≤ n)));
+      within = All-append (λ n. n ≤ 511) xs (a ∷ []) (All-weaker (λ n. n ≡ 384) (λ n. n ≤ 511) (λ n h. omega (arith, h)) xs full)
+          (All-cons (λ n. n ≤ 511) a [] room (All-nil (λ n. n ≤ 511)));
+      none_empty = λ two. All-append (λ n. 1 ≤ n) xs (a ∷ []) (All-weaker (λ n. n ≡ 384) (λ n. 1 ≤ n) (λ n h. omega (arith, h)) xs full)
+          (All-cons (λ n. 1 ≤ n) a [] (some (omega (arith, two, long))) (All-nil (λ n. 1 ≤ n)));
       pairs = small_pairs-behind xs a full;
     }
 
@@ -35,7 +38,10 @@ pub record IsFilling (numbers : List ℕ) (pages : List (List ℕ)) (done : ℕ)
   pub count : done < length numbers → done ≡ 384 * length pages
 
 -- a page more, behind others that are three quarters full
-module _ (numbers : List ℕ) (pages : List (List ℕ)) (done next : ℕ) (chunk : List ℕ) (within : done ≤ length numbers) (taken : numbers_in pages ≡ take done numbers) (full : All (λ n. n ≡ 384) (map length pages)) (count : done ≡ 384 * length pages) (some : 1 ≤ length pages → done < length numbers) (upto : next ≡ min (done + 384) (length numbers)) (is : chunk ≡ take (next - done) (drop done numbers)) where
+module _ (numbers : List ℕ) (pages : List (List ℕ)) (done next : ℕ) (chunk : List ℕ) (within : done ≤ length numbers)
+    (taken : numbers_in pages ≡ take done numbers) (full : All (λ n. n ≡ 384) (map length pages)) (count : done ≡ 384 * length pages)
+    (some : 1 ≤ length pages → done < length numbers) (upto : next ≡ min (done + 384) (length numbers))
+    (is : chunk ≡ take (next - done) (drop done numbers)) where
   size : length chunk ≡ next - done
   size = omega (arith, ap length is, length-take (next - done) (drop done numbers), length-drop done numbers, upto)
 
@@ -53,7 +59,11 @@ module _ (numbers : List ℕ) (pages : List (List ℕ)) (done next : ℕ) (chunk
             ∙ ap (λ xs. xs ++ take (next - done) (drop done numbers)) taken
             ∙ sym (take-add done (next - done) numbers)
             ∙ ap (λ n. take n numbers) (omega (arith, upto, within));
-        filled = subst AreFilled (sym sizes) (AreFilled-behind (map length pages) (length chunk) full (omega (arith, size, upto)) (λ more. omega (arith, size, upto, some (omega (arith, more, same)))));
-        full = λ left. subst (All (λ n. n ≡ 384)) (sym sizes) (All-append (λ n. n ≡ 384) (map length pages) (length chunk ∷ []) full (All-cons (λ n. n ≡ 384) (length chunk) [] (omega (arith, size, upto, left)) (All-nil (λ n. n ≡ 384))));
+        filled = subst AreFilled (sym sizes)
+            (AreFilled-behind (map length pages) (length chunk) full (omega (arith, size, upto))
+            (λ more. omega (arith, size, upto, some (omega (arith, more, same)))));
+        full = λ left. subst (All (λ n. n ≡ 384)) (sym sizes)
+            (All-append (λ n. n ≡ 384) (map length pages)
+            (length chunk ∷ []) full (All-cons (λ n. n ≡ 384) (length chunk) [] (omega (arith, size, upto, left)) (All-nil (λ n. n ≡ 384))));
         count = λ left. omega (arith, count, upto, left, length-append pages (chunk ∷ []));
       }

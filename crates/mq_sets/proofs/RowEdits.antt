@@ -31,54 +31,70 @@ module _ {T : Type 0} (rows : ℕ) where
       all (suc n) = ap (λ (xs : List (List T)). [] ∷ xs) (all n)
 
 -- the rows have the sizes that the extents say
-pub sizes-rows_of : {T : Type 0} (cells : List T) (extents : List Extent) → All (IsWithin cells) extents → map length (rows_of cells extents) ≡ map (λ (e : Extent). e.length) extents
+pub sizes-rows_of : {T : Type 0} (cells : List T) (extents : List Extent) → All (IsWithin cells) extents
+    → map length (rows_of cells extents) ≡ map (λ (e : Extent). e.length) extents
 sizes-rows_of cells [] within = refl
 sizes-rows_of cells (e ∷ extents) within =
     rw (length-cells_of cells e (All-head (IsWithin cells) e extents within), sizes-rows_of cells extents (All-tail (IsWithin cells) e extents within)) refl
 
--- a row whose cells are taken
-module _ {T : Type 0} (cells : List T) (extents : List Extent) (place : ℕ) (d empty : Extent) (in_list : place < length extents) (here : d ≡ get_or extents place d) (no_cells : empty.length ≡ 0) (at_first : empty.start ≡ 0) where
-  pub emptied-within : All (IsWithin cells) extents → All (IsWithin cells) (set extents place empty)
-  emptied-within within = All-set (IsWithin cells) extents place empty (omega (arith, no_cells, at_first)) within
+-- A row whose cells are taken. `d` was its extent, and `empty` is.
+pub record IsEmptied (extents : List Extent) (place : ℕ) (d empty : Extent) : Type 0 where
+  pub in_list : place < length extents
+  pub here : d ≡ get_or extents place d
+  pub no_cells : empty.length ≡ 0
+  pub at_first : empty.start ≡ 0
+
+module _ {extents : List Extent} {place : ℕ} {d empty : Extent} (at : IsEmptied extents place d empty) where
+  pub emptied-within : {T : Type 0} (cells : List T) → All (IsWithin cells) extents → All (IsWithin cells) (set extents place empty)
+  emptied-within cells within = All-set (IsWithin cells) extents place empty (omega (arith, at.no_cells, at.at_first)) within
 
   pub emptied-apart : AreApart extents → AreApart (set extents place empty)
-  emptied-apart apart =
-      apart-set extents place empty (λ j e h. apart-none empty (get_or extents j e) at_first no_cells) apart
+  emptied-apart apart = apart-set extents place empty (λ j e h. apart-none empty (get_or extents j e) at.at_first at.no_cells) apart
 
   pub emptied-placed : All IsPlaced extents → All IsPlaced (set extents place empty)
-  emptied-placed placed = All-set IsPlaced extents place empty (λ _. at_first) placed
+  emptied-placed placed = All-set IsPlaced extents place empty (λ _. at.at_first) placed
 
-  pub emptied-rows : rows_of cells (set extents place empty) ≡ set (rows_of cells extents) place []
-  emptied-rows =
-      map-set (cells_of cells) extents place empty ∙ ap (λ (row : List T). set (rows_of cells extents) place row) (cells_of-empty cells empty no_cells)
+  pub emptied-rows : {T : Type 0} (cells : List T) → rows_of cells (set extents place empty) ≡ set (rows_of cells extents) place []
+  emptied-rows cells =
+      map-set (cells_of cells) extents place empty ∙ ap (set (rows_of cells extents) place) (cells_of-empty cells empty at.no_cells)
 
   pub emptied-said : cells_said (set extents place empty) + d.length ≡ cells_said extents
   emptied-said =
-      omega (arith, sum_by-set (λ (e : Extent). e.length) extents place empty d in_list, ap (λ (e : Extent). e.length) here, no_cells)
+      let l : Extent → ℕ = λ e. e.length in
+      omega (arith, sum_by-set l extents place empty d at.in_list, ap l at.here, at.no_cells)
 
-  pub emptied-named : (numbers : List ℕ) → NamesRows (map (λ (e : Extent). e.length) extents) numbers → NamesRows (map (λ (e : Extent). e.length) (set extents place empty)) numbers
+  pub emptied-named : (numbers : List ℕ) → NamesRows (map (λ (e : Extent). e.length) extents) numbers
+      → NamesRows (map (λ (e : Extent). e.length) (set extents place empty)) numbers
   emptied-named numbers named = grind (arith, map-set, length-map, length-set, get_or-set_same, get_or-set_other, cases_eq)
 
-  pub IsStored-emptied : {used limit : ℕ} → IsStored extents cells used limit → IsStored (set extents place empty) cells (used - d.length) limit
-  IsStored-emptied known = grind (arith, emptied-within, emptied-apart, emptied-said)
+  pub IsStored-emptied : {T : Type 0} (cells : List T) {used limit : ℕ} → IsStored extents cells used limit
+      → IsStored (set extents place empty) cells (used - d.length) limit
+  IsStored-emptied cells known = grind (arith, emptied-within, emptied-apart, emptied-said)
 
 -- the rows with other parts
-pub with_parts : {T : Type 0} (before : PoolState T) (old rows new : List (List T)) (limit was_ahead ahead left : ℕ) → record { rows = old; cell_limit = limit; ahead = was_ahead } ≡ before → rows ≡ new → ahead ≡ left → record { rows = rows; cell_limit = limit; ahead = ahead } ≡ record before { rows = new; ahead = left }
+pub with_parts : {T : Type 0} (before : PoolState T) (old rows new : List (List T)) (limit was_ahead ahead left : ℕ)
+    → record { rows = old; cell_limit = limit; ahead = was_ahead } ≡ before → rows ≡ new → ahead ≡ left
+    → record { rows = rows; cell_limit = limit; ahead = ahead } ≡ record before { rows = new; ahead = left }
 with_parts before old rows new limit was_ahead ahead left was same same_ahead =
     rw (same, same_ahead, ap (λ (s : PoolState _). s.cell_limit) was) refl
 
 -- what is left behind the last cell, and what was moved, once a longer row is written behind it
-module _ (old_size row_size size cells_size ahead others : ℕ) (longer : old_size < row_size) (fits : cells_size ≤ size) (ahead_is : ahead ≡ size - cells_size) where
-  pub ahead-written : (copied all : ℕ) → copied ≡ (if nat_le (cells_size + row_size) size then cells_size else others) → all ≡ others + row_size → size - (copied + row_size) ≡ (if nat_le row_size old_size then ahead else if nat_le row_size ahead then ahead - row_size else size - all)
+module _ (old_size row_size size cells_size ahead others : ℕ) (longer : old_size < row_size) (fits : cells_size ≤ size)
+    (ahead_is : ahead ≡ size - cells_size) where
+  pub ahead-written : (copied all : ℕ) → copied ≡ (if nat_le (cells_size + row_size) size then cells_size else others) → all ≡ others + row_size
+      → size - (copied + row_size) ≡ (if nat_le row_size old_size then ahead else if nat_le row_size ahead then ahead - row_size else size - all)
   ahead-written copied all copied_is all_is = grind (arith, nat_tests)
 
-  pub moved-written : (named all : ℕ) → others + old_size ≡ all → (if nat_le (cells_size + row_size) size then 0 else others + named) + row_size ≡ (if nat_le row_size old_size then row_size else if nat_le row_size ahead then row_size else row_size + (all - old_size + named))
+  pub moved-written : (named all : ℕ) → others + old_size ≡ all
+      → (if nat_le (cells_size + row_size) size then 0 else others + named) + row_size
+      ≡ (if nat_le row_size old_size then row_size else if nat_le row_size ahead then row_size else row_size + (all - old_size + named))
   moved-written named all all_is = grind (arith, nat_tests)
 
 -- what is moved is paid: by numbers alone
 paid : (old_size row_size rows limit ahead cells named all : ℕ) → named ≤ rows → cells ≤ limit → all + old_size ≡ cells + row_size → all ≤ limit
     → (if nat_le row_size old_size then row_size else if nat_le row_size ahead then row_size else row_size + (cells - old_size + named))
-    + min (4 * (limit / 4 + rows - (if nat_le row_size old_size then ahead else if nat_le row_size ahead then ahead - row_size else limit + limit / 4 + rows - all))) (all + named)
+    + min (4 * (limit / 4 + rows
+    - (if nat_le row_size old_size then ahead else if nat_le row_size ahead then ahead - row_size else limit + limit / 4 + rows - all))) (all + named)
     ≤ min (4 * (limit / 4 + rows - ahead)) (cells + named) + 5 * row_size
 paid old_size row_size rows limit ahead cells named all few within sums fits = grind (arith, le-leb, lt-leb, cases_lt)
 

@@ -12,7 +12,8 @@ use Rattle.mq_sets.proofs.Ascents.{IsAscending-head, IsAscending-tail, IsAscendi
 
 module _ {X Y : Type 0} (number_x : X → ℕ) (number_y : Y → ℕ) (rule : X → Option Y) (keeps : KeepsNumbers number_x number_y rule) where
   -- what holds of the numbers of all items holds of those that the rule makes
-  All-made : (P : ℕ → Type 0) (x : X) (xs : List X) (made : Option Y) → rule x ≡ made → P (number_x x) → All (λ y. P (number_y y)) (filter_map rule xs) → All (λ y. P (number_y y)) (cons_option made (filter_map rule xs))
+  All-made : (P : ℕ → Type 0) (x : X) (xs : List X) (made : Option Y) → rule x ≡ made → P (number_x x) →
+      All (λ y. P (number_y y)) (filter_map rule xs) → All (λ y. P (number_y y)) (cons_option made (filter_map rule xs))
   All-made P x xs None is here rest = rest
   All-made P x xs (Some y) is here rest =
       All-cons (λ y. P (number_y y)) y (filter_map rule xs) (subst P (sym (keeps x y is)) here) rest
@@ -23,7 +24,8 @@ module _ {X Y : Type 0} (number_x : X → ℕ) (number_y : Y → ℕ) (rule : X 
       All-made P x xs (rule x) refl (All-head (λ x. P (number_x x)) x xs all) (All-filter_map P xs (All-tail (λ x. P (number_x x)) x xs all))
 
   -- what the rule makes of an ascending list is ascending
-  IsAscending-made : (x : X) (xs : List X) (made : Option Y) → rule x ≡ made → All (λ y. number_x x < number_y y) (filter_map rule xs) → IsAscending number_y (filter_map rule xs) → IsAscending number_y (cons_option made (filter_map rule xs))
+  IsAscending-made : (x : X) (xs : List X) (made : Option Y) → rule x ≡ made → All (λ y. number_x x < number_y y) (filter_map rule xs) →
+      IsAscending number_y (filter_map rule xs) → IsAscending number_y (cons_option made (filter_map rule xs))
   IsAscending-made x xs made is above up = grind (arith, IsAscending-cons)
 
   pub IsAscending-filter_map : (xs : List X) → IsAscending number_x xs → IsAscending number_y (filter_map rule xs)
@@ -34,7 +36,9 @@ module _ {X Y : Type 0} (number_x : X → ℕ) (number_y : Y → ℕ) (rule : X 
       (IsAscending-filter_map xs (IsAscending-tail number_x x xs up))
 
   -- at each number it is what the rule makes of the item there
-  item_with-made : (x : X) (xs : List X) (n : ℕ) (made : Option Y) → rule x ≡ made → IsAscending number_x (x ∷ xs) → item_with number_y (filter_map rule xs) n ≡ option_and_then rule (item_with number_x xs n) → item_with number_y (cons_option made (filter_map rule xs)) n ≡ option_and_then rule (item_with number_x (x ∷ xs) n)
+  item_with-made : (x : X) (xs : List X) (n : ℕ) (made : Option Y) → rule x ≡ made → IsAscending number_x (x ∷ xs) →
+      item_with number_y (filter_map rule xs) n ≡ option_and_then rule (item_with number_x xs n) →
+      item_with number_y (cons_option made (filter_map rule xs)) n ≡ option_and_then rule (item_with number_x (x ∷ xs) n)
   item_with-made x xs n None is up rest =
       ⊎_elim
       (λ same.
@@ -48,7 +52,8 @@ module _ {X Y : Type 0} (number_x : X → ℕ) (number_y : Y → ℕ) (rule : X 
       (λ other. rw (keeps x y is, other.0) rest)
       (eqb_tells (number_x x) n)
 
-  pub item_with-filter_map : (xs : List X) (n : ℕ) → IsAscending number_x xs → item_with number_y (filter_map rule xs) n ≡ option_and_then rule (item_with number_x xs n)
+  pub item_with-filter_map : (xs : List X) (n : ℕ) → IsAscending number_x xs → item_with number_y (filter_map rule xs) n
+      ≡ option_and_then rule (item_with number_x xs n)
   item_with-filter_map [] n up = refl
   item_with-filter_map (x ∷ xs) n up =
       item_with-made x xs n (rule x) refl up (item_with-filter_map xs n (IsAscending-tail number_x x xs up))
@@ -56,8 +61,11 @@ module _ {X Y : Type 0} (number_x : X → ℕ) (number_y : Y → ℕ) (rule : X 
 -- for the pairs of a merge
 pub rules_keep_order : {L R T : Type 0} (left_number : L → ℕ) (right_number : R → ℕ) (number_t : T → ℕ) → RulesKeepOrder left_number right_number number_t
 rules_keep_order left_number right_number number_t rule left right keeps up_l up_r =
-    IsAscending-filter_map (number_of left_number right_number) number_t rule keeps (merged_lists left_number right_number left right) (merged-ascending left_number right_number left right up_l up_r)
+    IsAscending-filter_map (number_of left_number right_number) number_t rule keeps (merged_lists left_number right_number left right)
+    (merged-ascending left_number right_number left right up_l up_r)
 
-pub rules_act_at_each_number : {L R T : Type 0} (left_number : L → ℕ) (right_number : R → ℕ) (number_t : T → ℕ) → RulesActAtEachNumber left_number right_number number_t
+pub rules_act_at_each_number : {L R T : Type 0} (left_number : L → ℕ) (right_number : R → ℕ) (number_t : T → ℕ) →
+    RulesActAtEachNumber left_number right_number number_t
 rules_act_at_each_number left_number right_number number_t rule left right n keeps up_l up_r =
-    item_with-filter_map (number_of left_number right_number) number_t rule keeps (merged_lists left_number right_number left right) n (merged-ascending left_number right_number left right up_l up_r) ∙ ap (option_and_then rule) (merged-at left_number right_number left right n up_l)
+    item_with-filter_map (number_of left_number right_number) number_t rule keeps (merged_lists left_number right_number left right) n
+    (merged-ascending left_number right_number left right up_l up_r) ∙ ap (option_and_then rule) (merged-at left_number right_number left right n up_l)

@@ -21,7 +21,17 @@ bitlen-128th part n some fits =
     let e = d / 2 in
     let f = e / 2 in
     let small = bitlen-mono part (f / 2) (omega arith) in
-    omega (arith, small, bitlen-half n (omega arith), bitlen-half a (omega arith), bitlen-half b (omega arith), bitlen-half c (omega arith), bitlen-half d (omega arith), bitlen-half e (omega arith), bitlen-half f (omega arith))
+    omega (
+      arith,
+      small,
+      bitlen-half n (omega arith),
+      bitlen-half a (omega arith),
+      bitlen-half b (omega arith),
+      bitlen-half c (omega arith),
+      bitlen-half d (omega arith),
+      bitlen-half e (omega arith),
+      bitlen-half f (omega arith),
+    )
 
 -- the numbers of the only page
 only : (pages : List (List ℕ)) (i : ℕ) → i < length pages → length pages < 2 → length (get_or pages i []) ≡ length (numbers_in pages)
@@ -39,7 +49,8 @@ module _ (pages : List (List ℕ)) (known : AreFilled (map length pages)) where
   several two = omega (arith, two_pages (map length pages) known.pairs (omega (arith, two, length-map pages length)), length-numbers pages)
 
   -- the search among the first numbers
-  pub spent-directory : {old new : ℕ} → 2 ≤ length pages → Spends (min 1 (length pages - 1)) (bitlen (length pages - 1)) old new → Spends (min 1 (length (numbers_in pages))) (bitlen (length (numbers_in pages)) + 2) old new
+  pub spent-directory : {old new : ℕ} → 2 ≤ length pages → Spends (min 1 (length pages - 1)) (bitlen (length pages - 1)) old new →
+      Spends (min 1 (length (numbers_in pages))) (bitlen (length (numbers_in pages)) + 2) old new
   spent-directory two counted = grind (arith, several, directory, bitlen-128th, Spends-within)
 
   page-size : (i : ℕ) → i < length pages → (length (get_or pages i []) ≤ 511) × (length (get_or pages i []) ≤ length (numbers_in pages))
@@ -51,7 +62,9 @@ module _ (pages : List (List ℕ)) (known : AreFilled (map length pages)) where
       (omega (arith, here, some), omega (arith, here, part, length-numbers pages))
 
   -- both searches
-  pub spent-both : (i : ℕ) {old mid new : ℕ} → i < length pages → Spends (min 1 (length pages - 1)) (bitlen (length pages - 1)) old mid → Spends (min 1 (length (get_or pages i []))) (bitlen (length (get_or pages i []))) mid new → Spends (min 1 (length (numbers_in pages))) (bitlen (length (numbers_in pages)) + 2) old new
+  pub spent-both : (i : ℕ) {old mid new : ℕ} → i < length pages → Spends (min 1 (length pages - 1)) (bitlen (length pages - 1)) old mid →
+      Spends (min 1 (length (get_or pages i []))) (bitlen (length (get_or pages i []))) mid new → Spends (min 1 (length (numbers_in pages)))
+      (bitlen (length (numbers_in pages)) + 2) old new
   spent-both i within one two =
       let size = page-size i within in
       let few = directory in

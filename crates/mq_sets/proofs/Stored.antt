@@ -1,7 +1,9 @@
 -- Rows in a list of cells: what an append, an edit of the rows and a copy leave.
-use Rattle.std.proofs.Common.{ℕ, suc, ◌+◌, ◌-◌, ◌<◌, ◌≤◌, ◌≡◌, arith, refl, List, [], ◌∷◌, ◌++◌, length, map, take, drop, set, get_or, sym, ap, ◌∙◌, subst, length-append, length-take, length-drop}
+use Rattle.std.proofs.Common.{ℕ, suc, ◌+◌, ◌-◌, ◌<◌, ◌≤◌, ◌≡◌, arith, refl, List, [], ◌∷◌, ◌++◌, length, map, take, drop, set, get_or, sym, ap, ◌∙◌, subst}
+use Rattle.std.proofs.Common.{length-append, length-take, length-drop}
 use Rattle.std.specs.List.{All, sum_by, insert, remove}
-use Rattle.std.proofs.lemmas.List.{append-nil, drop_all, drop-append-le, take-append-le, drop_at, take_all, map-append, take-map, drop-map, get_or-map, length-map, map-set, set-set}
+use Rattle.std.proofs.lemmas.List.{append-nil, drop_all, drop-append-le, take-append-le, drop_at, take_all, map-append, take-map, drop-map, get_or-map}
+use Rattle.std.proofs.lemmas.List.{length-map, map-set, set-set}
 use Rattle.std.proofs.lemmas.List.Elements.{All-head, All-tail, All-weaker, All-set}
 use Rattle.std.proofs.lemmas.List.Sums.{sum_by-cons, sum_by-set, get_or-le-sum_by, sum-map}
 use Rattle.mq_sets.specs.Pools.{PoolState, cells_of, rows_of, IsWithin, AreApart, cells_in, cells_said, IsStored}
@@ -16,7 +18,8 @@ module _ {T : Type 0} where
   pub rows_of-append : (cells more : List T) (extents : List Extent) → All (IsWithin cells) extents → rows_of (cells ++ more) extents ≡ rows_of cells extents
   rows_of-append cells more [] within = refl
   rows_of-append cells more (e ∷ extents) within =
-      rw (cells_of-append cells more e (All-head (IsWithin cells) e extents within), rows_of-append cells more extents (All-tail (IsWithin cells) e extents within)) refl
+      let rest = rows_of-append cells more extents (All-tail (IsWithin cells) e extents within) in
+      rw (cells_of-append cells more e (All-head (IsWithin cells) e extents within), rest) refl
 
   -- and still lies within them
   pub IsWithin-append : (cells more : List T) (extents : List Extent) → All (IsWithin cells) extents → All (IsWithin (cells ++ more)) extents
@@ -56,31 +59,44 @@ pub cells_said-by_lengths : (xs ys : List Extent) → map (λ (e : Extent). e.le
 cells_said-by_lengths xs ys same =
     sym (sum-map (λ (e : Extent). e.length) xs) ∙ ap (sum_by (λ (n : ℕ). n)) same ∙ sum-map (λ (e : Extent). e.length) ys
 
--- a row that is written anew behind the last cell, once it was emptied and the cells were copied
-module _ {T : Type 0} (cells copied row : List T) (extents emptied kept : List Extent) (place : ℕ) (none y d : Extent) (in_list : place < length extents) (here : d ≡ get_or extents place d) (emptied_is : emptied ≡ set extents place none) (same_rows : rows_of copied kept ≡ rows_of cells emptied) (same_lengths : map (λ (e : Extent). e.length) kept ≡ map (λ (e : Extent). e.length) emptied) (within : All (IsWithin copied) kept) (apart : AreApart kept) (start : y.start ≡ length copied) (size : y.length ≡ length row) where
-  pub rows_of-replace : rows_of (copied ++ row) (set kept place y) ≡ set (rows_of cells extents) place row
-  rows_of-replace =
-      rw (map-set (cells_of (copied ++ row)) kept place y, rows_of-append copied row kept within, cells_of-end copied row y start size, same_rows, emptied_is, map-set (cells_of cells) extents place none) (set-set (rows_of cells extents) place (cells_of cells none) row)
+-- A row is written anew behind the last cell, at the extent `y`. It was emptied before, and the cells of the others were copied.
+pub record IsAppended {T : Type 0} (cells copied row : List T) (extents kept : List Extent) (place : ℕ) (none y d : Extent) : Type 0 where
+  pub in_list : place < length extents
+  pub here : d ≡ get_or extents place d
+  pub same_rows : rows_of copied kept ≡ rows_of cells (set extents place none)
+  pub same_lengths : map (λ (e : Extent). e.length) kept ≡ map (λ (e : Extent). e.length) (set extents place none)
+  pub within : All (IsWithin copied) kept
+  pub apart : AreApart kept
+  pub start : y.start ≡ length copied
+  pub size : y.length ≡ length row
+
+module _ {T : Type 0} {cells copied row : List T} {extents kept : List Extent} {place : ℕ} {none y d : Extent}
+    (at : IsAppended cells copied row extents kept place none y d) where
+  pub rows_of-appended : rows_of (copied ++ row) (set kept place y) ≡ set (rows_of cells extents) place row
+  rows_of-appended =
+      rw (map-set (cells_of (copied ++ row)) kept place y, rows_of-append copied row kept at.within, cells_of-end copied row y at.start at.size, at.same_rows)
+      (rw (map-set (cells_of cells) extents place none) (set-set (rows_of cells extents) place (cells_of cells none) row))
 
   lengths_after : map (λ (e : Extent). e.length) (set kept place y) ≡ map (λ (e : Extent). e.length) (set extents place y)
-  lengths_after = grind (arith, map-set, set-set)
+  lengths_after = grind (arith, map-set, set-set, at.same_lengths)
 
-  pub IsStored-replace : {used cells_limit : ℕ} → used + length row ≤ cells_limit + d.length → IsStored extents cells used cells_limit → IsStored (set kept place y) (copied ++ row) (used - d.length + length row) cells_limit
-  IsStored-replace fits known =
+  pub IsStored-appended : {used cells_limit : ℕ} → used + length row ≤ cells_limit + d.length → IsStored extents cells used cells_limit
+      → IsStored (set kept place y) (copied ++ row) (used - d.length + length row) cells_limit
+  IsStored-appended fits known =
       let l = λ (e : Extent). e.length in
       let said = cells_said-by_lengths (set kept place y) (set extents place y) lengths_after in
-      let part = get_or-le-sum_by l extents place d in_list in
-      let size_then = ap l here in
+      let part = get_or-le-sum_by l extents place d at.in_list in
+      let size_then = ap l at.here in
       record {
-        within =
-            All-set (IsWithin (copied ++ row)) kept place y (omega (arith, length-append copied row)) (IsWithin-append copied row kept within);
-        apart = apart-set kept place y (apart-behind copied kept y start within) apart;
-        used_is = omega (arith, said, part, sum_by-set l extents place y d in_list, known.used_is);
+        within = All-set (IsWithin (copied ++ row)) kept place y (omega (arith, length-append copied row)) (IsWithin-append copied row kept at.within);
+        apart = apart-set kept place y (apart-behind copied kept y at.start at.within) at.apart;
+        used_is = omega (arith, said, part, sum_by-set l extents place y d at.in_list, known.used_is);
         cells_fit = omega (arith, part, known.used_is);
       }
 
 -- the row at a place has as many cells as its extent says
-pub length-row : {T : Type 0} (cells : List T) (extents : List Extent) (place : ℕ) (d : Extent) → place < length extents → d ≡ get_or extents place d → All (IsWithin cells) extents → length (get_or (rows_of cells extents) place []) ≡ d.length
+pub length-row : {T : Type 0} (cells : List T) (extents : List Extent) (place : ℕ) (d : Extent) → place < length extents → d ≡ get_or extents place d
+    → All (IsWithin cells) extents → length (get_or (rows_of cells extents) place []) ≡ d.length
 length-row cells extents place d in_list here within =
     rw (get_or-map (cells_of cells) extents place d [] in_list, ← here) (length-cells_of cells d (subst (IsWithin cells) (sym here) (within place d in_list)))
 
@@ -93,12 +109,14 @@ pub record Shows {T : Type 0} (state : PoolState T) (extents : List Extent) (lim
   pub used : cells_in state.rows ≡ cells_said extents
   pub size : length (get_or state.rows place []) ≡ d.length
 
-pub shows : {T : Type 0} (cells : List T) (extents : List Extent) (place : ℕ) (d : Extent) {used limit cell_limit ahead : ℕ} {state : PoolState T} → ◌≡◌ {A = PoolState T} (record { rows = rows_of cells extents; cell_limit = cell_limit; ahead = ahead }) state
+pub shows : {T : Type 0} (cells : List T) (extents : List Extent) (place : ℕ) (d : Extent) {used limit cell_limit ahead : ℕ} {state : PoolState T}
+    → ◌≡◌ {A = PoolState T} (record { rows = rows_of cells extents; cell_limit = cell_limit; ahead = ahead }) state
     → IsStored extents cells used limit → place < length state.rows → d ≡ get_or extents place d → Shows state extents cell_limit ahead place d
 shows cells extents place d is stored in_rows here = grind (arith, length-map, cells_in-rows_of, length-row)
 
 -- a row that is written over the front of the one at its place
-pub IsStored-over : {T : Type 0} (cells written : List T) (row_length : ℕ) (extents kept : List Extent) (place : ℕ) (d : Extent) {used cells_limit : ℕ} → place < length extents → d ≡ get_or extents place d
+pub IsStored-over : {T : Type 0} (cells written : List T) (row_length : ℕ) (extents kept : List Extent) (place : ℕ) (d : Extent) {used cells_limit : ℕ}
+    → place < length extents → d ≡ get_or extents place d
     → All (IsWithin written) kept → AreApart kept → map (λ (e : Extent). e.length) kept ≡ set (map (λ (e : Extent). e.length) extents) place row_length
     → used + row_length ≤ cells_limit + d.length → IsStored extents cells used cells_limit → IsStored kept written (used - d.length + row_length) cells_limit
 IsStored-over cells written row_length extents kept place d in_list here within apart lengths fits known =

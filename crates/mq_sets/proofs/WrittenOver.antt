@@ -1,5 +1,6 @@
 -- What is written over the front of a row that has no cell in common with another.
-use Rattle.std.proofs.Common.{◌≡◌, ℕ, zero, suc, ◌+◌, ◌-◌, ◌<◌, ◌≤◌, List, [], ◌∷◌, ◌++◌, length, take, drop, set, get_or, refl, sym, ap, ◌∙◌, subst, arith, inl, inr, append_assoc, length-append, length-take}
+use Rattle.std.proofs.Common.{◌≡◌, ℕ, zero, suc, ◌+◌, ◌-◌, ◌<◌, ◌≤◌, List, [], ◌∷◌, ◌++◌, length, take, drop, set, get_or, refl, sym, ap, ◌∙◌, subst}
+use Rattle.std.proofs.Common.{arith, inl, inr, append_assoc, length-append, length-take}
 use Rattle.std.specs.List.{All, splice}
 use Rattle.std.proofs.Math.Seq.{drop-append-add}
 use Rattle.std.proofs.lemmas.List.{drop-drop, take-append-drop}
@@ -9,7 +10,8 @@ use Rattle.mq_sets.specs.declared.extents.Extent.{Extent}
 use Rattle.mq_sets.proofs.Apart.{apart-turned}
 use Rattle.mq_sets.proofs.Stored.{cells_of-append, cells_of-end}
 
-module _ {T : Type 0} (cells row : List T) (e y : Extent) (start : y.start ≡ e.start) (size : y.length ≡ length row) (fits : length row ≤ e.length) (inside : IsWithin cells e) where
+module _ {T : Type 0} (cells row : List T) (e y : Extent) (start : y.start ≡ e.start) (size : y.length ≡ length row) (fits : length row ≤ e.length)
+    (inside : IsWithin cells e) where
   abbrev pub written : List T
   written = splice cells e.start (e.start + length row) row
 
@@ -52,7 +54,8 @@ module _ {T : Type 0} (cells row : List T) (e y : Extent) (start : y.start ≡ e
       rw (written-apart x (All-head (IsApart e) x extents apart), rows-apart extents (All-tail (IsApart e) x extents apart)) refl
 
   -- all rows
-  pub rows-written : (extents : List Extent) (place : ℕ) → place < length extents → e ≡ get_or extents place e → AreApart extents → rows_of written (set extents place y) ≡ set (rows_of cells extents) place row
+  pub rows-written : (extents : List Extent) (place : ℕ) → place < length extents → e ≡ get_or extents place e → AreApart extents →
+      rows_of written (set extents place y) ≡ set (rows_of cells extents) place row
   rows-written [] place in_list here apart = absurd (omega (arith, in_list))
   rows-written (x ∷ extents) zero in_list here apart =
       rw (written-here, rows-apart extents (subst (λ z. All (IsApart z) extents) (sym here) apart.0)) refl

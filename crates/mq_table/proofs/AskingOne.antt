@@ -1,5 +1,6 @@
 -- Asking for one source of a list.
-use Rattle.std.proofs.Common.{◌≡◌, ℕ, zero, suc, ◌<◌, ◌==◌, Bool, true, false, cond, ◌||◌, ◌&&◌, List, [], ◌∷◌, length, set, get_or, Some, refl, sym, ap, ◌∙◌, arith}
+use Rattle.std.proofs.Common.{◌≡◌, ℕ, zero, suc, ◌<◌, ◌==◌, Bool, true, false, cond, ◌||◌, ◌&&◌, List, [], ◌∷◌, length, set, get_or, Some, refl, sym}
+use Rattle.std.proofs.Common.{ap, ◌∙◌, arith}
 use Rattle.std.specs.Prelude.{map as list_map}
 use Rattle.std.specs.List.{All, list_any}
 use Rattle.std.proofs.Math.Bool.{or-false}
@@ -33,7 +34,8 @@ module _ {X : Type 0} (number : X → ℕ) (n : ℕ) (f : X → X) (p : X → Bo
       let rest = absent_stays xs parts.1 in
       (λ i. first.0 i ∷ rest.0 i, λ i. first.1 i || rest.1 i)
 
-  pub one_changes : (xs : List X) (i : ℕ) (d : X) → IsAscending number xs → i < length xs → number (get_or xs i d) ≡ n → (set xs i (f (get_or xs i d)) ≡ list_map f xs) × (list_any p xs ≡ p (get_or xs i d))
+  pub one_changes : (xs : List X) (i : ℕ) (d : X) → IsAscending number xs → i < length xs → number (get_or xs i d) ≡ n →
+      (set xs i (f (get_or xs i d)) ≡ list_map f xs) × (list_any p xs ≡ p (get_or xs i d))
   one_changes [] i d up within is = absurd (omega arith)
   one_changes (x ∷ xs) zero d up within is =
       let rest = others_stay xs (λ k e in_list same. omega (arith, up 0 (suc k) e (omega arith) (omega arith), is, same)) in
@@ -58,7 +60,8 @@ module _ {K : Type 0} (number : K → ℕ) (limit count : ℕ) (q : K) where
   pub asked_absent : (xs : List (Source K)) → set_of (number_in number) xs (number q) ≡ false → (xs ≡ list_map made xs) × (false ≡ list_any test xs)
   asked_absent xs absent = let stay = absent_stays (number_in number) (number q) made test alone xs absent in (sym stay.0, sym stay.1)
 
-  pub asked_found : (xs : List (Source K)) (place : ℕ) (held : Source K) (is_above : Bool) → IsAscending (number_in number) xs → place < length xs → held ≡ get_or xs place held → number held.address ≡ number q → is_above ≡ is_ahead limit (deadline_of (Some held.timer))
+  pub asked_found : (xs : List (Source K)) (place : ℕ) (held : Source K) (is_above : Bool) → IsAscending (number_in number) xs → place < length xs →
+      held ≡ get_or xs place held → number held.address ≡ number q → is_above ≡ is_ahead limit (deadline_of (Some held.timer))
       → (set xs place (made_at limit count true is_above held) ≡ list_map made xs) × (is_above ≡ list_any test xs)
   asked_found xs place held is_above up within is_held is above =
       let found : number_in number (get_or xs place held) ≡ number q = ap (number_in number) (sym is_held) ∙ is in
@@ -66,6 +69,7 @@ module _ {K : Type 0} (number : K → ℕ) (limit count : ℕ) (q : K) where
       let same : (number q == number held.address) ≡ true = eq-eqb (number q) (number held.address) (sym is) in
       let lowered : made held ≡ made_at limit count true is_above held =
       ap (λ b. record { address = held.address; timer = cond (b || false) (source_asked limit count held.timer) held.timer }) same
-      ∙ ap (λ t. record { address = held.address; timer = t }) (above_is_lowered limit count held.timer ∙ ap (λ b. cond b (Running limit count) held.timer) (sym above)) in
+      ∙ ap (λ t. record { address = held.address; timer = t })
+      (above_is_lowered limit count held.timer ∙ ap (λ b. cond b (Running limit count) held.timer) (sym above)) in
       let tested : test held ≡ is_above = ap (λ b. (b || false) && is_ahead limit (deadline_of (Some held.timer))) same ∙ sym above in
       (ap (set xs place) (sym lowered ∙ ap made is_held) ∙ change.0, sym tested ∙ ap test is_held ∙ sym change.1)

@@ -30,7 +30,8 @@ mode_twice : (a b : ℕ) → a ≤ b → (mode : FilterMode) → mode_expired b 
 mode_twice a b le Include = refl
 mode_twice a b le (Exclude d) = grind (arith, nat_tests)
 
-source_twice : (a b : ℕ) → a ≤ b → (mode : FilterMode) (t : Option SourceTimer) → option_and_then (source_expired (mode_expired b mode) b) (option_and_then (source_expired (mode_expired a mode) a) t) ≡ option_and_then (source_expired (mode_expired b mode) b) t
+source_twice : (a b : ℕ) → a ≤ b → (mode : FilterMode) (t : Option SourceTimer) → option_and_then (source_expired (mode_expired b mode) b)
+    (option_and_then (source_expired (mode_expired a mode) a) t) ≡ option_and_then (source_expired (mode_expired b mode) b) t
 source_twice a b le mode t = grind (arith, nat_tests)
 
 ended_twice : (a b : ℕ) → a ≤ b → (g : GroupState) → ended_at b (ended_at a g) ≡ ended_at b g
@@ -38,7 +39,8 @@ ended_twice a b le g =
     let modes = mode_twice a b le g.mode in
     let sources = same_sources (ended_at b (ended_at a g)).sources (ended_at b g).sources (λ s.
     get-kept (λ _. source_expired (mode_expired b (mode_expired a g.mode)) b) (ended_at a g).sources s
-    ∙ ap (λ t. option_and_then (source_expired (mode_expired b (mode_expired a g.mode)) b) t) (get-kept (λ _. source_expired (mode_expired a g.mode) a) g.sources s)
+    ∙ ap (λ t. option_and_then (source_expired (mode_expired b (mode_expired a g.mode)) b) t)
+    (get-kept (λ _. source_expired (mode_expired a g.mode) a) g.sources s)
     ∙ ap (λ mode. option_and_then (source_expired mode b) (option_and_then (source_expired (mode_expired a g.mode) a) (map.get g.sources s))) modes
     ∙ source_twice a b le g.mode (map.get g.sources s)
     ∙ sym (get-kept (λ _. source_expired (mode_expired b g.mode) b) g.sources s)) in
@@ -63,9 +65,10 @@ held_of_vacant g e = ap (λ b. cond b vacant g) e
 
 -- whether the group is vacant at once or only at the later moment
 pub expired-expired : (g : GroupState) (a b : ℕ) → a ≤ b → expired b (expired a g) ≡ expired b g
-expired-expired g a b le = elim (is_vacant (ended_at a g)) as (λ v. is_vacant (ended_at a g) ≡ v → held_or_vacant (ended_at b (cond v vacant (ended_at a g))) ≡ expired b g) [
-  | true ↦ λ e. held_of_vacant (ended_at b vacant) (vacant_stays b vacant vacant_is_vacant)
-      ∙ sym (held_of_vacant (ended_at b (ended_at a g)) (vacant_stays b (ended_at a g) e))
-      ∙ ap held_or_vacant (ended_twice a b le g)
-  | false ↦ λ e. ap held_or_vacant (ended_twice a b le g)
-] refl
+expired-expired g a b le =
+    elim (is_vacant (ended_at a g)) as (λ v. is_vacant (ended_at a g) ≡ v → held_or_vacant (ended_at b (cond v vacant (ended_at a g))) ≡ expired b g) [
+      | true ↦ λ e. held_of_vacant (ended_at b vacant) (vacant_stays b vacant vacant_is_vacant)
+          ∙ sym (held_of_vacant (ended_at b (ended_at a g)) (vacant_stays b (ended_at a g) e))
+          ∙ ap held_or_vacant (ended_twice a b le g)
+      | false ↦ λ e. ap held_or_vacant (ended_twice a b le g)
+    ] refl

@@ -39,7 +39,8 @@ filter_of_held : (g : GroupState) → filter_of (held_or_vacant g) ≡ filter_of
 filter_of_held g = grind (arith, filter_of_vacant)
 
 -- of each source, where the mode stays alike
-at_one_source : (mode after : FilterMode) (now : ℕ) → is_include mode ≡ is_include after → (timer : SourceTimer) → not (beq (names mode (Some timer)) (names after (source_expired after now timer))) ≡ timer_runs_out now timer
+at_one_source : (mode after : FilterMode) (now : ℕ) → is_include mode ≡ is_include after → (timer : SourceTimer) →
+    not (beq (names mode (Some timer)) (names after (source_expired after now timer))) ≡ timer_runs_out now timer
 at_one_source mode after now e timer = grind (arith, true≢false)
 
 module _ {K : Type 0} (number : K → ℕ) (now : ℕ) where
@@ -54,7 +55,8 @@ module _ {K : Type 0} (number : K → ℕ) (now : ℕ) where
   runs_out_at None = false
   runs_out_at (Some timer) = timer_runs_out now timer
 
-  found_out : (xs : List (Source K)) → IsAscending (number_in number) xs → (s : ℕ) → is_some (item_with (number_in number) (filter_map out xs) s) ≡ runs_out_at (map.get (timers_in number xs) s)
+  found_out : (xs : List (Source K)) → IsAscending (number_in number) xs → (s : ℕ) → is_some (item_with (number_in number) (filter_map out xs) s)
+      ≡ runs_out_at (map.get (timers_in number xs) s)
   found_out xs up s =
       ap is_some (item_with-filter_map (number_in number) (number_in number) out out_keeps xs s up)
       ∙ at_found (item_with (number_in number) xs s)
@@ -77,7 +79,9 @@ module _ {K : Type 0} (number : K → ℕ) (now : ℕ) where
   one_out [] e = absurd (true≢false (sym e))
   one_out (x ∷ xs) e = by_first (runs_out now x) refl (one_out xs) e
     where
-      by_first : (b : Bool) → runs_out now x ≡ b → (list_any (runs_out now) xs ≡ true → (s : ℕ) × (is_some (item_with (number_in number) (filter_map out xs) s) ≡ true)) → (b || list_any (runs_out now) xs) ≡ true → (s : ℕ) × (is_some (item_with (number_in number) (filter_map out (x ∷ xs)) s) ≡ true)
+      by_first : (b : Bool) → runs_out now x ≡ b →
+          (list_any (runs_out now) xs ≡ true → (s : ℕ) × (is_some (item_with (number_in number) (filter_map out xs) s) ≡ true)) →
+          (b || list_any (runs_out now) xs) ≡ true → (s : ℕ) × (is_some (item_with (number_in number) (filter_map out (x ∷ xs)) s) ≡ true)
       by_first true is one e = (number_in number x, rw (is, same_number (number_in number x)) refl)
       by_first false is one e = let behind = one e in (behind.0, rw is behind.1)
 
@@ -88,16 +92,20 @@ module _ {K : Type 0} (number : K → ℕ) (now : ℕ) where
     abbrev after : GroupState
     after = ended_at now before
 
-    turned_where_out : is_include mode ≡ is_include after.mode → (s : ℕ) → not (beq (names mode (timer_at before s)) (names after.mode (timer_at after s))) ≡ runs_out_at (timer_at before s)
+    turned_where_out : is_include mode ≡ is_include after.mode → (s : ℕ) →
+        not (beq (names mode (timer_at before s)) (names after.mode (timer_at after s))) ≡ runs_out_at (timer_at before s)
     turned_where_out e s = grind (arith, get-kept, none_named, at_one_source)
 
     ended_changes : changes_filter before after ≡ (list_any (runs_out now) xs || not (beq (is_include mode) (is_include after.mode)))
     ended_changes =
         changes-by before after (list_any (runs_out now) xs)
-        (λ alike none s. not_unlike _ _ (turned_where_out (not_unlike _ _ alike) s ∙ sym (found_out xs up s) ∙ ap (λ ys. is_some (item_with (number_in number) ys s)) (none_out xs none)))
+        (λ alike none s. not_unlike _ _ (turned_where_out (not_unlike _ _ alike) s ∙ sym (found_out xs up s) ∙
+        ap (λ ys. is_some (item_with (number_in number) ys s)) (none_out xs none)))
         (λ alike some. let one = one_out xs some in (one.0, turned_where_out (not_unlike _ _ alike) one.0 ∙ sym (found_out xs up one.0) ∙ one.1))
 
     -- The same of what is left when the group may not be held any more, of values that are known by equations.
-    pub expired_changes : (g : GroupState) → before ≡ g → (ran_out unlike : Bool) (left : GroupState) → left ≡ expired now g → ran_out ≡ list_any (runs_out now) xs → unlike ≡ not (beq (is_include mode) (is_include (mode_expired now mode))) → changes_filter g left ≡ (ran_out || unlike)
+    pub expired_changes : (g : GroupState) → before ≡ g → (ran_out unlike : Bool) (left : GroupState) → left ≡ expired now g →
+        ran_out ≡ list_any (runs_out now) xs → unlike ≡ not (beq (is_include mode) (is_include (mode_expired now mode))) →
+        changes_filter g left ≡ (ran_out || unlike)
     unfolding changes_filter
     expired_changes g is_before ran_out unlike left is_left is_out is_unlike = grind (arith, filter_of_held, ended_changes)

@@ -1,5 +1,6 @@
 -- Runs of sources whose timers run on, in a pass over a list that leaves what the end of timers leaves.
-use Rattle.std.proofs.Common.{◌≡◌, ℕ, zero, suc, ◌+◌, ◌<◌, ◌≤◌, Bool, true, false, ◌||◌, refl, List, [], ◌∷◌, ◌++◌, length, length-append, get_or, take, drop, Option, None, Some, sym, ap, subst, ◌∙◌, arith}
+use Rattle.std.proofs.Common.{◌≡◌, ℕ, zero, suc, ◌+◌, ◌<◌, ◌≤◌, Bool, true, false, ◌||◌, refl, List, [], ◌∷◌, ◌++◌, length, length-append, get_or}
+use Rattle.std.proofs.Common.{take, drop, Option, None, Some, sym, ap, subst, ◌∙◌, arith}
 use Rattle.std.specs.List.{AllWithin, filter_map, list_any}
 use Rattle.std.proofs.lemmas.Bool.{true≢false}
 use Rattle.std.proofs.lemmas.List.Elements.{filter_map-append}
@@ -30,7 +31,8 @@ pub take_parts : {X : Type 0} (m n : ℕ) (xs : List X) → take (m + n) xs ≡ 
 take_parts m n xs = take_both m n (m + n) xs refl
 
 -- items that a rule leaves as they are
-pub all_stay : {X : Type 0} (rule : X → Option X) (n : ℕ) (xs : List X) → n ≤ length xs → AllWithin (λ x. rule x ≡ Some x) xs 0 n → filter_map rule (take n xs) ≡ take n xs
+pub all_stay : {X : Type 0} (rule : X → Option X) (n : ℕ) (xs : List X) → n ≤ length xs → AllWithin (λ x. rule x ≡ Some x) xs 0 n →
+    filter_map rule (take n xs) ≡ take n xs
 all_stay rule zero xs within stay = refl
 all_stay rule (suc n) [] within stay = refl
 all_stay rule (suc n) (x ∷ xs) within stay =
@@ -42,12 +44,16 @@ runs_stay : {K : Type 0} (mode : FilterMode) (now : ℕ) (x : Source K) → lies
 runs_stay mode now x is = grind (arith, true≢false)
 
 -- so do those of a run that lies ahead
-pub run_stays : {K : Type 0} (mode : FilterMode) (now : ℕ) (row rest : List (Source K)) (run : ℕ) → row ≡ rest → AllWithin (λ x. lies_ahead now (deadline_of (Some x.timer)) ≡ true) row 0 run → AllWithin (λ x. source_left mode now x ≡ Some x) rest 0 run
+pub run_stays : {K : Type 0} (mode : FilterMode) (now : ℕ) (row rest : List (Source K)) (run : ℕ) → row ≡ rest →
+    AllWithin (λ x. lies_ahead now (deadline_of (Some x.timer)) ≡ true) row 0 run → AllWithin (λ x. source_left mode now x ≡ Some x) rest 0 run
 run_stays mode now row rest run same ahead k d low high =
     runs_stay mode now (get_or rest k d) (subst (λ xs. lies_ahead now (deadline_of (Some (get_or xs k d).timer)) ≡ true) same (ahead k d low high))
 
 -- A run of items that stay has been moved behind what is left of those before.
-module _ {X : Type 0} (rule : X → Option X) (initial xs moved : List X) (left place run : ℕ) (made : take left xs ≡ filter_map rule (take place initial)) (rest : drop place xs ≡ drop place initial) (within : run ≤ length (drop place xs)) (stay : AllWithin (λ x. rule x ≡ Some x) (drop place xs) 0 run) (is_moved : take (left + run) moved ≡ take left xs ++ take run (drop place xs)) (as_before : drop (place + run) moved ≡ drop (place + run) xs) where
+module _ {X : Type 0} (rule : X → Option X) (initial xs moved : List X) (left place run : ℕ)
+    (made : take left xs ≡ filter_map rule (take place initial)) (rest : drop place xs ≡ drop place initial) (within : run ≤ length (drop place xs))
+    (stay : AllWithin (λ x. rule x ≡ Some x) (drop place xs) 0 run) (is_moved : take (left + run) moved ≡ take left xs ++ take run (drop place xs))
+    (as_before : drop (place + run) moved ≡ drop (place + run) xs) where
   pub run_made : take (left + run) moved ≡ filter_map rule (take (place + run) initial)
   run_made = grind (arith, all_stay, take_parts, filter_map-append)
 
@@ -55,7 +61,8 @@ module _ {X : Type 0} (rule : X → Option X) (initial xs moved : List X) (left 
   run_rest = as_before ∙ sym (drop-drop run place xs) ∙ ap (drop run) rest ∙ drop-drop run place initial
 
 -- the item behind such a run
-pub behind_run : {X : Type 0} (xs moved : List X) (place run : ℕ) (d : X) → drop (place + run) moved ≡ drop (place + run) xs → get_or moved (place + run) d ≡ get_or (drop place xs) run d
+pub behind_run : {X : Type 0} (xs moved : List X) (place run : ℕ) (d : X) → drop (place + run) moved ≡ drop (place + run) xs →
+    get_or moved (place + run) d ≡ get_or (drop place xs) run d
 behind_run xs moved place run d as_before =
     let here : place + run + 0 ≡ place + run = omega arith in
     sym (get_or-drop (place + run) moved 0 d ∙ ap (λ n. get_or moved n d) here)
@@ -64,7 +71,8 @@ behind_run xs moved place run d as_before =
     ∙ sym (get_or-drop place xs run d)
 
 -- a source whose timer doesn't run on becomes what its mode says
-pub ended_leaves : {K : Type 0} (mode : FilterMode) (now : ℕ) (x : Source K) → lies_ahead now (deadline_of (Some x.timer)) ≡ false → source_left mode now x ≡ source_with x.address (at_zero mode)
+pub ended_leaves : {K : Type 0} (mode : FilterMode) (now : ℕ) (x : Source K) → lies_ahead now (deadline_of (Some x.timer)) ≡ false →
+    source_left mode now x ≡ source_with x.address (at_zero mode)
 ended_leaves mode now x is = grind arith
 
 one_or_none : (o : Option ℕ) → length (option_to_list o) ≡ compared o
@@ -72,7 +80,8 @@ one_or_none None = refl
 one_or_none (Some moment) = refl
 
 -- how many of some sources run, where one more is counted
-pub running_among-more : {K : Type 0} (sources : List (Source K)) (place : ℕ) (x : Source K) → place < length sources → x ≡ get_or sources place x → running_among (take (place + 1) sources) ≡ running_among (take place sources) + compared (deadline_of (Some x.timer))
+pub running_among-more : {K : Type 0} (sources : List (Source K)) (place : ℕ) (x : Source K) → place < length sources → x ≡ get_or sources place x →
+    running_among (take (place + 1) sources) ≡ running_among (take place sources) + compared (deadline_of (Some x.timer))
 running_among-more sources place x within here =
     ap length (moments-more (λ x. deadline_of (Some x.timer)) sources place x within here)
     ∙ length-append (moments_by (λ x. deadline_of (Some x.timer)) (take place sources)) (option_to_list (deadline_of (Some x.timer)))
@@ -83,7 +92,8 @@ running_among-append : {K : Type 0} (front back : List (Source K)) → running_a
 running_among-append front back = grind (arith, flat_map-append, length-append)
 
 -- each of a run that lies ahead runs
-all_run : {K : Type 0} (now run : ℕ) (row : List (Source K)) → run ≤ length row → AllWithin (λ x. lies_ahead now (deadline_of (Some x.timer)) ≡ true) row 0 run → running_among (take run row) ≡ run
+all_run : {K : Type 0} (now run : ℕ) (row : List (Source K)) → run ≤ length row →
+    AllWithin (λ x. lies_ahead now (deadline_of (Some x.timer)) ≡ true) row 0 run → running_among (take run row) ≡ run
 all_run now zero row within ahead = refl
 all_run now (suc run) [] within ahead = absurd (omega (arith, within))
 all_run now (suc run) (x ∷ row) within ahead =
@@ -97,7 +107,8 @@ all_run now (suc run) (x ∷ row) within ahead =
     one (Running d n) is = refl
 
 -- how many run of those that were passed and of such a run behind them
-pub running_among-run : {K : Type 0} (now place run : ℕ) (xs row : List (Source K)) → row ≡ drop place xs → run ≤ length row → AllWithin (λ x. lies_ahead now (deadline_of (Some x.timer)) ≡ true) row 0 run → running_among (take (place + run) xs) ≡ running_among (take place xs) + run
+pub running_among-run : {K : Type 0} (now place run : ℕ) (xs row : List (Source K)) → row ≡ drop place xs → run ≤ length row →
+    AllWithin (λ x. lies_ahead now (deadline_of (Some x.timer)) ≡ true) row 0 run → running_among (take (place + run) xs) ≡ running_among (take place xs) + run
 running_among-run now place run xs row is within ahead =
     ap running_among (take_parts place run xs)
     ∙ running_among-append (take place xs) (take run (drop place xs))
@@ -107,11 +118,13 @@ running_among-run now place run xs row is within ahead =
 stays_ahead : {K : Type 0} (now : ℕ) (x : Source K) → lies_ahead now (deadline_of (Some x.timer)) ≡ true → runs_out now x ≡ false
 stays_ahead now x is = grind arith
 
-runs_out_here : {K : Type 0} (now : ℕ) (x : Source K) → lies_ahead now (deadline_of (Some x.timer)) ≡ false → runs_out now x ≡ is_some (deadline_of (Some x.timer))
+runs_out_here : {K : Type 0} (now : ℕ) (x : Source K) → lies_ahead now (deadline_of (Some x.timer)) ≡ false →
+    runs_out now x ≡ is_some (deadline_of (Some x.timer))
 runs_out_here now x is = grind arith
 
 -- of a run that lies ahead none runs out
-none_out : {K : Type 0} (now run : ℕ) (row : List (Source K)) → run ≤ length row → AllWithin (λ x. lies_ahead now (deadline_of (Some x.timer)) ≡ true) row 0 run → list_any (runs_out now) (take run row) ≡ false
+none_out : {K : Type 0} (now run : ℕ) (row : List (Source K)) → run ≤ length row →
+    AllWithin (λ x. lies_ahead now (deadline_of (Some x.timer)) ≡ true) row 0 run → list_any (runs_out now) (take run row) ≡ false
 none_out now zero row within ahead = refl
 none_out now (suc run) [] within ahead = absurd (omega (arith, within))
 none_out now (suc run) (x ∷ row) within ahead =
@@ -123,11 +136,15 @@ nothing_more true = refl
 nothing_more false = refl
 
 -- whether one of those that were passed ran out, with such a run behind them
-pub any_out-run : {K : Type 0} (now place run : ℕ) (xs row : List (Source K)) → row ≡ drop place xs → run ≤ length row → AllWithin (λ x. lies_ahead now (deadline_of (Some x.timer)) ≡ true) row 0 run → list_any (runs_out now) (take (place + run) xs) ≡ list_any (runs_out now) (take place xs)
+pub any_out-run : {K : Type 0} (now place run : ℕ) (xs row : List (Source K)) → row ≡ drop place xs → run ≤ length row →
+    AllWithin (λ x. lies_ahead now (deadline_of (Some x.timer)) ≡ true) row 0 run → list_any (runs_out now) (take (place + run) xs)
+    ≡ list_any (runs_out now) (take place xs)
 any_out-run now place run xs row is within ahead = grind (arith, take_parts, list_any-append, none_out, nothing_more)
 
 -- and with one more, whose timer doesn't run on
-pub any_out-more : {K : Type 0} (now place : ℕ) (sources : List (Source K)) (x : Source K) → place < length sources → x ≡ get_or sources place x → lies_ahead now (deadline_of (Some x.timer)) ≡ false → list_any (runs_out now) (take (place + 1) sources) ≡ (list_any (runs_out now) (take place sources) || is_some (deadline_of (Some x.timer)))
+pub any_out-more : {K : Type 0} (now place : ℕ) (sources : List (Source K)) (x : Source K) → place < length sources → x ≡ get_or sources place x →
+    lies_ahead now (deadline_of (Some x.timer)) ≡ false → list_any (runs_out now) (take (place + 1) sources)
+    ≡ (list_any (runs_out now) (take place sources) || is_some (deadline_of (Some x.timer)))
 any_out-more now place sources x within here past =
     list_any_more (runs_out now) sources place x within
     ∙ ap (λ b. list_any (runs_out now) (take place sources) || b) (ap (runs_out now) (sym here) ∙ runs_out_here now x past)

@@ -14,7 +14,8 @@ use Rattle.mq_table.proofs.Maps.{tied}
 
 -- among the keys that pass a test are those that are there and pass it
 module _ (p : ℕ → Bool) (s : ℕ) where
-  any-front : (k : ℕ) (xs : List ℕ) (passes ties here rest : Bool) → eq_by_cmp nat_cmp s k ≡ ties → (ties ≡ true → here ≡ passes) → list_any (eq_by_cmp nat_cmp s) xs ≡ (here && rest) → list_any (eq_by_cmp nat_cmp s) (cond passes (k ∷ xs) xs) ≡ (here && (ties || rest))
+  any-front : (k : ℕ) (xs : List ℕ) (passes ties here rest : Bool) → eq_by_cmp nat_cmp s k ≡ ties → (ties ≡ true → here ≡ passes) →
+      list_any (eq_by_cmp nat_cmp s) xs ≡ (here && rest) → list_any (eq_by_cmp nat_cmp s) (cond passes (k ∷ xs) xs) ≡ (here && (ties || rest))
   any-front k xs passes ties here rest is same so_far = grind arith
 
   nothing_there : (b : Bool) → false ≡ (b && false)
@@ -71,12 +72,15 @@ are_same-equal f h e =
     both a b h1 h2 = grind arith
 
 -- States of a group whose modes are alike, and of whose sources each is named by both or by none, have one filter.
-pub same_filter : (a b : GroupState) → is_include a.mode ≡ is_include b.mode → ((s : ℕ) → names a.mode (timer_at a s) ≡ names b.mode (timer_at b s)) → filter_of a ≡ filter_of b
+pub same_filter : (a b : GroupState) → is_include a.mode ≡ is_include b.mode → ((s : ℕ) → names a.mode (timer_at a s) ≡ names b.mode (timer_at b s)) →
+    filter_of a ≡ filter_of b
 same_filter a b mode each =
-    let sources = set.same_set nat_cmp_total map.nat_cmp-IsAntisymmetric (filter_of a).sources (filter_of b).sources (λ s. contains-filter_of a s ∙ each s ∙ sym (contains-filter_of b s)) in
+    let sources = set.same_set nat_cmp_total map.nat_cmp-IsAntisymmetric (filter_of a).sources (filter_of b).sources
+    (λ s. contains-filter_of a s ∙ each s ∙ sym (contains-filter_of b s)) in
     λ i. record { is_include = mode i; sources = sources i }
 
-pub changes-same : (a b : GroupState) → is_include a.mode ≡ is_include b.mode → ((s : ℕ) → names a.mode (timer_at a s) ≡ names b.mode (timer_at b s)) → changes_filter a b ≡ false
+pub changes-same : (a b : GroupState) → is_include a.mode ≡ is_include b.mode → ((s : ℕ) → names a.mode (timer_at a s) ≡ names b.mode (timer_at b s))
+    → changes_filter a b ≡ false
 unfolding changes_filter
 changes-same a b mode each =
     ap (λ f. not (are_same (filter_of a) f)) (sym (same_filter a b mode each)) ∙ ap not (are_same-itself (filter_of a))
@@ -99,8 +103,10 @@ changes-at a b s e = by_value (are_same (filter_of a) (filter_of b)) refl
         absurd (true≢false (sym e ∙ ap (λ x. not (beq x (names b.mode (timer_at b s)))) alike ∙ ap not (beq-itself (names b.mode (timer_at b s)))))
 
 -- So a filter changes where the mode does, or where some source is turned.
-pub changes-by : (a b : GroupState) (turned : Bool) → (not (beq (is_include a.mode) (is_include b.mode)) ≡ false → turned ≡ false → (s : ℕ) → names a.mode (timer_at a s) ≡ names b.mode (timer_at b s))
-    → (not (beq (is_include a.mode) (is_include b.mode)) ≡ false → turned ≡ true → (s : ℕ) × (not (beq (names a.mode (timer_at a s)) (names b.mode (timer_at b s))) ≡ true))
+pub changes-by : (a b : GroupState) (turned : Bool) →
+    (not (beq (is_include a.mode) (is_include b.mode)) ≡ false → turned ≡ false → (s : ℕ) → names a.mode (timer_at a s) ≡ names b.mode (timer_at b s))
+    → (not (beq (is_include a.mode) (is_include b.mode)) ≡ false → turned ≡ true → (s : ℕ) ×
+    (not (beq (names a.mode (timer_at a s)) (names b.mode (timer_at b s))) ≡ true))
     → changes_filter a b ≡ (turned || not (beq (is_include a.mode) (is_include b.mode)))
 changes-by a b turned none one = grind (arith, changes-mode, changes-at, changes-same, not_unlike)
 

@@ -1,5 +1,6 @@
 -- Addresses that are looked for in their order among ascending sources that hold them all are found.
-use Rattle.std.proofs.Common.{◌≡◌, ℕ, min, length, ◌<◌, ◌≤◌, ◌==◌, Bool, true, false, cond, ◌||◌, List, [], ◌∷◌, drop, refl, sym, ap, ◌∙◌, inl, inr, ⊎_elim, arith}
+use Rattle.std.proofs.Common.{◌≡◌, ℕ, min, length, ◌<◌, ◌≤◌, ◌==◌, Bool, true, false, cond, ◌||◌, List, [], ◌∷◌, drop, refl, sym, ap, ◌∙◌, inl, inr}
+use Rattle.std.proofs.Common.{⊎_elim, arith}
 use Rattle.std.specs.Prelude.{map as list_map}
 use Rattle.std.specs.List.{All}
 use Rattle.std.proofs.lemmas.Bool.{false≢true, or_cases, or_left, eqb-true, eq-eqb}
@@ -30,7 +31,8 @@ not_below number n xs above = by_test (set_of number xs n) refl
     by_test false is = refl
 
 -- sources that hold an address are some
-pub some_held : {K : Type 0} (number : K → ℕ) (qs : List K) (xs : List (Source K)) → ((s : ℕ) → set_of number qs s ≡ true → set_of (number_in number) xs s ≡ true) → min 1 (length qs) ≤ length xs
+pub some_held : {K : Type 0} (number : K → ℕ) (qs : List K) (xs : List (Source K)) →
+    ((s : ℕ) → set_of number qs s ≡ true → set_of (number_in number) xs s ≡ true) → min 1 (length qs) ≤ length xs
 some_held number [] xs held = omega arith
 some_held number (q ∷ qs) [] held = absurd (false≢true (held (number q) (or_left (number q == number q) _ (eq-eqb (number q) (number q) refl))))
 some_held number (q ∷ qs) (x ∷ xs) held = omega arith
@@ -57,16 +59,21 @@ module _ {K : Type 0} (number : K → ℕ) where
   none_asked [] = refl
   none_asked (x ∷ xs) = ap (λ ys. false ∷ ys) (none_asked xs)
 
-  pub in_order : (xs : List (Source K)) (qs : List K) → IsAscending number qs → IsAscending (number_in number) xs → ((s : ℕ) → set_of number qs s ≡ true → set_of (number_in number) xs s ≡ true) → found_in_order qs xs ≡ are_asked qs xs
+  pub in_order : (xs : List (Source K)) (qs : List K) → IsAscending number qs → IsAscending (number_in number) xs →
+      ((s : ℕ) → set_of number qs s ≡ true → set_of (number_in number) xs s ≡ true) → found_in_order qs xs ≡ are_asked qs xs
   in_order [] qs up_qs up_xs held = refl
   in_order (x ∷ xs) [] up_qs up_xs held = none_asked (x ∷ xs)
   in_order (x ∷ xs) (q ∷ qs) up_qs up_xs held =
       ⊎_elim
-      (λ (same : ((number q == number x.address) ≡ true) × (number q ≡ number x.address)). rw same.0 (ap (λ ys. true ∷ ys) (in_order xs qs (IsAscending-tail number q qs up_qs) (IsAscending-tail (number_in number) x xs up_xs) (λ s is. passed s is (omega (arith, member_above number (number q) s qs (IsAscending-head number q qs up_qs) is, same.1)))
+      (λ (same : ((number q == number x.address) ≡ true) × (number q ≡ number x.address)). rw same.0
+      (ap (λ ys. true ∷ ys)
+      (in_order xs qs (IsAscending-tail number q qs up_qs) (IsAscending-tail (number_in number) x xs up_xs)
+      (λ s is. passed s is (omega (arith, member_above number (number q) s qs (IsAscending-head number q qs up_qs) is, same.1)))
       ∙ behind_first q qs xs (from_same same.1))))
       (λ (other : ((number q == number x.address) ≡ false) × ¬ (number q ≡ number x.address)).
       let ahead : number x.address < number q = later other.0 in
-      rw (other.0, not_in_rest ahead) (ap (λ ys. false ∷ ys) (in_order xs (q ∷ qs) up_qs (IsAscending-tail (number_in number) x xs up_xs) (λ s is. behind s is (ahead_of ahead s is)))))
+      rw (other.0, not_in_rest ahead)
+      (ap (λ ys. false ∷ ys) (in_order xs (q ∷ qs) up_qs (IsAscending-tail (number_in number) x xs up_xs) (λ s is. behind s is (ahead_of ahead s is)))))
       (eqb_tells (number q) (number x.address))
     where
       from_same : number q ≡ number x.address → All (λ y. number q < number_in number y) xs
@@ -83,10 +90,11 @@ module _ {K : Type 0} (number : K → ℕ) where
           or_right_of false is = is
 
       later : (number q == number x.address) ≡ false → number x.address < number q
-      later other = elim (or_cases (number x.address == number q) (set_of (number_in number) xs (number q)) (held (number q) (rw (eq-eqb (number q) (number q) refl) refl))) [
-        | inl here ↦ absurd (false≢true (sym other ∙ eq-eqb (number q) (number x.address) (sym (eqb-true (number x.address) (number q) here))))
-        | inr found ↦ member_above (number_in number) (number x.address) (number q) xs (IsAscending-head (number_in number) x xs up_xs) found
-      ]
+      later other = elim (or_cases (number x.address == number q) (set_of (number_in number) xs (number q))
+          (held (number q) (rw (eq-eqb (number q) (number q) refl) refl))) [
+            | inl here ↦ absurd (false≢true (sym other ∙ eq-eqb (number q) (number x.address) (sym (eqb-true (number x.address) (number q) here))))
+            | inr found ↦ member_above (number_in number) (number x.address) (number q) xs (IsAscending-head (number_in number) x xs up_xs) found
+          ]
 
       above_rest : number x.address < number q → All (λ y. number x.address < number y) qs
       above_rest ahead k d within = omega (arith, ahead, IsAscending-head number q qs up_qs k d within)
@@ -101,7 +109,8 @@ module _ {K : Type 0} (number : K → ℕ) where
       ]
 
   -- one source on: whether it is asked for, and what is ahead then
-  pub one_on : (asked qs : List K) (x : Source K) (rest xs : List (Source K)) (first : Bool) → xs ≡ x ∷ rest → is_first number qs (number x.address) ≡ first → found_in_order qs xs ≡ are_asked asked xs
+  pub one_on : (asked qs : List K) (x : Source K) (rest xs : List (Source K)) (first : Bool) → xs ≡ x ∷ rest → is_first number qs (number x.address)
+      ≡ first → found_in_order qs xs ≡ are_asked asked xs
       → (set_of number asked (number x.address) ≡ first) × (found_in_order (cond first (drop 1 qs) qs) rest ≡ are_asked asked rest)
   one_on asked qs x rest xs first is is_first ahead =
       let both : first ∷ found_in_order (cond first (drop 1 qs) qs) rest ≡ are_asked asked (x ∷ rest) = rw is_first at (rw is at ahead) in

@@ -1,5 +1,6 @@
 -- Sources that have no sending to go, and the places outside of which there are no others.
-use Rattle.std.proofs.Common.{◌≡◌, ◌++◌, ℕ, ◌+◌, ◌-◌, ◌<◌, Bool, true, false, ltb, ◌||◌, List, [], ◌∷◌, length, take, drop, set, get_or, Some, refl, sym, ap, ◌∙◌, arith}
+use Rattle.std.proofs.Common.{◌≡◌, ◌++◌, ℕ, ◌+◌, ◌-◌, ◌<◌, Bool, true, false, ltb, ◌||◌, List, [], ◌∷◌, length, take, drop, set, get_or, Some, refl}
+use Rattle.std.proofs.Common.{sym, ap, ◌∙◌, arith}
 use Rattle.std.specs.Prelude.{map as list_map}
 use Rattle.std.specs.FinMap as map
 use Rattle.std.specs.List.{filter_map, list_any}
@@ -40,45 +41,66 @@ sources_stay recount (x ∷ xs) none =
     let rest = sources_stay recount xs parts.1 in
     λ i. first i ∷ rest i
 
-pub made_of_none : {K : Type 0} (recount : Recount) (xs : List (Source K)) → list_any item_has_sendings xs ≡ false → filter_map (λ x. Some (source_recounted recount x)) xs ≡ xs
+pub made_of_none : {K : Type 0} (recount : Recount) (xs : List (Source K)) → list_any item_has_sendings xs ≡ false →
+    filter_map (λ x. Some (source_recounted recount x)) xs ≡ xs
 made_of_none recount xs none = made_of_all (source_recounted recount) xs ∙ sources_stay recount xs none
 
 -- whether an item passes a test, one place on: where it is another item then, and where it stays
-pub any_with_set : {X : Type 0} (p : X → Bool) (xs : List X) (place : ℕ) (y : X) → place < length xs → list_any p (take (place + 1) (set xs place y)) ≡ (list_any p (take place xs) || p y)
+pub any_with_set : {X : Type 0} (p : X → Bool) (xs : List X) (place : ℕ) (y : X) → place < length xs → list_any p (take (place + 1) (set xs place y))
+    ≡ (list_any p (take place xs) || p y)
 any_with_set p xs place y within = grind (arith, take_more_set, list_any-append, or-false)
 
-pub any_without : {X : Type 0} (p : X → Bool) (xs : List X) (place : ℕ) (held : X) → place < length xs → held ≡ get_or xs place held → p held ≡ false → list_any p (take (place + 1) xs) ≡ list_any p (take place xs)
+pub any_without : {X : Type 0} (p : X → Bool) (xs : List X) (place : ℕ) (held : X) → place < length xs → held ≡ get_or xs place held →
+    p held ≡ false → list_any p (take (place + 1) xs) ≡ list_any p (take place xs)
 any_without p xs place held within is none =
     list_any_more p xs place held within
     ∙ ap (λ b. list_any p (take place xs) || b) (ap p (sym is) ∙ none)
     ∙ or-false (list_any p (take place xs))
 
 -- The places of a list of sources are those of the group that has them.
-module _ {K : Type 0} (number : K → ℕ) (g : GroupState) (xs : List (Source K)) (up : IsAscending (number_in number) xs) (is : timers_in number xs ≡ g.sources) (first end : ℕ) where
+module _ {K : Type 0} (number : K → ℕ) (g : GroupState) (xs : List (Source K)) (up : IsAscending (number_in number) xs)
+    (is : timers_in number xs ≡ g.sources) (first end : ℕ) where
   size : length (map.keys g.sources) ≡ length xs
   size = ap (λ m. length (map.keys m)) (sym is) ∙ ap length (keys-timers_in number xs up) ∙ length-map xs (number_in number)
 
   before : list_any (has_sendings g) (take first (map.keys g.sources)) ≡ list_any item_has_sendings (take first xs)
-  before = ap (λ m. list_any (λ s. ltb 0 (sendings_of (map.get m s))) (take first (map.keys m))) (sym is) ∙ any_before number (λ s timer. ltb 0 (sendings_of timer)) first xs up
+  before = ap (λ m. list_any (λ s. ltb 0 (sendings_of (map.get m s))) (take first (map.keys m))) (sym is) ∙
+      any_before number (λ s timer. ltb 0 (sendings_of timer)) first xs up
 
   behind : list_any (has_sendings g) (drop end (map.keys g.sources)) ≡ list_any item_has_sendings (drop end xs)
-  behind = ap (λ m. list_any (λ s. ltb 0 (sendings_of (map.get m s))) (drop end (map.keys m))) (sym is) ∙ any_behind number (λ s timer. ltb 0 (sendings_of timer)) end xs up
+  behind = ap (λ m. list_any (λ s. ltb 0 (sendings_of (map.get m s))) (drop end (map.keys m))) (sym is) ∙
+      any_behind number (λ s timer. ltb 0 (sendings_of timer)) end xs up
 
   pub between_in_group : PassesBetween item_has_sendings first end xs → SendsBetween first end g
-  between_in_group h = record { ordered = h.ordered; within = omega (arith, h.within, size); none_before = before ∙ h.none_before; none_behind = behind ∙ h.none_behind }
+  between_in_group h = record {
+    ordered = h.ordered;
+    within = omega (arith, h.within, size);
+    none_before = before ∙ h.none_before;
+    none_behind =
+        behind ∙ h.none_behind;
+  }
 
   pub between_in_row : SendsBetween first end g → PassesBetween item_has_sendings first end xs
-  between_in_row h = record { ordered = h.ordered; within = omega (arith, h.within, size); none_before = sym before ∙ h.none_before; none_behind = sym behind ∙ h.none_behind }
+  between_in_row h = record {
+    ordered = h.ordered;
+    within = omega (arith, h.within, size);
+    none_before = sym before ∙ h.none_before;
+    none_behind =
+        sym behind ∙ h.none_behind;
+  }
 
 -- all places of a list
 pub all_between : {X : Type 0} (test : X → Bool) (xs : List X) (count : ℕ) → count ≡ length xs → PassesBetween test 0 count xs
-all_between test xs count is = record { ordered = omega arith; within = omega (arith, is); none_before = refl; none_behind = ap (list_any test) (drop_all count xs (omega (arith, is))) }
+all_between test xs count is =
+    record { ordered = omega arith; within = omega (arith, is); none_before = refl; none_behind = ap (list_any test) (drop_all count xs (omega (arith, is))) }
 
 -- a list in which none passes a test, and a part of it more in front or behind
-pub none_in_front : {X : Type 0} (p : X → Bool) (xs : List X) (n k : ℕ) → list_any p (take n xs) ≡ false → list_any p (take k (drop n xs)) ≡ false → list_any p (take (n + k) xs) ≡ false
+pub none_in_front : {X : Type 0} (p : X → Bool) (xs : List X) (n k : ℕ) → list_any p (take n xs) ≡ false → list_any p (take k (drop n xs)) ≡ false →
+    list_any p (take (n + k) xs) ≡ false
 none_in_front p xs n k none more = grind (arith, take-add, list_any-append)
 
-pub none_behind_more : {X : Type 0} (p : X → Bool) (xs : List X) (start k : ℕ) → list_any p (drop (start + k) xs) ≡ false → list_any p (take k (drop start xs)) ≡ false → list_any p (drop start xs) ≡ false
+pub none_behind_more : {X : Type 0} (p : X → Bool) (xs : List X) (start k : ℕ) → list_any p (drop (start + k) xs) ≡ false →
+    list_any p (take k (drop start xs)) ≡ false → list_any p (drop start xs) ≡ false
 none_behind_more p xs start k none more =
     ap (list_any p) (sym (take-append-drop k (drop start xs)) ∙ ap (λ ys. take k (drop start xs) ++ ys) (drop-drop k start xs))
     ∙ list_any-append p (take k (drop start xs)) (drop (start + k) xs)

@@ -1,5 +1,6 @@
 -- What a group holds, by the list of its sources.
-use Rattle.std.proofs.Common.{◌≡◌, ℕ, ◌<◌, Bool, true, false, cond, ◌||◌, List, [], ◌∷◌, take, drop, filter, Option, None, Some, is_some, IsSome, refl, sym, ap, ◌∙◌, subst, arith}
+use Rattle.std.proofs.Common.{◌≡◌, ℕ, ◌<◌, Bool, true, false, cond, ◌||◌, List, [], ◌∷◌, take, drop, filter, Option, None, Some, is_some, IsSome}
+use Rattle.std.proofs.Common.{refl, sym, ap, ◌∙◌, subst, arith}
 use lib.Dec.{T}
 use Rattle.std.proofs.lemmas.Bool.{lt-ltb}
 use Rattle.std.specs.Prelude.{map as list_map}
@@ -40,7 +41,8 @@ module _ {X : Type 0} (number : X → ℕ) (t : ℕ → Bool) (u : X → Bool) w
       let first : t (number x) ≡ u x = All-head P x xs alike in
       rw first (by_test (u x) rest)
     where
-      by_test : (b : Bool) → filter t (list_map number xs) ≡ list_map number (filter u xs) → cond b (number x ∷ filter t (list_map number xs)) (filter t (list_map number xs)) ≡ list_map number (cond b (x ∷ filter u xs) (filter u xs))
+      by_test : (b : Bool) → filter t (list_map number xs) ≡ list_map number (filter u xs) → cond b (number x ∷ filter t (list_map number xs))
+          (filter t (list_map number xs)) ≡ list_map number (cond b (x ∷ filter u xs) (filter u xs))
       by_test true is = ap (λ ys. number x ∷ ys) is
       by_test false is = is
 
@@ -64,40 +66,56 @@ module _ {K : Type 0} (number : K → ℕ) where
   pub keys-timers_in : (xs : List (Source K)) → IsAscending (number_in number) xs → map.keys (timers_in number xs) ≡ list_map (number_in number) xs
   keys-timers_in xs up = keys-from_entries (entries_in xs) (subst T (sym (sorted_entries xs up)) tt) ∙ map-map _ _ xs
 
-  each_found : (p : ℕ → Option SourceTimer → Bool) (xs : List (Source K)) → IsAscending (number_in number) xs → All (λ x. p (number_in number x) (map.get (timers_in number xs) (number_in number x)) ≡ p (number_in number x) (Some x.timer)) xs
+  each_found : (p : ℕ → Option SourceTimer → Bool) (xs : List (Source K)) → IsAscending (number_in number) xs →
+      All (λ x. p (number_in number x) (map.get (timers_in number xs) (number_in number x)) ≡ p (number_in number x) (Some x.timer)) xs
   each_found p xs up = grind (arith, get-found)
 
   -- a test of a source's number and timer: whether some source of the group passes, and which do
-  pub any_in_row : (p : ℕ → Option SourceTimer → Bool) (xs : List (Source K)) → IsAscending (number_in number) xs → list_any (λ s. p s (map.get (timers_in number xs) s)) (map.keys (timers_in number xs)) ≡ list_any (λ (x : Source K). p (number x.address) (Some x.timer)) xs
+  pub any_in_row : (p : ℕ → Option SourceTimer → Bool) (xs : List (Source K)) → IsAscending (number_in number) xs →
+      list_any (λ s. p s (map.get (timers_in number xs) s)) (map.keys (timers_in number xs))
+      ≡ list_any (λ (x : Source K). p (number x.address) (Some x.timer)) xs
   any_in_row p xs up =
       ap (list_any (λ s. p s (map.get (timers_in number xs) s))) (keys-timers_in xs up)
       ∙ any_mapped (number_in number) (λ s. p s (map.get (timers_in number xs) s)) (λ x. p (number x.address) (Some x.timer)) xs (each_found p xs up)
 
   -- the same before a place and from it on
-  pub any_before : (p : ℕ → Option SourceTimer → Bool) (n : ℕ) (xs : List (Source K)) → IsAscending (number_in number) xs → list_any (λ s. p s (map.get (timers_in number xs) s)) (take n (map.keys (timers_in number xs))) ≡ list_any (λ (x : Source K). p (number x.address) (Some x.timer)) (take n xs)
+  pub any_before : (p : ℕ → Option SourceTimer → Bool) (n : ℕ) (xs : List (Source K)) → IsAscending (number_in number) xs →
+      list_any (λ s. p s (map.get (timers_in number xs) s)) (take n (map.keys (timers_in number xs)))
+      ≡ list_any (λ (x : Source K). p (number x.address) (Some x.timer)) (take n xs)
   any_before p n xs up =
       ap (list_any (λ s. p s (map.get (timers_in number xs) s))) (ap (take n) (keys-timers_in xs up) ∙ take-map (number_in number) n xs)
-      ∙ any_mapped (number_in number) (λ s. p s (map.get (timers_in number xs) s)) (λ x. p (number x.address) (Some x.timer)) (take n xs) (All-take (λ x. p (number_in number x) (map.get (timers_in number xs) (number_in number x)) ≡ p (number_in number x) (Some x.timer)) n xs (each_found p xs up))
+      ∙ any_mapped (number_in number) (λ s. p s (map.get (timers_in number xs) s)) (λ x. p (number x.address) (Some x.timer)) (take n xs)
+      (All-take (λ x. p (number_in number x) (map.get (timers_in number xs) (number_in number x)) ≡ p (number_in number x) (Some x.timer)) n xs
+      (each_found p xs up))
 
-  pub any_behind : (p : ℕ → Option SourceTimer → Bool) (n : ℕ) (xs : List (Source K)) → IsAscending (number_in number) xs → list_any (λ s. p s (map.get (timers_in number xs) s)) (drop n (map.keys (timers_in number xs))) ≡ list_any (λ (x : Source K). p (number x.address) (Some x.timer)) (drop n xs)
+  pub any_behind : (p : ℕ → Option SourceTimer → Bool) (n : ℕ) (xs : List (Source K)) → IsAscending (number_in number) xs →
+      list_any (λ s. p s (map.get (timers_in number xs) s)) (drop n (map.keys (timers_in number xs)))
+      ≡ list_any (λ (x : Source K). p (number x.address) (Some x.timer)) (drop n xs)
   any_behind p n xs up =
       ap (list_any (λ s. p s (map.get (timers_in number xs) s))) (ap (drop n) (keys-timers_in xs up) ∙ drop-map (number_in number) n xs)
-      ∙ any_mapped (number_in number) (λ s. p s (map.get (timers_in number xs) s)) (λ x. p (number x.address) (Some x.timer)) (drop n xs) (All-drop (λ x. p (number_in number x) (map.get (timers_in number xs) (number_in number x)) ≡ p (number_in number x) (Some x.timer)) n xs (each_found p xs up))
+      ∙ any_mapped (number_in number) (λ s. p s (map.get (timers_in number xs) s)) (λ x. p (number x.address) (Some x.timer)) (drop n xs)
+      (All-drop (λ x. p (number_in number x) (map.get (timers_in number xs) (number_in number x)) ≡ p (number_in number x) (Some x.timer)) n xs
+      (each_found p xs up))
 
-  pub filter_in_row : (p : ℕ → Option SourceTimer → Bool) (xs : List (Source K)) → IsAscending (number_in number) xs → filter (λ s. p s (map.get (timers_in number xs) s)) (map.keys (timers_in number xs)) ≡ list_map (number_in number) (filter (λ (x : Source K). p (number x.address) (Some x.timer)) xs)
+  pub filter_in_row : (p : ℕ → Option SourceTimer → Bool) (xs : List (Source K)) → IsAscending (number_in number) xs →
+      filter (λ s. p s (map.get (timers_in number xs) s)) (map.keys (timers_in number xs)) ≡ list_map (number_in number)
+      (filter (λ (x : Source K). p (number x.address) (Some x.timer)) xs)
   filter_in_row p xs up =
       ap (filter (λ s. p s (map.get (timers_in number xs) s))) (keys-timers_in xs up)
       ∙ filter_mapped (number_in number) (λ s. p s (map.get (timers_in number xs) s)) (λ x. p (number x.address) (Some x.timer)) xs (each_found p xs up)
 
   -- each source's timer replaced
-  pub timers_in-replaced : (f : ℕ → SourceTimer → SourceTimer) (made : Source K → Source K) → ((x : Source K) → made x ≡ record { address = x.address; timer = f (number x.address) x.timer }) → (xs : List (Source K)) → timers_in number (list_map made xs) ≡ kept (λ s timer. Some (f s timer)) (timers_in number xs)
+  pub timers_in-replaced : (f : ℕ → SourceTimer → SourceTimer) (made : Source K → Source K) →
+      ((x : Source K) → made x ≡ record { address = x.address; timer = f (number x.address) x.timer }) → (xs : List (Source K)) →
+      timers_in number (list_map made xs) ≡ kept (λ s timer. Some (f s timer)) (timers_in number xs)
   timers_in-replaced f made is xs = ap map.from_entries (same xs) ∙ sym (kept-from_entries f (entries_in xs))
     where
       same : (xs : List (Source K)) → entries_in (list_map made xs) ≡ list_map (λ (e : ℕ × SourceTimer). (e.0, f e.0 e.1)) (entries_in xs)
       same [] = refl
       same (x ∷ xs) =
           let rest = same xs in
-          let first : ◌≡◌ {A = ℕ × SourceTimer} (number (made x).address, (made x).timer) (number x.address, f (number x.address) x.timer) = ap (λ (y : Source K). (number y.address, y.timer)) (is x) in
+          let first : ◌≡◌ {A = ℕ × SourceTimer} (number (made x).address, (made x).timer) (number x.address, f (number x.address) x.timer) =
+          ap (λ (y : Source K). (number y.address, y.timer)) (is x) in
           λ i. first i ∷ rest i
 
   -- what the group holds is among the items
@@ -110,8 +128,10 @@ module _ {K : Type 0} (number : K → ℕ) where
       mapped (Some x) = refl
 
 -- a group whose sources' timers are replaced
-pub replaced_state : {K : Type 0} (number : K → ℕ) (f : ℕ → SourceTimer → SourceTimer) (made : Source K → Source K) → ((x : Source K) → made x ≡ record { address = x.address; timer = f (number x.address) x.timer })
-    → (mode : FilterMode) (v1 v2 : Option ℕ) (xs ys : List (Source K)) (g : GroupState) → record { mode = mode; sources = timers_in number xs; v1 = v1; v2 = v2 } ≡ g → ys ≡ list_map made xs
+pub replaced_state : {K : Type 0} (number : K → ℕ) (f : ℕ → SourceTimer → SourceTimer) (made : Source K → Source K) →
+    ((x : Source K) → made x ≡ record { address = x.address; timer = f (number x.address) x.timer })
+    → (mode : FilterMode) (v1 v2 : Option ℕ) (xs ys : List (Source K)) (g : GroupState) →
+    record { mode = mode; sources = timers_in number xs; v1 = v1; v2 = v2 } ≡ g → ys ≡ list_map made xs
     → record { mode = mode; sources = timers_in number ys; v1 = v1; v2 = v2 } ≡ record g { sources = kept (λ s timer. Some (f s timer)) g.sources }
 replaced_state number f made is_made mode v1 v2 xs ys g is is_all =
     rw (← is, is_all) (ap (λ m. let h : GroupState = record { mode = mode; sources = m; v1 = v1; v2 = v2 } in h) (timers_in-replaced number f made is_made xs))

@@ -54,12 +54,14 @@ pub four_more : (n : ℕ) → 10000 ≤ n → n < 2 ^ 64 → length (decimal n) 
 four_more n more fits = ap length (last_four n more fits) ∙ length-append (decimal (n / 10000)) (four_digits_of (n % 10000))
 
 -- a text behind which a number was put, and then its last four digits
-pub put_in_two : (old first second four : List ℕ) (n : ℕ) → 10000 ≤ n → n < 2 ^ 64 → first ≡ old ++ decimal (n / 10000) → four ≡ four_digits_of (n % 10000) → second ≡ first ++ four → second ≡ old ++ decimal n
+pub put_in_two : (old first second four : List ℕ) (n : ℕ) → 10000 ≤ n → n < 2 ^ 64 → first ≡ old ++ decimal (n / 10000) →
+    four ≡ four_digits_of (n % 10000) → second ≡ first ++ four → second ≡ old ++ decimal n
 put_in_two old first second four n more fits is_first is_four is_second =
     is_second
     ∙ rw (is_first, is_four)
     (append_assoc old (decimal (n / 10000)) (four_digits_of (n % 10000)) ∙ ap (λ (digits : List ℕ). old ++ digits) (sym (last_four n more fits)))
 
 -- the three digits, the last two of them from a pair
-pub three_from_pair : (n first : ℕ) (pair : List ℕ) → 100 ≤ n → n < 1000 → first ≡ 48 + n / 100 → pair ≡ (48 + n % 100 / 10) ∷ (48 + n % 100 % 10) ∷ [] → ◌≡◌ {A = List ℕ} (first ∷ get_or pair 0 0 ∷ get_or pair 1 0 ∷ []) (decimal n)
+pub three_from_pair : (n first : ℕ) (pair : List ℕ) → 100 ≤ n → n < 1000 → first ≡ 48 + n / 100 →
+    pair ≡ (48 + n % 100 / 10) ∷ (48 + n % 100 % 10) ∷ [] → ◌≡◌ {A = List ℕ} (first ∷ get_or pair 0 0 ∷ get_or pair 1 0 ∷ []) (decimal n)
 three_from_pair n first pair more less is_first is_pair = rw (is_first, is_pair) (sym (three_digits n more less))

@@ -35,15 +35,18 @@ one_digit (suc n) small =
 pub two_digits : (n : ℕ) → 16 ≤ n → n < 256 → hexadecimal n ≡ digit_glyph false (n / 16) ∷ digit_glyph false (n % 16) ∷ []
 two_digits n large small =
     let first : n / 16 % 16 ≡ n / 16 = omega (arith, small) in
-    some_digits n (omega arith) ∙ ap (map (digit_glyph false)) (of_two n large small) ∙ ap (λ (m : ℕ). digit_glyph false m ∷ digit_glyph false (n % 16) ∷ []) first
+    some_digits n (omega arith) ∙ ap (map (digit_glyph false)) (of_two n large small) ∙
+    ap (λ (m : ℕ). digit_glyph false m ∷ digit_glyph false (n % 16) ∷ []) first
 
-pub three_digits : (n : ℕ) → 256 ≤ n → n < 4096 → hexadecimal n ≡ digit_glyph false (n / 256) ∷ digit_glyph false (n / 16 % 16) ∷ digit_glyph false (n % 16) ∷ []
+pub three_digits : (n : ℕ) → 256 ≤ n → n < 4096 → hexadecimal n ≡ digit_glyph false (n / 256) ∷ digit_glyph false (n / 16 % 16) ∷ digit_glyph false
+    (n % 16) ∷ []
 three_digits n large small =
     let same : n / 16 / 16 % 16 ≡ n / 256 = omega (arith, small) in
     some_digits n (omega arith) ∙ ap (map (digit_glyph false)) (of_three n large small)
     ∙ ap (λ (m : ℕ). digit_glyph false m ∷ digit_glyph false (n / 16 % 16) ∷ digit_glyph false (n % 16) ∷ []) same
 
-pub all_four_digits : (n : ℕ) → 4096 ≤ n → n < 65536 → hexadecimal n ≡ digit_glyph false (n / 4096) ∷ digit_glyph false (n / 256 % 16) ∷ digit_glyph false (n / 16 % 16) ∷ digit_glyph false (n % 16) ∷ []
+pub all_four_digits : (n : ℕ) → 4096 ≤ n → n < 65536 →
+    hexadecimal n ≡ digit_glyph false (n / 4096) ∷ digit_glyph false (n / 256 % 16) ∷ digit_glyph false (n / 16 % 16) ∷ digit_glyph false (n % 16) ∷ []
 all_four_digits n large small =
     let third : n / 16 / 16 ≡ n / 256 = omega arith in
     let fourth : n / 16 / 16 / 16 % 16 ≡ n / 4096 = omega arith in

@@ -1,9 +1,7 @@
 pub mod Digits
 pub mod Hexadecimal
 pub mod LongestRun
-pub mod NumberOf
 pub mod Pairs
 pub mod Passing
 pub mod PutGroups
 pub mod Spelled
-pub mod WrittenV6

@@ -1,10 +1,11 @@
 -- The longest run of zero groups.
-use Rattle.std.proofs.Common.{◌≡◌, ℕ, zero, suc, ◌+◌, ◌-◌, ◌*◌, ◌<◌, ◌≤◌, ◌==◌, nat_lt, Bool, true, false, List, [], ◌∷◌, length, drop, inl, inr, refl, ap, sym, ◌∙◌, arith, add-one, length-drop, if◌then◌else◌}
+use Rattle.std.proofs.Common.{◌≡◌, ℕ, zero, suc, ◌+◌, ◌-◌, ◌*◌, ◌<◌, ◌≤◌, ◌==◌, nat_lt, Bool, true, false, List, [], ◌∷◌, length, drop, inl, inr}
+use Rattle.std.proofs.Common.{refl, ap, sym, ◌∙◌, arith, add-one, length-drop, if◌then◌else◌}
 use Rattle.std.proofs.lemmas.Bool.{cases_lt}
 use Rattle.std.proofs.lemmas.Bool.Decides.{nat_tests}
 use Rattle.std.proofs.lemmas.List.{drop-drop}
 use Rattle.mq_text.specs.declared.address_v6.ZeroGroups.{ZeroGroups}
-use Rattle.mq_text.specs.AddressV6.{zeros_ahead, longest_zeros, IsFirstLongest, FirstLongestZeros}
+use Rattle.mq_text.specs.AddressV6.{zeros_ahead, longest_zeros, IsFirstLongest}
 
 none_in_nothing : (place : ℕ) → zeros_ahead (drop place []) ≤ 0
 none_in_nothing zero = omega arith
@@ -24,7 +25,8 @@ fewer_before group groups run more longest (suc place) before = longest.first pl
 -- one group more at the front: the run is the longest that the others have, or the one at the front
 by_front : (group : ℕ) (groups : List ℕ) (later : ZeroGroups) → IsFirstLongest groups later
     → (is_shorter : Bool) → nat_lt (zeros_ahead (group ∷ groups)) later.count ≡ is_shorter
-    → IsFirstLongest (group ∷ groups) (if is_shorter then record { place = later.place + 1; count = later.count } else record { place = 0; count = zeros_ahead (group ∷ groups) })
+    → IsFirstLongest (group ∷ groups)
+    (if is_shorter then record { place = later.place + 1; count = later.count } else record { place = 0; count = zeros_ahead (group ∷ groups) })
 by_front group groups later longest true shorter =
     let more : zeros_ahead (group ∷ groups) < later.count = grind (arith, nat_tests, shorter) in
     record {
@@ -40,9 +42,10 @@ by_front group groups later longest false shorter =
       first = λ place before. absurd (omega arith);
     }
 
-pub is_first_longest : FirstLongestZeros
+pub is_first_longest : (groups : List ℕ) → IsFirstLongest groups (longest_zeros groups)
 is_first_longest [] = record { zeros = refl; longest = none_in_nothing; first = λ place before. absurd (omega arith) }
-is_first_longest (group ∷ groups) = by_front group groups (longest_zeros groups) (is_first_longest groups) (nat_lt (zeros_ahead (group ∷ groups)) (longest_zeros groups).count) refl
+is_first_longest (group ∷ groups) = by_front group groups (longest_zeros groups) (is_first_longest groups)
+    (nat_lt (zeros_ahead (group ∷ groups)) (longest_zeros groups).count) refl
 
 -- no more zero groups stand anywhere than there are groups
 pub zeros_within : (groups : List ℕ) → zeros_ahead groups ≤ length groups
@@ -59,7 +62,8 @@ not_more groups zero few = omega arith
 not_more [] (suc some) few = omega arith
 not_more (group ∷ groups) (suc some) few = by_first (not_more groups some) (group == 0) few
   where
-    by_first : (some ≤ zeros_ahead groups → zeros_ahead (drop some groups) ≤ zeros_ahead groups) → (is_zero : Bool) → suc some ≤ (if is_zero then zeros_ahead groups + 1 else 0)
+    by_first : (some ≤ zeros_ahead groups → zeros_ahead (drop some groups) ≤ zeros_ahead groups) → (is_zero : Bool) →
+        suc some ≤ (if is_zero then zeros_ahead groups + 1 else 0)
         → zeros_ahead (drop some groups) ≤ (if is_zero then zeros_ahead groups + 1 else 0)
     by_first others true few = let fewer = others (omega (arith, few)) in omega (arith, fewer)
     by_first others false few = absurd (omega (arith, few))
@@ -83,16 +87,19 @@ one_run groups a b longest_a longest_b =
     λ i. record { place = place i; count = count i }
 
 -- The first run of all is the longest, where fewer groups stand behind it than it has.
-pub first_run : (groups : List ℕ) (place count : ℕ) → length groups ≡ 8 → ((k : ℕ) → k < place → zeros_ahead (drop k groups) ≡ 0) → zeros_ahead (drop place groups) ≡ count → 0 < count → 8 ≤ place + 2 * count
+pub first_run : (groups : List ℕ) (place count : ℕ) → length groups ≡ 8 → ((k : ℕ) → k < place → zeros_ahead (drop k groups) ≡ 0) →
+    zeros_ahead (drop place groups) ≡ count → 0 < count → 8 ≤ place + 2 * count
     → ◌≡◌ {A = ZeroGroups} (record { place = place; count = count }) (longest_zeros groups)
-first_run groups place count eight before zeros some many = one_run groups (record { place = place; count = count }) (longest_zeros groups) (record { zeros = zeros; longest = longest; first = first }) (is_first_longest groups)
+first_run groups place count eight before zeros some many = one_run groups (record { place = place; count = count }) (longest_zeros groups)
+    (record { zeros = zeros; longest = longest; first = first }) (is_first_longest groups)
   where
     first : (k : ℕ) → k < place → zeros_ahead (drop k groups) < count
     first k less = let none = before k less in omega (arith, none, some)
 
     within : (k : ℕ) → place ≤ k → k ≤ place + count → zeros_ahead (drop k groups) ≤ count
     within k more less =
-        let at : drop (k - place) (drop place groups) ≡ drop k groups = drop-drop (k - place) place groups ∙ ap (λ (n : ℕ). drop n groups) (omega (arith, more)) in
+        let at : drop (k - place) (drop place groups) ≡ drop k groups = drop-drop (k - place) place groups ∙
+        ap (λ (n : ℕ). drop n groups) (omega (arith, more)) in
         let fewer = not_more (drop place groups) (k - place) (omega (arith, zeros, less)) in
         rw (← at) (omega (arith, fewer, zeros))
 

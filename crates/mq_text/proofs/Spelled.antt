@@ -1,19 +1,15 @@
 -- The texts of IPv6 addresses, and those that std reads.
-use Rattle.std.proofs.Common.{ap, ◌≡◌, ℕ, ◌==◌, ◌<◌, ◌||◌, Bool, true, false, List, [], ◌∷◌, ◌++◌, codes, inl, inr, refl, sym, subst, ◌∙◌, arith, append_assoc}
+use Rattle.std.proofs.Common.{◌≡◌, ℕ, ◌==◌, ◌<◌, ◌||◌, Bool, true, false, List, [], ◌∷◌, ◌++◌, codes, inl, inr, refl, sym, subst, ◌∙◌, arith, append_assoc}
 use Rattle.std.proofs.lemmas.Bool.{eqb-true}
 use Rattle.std.proofs.lemmas.List.Folds.{list_any-append}
 use Rattle.std.specs.Char.{digit_value}
 use Rattle.std.specs.Str.Parse.{AllDigits}
 use Rattle.std.specs.Fmt.{decimal}
 use Rattle.std.specs.Net.Grammar.{IsDotted, IsGroupsAfter, IsColonHex, IsIpv4Text, IsIpv6Text}
-use Rattle.std.specs.Int.{w32, from_be_bytes, to_be_bytes, byte_at}
-use Rattle.std.specs.Net.Addr.{ipv4_octets, ipv6_segments}
-use Rattle.std.proofs.lemmas.Nat.{from_be_bytes-to_be_bytes_4}
-use Rattle.std.proofs.NetLemmas.Theorems.{IsIpv4Text_unique, IsIpv6Text_unique}
-use Rattle.mq_text.specs.Laws.{OneAddress}
+use Rattle.std.specs.Int.{w32, to_be_bytes, byte_at}
 use Rattle.std.specs.declared.net.ipv4_addr.Ipv4Addr.{Ipv4Addr}
 use Rattle.std.specs.declared.net.ipv6_addr.Ipv6Addr.{Ipv6Addr}
-use Rattle.mq_text.specs.Reading.{AreGroupsBehind, HasGroups, SpellsV4, SpellsV6, has_dot, number_of}
+use Rattle.mq_text.specs.Reading.{AreGroupsBehind, HasGroups, SpellsV4, SpellsV6, has_dot}
 
 -- what is appended to has no dot where neither part has
 pub both_dotless : (xs ys : List ℕ) → has_dot xs ≡ false → has_dot ys ≡ false → has_dot (xs ++ ys) ≡ false
@@ -57,7 +53,8 @@ from_std lead text [] dotless are = are
 from_std lead text (group ∷ groups) dotless (inl (digits, rest, parts, is_group, others)) =
     let behind = (parts_dotless (lead ++ digits) rest (rw (← parts) dotless)).1 in
     (digits, rest, parts, is_group, from_std (codes ":") rest groups behind others)
-from_std lead text (group ∷ groups) dotless (inr (last, octets, allowed, parts, dotted, same)) = absurd (dotted_has_dot last octets dotted (parts_dotless lead last (rw (← parts) dotless)).1)
+from_std lead text (group ∷ groups) dotless (inr (last, octets, allowed, parts, dotted, same)) =
+    absurd (dotted_has_dot last octets dotted (parts_dotless lead last (rw (← parts) dotless)).1)
 
 from_plain : (lead text groups : List ℕ) → IsGroupsAfter false lead text groups → AreGroupsBehind lead text groups
 from_plain lead text [] are = are
@@ -67,7 +64,8 @@ from_plain lead text (group ∷ groups) (inr (last, octets, allowed, parts, dott
 pub dotless_groups : (lead text groups : List ℕ) → has_dot lead ≡ false → AreGroupsBehind lead text groups → has_dot text ≡ false
 dotless_groups lead text [] before are = rw are refl
 dotless_groups lead text (group ∷ groups) before (digits, rest, parts, is_group, others) =
-    rw parts (both_dotless (lead ++ digits) rest (both_dotless lead digits before (digits_dotless digits is_group.0.0.1)) (dotless_groups (codes ":") rest groups refl others))
+    rw parts (both_dotless (lead ++ digits) rest (both_dotless lead digits before (digits_dotless digits is_group.0.0.1))
+    (dotless_groups (codes ":") rest groups refl others))
 
 pub dotless : (text groups : List ℕ) → HasGroups text groups → has_dot text ≡ false
 unfolding HasGroups
@@ -131,17 +129,3 @@ v4_as_std text address (small, is) =
 
 pub none_v4 : (text : List ℕ) → ((a : Ipv4Addr) → ¬ (IsIpv4Text text a)) → (address : ℕ) → SpellsV4 text address → ⊥
 none_v4 text none address spells = none (record { octets = to_be_bytes w32 address }) (v4_as_std text address spells)
-
--- no text spells two addresses
-one_v4 : (text : List ℕ) (a b : ℕ) → SpellsV4 text a → SpellsV4 text b → a ≡ b
-one_v4 text a b first second =
-    let same = ap ipv4_octets (IsIpv4Text_unique text _ _ (v4_as_std text a first) (v4_as_std text b second)) in
-    sym (from_be_bytes-to_be_bytes_4 a first.0) ∙ ap (from_be_bytes w32) same ∙ from_be_bytes-to_be_bytes_4 b second.0
-
-one_v6 : (text : List ℕ) (a b : ℕ) → SpellsV6 text a → SpellsV6 text b → a ≡ b
-one_v6 text a b first second =
-    let same = ap ipv6_segments (IsIpv6Text_unique text (record { segments = first.0 }) (record { segments = second.0 }) (spelled_as_std text first.0 first.1) (spelled_as_std text second.0 second.1)) in
-    first.2 ∙ ap number_of same ∙ sym second.2
-
-pub one_address : OneAddress
-one_address = (one_v4, one_v6)

@@ -56,7 +56,3 @@ shortened groups run =
 -- an IPv6 address, as ff0e::1234
 abbrev pub v6_text : ℕ → List ℕ
 v6_text address = shortened (groups_of address) (longest_zeros (groups_of address))
-
--- the replaced run is the first of the longest
-abbrev pub FirstLongestZeros : Type 0
-FirstLongestZeros = (groups : List ℕ) → IsFirstLongest groups (longest_zeros groups)

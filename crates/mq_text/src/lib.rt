@@ -10,13 +10,11 @@
 //! - To parse: `read_v4` and `read_v6`.
 //! - To print on an `Output`, for example a watched writer: `print`, and `LineFault` for a failed write; `make_room` and `flush`,
 //!   for text that goes through a buffer.
-//! - Laws, functions without effect: `laws`.
 #![tactic(auto)]
 
 mod address_v4;
 mod address_v6;
 mod buffer;
-pub mod laws;
 mod output;
 mod printing;
 mod reading;

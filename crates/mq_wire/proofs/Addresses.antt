@@ -17,7 +17,8 @@ length_addresses width zero bytes = refl
 length_addresses width (suc count) bytes = let rest = length_addresses width count (drop width bytes) in omega (arith, rest)
 
 -- the first of them, and the others
-pub first_address : (width count : ℕ) (bytes : List ℕ) → 0 < count → addresses width count bytes ≡ big_number width (take width bytes) ∷ addresses width (count - 1) (drop width bytes)
+pub first_address : (width count : ℕ) (bytes : List ℕ) → 0 < count →
+    addresses width count bytes ≡ big_number width (take width bytes) ∷ addresses width (count - 1) (drop width bytes)
 first_address width zero bytes some = absurd (omega arith)
 first_address width (suc count) bytes some =
     let read = big_from-take 0 width width bytes (omega arith) in

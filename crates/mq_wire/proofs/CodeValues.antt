@@ -77,7 +77,8 @@ least_composed bits e m =
     let of_base : 2 ^ bits * 2 ^ 3 ≤ 2 ^ bits * 2 ^ (e + 3) = mul-le-mul_left (2 ^ bits) p in
     omega (arith, eight, of_base)
 
-greatest_value : (bits e m v other : ℕ) → m < 2 ^ bits → e < 8 → (2 ^ bits + m) * 2 ^ (e + 3) ≤ v → (v < (2 ^ bits + m + 1) * 2 ^ (e + 3)) ⊎ ((e ≡ 7) × (m + 1 ≡ 2 ^ bits)) → other ≤ 16 * 2 ^ bits - 1 → value_of bits other ≤ v → value_of bits other ≤ (2 ^ bits + m) * 2 ^ (e + 3)
+greatest_value : (bits e m v other : ℕ) → m < 2 ^ bits → e < 8 → (2 ^ bits + m) * 2 ^ (e + 3) ≤ v → (v < (2 ^ bits + m + 1) * 2 ^ (e + 3)) ⊎
+    ((e ≡ 7) × (m + 1 ≡ 2 ^ bits)) → other ≤ 16 * 2 ^ bits - 1 → value_of bits other ≤ v → value_of bits other ≤ (2 ^ bits + m) * 2 ^ (e + 3)
 greatest_value bits e m v other small less below next within no_more =
     let n_small : other % 2 ^ bits < 2 ^ bits = mod-lt other (pow_pos bits) in
     let f_small : other / 2 ^ bits % 8 < 8 = omega arith in
@@ -102,7 +103,8 @@ greatest_value bits e m v other small less below next within no_more =
 
 -- The code of an exponent and a mantissa is the one for v, where its value is no more than v, and the value of
 -- the next mantissa is above v, or there is no next code.
-pub composed_code : (bits e m v : ℕ) → m < 2 ^ bits → e < 8 → (2 ^ bits + m) * 2 ^ (e + 3) ≤ v → (v < (2 ^ bits + m + 1) * 2 ^ (e + 3)) ⊎ ((e ≡ 7) × (m + 1 ≡ 2 ^ bits)) → IsCodeFor (value_of bits) (16 * 2 ^ bits - 1) v ((8 + e) * 2 ^ bits + m)
+pub composed_code : (bits e m v : ℕ) → m < 2 ^ bits → e < 8 → (2 ^ bits + m) * 2 ^ (e + 3) ≤ v → (v < (2 ^ bits + m + 1) * 2 ^ (e + 3)) ⊎
+    ((e ≡ 7) × (m + 1 ≡ 2 ^ bits)) → IsCodeFor (value_of bits) (16 * 2 ^ bits - 1) v ((8 + e) * 2 ^ bits + m)
 composed_code bits e m v small less below next =
     let fits : (8 + e) * 2 ^ bits ≤ 15 * 2 ^ bits = mul-le-mul_right (2 ^ bits) (omega arith) in
     let value = value_composed bits e m small less in

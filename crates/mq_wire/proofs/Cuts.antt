@@ -11,12 +11,14 @@ use Rattle.mq_wire.specs.Spelling.{spans_of}
 use Rattle.mq_wire.proofs.Spans.{step}
 
 -- the fields of a message of one group, before others
-pub behind_group : (family : Family) (len : ℕ) (widths : List ℕ) → group_end family ≤ len → first_cut len 0 (older_spans family ++ widths) ≡ first_cut len (group_end family) widths
+pub behind_group : (family : Family) (len : ℕ) (widths : List ℕ) → group_end family ≤ len → first_cut len 0 (older_spans family ++ widths)
+    ≡ first_cut len (group_end family) widths
 behind_group Igmp len widths whole = grind (arith, nat_tests)
 behind_group Mld len widths whole = grind (arith, nat_tests)
 
 -- the fields of a query of IGMPv3 or MLDv2, as far as the number of sources
-pub behind_count : (family : Family) (bytes : List ℕ) → group_end family + 4 ≤ length bytes → first_cut (length bytes) 0 (query_spans family bytes) ≡ first_cut (length bytes) (group_end family + 4) (source_spans (group_end family) (address_width family) bytes)
+pub behind_count : (family : Family) (bytes : List ℕ) → group_end family + 4 ≤ length bytes → first_cut (length bytes) 0 (query_spans family bytes)
+    ≡ first_cut (length bytes) (group_end family + 4) (source_spans (group_end family) (address_width family) bytes)
 behind_count family bytes whole =
     let sources = source_spans (group_end family) (address_width family) bytes in
     let place : group_end family + 1 + 1 + 2 ≡ group_end family + 4 = omega arith in

@@ -39,7 +39,8 @@ short family pseudo (a ∷ b ∷ []) h = refl
 short family pseudo (a ∷ b ∷ c ∷ []) h = refl
 short family pseudo (a ∷ b ∷ c ∷ d ∷ bytes) h = absurd (omega arith)
 
-pub header_cut : (family : Family) (pseudo bytes : List ℕ) (fault : WireFault) → cut_in bytes (1 ∷ 1 ∷ 2 ∷ []) ≡ Some fault → fault_of family pseudo bytes ≡ Some fault
+pub header_cut : (family : Family) (pseudo bytes : List ℕ) (fault : WireFault) → cut_in bytes (1 ∷ 1 ∷ 2 ∷ []) ≡ Some fault →
+    fault_of family pseudo bytes ≡ Some fault
 unfolding fault_of
 header_cut family pseudo bytes fault cut = rw cut refl
 
@@ -53,7 +54,8 @@ wrong family pseudo bytes long not_right =
     let test = is_right-false (pseudo ++ bytes) not_right in
     let header = header_whole bytes long in rw (header, test) refl
 
-pub unknown : (family : Family) (pseudo bytes : List ℕ) → 4 ≤ length bytes → IsRight (pseudo ++ bytes) → type_named family (type_of bytes) ≡ None → fault_of family pseudo bytes ≡ Some UnknownType
+pub unknown : (family : Family) (pseudo bytes : List ℕ) → 4 ≤ length bytes → IsRight (pseudo ++ bytes) → type_named family (type_of bytes) ≡ None →
+    fault_of family pseudo bytes ≡ Some UnknownType
 unfolding fault_of
 unknown family pseudo bytes long right unlisted =
     let test = is_right-true (pseudo ++ bytes) right in
@@ -63,7 +65,8 @@ first_of_one : (fault : Option WireFault) → first_of (fault ∷ []) ≡ fault
 first_of_one None = refl
 first_of_one (Some fault) = refl
 
-pub within : (family : Family) (pseudo bytes : List ℕ) (kind : MessageType) → 4 ≤ length bytes → IsRight (pseudo ++ bytes) → type_named family (type_of bytes) ≡ Some kind → fault_of family pseudo bytes ≡ fault_within family bytes kind
+pub within : (family : Family) (pseudo bytes : List ℕ) (kind : MessageType) → 4 ≤ length bytes → IsRight (pseudo ++ bytes) →
+    type_named family (type_of bytes) ≡ Some kind → fault_of family pseudo bytes ≡ fault_within family bytes kind
 unfolding fault_of
 within family pseudo bytes kind long right listed =
     let test = is_right-true (pseudo ++ bytes) right in

@@ -18,7 +18,8 @@ mantissa_bounds bits e v low high =
       div_below v (2 ^ (e + 3)) (2 ^ bits + 2 ^ bits) (pow_pos (e + 3)) (omega (arith, base_now, twice, high)),
     )
 
-found : (bits e v : ℕ) → e < 8 → 2 ^ (bits + e + 3) ≤ v → v < 2 ^ (bits + e + 4) → IsCodeFor (value_of bits) (16 * 2 ^ bits - 1) v ((8 + e) * 2 ^ bits + (v / 2 ^ (e + 3) - 2 ^ bits))
+found : (bits e v : ℕ) → e < 8 → 2 ^ (bits + e + 3) ≤ v → v < 2 ^ (bits + e + 4) →
+    IsCodeFor (value_of bits) (16 * 2 ^ bits - 1) v ((8 + e) * 2 ^ bits + (v / 2 ^ (e + 3) - 2 ^ bits))
 found bits e v less low high =
     let p = 2 ^ (e + 3) in
     let bounds = mantissa_bounds bits e v low high in

@@ -1,16 +1,13 @@
 pub mod Addresses
-pub mod Canonical
-pub mod CodeLaws
 pub mod CodeValues
 pub mod Cuts
 pub mod Faults
 pub mod FoundCodes
 pub mod Queried
-pub mod ReadBack
 pub mod RecordLists
 pub mod Spans
 pub mod Spelled
+pub mod SpelledQueries
 pub mod Sums
-pub mod WideSums
 pub mod Written
 pub mod WrittenParts

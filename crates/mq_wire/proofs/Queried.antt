@@ -1,5 +1,6 @@
 -- What is read of a query is what its bytes say.
-use Rattle.std.proofs.Common.{◌≡◌, ◌+◌, ◌-◌, ◌%◌, ◌≤◌, ℕ, List, ◌==◌, nat_lt, if◌then◌else◌, length, slice_index, take, drop, replicate, false, inr, Ok, None, ap, sym, ◌∙◌, refl, arith, ne_eqb}
+use Rattle.std.proofs.Common.{◌≡◌, ◌+◌, ◌-◌, ◌%◌, ◌≤◌, ℕ, List, ◌==◌, nat_lt, if◌then◌else◌, length, slice_index, take, drop, replicate, false, inr}
+use Rattle.std.proofs.Common.{Ok, None, ap, sym, ◌∙◌, refl, arith, ne_eqb}
 use Rattle.byteorder.specs.Endian.{big_number}
 use Rattle.mq_wire.specs.declared.message.MessageType.TheVariants.{Query}
 use Rattle.mq_wire.specs.declared.query.QuerierFields.{QuerierFields}
@@ -18,7 +19,12 @@ use Rattle.mq_wire.proofs.Cuts.{behind_count}
 use Rattle.mq_wire.proofs.Spelled.{no_fault_within}
 
 -- what stands behind the group of a query of IGMPv3 or MLDv2, from what was read of it
-pub fields_read : {K : Type 0} (place width : ℕ) (bytes : List ℕ) (robustness interval count : ℕ) (sources : List ℕ) → count ≡ number_at (place + 2) 2 bytes → first_cut (length bytes) (place + 4) (replicate count width) ≡ None → robustness ≡ (if nat_lt 7 (slice_index bytes place % 8) then 0 else slice_index bytes place % 8) → interval ≡ value8 (slice_index bytes (place + 1)) → sources ≡ addresses width count (take (length bytes - (place + 4)) (drop (place + 4) bytes)) → FieldsAt {K = K} place width bytes (Ok (record { suppress = suppress_of (slice_index bytes place); robustness = robustness; interval = interval; sources = sources }))
+pub fields_read : {K : Type 0} (place width : ℕ) (bytes : List ℕ) (robustness interval count : ℕ) (sources : List ℕ) →
+    count ≡ number_at (place + 2) 2 bytes → first_cut (length bytes) (place + 4) (replicate count width) ≡ None →
+    robustness ≡ (if nat_lt 7 (slice_index bytes place % 8) then 0 else slice_index bytes place % 8) →
+    interval ≡ value8 (slice_index bytes (place + 1)) → sources ≡ addresses width count (take (length bytes - (place + 4)) (drop (place + 4) bytes)) →
+    FieldsAt {K = K} place width bytes
+    (Ok (record { suppress = suppress_of (slice_index bytes place); robustness = robustness; interval = interval; sources = sources }))
 fields_read place width bytes robustness interval count sources is_count whole is_robustness is_interval are_sources =
     let test : nat_lt 7 (slice_index bytes place % 8) ≡ false = grind (arith, nat_tests) in
     let is_number : robustness ≡ slice_index bytes place % 8 = rw test at is_robustness in
@@ -30,16 +36,22 @@ fields_read place width bytes robustness interval count sources is_count whole i
     )
 
 -- the group, read at its place
-group_read : (family : Family) (bytes : List ℕ) (n width place : ℕ) → width ≡ address_width family → place ≡ group_place family → n ≡ big_number width (take (length bytes - place) (drop place bytes)) → n ≡ group_of family bytes
+group_read : (family : Family) (bytes : List ℕ) (n width place : ℕ) → width ≡ address_width family → place ≡ group_place family →
+    n ≡ big_number width (take (length bytes - place) (drop place bytes)) → n ≡ group_of family bytes
 group_read family bytes n width place is_width is_place read =
     read ∙ ap (big_number width) (all_behind place bytes)
     ∙ ap (λ (w : ℕ). big_number w (drop place bytes)) is_width
     ∙ ap (λ (p : ℕ). big_number (address_width family) (drop p bytes)) is_place
 
-same_query : (n response : ℕ) (version : QueryVersion ℕ) (query : QueryOf ℕ) → n ≡ query.group → response ≡ query.response → version ≡ query.version → ◌≡◌ {A = QueryOf ℕ} (record { group = n; response = response; version = version }) query
+same_query : (n response : ℕ) (version : QueryVersion ℕ) (query : QueryOf ℕ) → n ≡ query.group → response ≡ query.response → version ≡ query.version →
+    ◌≡◌ {A = QueryOf ℕ} (record { group = n; response = response; version = version }) query
 same_query n response version query group is_response is_version = rw (group, is_response, is_version) refl
 
-pub current_read : {K : Type 0} (number : K → ℕ) (family : Family) (bytes : List ℕ) (group : K) (width place end response : ℕ) (fields : QuerierFields K) → group_end family + 4 ≤ length bytes → width ≡ address_width family → place ≡ group_place family → end ≡ group_end family → number group ≡ big_number width (take (length bytes - place) (drop place bytes)) → response ≡ current_response family bytes → FieldsAt end width bytes (Ok fields) → ReadsQuery number family bytes (Ok (record { group = group; response = response; version = Current fields }))
+pub current_read : {K : Type 0} (number : K → ℕ) (family : Family) (bytes : List ℕ) (group : K) (width place end response : ℕ)
+    (fields : QuerierFields K) → group_end family + 4 ≤ length bytes → width ≡ address_width family → place ≡ group_place family →
+    end ≡ group_end family → number group ≡ big_number width (take (length bytes - place) (drop place bytes)) →
+    response ≡ current_response family bytes → FieldsAt end width bytes (Ok fields) →
+    ReadsQuery number family bytes (Ok (record { group = group; response = response; version = Current fields }))
 current_read {K} number family bytes group width place end response fields long is_width is_place is_end read is_response at =
     let other : length bytes ≡ group_end family → ⊥ = λ same. absurd (omega (arith, same)) in
     let test : (length bytes == group_end family) ≡ false = ne_eqb (length bytes) (group_end family) other in
@@ -47,5 +59,7 @@ current_read {K} number family bytes group width place end response fields long 
     let whole : first_cut (length bytes) 0 (spans_of family Query bytes) ≡ None = rw test (behind_count family bytes long ∙ fields_at.0) in
     let says : query_of family bytes ≡ current_query family bytes = rw test refl in (
       no_fault_within family bytes Query (inr long) whole,
-      same_query (number group) response (numbered_version (Current fields)) (current_query family bytes) (group_read family bytes (number group) width place is_width is_place read) is_response (ap (λ (f : QuerierFields K). numbered_version (Current f)) fields_at.1) ∙ sym says,
+      same_query (number group) response (numbered_version (Current fields)) (current_query family bytes)
+          (group_read family bytes (number group) width place is_width is_place read) is_response
+          (ap (λ (f : QuerierFields K). numbered_version (Current f)) fields_at.1) ∙ sym says,
     )

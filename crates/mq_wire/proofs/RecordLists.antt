@@ -1,5 +1,6 @@
 -- Records one after the other.
-use Rattle.std.proofs.Common.{◌≡◌, ℕ, zero, suc, ◌+◌, ◌*◌, ◌-◌, ◌<◌, ◌≤◌, List, [], ◌∷◌, ◌++◌, length, Some, None, Result, Ok, Err, replicate, slice_index, sum, ap, sym, ◌∙◌, refl, arith}
+use Rattle.std.proofs.Common.{◌≡◌, ℕ, zero, suc, ◌+◌, ◌*◌, ◌-◌, ◌<◌, ◌≤◌, List, [], ◌∷◌, ◌++◌, length, Some, None, Result, Ok, Err, replicate}
+use Rattle.std.proofs.Common.{slice_index, sum, ap, sym, ◌∙◌, refl, arith}
 use Rattle.std.specs.Option.{option_map}
 use Rattle.std.proofs.Math.Nat.{sub-zero}
 use Rattle.mq_wire.specs.declared.message.WireFault.{WireFault}
@@ -15,7 +16,8 @@ length_records width (suc count) place bytes =
     let rest = length_records width count (record_end width place bytes) bytes in omega (arith, rest)
 
 -- how many bytes a record has
-record_length : (width place : ℕ) (bytes : List ℕ) → sum (record_spans width place bytes) ≡ 4 + width + record_source_count place bytes * width + auxiliary_length place bytes
+record_length : (width place : ℕ) (bytes : List ℕ) → sum (record_spans width place bytes)
+    ≡ 4 + width + record_source_count place bytes * width + auxiliary_length place bytes
 record_length width place bytes =
     let n = record_source_count place bytes in
     let auxiliary = auxiliary_length place bytes in
@@ -24,7 +26,8 @@ record_length width place bytes =
     let sources = sum-replicate n width in omega (arith, parts, behind, sources)
 
 -- a record that is whole lies in the bytes
-record_fits : (width place : ℕ) (bytes : List ℕ) → first_cut (length bytes) place (record_spans width place bytes) ≡ None → place + (4 + width + record_source_count place bytes * width + auxiliary_length place bytes) ≤ length bytes
+record_fits : (width place : ℕ) (bytes : List ℕ) → first_cut (length bytes) place (record_spans width place bytes) ≡ None →
+    place + (4 + width + record_source_count place bytes * width + auxiliary_length place bytes) ≤ length bytes
 record_fits width place bytes whole =
     let n = record_source_count place bytes in
     let begins = first_whole (length bytes) place 1 (1 ∷ 2 ∷ width ∷ (replicate n width ++ auxiliary_length place bytes ∷ [])) whole in
@@ -32,46 +35,64 @@ record_fits width place bytes whole =
     let long = record_length width place bytes in omega (arith, ends, long)
 
 -- the first of records, and the others
-first_record : (width count place : ℕ) (bytes : List ℕ) → 0 < count → records_at width count place bytes ≡ record_at width place bytes ∷ records_at width (count - 1) (record_end width place bytes) bytes
+first_record : (width count place : ℕ) (bytes : List ℕ) → 0 < count → records_at width count place bytes
+    ≡ record_at width place bytes ∷ records_at width (count - 1) (record_end width place bytes) bytes
 first_record width zero place bytes some = absurd (omega arith)
 first_record width (suc count) place bytes some =
     let less : suc count - 1 ≡ count = omega arith in rw less refl
 
-first_spans : (width count place : ℕ) (bytes : List ℕ) → 0 < count → spans_of_records width count place bytes ≡ record_spans width place bytes ++ spans_of_records width (count - 1) (record_end width place bytes) bytes
+first_spans : (width count place : ℕ) (bytes : List ℕ) → 0 < count → spans_of_records width count place bytes ≡ record_spans width place bytes ++
+    spans_of_records width (count - 1) (record_end width place bytes) bytes
 first_spans width zero place bytes some = absurd (omega arith)
 first_spans width (suc count) place bytes some =
     let less : suc count - 1 ≡ count = omega arith in rw less refl
 
 -- where records are whole, the first is, and the others are
-pub first_is_whole : (width count place : ℕ) (bytes : List ℕ) → 0 < count → first_cut (length bytes) place (spans_of_records width count place bytes) ≡ None → (first_cut (length bytes) place (record_spans width place bytes) ≡ None) × (first_cut (length bytes) (record_end width place bytes) (spans_of_records width (count - 1) (record_end width place bytes) bytes) ≡ None)
+pub first_is_whole : (width count place : ℕ) (bytes : List ℕ) → 0 < count → first_cut (length bytes) place (spans_of_records width count place bytes)
+    ≡ None → (first_cut (length bytes) place (record_spans width place bytes) ≡ None) ×
+    (first_cut (length bytes) (record_end width place bytes) (spans_of_records width (count - 1) (record_end width place bytes) bytes) ≡ None)
 first_is_whole width count place bytes some whole =
     let split = first_spans width count place bytes some in
-    whole_parts (length bytes) place (record_spans width place bytes) (spans_of_records width (count - 1) (record_end width place bytes) bytes) (ap (first_cut (length bytes) place) (sym split) ∙ whole)
+    whole_parts (length bytes) place (record_spans width place bytes) (spans_of_records width (count - 1) (record_end width place bytes) bytes)
+    (ap (first_cut (length bytes) place) (sym split) ∙ whole)
 
 -- The fields of a record in three parts: as far as its group, its sources, its auxiliary data. What was computed is told by
 -- equations.
-pub record_ends : (width place w sources auxiliary n words : ℕ) (bytes : List ℕ) (r : Result ℕ WireFault) → w ≡ width → n ≡ record_source_count place bytes → words ≡ auxiliary_length place bytes → EndsAt (length bytes) place (1 ∷ 1 ∷ 2 ∷ w ∷ []) (Ok sources) → EndsAt (length bytes) sources (replicate n width) (Ok auxiliary) → EndsAt (length bytes) auxiliary (words ∷ []) r → EndsAt (length bytes) place (record_spans width place bytes) r
+pub record_ends : (width place w sources auxiliary n words : ℕ) (bytes : List ℕ) (r : Result ℕ WireFault) → w ≡ width →
+    n ≡ record_source_count place bytes → words ≡ auxiliary_length place bytes → EndsAt (length bytes) place (1 ∷ 1 ∷ 2 ∷ w ∷ []) (Ok sources) →
+    EndsAt (length bytes) sources (replicate n width) (Ok auxiliary) → EndsAt (length bytes) auxiliary (words ∷ []) r →
+    EndsAt (length bytes) place (record_spans width place bytes) r
 record_ends width place w sources auxiliary n words bytes r is_w is_n is_words head middle last =
     let head_now : EndsAt (length bytes) place (1 ∷ 1 ∷ 2 ∷ width ∷ []) (Ok sources) = rw is_w at head in
     let middle_now : EndsAt (length bytes) sources (replicate (record_source_count place bytes) width) (Ok auxiliary) = rw is_n at middle in
     let last_now : EndsAt (length bytes) auxiliary (auxiliary_length place bytes ∷ []) r = rw is_words at last in
-    let behind = ends_on (length bytes) sources auxiliary (replicate (record_source_count place bytes) width) (auxiliary_length place bytes ∷ []) r middle_now last_now in
-    ends_on (length bytes) place sources (1 ∷ 1 ∷ 2 ∷ width ∷ []) (replicate (record_source_count place bytes) width ++ auxiliary_length place bytes ∷ []) r head_now behind
+    let behind = ends_on (length bytes) sources auxiliary (replicate (record_source_count place bytes) width)
+    (auxiliary_length place bytes ∷ []) r middle_now last_now in
+    ends_on (length bytes) place sources (1 ∷ 1 ∷ 2 ∷ width ∷ [])
+    (replicate (record_source_count place bytes) width ++ auxiliary_length place bytes ∷ []) r head_now behind
 
-pub sources_cut : (width place w sources n : ℕ) (bytes : List ℕ) (fault : WireFault) → w ≡ width → n ≡ record_source_count place bytes → EndsAt (length bytes) place (1 ∷ 1 ∷ 2 ∷ w ∷ []) (Ok sources) → EndsAt (length bytes) sources (replicate n width) (Err fault) → EndsAt (length bytes) place (record_spans width place bytes) (Err fault)
+pub sources_cut : (width place w sources n : ℕ) (bytes : List ℕ) (fault : WireFault) → w ≡ width → n ≡ record_source_count place bytes →
+    EndsAt (length bytes) place (1 ∷ 1 ∷ 2 ∷ w ∷ []) (Ok sources) → EndsAt (length bytes) sources (replicate n width) (Err fault) →
+    EndsAt (length bytes) place (record_spans width place bytes) (Err fault)
 sources_cut width place w sources n bytes fault is_w is_n head middle =
     let head_now : EndsAt (length bytes) place (1 ∷ 1 ∷ 2 ∷ width ∷ []) (Ok sources) = rw is_w at head in
     let middle_now : EndsAt (length bytes) sources (replicate (record_source_count place bytes) width) (Err fault) = rw is_n at middle in
     let behind = fault_before (length bytes) sources (replicate (record_source_count place bytes) width) (auxiliary_length place bytes ∷ []) fault middle_now in
-    ends_on (length bytes) place sources (1 ∷ 1 ∷ 2 ∷ width ∷ []) (replicate (record_source_count place bytes) width ++ auxiliary_length place bytes ∷ []) (Err fault) head_now behind
+    ends_on (length bytes) place sources (1 ∷ 1 ∷ 2 ∷ width ∷ [])
+    (replicate (record_source_count place bytes) width ++ auxiliary_length place bytes ∷ []) (Err fault) head_now behind
 
 -- before the walk over records
-pub no_record_yet : (width count place : ℕ) (bytes : List ℕ) → first_cut (length bytes) place (spans_of_records width count place bytes) ≡ first_cut (length bytes) place (spans_of_records width (count - 0) place bytes)
+pub no_record_yet : (width count place : ℕ) (bytes : List ℕ) → first_cut (length bytes) place (spans_of_records width count place bytes)
+    ≡ first_cut (length bytes) place (spans_of_records width (count - 0) place bytes)
 no_record_yet width count place bytes =
     ap (λ (n : ℕ). first_cut (length bytes) place (spans_of_records width n place bytes)) (sym (sub-zero count))
 
 -- A walk over records that has come to `end`: all of them are whole where those from there on are.
-pub one_more_record : (width count place done end next : ℕ) (bytes : List ℕ) → first_cut (length bytes) place (spans_of_records width count place bytes) ≡ first_cut (length bytes) end (spans_of_records width (count - done) end bytes) → done < count → EndsAt (length bytes) end (record_spans width end bytes) (Ok next) → first_cut (length bytes) place (spans_of_records width count place bytes) ≡ first_cut (length bytes) next (spans_of_records width (count - (done + 1)) next bytes)
+pub one_more_record : (width count place done end next : ℕ) (bytes : List ℕ) →
+    first_cut (length bytes) place (spans_of_records width count place bytes)
+    ≡ first_cut (length bytes) end (spans_of_records width (count - done) end bytes) → done < count →
+    EndsAt (length bytes) end (record_spans width end bytes) (Ok next) → first_cut (length bytes) place (spans_of_records width count place bytes)
+    ≡ first_cut (length bytes) next (spans_of_records width (count - (done + 1)) next bytes)
 one_more_record width count place done end next bytes so_far more ends =
     let split = first_spans width (count - done) end bytes (omega arith) in
     let behind = spans_of_records width (count - done - 1) (record_end width end bytes) bytes in
@@ -81,31 +102,42 @@ one_more_record width count place done end next bytes so_far more ends =
     ∙ ap (λ (n : ℕ). first_cut (length bytes) n (spans_of_records width (count - done - 1) n bytes)) (sym ends.1)
     ∙ ap (λ (n : ℕ). first_cut (length bytes) next (spans_of_records width n next bytes)) fewer
 
-pub record_cut : (width count place done end : ℕ) (bytes : List ℕ) (fault : WireFault) → first_cut (length bytes) place (spans_of_records width count place bytes) ≡ first_cut (length bytes) end (spans_of_records width (count - done) end bytes) → done < count → EndsAt (length bytes) end (record_spans width end bytes) (Err fault) → cut_from (length bytes) place (spans_of_records width count place bytes) ≡ Some fault
+pub record_cut : (width count place done end : ℕ) (bytes : List ℕ) (fault : WireFault) →
+    first_cut (length bytes) place (spans_of_records width count place bytes)
+    ≡ first_cut (length bytes) end (spans_of_records width (count - done) end bytes) → done < count →
+    EndsAt (length bytes) end (record_spans width end bytes) (Err fault) → cut_from (length bytes) place (spans_of_records width count place bytes) ≡ Some fault
 record_cut width count place done end bytes fault so_far more cut =
     let split = first_spans width (count - done) end bytes (omega arith) in
     let behind = spans_of_records width (count - done - 1) (record_end width end bytes) bytes in
     ap (option_map (λ place. Truncated place)) (so_far ∙ ap (first_cut (length bytes) end) split)
     ∙ fault_before (length bytes) end (record_spans width end bytes) behind fault cut
 
-pub all_records : (width count place done end : ℕ) (bytes : List ℕ) → first_cut (length bytes) place (spans_of_records width count place bytes) ≡ first_cut (length bytes) end (spans_of_records width (count - done) end bytes) → count ≤ done → first_cut (length bytes) place (spans_of_records width count place bytes) ≡ None
+pub all_records : (width count place done end : ℕ) (bytes : List ℕ) → first_cut (length bytes) place (spans_of_records width count place bytes)
+    ≡ first_cut (length bytes) end (spans_of_records width (count - done) end bytes) → count ≤ done →
+    first_cut (length bytes) place (spans_of_records width count place bytes) ≡ None
 all_records width count place done end bytes so_far no_more =
     let none : count - done ≡ 0 = omega arith in
     so_far ∙ ap (λ (n : ℕ). first_cut (length bytes) end (spans_of_records width n end bytes)) none
 
 -- what was computed of a record that is whole lies in the bytes
-pub record_bounds : (width place w v n words : ℕ) (bytes : List ℕ) → w ≡ width → v ≡ width → n ≡ record_source_count place bytes → words ≡ slice_index bytes (place + 1) → first_cut (length bytes) place (record_spans width place bytes) ≡ None → place + 4 + w + n * v + 4 * words ≤ length bytes
+pub record_bounds : (width place w v n words : ℕ) (bytes : List ℕ) → w ≡ width → v ≡ width → n ≡ record_source_count place bytes →
+    words ≡ slice_index bytes (place + 1) → first_cut (length bytes) place (record_spans width place bytes) ≡ None →
+    place + 4 + w + n * v + 4 * words ≤ length bytes
 record_bounds width place w v n words bytes is_w is_v is_n is_words whole =
     let fits = record_fits width place bytes whole in rw (is_w, is_v, is_n, is_words) (omega (arith, fits))
 
 -- what is handed out of records: the first, told by its numbers, and the others from where it ends
-pub first_handed : (width left place next : ℕ) (bytes : List ℕ) (all : List (RecordView ℕ)) (view : RecordView ℕ) → 0 < left → records_at width left place bytes ≡ all → view ≡ record_at width place bytes → next ≡ record_end width place bytes → all ≡ view ∷ records_at width (left - 1) next bytes
+pub first_handed : (width left place next : ℕ) (bytes : List ℕ) (all : List (RecordView ℕ)) (view : RecordView ℕ) → 0 < left →
+    records_at width left place bytes ≡ all → view ≡ record_at width place bytes → next ≡ record_end width place bytes →
+    all ≡ view ∷ records_at width (left - 1) next bytes
 first_handed width left place next bytes all view some are is_view is_next =
     sym are ∙ first_record width left place bytes some
     ∙ ap (λ (v : RecordView ℕ). v ∷ records_at width (left - 1) (record_end width place bytes) bytes) (sym is_view)
     ∙ ap (λ (n : ℕ). view ∷ records_at width (left - 1) n bytes) (sym is_next)
 
-pub others_whole : (width left place next : ℕ) (bytes : List ℕ) → 0 < left → next ≡ record_end width place bytes → first_cut (length bytes) place (spans_of_records width left place bytes) ≡ None → first_cut (length bytes) next (spans_of_records width (left - 1) next bytes) ≡ None
+pub others_whole : (width left place next : ℕ) (bytes : List ℕ) → 0 < left → next ≡ record_end width place bytes →
+    first_cut (length bytes) place (spans_of_records width left place bytes) ≡ None →
+    first_cut (length bytes) next (spans_of_records width (left - 1) next bytes) ≡ None
 others_whole width left place next bytes some is_next whole =
     ap (λ (n : ℕ). first_cut (length bytes) n (spans_of_records width (left - 1) n bytes)) is_next
     ∙ (first_is_whole width left place bytes some whole).1

@@ -1,5 +1,6 @@
 -- Spans one after the other: where the first that isn't whole begins, and where they end.
-use Rattle.std.proofs.Common.{◌≡◌, ℕ, zero, suc, ◌+◌, ◌*◌, ◌-◌, ◌/◌, ◌%◌, ◌<◌, ◌≤◌, nat_le, false, List, [], ◌∷◌, ◌++◌, Option, Some, None, Result, Ok, Err, replicate, sum, inl, inr, ◌⊎◌, ap, sym, ◌∙◌, refl, arith, add-zero}
+use Rattle.std.proofs.Common.{◌≡◌, ℕ, zero, suc, ◌+◌, ◌*◌, ◌-◌, ◌/◌, ◌%◌, ◌<◌, ◌≤◌, nat_le, false, List, [], ◌∷◌, ◌++◌, Option, Some, None, Result}
+use Rattle.std.proofs.Common.{Ok, Err, replicate, sum, inl, inr, ◌⊎◌, ap, sym, ◌∙◌, refl, arith, add-zero}
 use Rattle.std.specs.Option.{option_map}
 use Rattle.std.proofs.Math.Nat.{mul-le-mul_right}
 use Rattle.std.proofs.lemmas.Nat.{div-add-mod', mod_below}
@@ -54,7 +55,8 @@ pub sum-replicate : (n width : ℕ) → sum (replicate n width) ≡ n * width
 sum-replicate n width = sum_by-replicate (λ n. n) n width
 
 -- spans that are whole, before others
-pub cut_behind_whole : (len at : ℕ) (first others : List ℕ) → first_cut len at first ≡ None → first_cut len at (first ++ others) ≡ first_cut len (at + sum first) others
+pub cut_behind_whole : (len at : ℕ) (first others : List ℕ) → first_cut len at first ≡ None → first_cut len at (first ++ others)
+    ≡ first_cut len (at + sum first) others
 cut_behind_whole len at [] others whole = ap (λ (n : ℕ). first_cut len n others) (sym (add-zero at))
 cut_behind_whole len at (width ∷ first) others whole =
     let fits = first_whole len at width first whole in
@@ -78,23 +80,27 @@ whole_or_cut : (cut : Option ℕ) → (cut ≡ None) ⊎ ((place : ℕ) × (cut 
 whole_or_cut None = inl refl
 whole_or_cut (Some place) = inr (place, refl)
 
-cut_somewhere : (cut : Option ℕ) (fault : WireFault) → option_map (λ place. Truncated place) cut ≡ Some fault → (place : ℕ) × (cut ≡ Some place) × (fault ≡ Truncated place)
+cut_somewhere : (cut : Option ℕ) (fault : WireFault) → option_map (λ place. Truncated place) cut ≡ Some fault → (place : ℕ) × (cut ≡ Some place) ×
+    (fault ≡ Truncated place)
 cut_somewhere None fault same = absurd (cc)
 cut_somewhere (Some place) fault same = (place, refl, cc)
 
 -- where spans are whole, the first fault of them and of others is that of the others
-fault_behind : (len at end : ℕ) (first others : List ℕ) (fault : WireFault) → EndsAt len at first (Ok end) → cut_from len end others ≡ Some fault → cut_from len at (first ++ others) ≡ Some fault
+fault_behind : (len at end : ℕ) (first others : List ℕ) (fault : WireFault) → EndsAt len at first (Ok end) → cut_from len end others ≡ Some fault →
+    cut_from len at (first ++ others) ≡ Some fault
 fault_behind len at end first others fault whole cut =
     ap (option_map (λ place. Truncated place)) (cut_behind_whole len at first others whole.0 ∙ ap (λ (n : ℕ). first_cut len n others) (sym whole.1)) ∙ cut
 
 -- where a span is cut, its fault is that of all
-pub fault_before : (len at : ℕ) (first others : List ℕ) (fault : WireFault) → cut_from len at first ≡ Some fault → cut_from len at (first ++ others) ≡ Some fault
+pub fault_before : (len at : ℕ) (first others : List ℕ) (fault : WireFault) → cut_from len at first ≡ Some fault → cut_from len at (first ++ others)
+    ≡ Some fault
 fault_before len at first others fault cut =
     let place = cut_somewhere (first_cut len at first) fault cut in
     ap (option_map (λ place. Truncated place)) (cut_before len at place.0 first others place.1 ∙ sym place.1) ∙ cut
 
 -- spans that end, and what holds of the others behind them
-pub ends_on : (len at end : ℕ) (first others : List ℕ) (r : Result ℕ WireFault) → EndsAt len at first (Ok end) → EndsAt len end others r → EndsAt len at (first ++ others) r
+pub ends_on : (len at end : ℕ) (first others : List ℕ) (r : Result ℕ WireFault) → EndsAt len at first (Ok end) → EndsAt len end others r →
+    EndsAt len at (first ++ others) r
 ends_on len at end first others (Ok last) one two =
     let all = sum-append first others in (
       cut_behind_whole len at first others one.0 ∙ ap (λ (n : ℕ). first_cut len n others) (sym one.1) ∙ two.0,
@@ -103,7 +109,8 @@ ends_on len at end first others (Ok last) one two =
 ends_on len at end first others (Err fault) one two = fault_behind len at end first others fault one two
 
 -- spans that are whole are so in two parts
-pub whole_parts : (len at : ℕ) (first others : List ℕ) → first_cut len at (first ++ others) ≡ None → (first_cut len at first ≡ None) × (first_cut len (at + sum first) others ≡ None)
+pub whole_parts : (len at : ℕ) (first others : List ℕ) → first_cut len at (first ++ others) ≡ None → (first_cut len at first ≡ None) ×
+    (first_cut len (at + sum first) others ≡ None)
 whole_parts len at first others whole =
     elim (whole_or_cut (first_cut len at first)) [
       | inl none ↦ (none, sym (cut_behind_whole len at first others none) ∙ whole)
@@ -124,7 +131,8 @@ end_within len at end widths within ends =
 
 -- Spans of one width up to the end of the message: where they aren't all whole, the first that isn't stands
 -- behind as many as fit.
-cut_behind : (count width len at : ℕ) → 0 < width → at ≤ len → (len - at) / width < count → first_cut len at (replicate count width) ≡ Some (at + (len - at) / width * width)
+cut_behind : (count width len at : ℕ) → 0 < width → at ≤ len → (len - at) / width < count → first_cut len at (replicate count width)
+    ≡ Some (at + (len - at) / width * width)
 cut_behind count width len at some within fewer =
     let fitting = (len - at) / width in
     let parts : fitting * width + (len - at) % width ≡ len - at = div-add-mod' (len - at) width in
@@ -138,7 +146,8 @@ whole_behind count width len at some within enough =
 
 -- The same of what was computed: the bytes that are left, divided by the width, and the count. It is told by equations,
 -- since the code reads the width more than once.
-pub addresses_cut : (count width len at left w v n : ℕ) → 0 < width → w ≡ width → v ≡ width → n ≡ count → left + at ≡ len → left / w < n → cut_from len at (replicate count width) ≡ Some (Truncated (at + left / w * v))
+pub addresses_cut : (count width len at left w v n : ℕ) → 0 < width → w ≡ width → v ≡ width → n ≡ count → left + at ≡ len → left / w < n →
+    cut_from len at (replicate count width) ≡ Some (Truncated (at + left / w * v))
 addresses_cut count width len at left w v n some is_w is_v is_n is_left fewer =
     let left_is : left ≡ len - at = omega (arith, is_left) in
     let fewer_now : (len - at) / width < count = rw (is_w, is_n, left_is) at fewer in

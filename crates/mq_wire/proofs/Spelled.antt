@@ -1,5 +1,6 @@
 -- Bytes spell one message at the most, and exactly where they have no fault.
-use Rattle.std.proofs.Common.{◌≡◌, ◌+◌, ◌≤◌, ◌⊎◌, inl, inr, ℕ, ◌↔◌, List, [], ◌∷◌, ◌++◌, length, Option, Result, Ok, Err, Some, None, arith, ap, subst, sym, ◌∙◌, refl}
+use Rattle.std.proofs.Common.{◌≡◌, ◌+◌, ◌≤◌, ◌⊎◌, inl, inr, ℕ, ◌↔◌, List, [], ◌∷◌, ◌++◌, length, Option, Result, Ok, Err, Some, None, arith, ap}
+use Rattle.std.proofs.Common.{subst, sym, ◌∙◌, refl}
 use Rattle.std.specs.Option.{option_map}
 use Rattle.std.proofs.lemmas.Bool.Decides.{nat_tests, leb_tells, eqb_tells}
 use Rattle.mq_wire.specs.declared.message.Message.{Message}
@@ -14,7 +15,8 @@ use Rattle.mq_wire.specs.Checksum.{IsRight}
 use Rattle.mq_wire.specs.Family.{Family, group_end}
 use Rattle.mq_wire.specs.Fields.{first_cut}
 use Rattle.mq_wire.specs.Numbered.{numbered_message, numbered_version}
-use Rattle.mq_wire.specs.Spelling.{Spells, ReadsAs, ReadsWithin, HasLength, fault_of, fault_within, first_of, wrong_length, cut_in, spans_of, type_of, type_named, message_of}
+use Rattle.mq_wire.specs.Spelling.{Spells, ReadsAs, ReadsWithin, HasLength, fault_of, fault_within, first_of, wrong_length, cut_in, spans_of, type_of}
+use Rattle.mq_wire.specs.Spelling.{type_named, message_of}
 use Rattle.mq_wire.proofs.Cuts.{long_enough}
 use Rattle.mq_wire.proofs.Faults.{short, wrong, unknown, within, right_or_not}
 
@@ -68,7 +70,8 @@ uncut : (cut : Option ℕ) → option_map (λ at. Truncated at) cut ≡ None →
 uncut None none = refl
 uncut (Some at) none = absurd (cc)
 
-pub no_fault_within : (family : Family) (bytes : List ℕ) (kind : MessageType) → HasLength family kind (length bytes) → first_cut (length bytes) 0 (spans_of family kind bytes) ≡ None → fault_within family bytes kind ≡ None
+pub no_fault_within : (family : Family) (bytes : List ℕ) (kind : MessageType) → HasLength family kind (length bytes) →
+    first_cut (length bytes) 0 (spans_of family kind bytes) ≡ None → fault_within family bytes kind ≡ None
 no_fault_within family bytes kind fits whole =
     let no_fault = no_length_fault family kind (length bytes) fits in rw (no_fault, whole) refl
 
@@ -78,7 +81,8 @@ no_fault family pseudo bytes m s =
     ∙ no_fault_within family bytes s.kind s.has_length s.whole
 
 -- bytes with a right checksum, of a listed type, without a fault within, spell what their fields say
-spelled_within : (family : Family) (pseudo bytes : List ℕ) (kind : MessageType) → IsRight (pseudo ++ bytes) → type_named family (type_of bytes) ≡ Some kind → fault_within family bytes kind ≡ None → Spells family pseudo bytes (message_of family kind bytes)
+spelled_within : (family : Family) (pseudo bytes : List ℕ) (kind : MessageType) → IsRight (pseudo ++ bytes) → type_named family (type_of bytes)
+    ≡ Some kind → fault_within family bytes kind ≡ None → Spells family pseudo bytes (message_of family kind bytes)
 spelled_within family pseudo bytes kind right listed none =
     let parts = neither (wrong_length family kind (length bytes)) (cut_in bytes (spans_of family kind bytes)) none in
     record {
@@ -91,13 +95,16 @@ spelled_within family pseudo bytes kind right listed none =
     }
 
 -- what is read of bytes of a listed type with a right checksum is what they are read as
-pub reads : {K : Type 0} (number : K → ℕ) (family : Family) (pseudo bytes : List ℕ) (kind : MessageType) (r : Result (Message K) WireFault) → 4 ≤ length bytes → IsRight (pseudo ++ bytes) → type_named family (type_of bytes) ≡ Some kind → ReadsWithin number family kind bytes r → ReadsAs number family pseudo bytes r
+pub reads : {K : Type 0} (number : K → ℕ) (family : Family) (pseudo bytes : List ℕ) (kind : MessageType) (r : Result (Message K) WireFault) →
+    4 ≤ length bytes → IsRight (pseudo ++ bytes) → type_named family (type_of bytes) ≡ Some kind → ReadsWithin number family kind bytes r →
+    ReadsAs number family pseudo bytes r
 reads number family pseudo bytes kind (Ok m) long right listed reads_ok =
     subst (λ (x : Message ℕ). Spells family pseudo bytes x) (sym reads_ok.1) (spelled_within family pseudo bytes kind right listed reads_ok.0)
 reads number family pseudo bytes kind (Err fault) long right listed reads_err = within family pseudo bytes kind long right listed ∙ reads_err
 
 -- what bytes are read as is a message exactly where they spell it, and a fault exactly where it is theirs
-pub exact_message : (number : ℕ → ℕ) (family : Family) (pseudo bytes : List ℕ) (r : Result (Message ℕ) WireFault) → ((a : ℕ) → number a ≡ a) → ReadsAs number family pseudo bytes r → (m : Message ℕ) → (r ≡ Ok m) ↔ Spells family pseudo bytes m
+pub exact_message : (number : ℕ → ℕ) (family : Family) (pseudo bytes : List ℕ) (r : Result (Message ℕ) WireFault) → ((a : ℕ) → number a ≡ a) →
+    ReadsAs number family pseudo bytes r → (m : Message ℕ) → (r ≡ Ok m) ↔ Spells family pseudo bytes m
 exact_message number family pseudo bytes (Ok n) own reads m =
     let spelled_n : Spells family pseudo bytes n = subst (λ (x : Message ℕ). Spells family pseudo bytes x) (numbered_same number own n) reads in (
       λ e. let same : n ≡ m = cc in subst (λ (x : Message ℕ). Spells family pseudo bytes x) same spelled_n,
@@ -108,7 +115,8 @@ exact_message number family pseudo bytes (Err f) own reads m = (
   λ s. let none = no_fault family pseudo bytes m s in absurd (cc),
 )
 
-pub exact_fault : (number : ℕ → ℕ) (family : Family) (pseudo bytes : List ℕ) (r : Result (Message ℕ) WireFault) → ReadsAs number family pseudo bytes r → (f : WireFault) → (r ≡ Err f) ↔ (fault_of family pseudo bytes ≡ Some f)
+pub exact_fault : (number : ℕ → ℕ) (family : Family) (pseudo bytes : List ℕ) (r : Result (Message ℕ) WireFault) → ReadsAs number family pseudo bytes r
+    → (f : WireFault) → (r ≡ Err f) ↔ (fault_of family pseudo bytes ≡ Some f)
 exact_fault number family pseudo bytes (Ok m) reads f = (
   λ e. absurd (cc),
   λ s. let none = no_fault family pseudo bytes (numbered_message number m) reads in absurd (cc),

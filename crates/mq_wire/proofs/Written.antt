@@ -10,7 +10,10 @@ use Rattle.mq_wire.specs.Canon.{first_bytes, fields_bytes, with_checksum, mld_de
 use Rattle.mq_wire.proofs.WrittenParts.{length_query}
 
 -- an MLD query behind its pseudo-header, from what was computed
-pub mld_written : (source : ℕ) (query : Query ℕ) (fields : QuerierFields ℕ) (first pseudo : List ℕ) (destination len : ℕ) → query.version ≡ Current fields → first ≡ first_bytes Mld query.response → destination ≡ mld_destination query.group → len ≡ length first + 16 + 4 + length fields.sources * 16 → pseudo ≡ pseudo_header source destination len → with_checksum pseudo (first ++ big_bytes 16 query.group ++ fields_bytes 16 fields) ≡ canon Mld source query
+pub mld_written : (source : ℕ) (query : Query ℕ) (fields : QuerierFields ℕ) (first pseudo : List ℕ) (destination len : ℕ) →
+    query.version ≡ Current fields → first ≡ first_bytes Mld query.response → destination ≡ mld_destination query.group →
+    len ≡ length first + 16 + 4 + length fields.sources * 16 → pseudo ≡ pseudo_header source destination len →
+    with_checksum pseudo (first ++ big_bytes 16 query.group ++ fields_bytes 16 fields) ≡ canon Mld source query
 mld_written source query fields first pseudo destination len is_current is_first is_destination is_len is_pseudo =
     let message = first ++ big_bytes 16 query.group ++ fields_bytes 16 fields in
     let whole : message ≡ without_checksum Mld query = rw (is_first, is_current) refl in

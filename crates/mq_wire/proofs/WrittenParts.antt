@@ -25,13 +25,17 @@ from_place place out part new within same =
     rw (none, same) (ap (λ (xs : List ℕ). take place out ++ xs) (append-nil new))
 
 -- what was written at the front of a part, which is what stands from the place on
-behind_place : (width place : ℕ) (out part piece : List ℕ) → place ≤ length out → part ≡ piece ++ drop width (take (length out - place) (drop place out)) → part ≡ piece ++ drop width (drop place out)
+behind_place : (width place : ℕ) (out part piece : List ℕ) → place ≤ length out → part ≡ piece ++
+    drop width (take (length out - place) (drop place out)) → part ≡ piece ++ drop width (drop place out)
 behind_place width place out part piece within is_part =
-    let whole : take (length out - place) (drop place out) ≡ drop place out = take_all (length out - place) (drop place out) (omega (arith, length-drop place out)) in
+    let whole : take (length out - place) (drop place out) ≡ drop place out = take_all (length out - place) (drop place out)
+    (omega (arith, length-drop place out)) in
     rw whole at is_part
 
 -- A part more: behind a text that stands at the front, up to a place, so many bytes are written.
-pub next_part : (place n : ℕ) (text piece first out part : List ℕ) → length text ≡ place → place ≤ length out → out ≡ text ++ drop place first → part ≡ piece ++ drop n (take (length out - place) (drop place out)) → put_mid place (length out - place) out part ≡ (text ++ piece) ++ drop (place + n) first
+pub next_part : (place n : ℕ) (text piece first out part : List ℕ) → length text ≡ place → place ≤ length out → out ≡ text ++ drop place first →
+    part ≡ piece ++ drop n (take (length out - place) (drop place out)) → put_mid place (length out - place) out part ≡ (text ++ piece) ++
+    drop (place + n) first
 next_part place n text piece first out part is_place within is_out is_part =
     let before : take place out ≡ text = rw (is_out, ← is_place) (take-append_seam text (drop (length text) first)) in
     let behind : drop place out ≡ drop place first = rw (is_out, ← is_place) (drop-append_seam text (drop (length text) first)) in
@@ -40,12 +44,15 @@ next_part place n text piece first out part is_place within is_out is_part =
     is_new ∙ rw (before, behind, further) (sym (append_assoc text piece (drop (place + n) first)))
 
 -- one source more
-pub one_more : (width place : ℕ) (sources left rest first out part : List ℕ) (source : ℕ) → place ≤ length out → IsWritten width place sources left first out → left ≡ source ∷ rest → length (big_bytes width source) ≡ width → part ≡ big_bytes width source ++ drop width (take (length out - place) (drop place out)) → IsWritten width (place + width) sources rest first (put_mid place (length out - place) out part)
+pub one_more : (width place : ℕ) (sources left rest first out part : List ℕ) (source : ℕ) → place ≤ length out →
+    IsWritten width place sources left first out → left ≡ source ∷ rest → length (big_bytes width source) ≡ width → part ≡ big_bytes width source ++
+    drop width (take (length out - place) (drop place out)) → IsWritten width (place + width) sources rest first (put_mid place (length out - place) out part)
 one_more width place sources left rest first out part source within w is_left is_width is_part =
     let piece = big_bytes width source in
     record {
       written = w.written ++ piece;
-      front = w.front ∙ ap (λ (xs : List ℕ). w.written ++ flat_map (big_bytes width) xs) is_left ∙ sym (append_assoc w.written piece (flat_map (big_bytes width) rest));
+      front = w.front ∙ ap (λ (xs : List ℕ). w.written ++ flat_map (big_bytes width) xs) is_left ∙
+          sym (append_assoc w.written piece (flat_map (big_bytes width) rest));
       all = next_part place width w.written piece first out part w.at within w.all is_part;
       at = omega (arith, length-append w.written piece, is_width, w.at);
       ahead = let ahead = rw is_left at w.ahead in omega (arith, ahead);
@@ -60,7 +67,8 @@ length_sources width (source ∷ sources) =
     omega (arith, length-append (big_bytes width source) (flat_map (big_bytes width) sources), rest, first)
 
 -- how many bytes a query has behind its head
-pub length_query : {K : Type 0} (width group : ℕ) (head : List ℕ) (fields : QuerierFields K) → length (head ++ big_bytes width group ++ fields_bytes width fields) ≡ length head + width + 4 + length fields.sources * width
+pub length_query : {K : Type 0} (width group : ℕ) (head : List ℕ) (fields : QuerierFields K) →
+    length (head ++ big_bytes width group ++ fields_bytes width fields) ≡ length head + width + 4 + length fields.sources * width
 length_query width group head fields =
     let address = length-bytes_high_first width group in
     let sources = length_sources width fields.sources in

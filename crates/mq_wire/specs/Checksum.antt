@@ -1,6 +1,6 @@
 -- The checksum of a message, by RFC 1112 appendix I and RFC 2236 section 2.3. It is the 16-bit one's complement of the
 -- one's complement sum of the whole message, with the checksum field as zero (RFC 3376 sections 4.1.2 and 4.2.2).
-use Rattle.std.specs.Prelude.{◌≡◌, ℕ, ◌+◌, ◌-◌, ◌*◌, ◌/◌, ◌%◌, ◌<◌, ◌≤◌, nat_lt, ◌==◌, ◌&&◌, if◌then◌else◌, Bool, List, [], ◌∷◌, ◌++◌, length, take, drop}
+use Rattle.std.specs.Prelude.{◌≡◌, ℕ, ◌+◌, ◌-◌, ◌*◌, ◌%◌, ◌<◌, nat_lt, ◌==◌, ◌&&◌, if◌then◌else◌, Bool, List, [], ◌∷◌, ◌++◌, take, drop}
 
 -- The sum of the 16-bit words, most significant byte first.
 -- A zero byte follows an odd last byte (RFC 1071 section 1).
@@ -34,7 +34,3 @@ checksum_of bytes = 65535 - ones_complement (sum_of_words (with_field 0 0 bytes)
 -- the checksum of a message that also covers these bytes before it
 abbrev pub checksum_behind : (pseudo bytes : List ℕ) → ℕ
 checksum_behind pseudo bytes = 65535 - ones_complement (sum_of_words (pseudo ++ with_field 0 0 bytes))
-
--- a message with its checksum in its field is right
-abbrev pub RightWithItsChecksum : Type 0
-RightWithItsChecksum = (bytes : List ℕ) → 4 ≤ length bytes → IsRight (with_field (checksum_of bytes / 256) (checksum_of bytes % 256) bytes)

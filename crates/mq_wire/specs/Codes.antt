@@ -1,5 +1,5 @@
 -- The codes of times (RFC 3376 sections 4.1.1 and 4.1.7, RFC 3810 sections 5.1.3 and 5.1.9).
-use Rattle.std.specs.Prelude.{◌≡◌, ℕ, zero, suc, ◌+◌, ◌-◌, ◌*◌, ◌/◌, ◌%◌, ◌^◌, ◌≤◌, nat_lt, if◌then◌else◌}
+use Rattle.std.specs.Prelude.{ℕ, zero, suc, ◌+◌, ◌-◌, ◌*◌, ◌/◌, ◌%◌, ◌^◌, ◌≤◌, nat_lt, if◌then◌else◌}
 
 -- The value of a code with a mantissa of `bits` bits, below three bits of exponent and the highest bit. If the highest
 -- bit is clear, the code is its own value.
@@ -21,10 +21,6 @@ pub record IsCodeFor (value : ℕ → ℕ) (top v code : ℕ) : Type 0 where
   pub not_above : value code ≤ v
   pub greatest : (other : ℕ) → other ≤ top → value other ≤ v → value other ≤ value code
 
--- the code for the value of a code is that code
-abbrev pub CodesComeBack : (ℕ → ℕ) → ℕ → Type 0
-CodesComeBack value top = (code found : ℕ) → code ≤ top → IsCodeFor value top (value code) found → found ≡ code
-
 -- The code with one of `left` exponents from e on, for a value that is not below the least with exponent e. If the
 -- value is above all of these, it is the greatest code.
 abbrev pub composed_for : (bits v left e : ℕ) → ℕ
@@ -41,7 +37,3 @@ code8_of v = code_of 4 v
 
 abbrev pub code16_of : ℕ → ℕ
 code16_of v = code_of 12 v
-
--- the code that is made of a value is the code for it
-abbrev pub CodesAreGreatest : (value code : ℕ → ℕ) → (top : ℕ) → Type 0
-CodesAreGreatest value code top = (v : ℕ) → IsCodeFor value top v (code v)

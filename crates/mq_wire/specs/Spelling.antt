@@ -148,15 +148,3 @@ ReadsGroup number family bytes (Err fault) = cut_in bytes (older_spans family) �
 abbrev pub ReadsReport : Family → List ℕ → Result (List (RecordView ℕ)) WireFault → Type 0
 ReadsReport family bytes (Ok records) = (cut_in bytes (report_spans family bytes) ≡ None) × (records ≡ report_records family bytes)
 ReadsReport family bytes (Err fault) = cut_in bytes (report_spans family bytes) ≡ Some fault
-
--- no bytes encode two messages
-abbrev pub OneMessage : Type 0
-OneMessage = (family : Family) (pseudo bytes : List ℕ) (a b : Message ℕ) → Spells family pseudo bytes a → Spells family pseudo bytes b → a ≡ b
-
--- bytes that encode a message have no fault
-abbrev pub NoFaultWhereSpelled : Type 0
-NoFaultWhereSpelled = (family : Family) (pseudo bytes : List ℕ) (message : Message ℕ) → Spells family pseudo bytes message → fault_of family pseudo bytes ≡ None
-
--- bytes without a fault encode a message
-abbrev pub SpelledWhereNoFault : Type 0
-SpelledWhereNoFault = (family : Family) (pseudo bytes : List ℕ) → fault_of family pseudo bytes ≡ None → (message : Message ℕ) × Spells family pseudo bytes message

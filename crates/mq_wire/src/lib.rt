@@ -20,7 +20,6 @@
 //! - Codes of times: `resp8`, `code8`, `resp16` and `code16`.
 //! - Checksums: `checksum_ok` and `checksum_of`.
 //! - Addresses: `WireKey`.
-//! - Laws, functions without effect: `laws`.
 #![tactic(auto)]
 
 pub mod checksum;
@@ -28,7 +27,6 @@ pub mod codes;
 mod family;
 mod fields;
 pub mod igmp;
-pub mod laws;
 pub mod message;
 pub mod mld;
 pub mod query;

@@ -1,5 +1,6 @@
 -- What a check comes to once it is flushed, and as a request that is performed.
-use Rattle.std.proofs.Common.{◌≡◌, ◌≤◌, ◌^◌, ◌⊎◌, ◌∙◌, subst, sym, refl, arith, false, ℕ, Bool, Bor, List, Option, None, Some, Result, Ok, Err, inl, inr, ⊎_elim}
+use Rattle.std.proofs.Common.{◌≡◌, ◌≤◌, ◌^◌, ◌⊎◌, ◌∙◌, subst, sym, refl, arith, false, ℕ, Bool, Bor, List, Option, None, Some, Result, Ok, Err, inl}
+use Rattle.std.proofs.Common.{inr, ⊎_elim}
 use Rattle.std.proofs.lemmas.Bool.{ltb-false}
 use Rattle.std.specs.Prelude.{IfSome}
 use Rattle.std.specs.Io.KnownBytes.{Keeps}
@@ -16,7 +17,8 @@ use Rattle.mq_text.specs.Printing.{OutputState}
 use Rattle.mq_wire.specs.Family.{Family}
 use Rattle.mquerier.specs.declared.checking.CheckOptions.{CheckOptions}
 use Rattle.mquerier.specs.declared.failure.Failure.{Failure}
-use Rattle.mquerier.specs.declared.failure.Failure.TheVariants.{NoAddresses, NotAnAddress, NotHex, UntilTooLarge, Configuration as Unconfigured, Capture, Gap, Waiting, Conversion, ConversionRead, Memory, Write}
+use Rattle.mquerier.specs.declared.failure.Failure.TheVariants.{NoAddresses, NotAnAddress, NotHex, UntilTooLarge, Configuration as Unconfigured}
+use Rattle.mquerier.specs.declared.failure.Failure.TheVariants.{Capture, Gap, Waiting, Conversion, ConversionRead, Memory, Write}
 use Rattle.mquerier.specs.Changes.{Input, Output}
 use Rattle.mquerier.specs.CheckRuns.{IsCheckedAt, WritesVerdict, asked_options}
 use Rattle.mquerier.specs.Replays.{SpellsAddress, asked_configuration, family_of, is_too_large}
@@ -30,8 +32,10 @@ until_in_range None is = tt
 until_in_range (Some ms) is = ltb-false (2 ^ 53) ms is
 
 -- a check of the configuration that is asked for, behind a flush
-pub flushed_check : (family : Family) (querier : ℕ) (settings : Settings) (terms : CheckTerms) (config : Configuration) (input : Input) (old : OutputState) (mid : Option (List ℕ)) (new : OutputState) (r : Result Totals CheckFault)
-    → IsConfigured (asked_configuration family querier settings) (Ok config) → Checks config terms input.old input.new old.held mid r → is_failed_write r ≡ false → Keeps mid new.held
+pub flushed_check : (family : Family) (querier : ℕ) (settings : Settings) (terms : CheckTerms) (config : Configuration) (input : Input)
+    (old : OutputState) (mid : Option (List ℕ)) (new : OutputState) (r : Result Totals CheckFault)
+    → IsConfigured (asked_configuration family querier settings) (Ok config) → Checks config terms input.old input.new old.held mid r →
+    is_failed_write r ≡ false → Keeps mid new.held
     → IsCheckedAt family querier settings terms input (record { old = old; new = new }) r
 flushed_check family querier settings terms config input old mid new r made checks unlike kept =
     let whole = subst (λ (b : Bool). IsWrittenBy b config terms checks.read input.new old.held mid r) unlike checks.written in
@@ -46,24 +50,39 @@ flushed_check family querier settings terms config input old mid new r made chec
     subst (λ (c : Configuration). Checks c terms input.old input.new old.held new.held r) made.1 still
 
 -- a check at the address that a text spells
-pub checked_for : (protocol : Protocol) (querier : List ℕ) (address : ℕ) (settings : Settings) (terms : CheckTerms) (input : Input) (output : Output) (r : Result Totals Failure) → SpellsAddress protocol querier address
+pub checked_for : (protocol : Protocol) (querier : List ℕ) (address : ℕ) (settings : Settings) (terms : CheckTerms) (input : Input) (output : Output)
+    (r : Result Totals Failure) → SpellsAddress protocol querier address
     → ChecksAt (family_of protocol) address settings terms input output r → WorksOnCheck protocol querier settings terms input output r
 checked_for protocol querier address settings terms input output (Ok totals) spelled works = (address, spelled, works)
-checked_for protocol querier address settings terms input output (Err NoAddresses) spelled works = (λ e. (address, spelled, works.0 e), λ e. (address, spelled, works.1 e))
-checked_for protocol querier address settings terms input output (Err NotAnAddress) spelled works = (λ e. absurd (works.0 e), λ e. (address, spelled, works.1 e))
-checked_for protocol querier address settings terms input output (Err NotHex) spelled works = (λ e. (address, spelled, works.0 e), λ e. (address, spelled, works.1 e))
-checked_for protocol querier address settings terms input output (Err UntilTooLarge) spelled works = (λ e. (address, spelled, works.0 e), λ e. (address, spelled, works.1 e))
-checked_for protocol querier address settings terms input output (Err (Unconfigured f query_seconds response_interval)) spelled works = (λ e. (address, spelled, works.0 e), λ e. (address, spelled, works.1 e))
-checked_for protocol querier address settings terms input output (Err (Capture f)) spelled works = (λ e. (address, spelled, works.0 e), λ e. (address, spelled, works.1 e))
-checked_for protocol querier address settings terms input output (Err (Gap number)) spelled works = (λ e. (address, spelled, works.0 e), λ e. (address, spelled, works.1 e))
-checked_for protocol querier address settings terms input output (Err (Waiting number)) spelled works = (λ e. (address, spelled, works.0 e), λ e. (address, spelled, works.1 e))
-checked_for protocol querier address settings terms input output (Err (Conversion number f)) spelled works = (λ e. (address, spelled, works.0 e), λ e. (address, spelled, works.1 e))
-checked_for protocol querier address settings terms input output (Err ConversionRead) spelled works = (λ e. (address, spelled, works.0 e), λ e. (address, spelled, works.1 e))
-checked_for protocol querier address settings terms input output (Err Memory) spelled works = (λ e. (address, spelled, works.0 e), λ e. (address, spelled, works.1 e))
-checked_for protocol querier address settings terms input output (Err Write) spelled works = (λ e. (address, spelled, works.0 e), λ e. (address, spelled, works.1 e))
+checked_for protocol querier address settings terms input output (Err NoAddresses) spelled works =
+    (λ e. (address, spelled, works.0 e), λ e. (address, spelled, works.1 e))
+checked_for protocol querier address settings terms input output (Err NotAnAddress) spelled works =
+    (λ e. absurd (works.0 e), λ e. (address, spelled, works.1 e))
+checked_for protocol querier address settings terms input output (Err NotHex) spelled works =
+    (λ e. (address, spelled, works.0 e), λ e. (address, spelled, works.1 e))
+checked_for protocol querier address settings terms input output (Err UntilTooLarge) spelled works =
+    (λ e. (address, spelled, works.0 e), λ e. (address, spelled, works.1 e))
+checked_for protocol querier address settings terms input output (Err (Unconfigured f query_seconds response_interval)) spelled works =
+    (λ e. (address, spelled, works.0 e), λ e. (address, spelled, works.1 e))
+checked_for protocol querier address settings terms input output (Err (Capture f)) spelled works =
+    (λ e. (address, spelled, works.0 e), λ e. (address, spelled, works.1 e))
+checked_for protocol querier address settings terms input output (Err (Gap number)) spelled works =
+    (λ e. (address, spelled, works.0 e), λ e. (address, spelled, works.1 e))
+checked_for protocol querier address settings terms input output (Err (Waiting number)) spelled works =
+    (λ e. (address, spelled, works.0 e), λ e. (address, spelled, works.1 e))
+checked_for protocol querier address settings terms input output (Err (Conversion number f)) spelled works =
+    (λ e. (address, spelled, works.0 e), λ e. (address, spelled, works.1 e))
+checked_for protocol querier address settings terms input output (Err ConversionRead) spelled works =
+    (λ e. (address, spelled, works.0 e), λ e. (address, spelled, works.1 e))
+checked_for protocol querier address settings terms input output (Err Memory) spelled works =
+    (λ e. (address, spelled, works.0 e), λ e. (address, spelled, works.1 e))
+checked_for protocol querier address settings terms input output (Err Write) spelled works =
+    (λ e. (address, spelled, works.0 e), λ e. (address, spelled, works.1 e))
 
-pub check_performed : (protocol : Protocol) (querier : Bor (List ℕ)) (settings : Settings) (within : Option ℕ) (cite packets strict : Bool) (until : Option ℕ) (file : Option (Bor (List ℕ))) (in_words : Bool) (input : Input) (output errors : Output) (status : ℕ)
-    → PerformsCheck (asked_options protocol settings within until cite packets strict) querier.now in_words input output errors status → Performs (Check protocol querier settings within cite packets strict until file) in_words input output errors status
+pub check_performed : (protocol : Protocol) (querier : Bor (List ℕ)) (settings : Settings) (within : Option ℕ) (cite packets strict : Bool)
+    (until : Option ℕ) (file : Option (Bor (List ℕ))) (in_words : Bool) (input : Input) (output errors : Output) (status : ℕ)
+    → PerformsCheck (asked_options protocol settings within until cite packets false strict) querier.now in_words input output errors status →
+    Performs (Check protocol querier settings within cite packets strict until file) in_words input output errors status
 check_performed protocol querier settings within cite packets strict until file in_words input output errors status performs =
     record {
       at_most_four = performs.at_most_four;
@@ -78,7 +97,8 @@ check_performed protocol querier settings within cite packets strict until file 
 -- the status of a check that reached its end is not 2
 pub not_two : {X : Type 0} (totals : Totals) (errors : Output) (status : ℕ) → Concludes totals errors status → status ≡ 2 → X
 not_two totals errors status concludes two =
-    absurd (⊎_elim (λ (e : status ≡ 0). omega (arith, e, two)) (⊎_elim (λ (e : status ≡ 3). omega (arith, e, two)) (λ (e : status ≡ 4). omega (arith, e, two))) concludes.one_of)
+    absurd (⊎_elim (λ (e : status ≡ 0). omega (arith, e, two))
+    (⊎_elim (λ (e : status ≡ 3). omega (arith, e, two)) (λ (e : status ≡ 4). omega (arith, e, two))) concludes.one_of)
 
 -- the status of a failure is 1 or 2
 pub status_is : (failure : Failure) → (status_of failure ≡ 1) ⊎ (status_of failure ≡ 2)
@@ -116,9 +136,12 @@ pub check_concluded : (options : CheckOptions) (querier : List ℕ) (in_words : 
     → PerformsCheck options querier in_words input output errors status
 check_concluded options querier in_words input output errors totals status works concludes =
     record {
-      at_most_four = ⊎_elim (λ (e : status ≡ 0). omega (arith, e)) (⊎_elim (λ (e : status ≡ 3). omega (arith, e)) (λ (e : status ≡ 4). omega (arith, e))) concludes.one_of;
+      at_most_four = ⊎_elim (λ (e : status ≡ 0). omega (arith, e))
+          (⊎_elim (λ (e : status ≡ 3). omega (arith, e)) (λ (e : status ≡ 4). omega (arith, e))) concludes.one_of;
       done = λ zero. let it = concludes.done zero in (totals, it.0, it.1, (works, it.2));
-      faulty = λ one. absurd (⊎_elim (λ (e : status ≡ 0). omega (arith, e, one)) (⊎_elim (λ (e : status ≡ 3). omega (arith, e, one)) (λ (e : status ≡ 4). omega (arith, e, one))) concludes.one_of);
+      faulty = λ one. absurd
+          (⊎_elim (λ (e : status ≡ 0). omega (arith, e, one))
+          (⊎_elim (λ (e : status ≡ 3). omega (arith, e, one)) (λ (e : status ≡ 4). omega (arith, e, one))) concludes.one_of);
       refused = λ two. not_two totals errors status concludes two;
       found = λ three. let it = concludes.found three in (totals, it.0, it.1, (works, it.2));
       unjudged = λ four. let it = concludes.unjudged four in (totals, it.0, it.1, works, it.2);
@@ -133,10 +156,17 @@ pub check_failed : (options : CheckOptions) (querier : List ℕ) (in_words : Boo
     → PerformsCheck options querier in_words input output errors status
 check_failed options querier in_words input output errors failure status works unread unwritten is told =
     record {
-      at_most_four = ⊎_elim (λ (one : status_of failure ≡ 1). omega (arith, is, one)) (λ (two : status_of failure ≡ 2). omega (arith, is, two)) (status_is failure);
-      done = λ zero. absurd (⊎_elim (λ (one : status_of failure ≡ 1). omega (arith, is, one, zero)) (λ (two : status_of failure ≡ 2). omega (arith, is, two, zero)) (status_is failure));
+      at_most_four = ⊎_elim (λ (one : status_of failure ≡ 1). omega (arith, is, one)) (λ (two : status_of failure ≡ 2). omega (arith, is, two))
+          (status_is failure);
+      done = λ zero. absurd
+          (⊎_elim (λ (one : status_of failure ≡ 1). omega (arith, is, one, zero)) (λ (two : status_of failure ≡ 2). omega (arith, is, two, zero))
+          (status_is failure));
       faulty = λ one. (failure, works.1 (sym is ∙ one), told);
       refused = λ two. (unread (unwritten_of failure (sym is ∙ two)), unwritten (unwritten_of failure (sym is ∙ two)), failure, works.0 (sym is ∙ two), told);
-      found = λ three. absurd (⊎_elim (λ (one : status_of failure ≡ 1). omega (arith, is, one, three)) (λ (two : status_of failure ≡ 2). omega (arith, is, two, three)) (status_is failure));
-      unjudged = λ four. absurd (⊎_elim (λ (one : status_of failure ≡ 1). omega (arith, is, one, four)) (λ (two : status_of failure ≡ 2). omega (arith, is, two, four)) (status_is failure));
+      found = λ three. absurd
+          (⊎_elim (λ (one : status_of failure ≡ 1). omega (arith, is, one, three)) (λ (two : status_of failure ≡ 2). omega (arith, is, two, three))
+          (status_is failure));
+      unjudged = λ four. absurd
+          (⊎_elim (λ (one : status_of failure ≡ 1). omega (arith, is, one, four)) (λ (two : status_of failure ≡ 2). omega (arith, is, two, four))
+          (status_is failure));
     }

@@ -15,8 +15,10 @@ use Rattle.mquerier.specs.Changes.{Input, Output}
 use Rattle.mquerier.specs.Choosing.{choice_of}
 use Rattle.mquerier.specs.Status.{Performs, PerformsConversion}
 
-pub conversion_performed : (interface : Option Interface) (vlan : Option ℕ) (once : Bool) (file : Option (Bor (List ℕ))) (in_words : Bool) (input : Input) (output errors : Output) (status : ℕ)
-    → PerformsConversion (choice_of interface vlan once) in_words input output errors status → Performs (Convert interface vlan once file) in_words input output errors status
+pub conversion_performed : (interface : Option Interface) (vlan : Option ℕ) (once : Bool) (file : Option (Bor (List ℕ))) (in_words : Bool)
+    (input : Input) (output errors : Output) (status : ℕ)
+    → PerformsConversion (choice_of interface vlan once) in_words input output errors status →
+    Performs (Convert interface vlan once file) in_words input output errors status
 conversion_performed interface vlan once file in_words input output errors status performs =
     let few = performs.at_most_one in
     record {
@@ -29,7 +31,8 @@ conversion_performed interface vlan once file in_words input output errors statu
       unread = λ none. absurd none;
     }
 
-written_kept : (before mid after : Option (List ℕ)) (text : List ℕ) (r : Result ConvertCounts ConvertFault) → (r ≡ Err answer.Write → ⊥) → IsWritten before mid text r → Keeps mid after → IsWritten before after text r
+written_kept : (before mid after : Option (List ℕ)) (text : List ℕ) (r : Result ConvertCounts ConvertFault) → (r ≡ Err answer.Write → ⊥) →
+    IsWritten before mid text r → Keeps mid after → IsWritten before after text r
 written_kept before mid after text (Ok counts) unlike written kept = Appends-kept before mid after text written kept
 written_kept before mid after text (Err answer.Read) unlike written kept = Appends-kept before mid after text written kept
 written_kept before mid after text (Err answer.Write) unlike written kept = absurd (unlike refl)
@@ -37,7 +40,8 @@ written_kept before mid after text (Err answer.Memory) unlike written kept = App
 written_kept before mid after text (Err (answer.Block number f)) unlike written kept = Appends-kept before mid after text written kept
 
 -- a conversion is the same behind a flush
-pub converted_kept : (choice : Choice) (old new : InputState) (before mid after : Option (List ℕ)) (r : Result ConvertCounts ConvertFault) → (r ≡ Err answer.Write → ⊥) → Converts choice old new before mid r → Keeps mid after → Converts choice old new before after r
+pub converted_kept : (choice : Choice) (old new : InputState) (before mid after : Option (List ℕ)) (r : Result ConvertCounts ConvertFault) →
+    (r ≡ Err answer.Write → ⊥) → Converts choice old new before mid r → Keeps mid after → Converts choice old new before after r
 converted_kept choice old new before mid after r unlike converts kept =
     record {
       bytes = converts.bytes;

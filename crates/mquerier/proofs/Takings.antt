@@ -18,13 +18,16 @@ use Rattle.mquerier.specs.CheckRuns.{IsCheckDoneAt}
 use Rattle.mquerier.specs.Failures.{no_querier_line, status_of}
 use Rattle.mquerier.specs.Replays.{family_of}
 use Rattle.mquerier.specs.Status.{Concludes, IsTold, Told}
-use Rattle.mquerier.specs.Taking.{ChecksBy, ChecksFound, ChecksTaking, IsFoundDone, PerformsBy, PerformsFound, PerformsTaking, first_failure, taken_line, with_variables}
+use Rattle.mquerier.specs.Taking.{ChecksBy, ChecksFound, ChecksTaking, IsFoundDone, PerformsBy, PerformsFound, PerformsTaking, first_failure}
+use Rattle.mquerier.specs.Taking.{taken_line, with_variables}
 use Rattle.mquerier.specs.Working.{ChecksAt}
 use Rattle.mquerier.proofs.Checkings.{status_is}
 
 -- the check was done, and the line was not written
-pub found_unwritten : (family : Family) (options : CheckOptions) (found : Announced ℕ) (settings : Settings) (input : Input) (output : Output) (mid : OutputState) (text : List ℕ) (totals : Totals) (failure : Failure) → settings ≡ with_variables options.settings found
-    → text ≡ taken_line family options.settings found → ChecksAt family found.querier settings options.terms input (record { old = output.old; new = mid }) (Ok totals)
+pub found_unwritten : (family : Family) (options : CheckOptions) (found : Announced ℕ) (settings : Settings) (input : Input) (output : Output)
+    (mid : OutputState) (text : List ℕ) (totals : Totals) (failure : Failure) → settings ≡ with_variables options.settings found
+    → text ≡ taken_line family options.settings found →
+    ChecksAt family found.querier settings options.terms input (record { old = output.old; new = mid }) (Ok totals)
     → (failure ≡ Write) × BreaksOff (record { old = mid; new = output.new }) text → ChecksFound family options found input output (Err failure)
 found_unwritten family options found settings input output mid text totals failure is is_line works why =
     let done = subst (λ (s : Settings). IsCheckDoneAt family found.querier s options.terms input (record { old = output.old; new = mid }) totals) is works in
@@ -33,8 +36,10 @@ found_unwritten family options found settings input output mid text totals failu
     (λ two. absurd (omega (arith, one, two)), λ _. inr (why.0, mid, totals, done, broke))
 
 -- both were done
-pub found_done : (family : Family) (options : CheckOptions) (found : Announced ℕ) (settings : Settings) (input : Input) (output : Output) (mid : OutputState) (text : List ℕ) (totals : Totals) → settings ≡ with_variables options.settings found
-    → text ≡ taken_line family options.settings found → ChecksAt family found.querier settings options.terms input (record { old = output.old; new = mid }) (Ok totals)
+pub found_done : (family : Family) (options : CheckOptions) (found : Announced ℕ) (settings : Settings) (input : Input) (output : Output)
+    (mid : OutputState) (text : List ℕ) (totals : Totals) → settings ≡ with_variables options.settings found
+    → text ≡ taken_line family options.settings found →
+    ChecksAt family found.querier settings options.terms input (record { old = output.old; new = mid }) (Ok totals)
     → Writes (record { old = mid; new = output.new }) text → ChecksFound family options found input output (Ok totals)
 found_done family options found settings input output mid text totals is is_line works wrote =
     let done = subst (λ (s : Settings). IsCheckDoneAt family found.querier s options.terms input (record { old = output.old; new = mid }) totals) is works in
@@ -43,13 +48,17 @@ found_done family options found settings input output mid text totals is is_line
 -- the status of a failure is neither 0, 3 nor 4
 never : {X : Type 0} (failure : Failure) (status : ℕ) → status ≡ status_of failure → (status ≡ 0) ⊎ (status ≡ 3) ⊎ (status ≡ 4) → X
 never failure status is at = absurd (⊎_elim
-    (λ (one : status_of failure ≡ 1). ⊎_elim (λ (e : status ≡ 0). omega (arith, is, one, e)) (⊎_elim (λ (e : status ≡ 3). omega (arith, is, one, e)) (λ (e : status ≡ 4). omega (arith, is, one, e))) at)
-    (λ (two : status_of failure ≡ 2). ⊎_elim (λ (e : status ≡ 0). omega (arith, is, two, e)) (⊎_elim (λ (e : status ≡ 3). omega (arith, is, two, e)) (λ (e : status ≡ 4). omega (arith, is, two, e))) at)
+    (λ (one : status_of failure ≡ 1). ⊎_elim (λ (e : status ≡ 0). omega (arith, is, one, e))
+    (⊎_elim (λ (e : status ≡ 3). omega (arith, is, one, e)) (λ (e : status ≡ 4). omega (arith, is, one, e))) at)
+    (λ (two : status_of failure ≡ 2). ⊎_elim (λ (e : status ≡ 0). omega (arith, is, two, e))
+    (⊎_elim (λ (e : status ≡ 3). omega (arith, is, two, e)) (λ (e : status ≡ 4). omega (arith, is, two, e))) at)
     (status_is failure))
 
 -- a check of the querier that was found failed, and that was told
-failed_by : (family : Family) (options : CheckOptions) (found : Announced ℕ) (in_words : Bool) (input : Input) (output errors : Output) (failure : Failure) (status : ℕ)
-    → ChecksFound family options found input output (Err failure) → status ≡ status_of failure → Told in_words errors failure → PerformsFound family options found in_words input output errors status
+failed_by : (family : Family) (options : CheckOptions) (found : Announced ℕ) (in_words : Bool) (input : Input) (output errors : Output)
+    (failure : Failure) (status : ℕ)
+    → ChecksFound family options found input output (Err failure) → status ≡ status_of failure → Told in_words errors failure →
+    PerformsFound family options found in_words input output errors status
 failed_by family options found in_words input output errors failure status checks is told = record {
   at_most_four = ⊎_elim (λ (one : status_of failure ≡ 1). omega (arith, is, one)) (λ (two : status_of failure ≡ 2). omega (arith, is, two)) (status_is failure);
   done = λ e. never failure status is (inl e);
@@ -85,13 +94,20 @@ taking_failed options in_words first input output errors failure status checks i
         let same = ap failure_in checks.0 in (is ∙ ap status_of same ∙ is_one fault, checks.1, subst (λ (g : Failure). Told in_words errors g) same told)
 
 -- a check of the querier that was found reached its end
-done_by : (family : Family) (options : CheckOptions) (found : Announced ℕ) (in_words : Bool) (input : Input) (output errors : Output) (totals : Totals) (status : ℕ)
-    → IsFoundDone family options found input output totals → Concludes totals errors status → PerformsFound family options found in_words input output errors status
+done_by : (family : Family) (options : CheckOptions) (found : Announced ℕ) (in_words : Bool) (input : Input) (output errors : Output)
+    (totals : Totals) (status : ℕ)
+    → IsFoundDone family options found input output totals → Concludes totals errors status →
+    PerformsFound family options found in_words input output errors status
 done_by family options found in_words input output errors totals status done concludes = record {
-  at_most_four = ⊎_elim (λ (e : status ≡ 0). omega (arith, e)) (⊎_elim (λ (e : status ≡ 3). omega (arith, e)) (λ (e : status ≡ 4). omega (arith, e))) concludes.one_of;
+  at_most_four = ⊎_elim (λ (e : status ≡ 0). omega (arith, e)) (⊎_elim (λ (e : status ≡ 3). omega (arith, e)) (λ (e : status ≡ 4). omega (arith, e)))
+      concludes.one_of;
   done = λ zero. let it = concludes.done zero in (totals, it.0, it.1, done, it.2);
-  faulty = λ one. absurd (⊎_elim (λ (e : status ≡ 0). omega (arith, e, one)) (⊎_elim (λ (e : status ≡ 3). omega (arith, e, one)) (λ (e : status ≡ 4). omega (arith, e, one))) concludes.one_of);
-  refused = λ two. absurd (⊎_elim (λ (e : status ≡ 0). omega (arith, e, two)) (⊎_elim (λ (e : status ≡ 3). omega (arith, e, two)) (λ (e : status ≡ 4). omega (arith, e, two))) concludes.one_of);
+  faulty = λ one. absurd
+      (⊎_elim (λ (e : status ≡ 0). omega (arith, e, one))
+      (⊎_elim (λ (e : status ≡ 3). omega (arith, e, one)) (λ (e : status ≡ 4). omega (arith, e, one))) concludes.one_of);
+  refused = λ two. absurd
+      (⊎_elim (λ (e : status ≡ 0). omega (arith, e, two))
+      (⊎_elim (λ (e : status ≡ 3). omega (arith, e, two)) (λ (e : status ≡ 4). omega (arith, e, two))) concludes.one_of);
   differs = λ three. let it = concludes.found three in (totals, it.0, it.1, done, it.2);
   unjudged = λ four. let it = concludes.unjudged four in (totals, it.0, it.1, done, it.2);
 }
@@ -123,11 +139,14 @@ taking_nothing options in_words first input output errors checks told =
 -- the same in the terms of the code
 pub as_found : {K : Type 0} (family : Family) (number : K → ℕ) (old new : InputState) (o o' : Option (Announced K)) → o ≡ o'
     → Announces family old new (Ok (numbered_announced_if number o)) → Announces family old new (Ok (numbered_announced_if number o'))
-as_found {K} family number old new o o' same announces = subst (λ (x : Option (Announced K)). Announces family old new (Ok (numbered_announced_if number x))) same announces
+as_found {K} family number old new o o' same announces =
+    subst (λ (x : Option (Announced K)). Announces family old new (Ok (numbered_announced_if number x))) same announces
 
-pub as_family : (family : Family) (options : CheckOptions) (first input : Input) (output : Output) (r : Result (Option Totals) Failure) → family_of options.protocol ≡ family
+pub as_family : (family : Family) (options : CheckOptions) (first input : Input) (output : Output) (r : Result (Option Totals) Failure) →
+    family_of options.protocol ≡ family
     → ChecksTaking family options first input output r → ChecksTaking (family_of options.protocol) options first input output r
 as_family family options first input output r same checks = subst (λ (f : Family). ChecksTaking f options first input output r) (sym same) checks
 
-pub as_result : (family : Family) (options : CheckOptions) (first input : Input) (output : Output) (o o' : Option Totals) → o ≡ o' → ChecksTaking family options first input output (Ok o) → ChecksTaking family options first input output (Ok o')
+pub as_result : (family : Family) (options : CheckOptions) (first input : Input) (output : Output) (o o' : Option Totals) → o ≡ o' →
+    ChecksTaking family options first input output (Ok o) → ChecksTaking family options first input output (Ok o')
 as_result family options first input output o o' same checks = subst (λ (x : Option Totals). ChecksTaking family options first input output (Ok x)) same checks

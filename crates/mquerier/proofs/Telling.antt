@@ -8,7 +8,8 @@ use Rattle.mquerier.specs.Changes.{BreaksOff, Output}
 use Rattle.mquerier.specs.Failures.{failure_text, status_of, version_line, wanted_words}
 use Rattle.mquerier.specs.Status.{IsTold, PrintsVersion, Told, TellsLines}
 
-pub told_by_printing : {T E : Type 0} (old new : Option (List ℕ)) (text line : List ℕ) (before after : Bool) (r : Result T E) → Prints old new text r → after ≡ (before || is_err r) → text ≡ line
+pub told_by_printing : {T E : Type 0} (old new : Option (List ℕ)) (text line : List ℕ) (before after : Bool) (r : Result T E) →
+    Prints old new text r → after ≡ (before || is_err r) → text ≡ line
     → IsTold (record { old = record { held = old; failed = before }; new = record { held = new; failed = after } }) line
 told_by_printing old new text line before after (Ok x) printed failed is = inl (rw (← is) printed, failed ∙ or-false before)
 told_by_printing old new text line before after (Err e) printed failed is = inr (inr (rw (← is) printed), failed ∙ or-true before)

@@ -12,7 +12,8 @@ use Rattle.mq_text.specs.Reading.{SpellsV6}
 use Rattle.mq_lines.specs.Line.{PrintsLine}
 use Rattle.mq_wire.specs.Family.{Family}
 use Rattle.mquerier.specs.declared.failure.Failure.{Failure}
-use Rattle.mquerier.specs.declared.failure.Failure.TheVariants.{NoAddresses, NotAnAddress, NotHex, UntilTooLarge, Configuration, Capture, Gap, Waiting, Conversion, ConversionRead, Memory, Write}
+use Rattle.mquerier.specs.declared.failure.Failure.TheVariants.{NoAddresses, NotAnAddress, NotHex, UntilTooLarge, Configuration, Capture, Gap}
+use Rattle.mquerier.specs.declared.failure.Failure.TheVariants.{Waiting, Conversion, ConversionRead, Memory, Write}
 use Rattle.mquerier.specs.Changes.{Input, Output}
 use Rattle.mquerier.specs.HexLine.{IsHexLine}
 use Rattle.mquerier.specs.Working.{IsUndecoded, Works, WorksOnMessage}
@@ -29,7 +30,15 @@ pub undecoded : (from to : Option (List ℕ)) (hex front back : List ℕ) (outpu
 undecoded from to hex front back output NoAddresses source destination first second spelled spelled' same why = absurd why
 undecoded from to hex front back output NotAnAddress source destination first second spelled spelled' same why = absurd why
 undecoded from to hex front back output NotHex source destination first second spelled spelled' same why =
-    rw (first, second) (λ e. (λ missing. elim missing [ inl h ↦ absurd (cc h) | inr h ↦ absurd (cc h) ], λ none. none source spelled, λ none. none destination spelled', why), λ e. absurd (omega (arith, e)))
+    rw (first, second) (
+      λ e. (
+        λ missing. elim missing [ inl h ↦ absurd (cc h) | inr h ↦ absurd (cc h) ],
+        λ none. none source spelled,
+        λ none. none destination spelled',
+        why,
+      ),
+      λ e. absurd (omega (arith, e)),
+    )
 undecoded from to hex front back output UntilTooLarge source destination first second spelled spelled' same why = absurd why
 undecoded from to hex front back output (Configuration f query_seconds response_interval) source destination first second spelled spelled' same why = absurd why
 undecoded from to hex front back output (Gap number) source destination first second spelled spelled' same why = absurd why
@@ -41,7 +50,8 @@ undecoded from to hex front back output Memory source destination first second s
 undecoded from to hex front back output Write source destination first second spelled spelled' same why = absurd why
 
 -- the line of the bytes that a text is the hexadecimal of was written, and then the output was flushed
-pub line_written : {E : Type 0} (old mid new : Option (List ℕ)) (family : Family) (pseudo : ℕ → List ℕ) (hex bytes : List ℕ) (flag : Bool) → decode_of hex ≡ Ok bytes
+pub line_written : {E : Type 0} (old mid new : Option (List ℕ)) (family : Family) (pseudo : ℕ → List ℕ) (hex bytes : List ℕ) (flag : Bool) →
+    decode_of hex ≡ Ok bytes
     → PrintsLine {E = E} old mid family (pseudo (length bytes)) bytes (Ok flag) → Keeps mid new
     → (line : List ℕ) × IsHexLine family pseudo hex flag line × Appends old new line
 line_written old mid new family pseudo hex bytes flag decoded printed kept = (

@@ -14,14 +14,19 @@ use Rattle.mquerier.specs.declared.failure.Failure.TheVariants.{Capture, Gap, Wa
 use Rattle.mquerier.specs.Changes.{Input, Output}
 use Rattle.mquerier.specs.Replays.{SpellsAddress, IsAcceptedAt, asked_configuration, family_of}
 
--- the requested tolerance, end, additions to lines and readings; the default tolerance is 100 milliseconds
-abbrev pub asked_terms : (within until : Option ℕ) → (cite packets strict : Bool) → CheckTerms
-asked_terms within until cite packets strict =
-    record { within = unwrap_or within 100; until = until; additions = record { packets = packets; cite = cite }; strict = strict }
+-- The requested tolerance, end, additions to lines and readings. The default tolerance is 100 milliseconds. With `once` a
+-- changed variable of the querier is reported once.
+abbrev pub asked_terms : (within until : Option ℕ) → (cite packets once strict : Bool) → CheckTerms
+asked_terms within until cite packets once strict = record {
+  within = unwrap_or within 100;
+  until = until;
+  additions = record { packets = packets; cite = cite; once = once };
+  strict = strict;
+}
 
-abbrev pub asked_options : Protocol → Settings → (within until : Option ℕ) → (cite packets strict : Bool) → CheckOptions
-asked_options protocol settings within until cite packets strict =
-    record { protocol = protocol; settings = settings; terms = asked_terms within until cite packets strict }
+abbrev pub asked_options : Protocol → Settings → (within until : Option ℕ) → (cite packets once strict : Bool) → CheckOptions
+asked_options protocol settings within until cite packets once strict =
+    record { protocol = protocol; settings = settings; terms = asked_terms within until cite packets once strict }
 
 -- the capture was checked as requested, with this result
 abbrev pub IsCheckedAt : Family → (querier : ℕ) → Settings → CheckTerms → Input → Output → Result Totals CheckFault → Type 0

@@ -126,7 +126,7 @@ IsDone (Replay protocol own settings until changes file) input output flag =
     WritesReport protocol own.now settings (record { until = until; changes = changes }) input output flag
 IsDone (Check protocol querier settings within cite packets strict until file) input output flag =
     (flag ≡ true) × (totals : Totals)
-    × WritesVerdict protocol querier.now settings (asked_terms within until cite packets strict) input output totals
+    × WritesVerdict protocol querier.now settings (asked_terms within until cite packets false strict) input output totals
 
 -- The line of a message was not written. Either an allocation failed before any of it, or the output failed after a
 -- prefix.
@@ -152,7 +152,7 @@ IsBroken (Show file) input output failure = IsBrokenOff (WritesListing input out
 IsBroken (Replay protocol own settings until changes file) input output failure =
     IsBrokenReplay protocol own.now settings (record { until = until; changes = changes }) input output failure
 IsBroken (Check protocol querier settings within cite packets strict until file) input output failure =
-    IsBrokenCheck protocol querier.now settings (asked_terms within until cite packets strict) input output failure
+    IsBrokenCheck protocol querier.now settings (asked_terms within until cite packets false strict) input output failure
 
 -- a message's fault was written without a line on standard error, or the work ended early and its reason was reported
 abbrev pub IsFaulty : Request → (in_words : Bool) → Input → (output errors : Output) → Type 0
@@ -220,7 +220,7 @@ IsDoneTelling (Show file) input output errors = IsDone (Show file) input output 
 IsDoneTelling (Replay protocol own settings until changes file) input output errors =
     IsDone (Replay protocol own settings until changes file) input output true × (errors.new ≡ errors.old)
 IsDoneTelling (Check protocol querier settings within cite packets strict until file) input output errors =
-    (totals : Totals) × (totals.findings ≡ 0) × IsJudged totals × HasChecked (asked_options protocol settings within until cite packets strict) querier.now input output errors totals
+    (totals : Totals) × (totals.findings ≡ 0) × IsJudged totals × HasChecked (asked_options protocol settings within until cite packets false strict) querier.now input output errors totals
 
 -- A check reached its end without anything to judge, and the reason was reported.
 abbrev pub HasJudgedNothing : CheckOptions → (querier : List ℕ) → Input → (output errors : Output) → Type 0
@@ -237,7 +237,7 @@ IsFinding (Show file) input output errors = ⊥
 IsFinding (Replay protocol own settings until changes file) input output errors = ⊥
 IsFinding (Check protocol querier settings within cite packets strict until file) input output errors =
     (totals : Totals) × (1 ≤ totals.findings) × IsJudged totals
-    × HasChecked (asked_options protocol settings within until cite packets strict) querier.now input output errors totals
+    × HasChecked (asked_options protocol settings within until cite packets false strict) querier.now input output errors totals
 
 -- A check had nothing to judge.
 abbrev pub IsUnjudged : Request → Input → (output errors : Output) → Type 0
@@ -246,7 +246,7 @@ IsUnjudged (Convert interface vlan once file) input output errors = ⊥
 IsUnjudged (Show file) input output errors = ⊥
 IsUnjudged (Replay protocol own settings until changes file) input output errors = ⊥
 IsUnjudged (Check protocol querier settings within cite packets strict until file) input output errors =
-    HasJudgedNothing (asked_options protocol settings within until cite packets strict) querier.now input output errors
+    HasJudgedNothing (asked_options protocol settings within until cite packets false strict) querier.now input output errors
 
 -- The request was performed with this status.
 pub record Performs (request : Request) (in_words : Bool) (input : Input) (output errors : Output) (status : ℕ) : Type 0 where

@@ -1,5 +1,5 @@
 -- Checks whose querier and variables come from the capture itself.
-use Rattle.std.specs.Prelude.{◌≡◌, ◌⊎◌, ◌≤◌, ℕ, Bool, if◌then◌else◌, List, [], ◌++◌, codes, Option, None, Some, Result, Ok, Err}
+use Rattle.std.specs.Prelude.{◌≡◌, ◌⊎◌, ◌≤◌, ℕ, Bool, true, if◌then◌else◌, List, [], ◌++◌, codes, Option, None, Some, Result, Ok, Err}
 use Rattle.std.specs.Fmt.{decimal}
 use Rattle.std.specs.Str.{bytes_eq}
 use Rattle.std.specs.Option.{option_or}
@@ -26,7 +26,7 @@ use Rattle.mquerier.specs.Failures.{no_querier_line, status_of, unjudged_line}
 use Rattle.mquerier.specs.Replays.{IsRefusedAt, family_of}
 use Rattle.mquerier.specs.Status.{IsJudged, IsTold, Told}
 
--- the request for a check whose querier is the word `auto`
+-- The request for a check whose querier is the word `auto`. It reports a changed variable of the querier once.
 abbrev pub taking_in : Request → Option CheckOptions
 taking_in (Message protocol hex from to) = None
 taking_in (Convert interface vlan once file) = None
@@ -34,7 +34,7 @@ taking_in (Show file) = None
 taking_in (Replay protocol own settings until changes file) = None
 taking_in (Check protocol querier settings within cite packets strict until file) =
     if bytes_eq querier.now (codes "auto")
-    then Some (asked_options protocol settings within until cite packets strict)
+    then Some (asked_options protocol settings within until cite packets true strict)
     else None
 
 abbrev pub taking_of : Result Request Error → Option CheckOptions

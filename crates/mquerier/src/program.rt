@@ -170,7 +170,7 @@ pub fn perform<S: Supply, R: Read, W: Write, E: Write>(
             let options = CheckOptions {
                 protocol: *protocol,
                 settings: *settings,
-                terms: terms_of(*within, *until, *cite, *packets, *strict),
+                terms: terms_of(*within, *until, *cite, *packets, false, *strict),
             };
             perform_check(alloc, &options, querier, supply, input, console)
         }
@@ -254,14 +254,19 @@ pub(crate) fn terms_of(
     until: Option<u64>,
     cite: bool,
     packets: bool,
+    once: bool,
     strict: bool,
 ) -> CheckTerms
-    ensures { result ≡ asked_terms within until cite packets strict }
+    ensures { result ≡ asked_terms within until cite packets once strict }
 {
     CheckTerms {
         within: within.unwrap_or(WITHIN),
         until,
-        additions: Additions { packets, cite },
+        additions: Additions {
+            packets,
+            cite,
+            once,
+        },
         strict,
     }
 }

@@ -43,7 +43,7 @@ pub fn taking_of(asked: &Result<Request<'_>, Error>) -> Option<CheckOptions>
         ) if *querier == "auto" => Some(CheckOptions {
             protocol: *protocol,
             settings: *settings,
-            terms: terms_of(*within, *until, *cite, *packets, *strict),
+            terms: terms_of(*within, *until, *cite, *packets, true, *strict),
         }),
         _ => None,
     }

@@ -38,5 +38,6 @@ size_of_item_spec 𝓤 𝓛 𝓜 𝓡 wired T L =
     enter ! _ _ fn [] _ $ alloc_all ! (λ l. pass_all ! refl tt $
     sets ! (of_opd ! (size_word !)) refl (tt, record { fits = fits }) $
     returns ! (look_at ! 0 refl) $ free_all ! refl $
-    nothing ! $ owned ! usize _ (uint_Makes 𝓛 w64) n _ (refl, fits) $ use0 𝓛 (raw (fact 𝓤 (n ≡ n))) (fact_i 𝓤 (n ≡ n) (emp 𝓤) refl) $ move ! (3 ∷ 2 ∷ 1 ∷ 0 ∷ []) $
+    nothing ! $ owned ! usize _ (uint_Makes 𝓛 w64) n _ (refl, fits) $ use0 𝓛 (raw (fact 𝓤 (n ≡ n))) (fact_i 𝓤 (n ≡ n) (emp 𝓤) refl) $ move !
+    (3 ∷ 2 ∷ 1 ∷ 0 ∷ []) $
     by ! (leaves 𝓛 ended tt c z (vint w64 n) n tt tt)))

@@ -22,7 +22,8 @@ use lib.Dec.{T as IsTrue}
 use prog.Memory.{size}
 use prog.Wp.{Env, WpFn}
 use types.ByLocal.{alloc_all, pass_all, free_all, look_at, look_in_at, get, sets, lands_last, env}
-use types.Kit.{‵, raw, ◌⊛◌, some, later, given, prop, at_ret, ◌$◌, ◌∵◌, !, qed, by, move, drop, use0, use1, use2, split, split3, pick, learn, rewrite, regoal, fsplit, fjoin, await}
+use types.Kit.{‵, raw, ◌⊛◌, some, later, given, prop, at_ret, ◌$◌, ◌∵◌, !, qed, by, move, drop, use0, use1, use2, split, split3, pick, learn, rewrite}
+use types.Kit.{regoal, fsplit, fjoin, await}
 use types.Part.{whole, sub}
 use types.Run.{stop, fld, hop, from, addr, lit, of_opd, no_more, and_then, first, blocks, exec, returns, enter}
 use Rattle.core.proofs.alloc.Calls.{handle_tells}
@@ -55,7 +56,8 @@ vec_in_spec 𝓤 𝓛 𝓜 𝓡 wired T L =
     let C = (tables 𝓤 H 𝓜 𝓡 𝓡.env).C in
     let Λ = (tables 𝓤 H 𝓜 𝓡 𝓡.env).Λ in
     let stayed : Stays ended.signature.params ended.kept = (stay_dropped block no, (stay_dropped number yes, tt)) in
-    proved_at 𝓛 ended stayed c 𝓜 𝓡 (Goes-dropped 𝓛 1 block no (λ κs x f. refl), (Goes-dropped 𝓛 1 number yes (λ κs x f. refl), tt)) (#self at) fn (compiled.unfolded 𝓤 H 𝓜 𝓡 wired (T, tt)) (λ z are.
+    proved_at 𝓛 ended stayed c 𝓜 𝓡 (Goes-dropped 𝓛 1 block no (λ κs x f. refl), (Goes-dropped 𝓛 1 number yes (λ κs x f. refl), tt))
+    (#self at) fn (compiled.unfolded 𝓤 H 𝓜 𝓡 wired (T, tt)) (λ z are.
     let Post : Val → SProp 𝓤 = (walk_of 𝓛 ended stayed c).post z in
     let a = z.0.3 in
     let vss = z.0.4 in
@@ -69,16 +71,21 @@ vec_in_spec 𝓤 𝓛 𝓜 𝓡 wired T L =
     let o = r.ref_ptr.1 in
     let told = are.0.0 in
     let y = at_lodge T 𝓛 𝓜.mem 𝓡.returns κ q b o k in
-    qed 𝓛 (((‵ (flft κ q) ⊛ ‵ ftrue) ⊛ ‵ (owns (types_at ended.signature.params z.0.0) a vss)) ∷ (raw (fact 𝓤 (κ ⊑ T.lives)) ⊛ raw (fact 𝓤 (k * s ≤ 16 * n)) ⊛ raw (fact 𝓤 (k < 2 ^ 63))) ∷ []) ∵
-    move ! (1 ∷ []) $ split3 ! $ heard ! (κ ⊑ T.lives) (λ lives. heard ! (k * s ≤ 16 * n) (λ fits. heard ! (k < 2 ^ 63) (λ few. split ! $ move ! (1 ∷ []) $ fsplit ! $ move ! (1 ∷ []) $ drop ! $
+    qed 𝓛 (((‵ (flft κ q) ⊛ ‵ ftrue) ⊛ ‵ (owns (types_at ended.signature.params z.0.0) a vss)) ∷
+    (raw (fact 𝓤 (κ ⊑ T.lives)) ⊛ raw (fact 𝓤 (k * s ≤ 16 * n)) ⊛ raw (fact 𝓤 (k < 2 ^ 63))) ∷ []) ∵
+    move ! (1 ∷ []) $ split3 ! $ heard ! (κ ⊑ T.lives)
+    (λ lives. heard ! (k * s ≤ 16 * n) (λ fits. heard ! (k < 2 ^ 63) (λ few. split ! $ move ! (1 ∷ []) $ fsplit ! $ move ! (1 ∷ []) $ drop ! $
     regoal ! (λ (us : List Val). prop (WpFn 𝓤 H C Λ fn us Post)) (λ i. told.0 i ++ (are.1.0.0 i ++ [])) refl $
     enter ! C Λ fn (slice_val (b, o) n ∷ vint w64 k ∷ []) Post $
-    alloc_all ! (λ l. pass_all ! refl ((tt, (tt, (record { fits = told.1.0 }, tt))), ((tt, record { fits = are.1.0.1 }), tt)) $ let En : Env 𝓤 H = env fn.locals l in
+    alloc_all ! (λ l. pass_all ! refl ((tt, (tt, (record { fits = told.1.0 }, tt))), ((tt, record { fits = are.1.0.1 }), tt)) $ let En : Env 𝓤 H =
+    env fn.locals l in
     lent ! tt r vss.0 (λ _ _ _. use1 𝓛 (‵ (lodged (param 0 T) (block_ptr b o) 0 k [])) (vector_of_units T L 𝓛 b o n k (omega arith) (omega (arith, told.1.1))) $
     use2 𝓛 (raw ((Lodges T 𝓛 𝓜.mem 𝓡.returns).pre y)) (lodge_goes T 𝓛 𝓜.mem 𝓡.returns κ q b o k lives few) $
     first ! $ blocks ! $ sets ! (addr ! (from ! (fld ! refl (hop ! (look_in_at ! 1 (sub ! 0 refl (whole !))) (stop !))))) refl (tt, tt) $
-    calls_at_last ! (fm 𝓛 𝓜 𝓡) (Lodges T 𝓛 𝓜.mem 𝓡.returns) (met 𝓤 𝓛 𝓜 𝓡 (compiled.calls-std_alloc::vec::lodge 𝓡.env wired) T L) y (and_then ! (get ! refl) (and_then ! (lit ! tt) (and_then ! (get ! refl) (no_more !)))) (λ v.
-    use1 𝓛 (later (some (λ (x : Vec T.Denot Lodged). given (IsEmptyAt T 𝓛 𝓜.mem 𝓡.returns κ q b o k x) (‵ ((LentVec T).own_val x (v ∷ [])) ⊛ (‵ (flft κ q) ⊛ ‵ ftrue))))) (lodge_gives T 𝓛 𝓜.mem 𝓡.returns κ q b o k v) $
+    calls_at_last ! (fm 𝓛 𝓜 𝓡) (Lodges T 𝓛 𝓜.mem 𝓡.returns) (met 𝓤 𝓛 𝓜 𝓡 (compiled.calls-std_alloc::vec::lodge 𝓡.env wired) T L) y
+    (and_then ! (get ! refl) (and_then ! (lit ! tt) (and_then ! (get ! refl) (no_more !)))) (λ v.
+    use1 𝓛 (later (some (λ (x : Vec T.Denot Lodged). given (IsEmptyAt T 𝓛 𝓜.mem 𝓡.returns κ q b o k x)
+    (‵ ((LentVec T).own_val x (v ∷ [])) ⊛ (‵ (flft κ q) ⊛ ‵ ftrue))))) (lodge_gives T 𝓛 𝓜.mem 𝓡.returns κ q b o k v) $
     await ! tt $ pick ! (λ x. learn ! (λ is. split ! $ handle_tells (lent_vec T L) ! x (v ∷ []) (λ u same good.
     let fine : IsTrue (has_ty (layout (LentVec T)) v) × WT v = subst (λ (w : Val). IsTrue (has_ty (layout (LentVec T)) w) × WT w) (sym (ap only same)) good in
     rewrite ! 0 (λ (w : Val). ‵ ((LentVec T).own_val x (w ∷ []))) (sym (ap only same)) refl $ lands_last ! refl fine $

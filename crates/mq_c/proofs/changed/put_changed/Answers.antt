@@ -9,7 +9,8 @@ returns g c =
     let addresses = c.changed-changed.result.now in
     let size : length addresses ≡ length c.args.workspace.now.changed = sym (length-map addresses number) ∙ ap length c.changed-changed.ensures.changed in
     record {
-      addresses_are = told_from number g.F.CFamily.octets_with addresses c.args.workspace.now.changed c.args.first c.min-first.result c.args.out.now c.put_addresses.new.out
+      addresses_are = told_from number g.F.CFamily.octets_with addresses c.args.workspace.now.changed c.args.first c.min-first.result c.args.out.now
+          c.put_addresses.new.out
           c.changed-changed.ensures.changed c.min-first.ensures c.put_addresses.ensures;
       count_is = λ few. c.few.ensures (omega (arith, size)) ∙ size;
     }

@@ -6,6 +6,8 @@ use Rattle.mq_c.proofs.mld.mq_mld_groups.Goals as goal
 
 pub returns : goal.returns
 returns c = record {
-  page = subst (λ (kept : LinkValue). IsPage (group_form group_with) (source_form source_with) kept.state.groups c.args.first c.args.groups.now c.put_groups.new.groups c.args.sources.now c.put_groups.new.sources c.put_groups.result) c.lend.ensures.value c.put_groups.ensures;
+  page = subst (λ (kept : LinkValue). IsPage (group_form group_with)
+      (source_form source_with) kept.state.groups c.args.first c.args.groups.now c.put_groups.new.groups c.args.sources.now c.put_groups.new.sources
+      c.put_groups.result) c.lend.ensures.value c.put_groups.ensures;
   same = rw c.lend.ensures.value refl;
 }

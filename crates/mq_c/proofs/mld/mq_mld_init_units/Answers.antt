@@ -8,5 +8,6 @@ use Rattle.mq_c.proofs.mld.mq_mld_init_units.Goals as goal
 
 pub returns-in-Err-place-clause-granted : goal.returns-in-Err-place-clause-granted
 returns-in-Err-place-clause-granted c _ =
-    let less = too_small mld_row c.place.result c.in-Err-place.field-0 (bytes_of_link_lent addr6.the_row (asked c.args.config).limits) _ _ c.in-Err-place.is c.place.ensures.granted c.in-Ok.ensures.taken in
+    let less = too_small mld_row c.place.result c.in-Err-place.field-0 (bytes_of_link_lent addr6.the_row (asked c.args.config).limits) _ _
+    c.in-Err-place.is c.place.ensures.granted c.in-Ok.ensures.taken in
     omega (arith, less, c.of-unused.ensures, c.into_units.ensures)

@@ -34,7 +34,9 @@ returns-else-sources-held g c =
     let row = c.in-Some.held.sources.now in
     let room = c.if-sources-held.false in
     let form : c.group_of.result ≡ group_form g.F.CFamily.group_with (address, group_at groups address) = c.group_of.ensures
-    ∙ (λ i. g.F.CFamily.group_with (at.address_is i) (at.len i) (deadline_or_none (group_deadline (at.group_is i).group.mode)) (deadline_or_none (at.group_is i).group.v1) (deadline_or_none (at.group_is i).group.v2)) in
-    shown_whole (group_form g.F.CFamily.group_with) (source_form g.F.CFamily.source_with) groups address number row c.args.entry.now c.group_of.result c.args.sources.now c.put_sources.new.out c.page_of-in-Some.result
+    ∙ (λ i. g.F.CFamily.group_with (at.address_is i) (at.len i) (deadline_or_none (group_deadline (at.group_is i).group.mode))
+    (deadline_or_none (at.group_is i).group.v1) (deadline_or_none (at.group_is i).group.v2)) in
+    shown_whole (group_form g.F.CFamily.group_with) (source_form g.F.CFamily.source_with) groups address number row c.args.entry.now c.group_of.result
+    c.args.sources.now c.put_sources.new.out c.page_of-in-Some.result
     (sym c.in-Some.ensures.held) at.ascending (sym (ap (λ (e : ScheduledGroup). e.group.sources) at.group_is)) at.len (omega (arith, room))
     form c.put_sources.ensures c.page_of-in-Some.ensures

@@ -12,7 +12,9 @@ pub returns-then-sources-used : goal.returns-then-sources-used
 returns-then-sources-used g c =
     let address = g.F.Address.Key.number c.entry-entry.result.address in
     let has = c.entry-entry.ensures.place in
-    page_full (group_form g.F.CFamily.group_with) (source_form g.F.CFamily.source_with) c.args.link.now.state.groups c.args.first c.args.groups.now c.loop-count.groups c.args.sources.now c.loop-count.sources c.loop-count.count c.loop-count.used address (length c.entry-entry.result.sources.now) c.page_of-then-sources-used.result
+    page_full (group_form g.F.CFamily.group_with) (source_form g.F.CFamily.source_with) c.args.link.now.state.groups c.args.first c.args.groups.now
+    c.loop-count.groups c.args.sources.now c.loop-count.sources c.loop-count.count c.loop-count.used address (length c.entry-entry.result.sources.now)
+    c.page_of-then-sources-used.result
     c.loop-count.invariant c.page_of-then-sources-used.ensures has (c.entry-entry.ensures.len address has) c.loop-count.auto.sources c.if-sources-used.true
 
 pub group_of-requires : goal.group_of-requires
@@ -31,8 +33,11 @@ loop-count-preserved g c =
     let small : length entry.sources.now ≤ 1024 = omega (arith, here, few, c.is_well_formed.ensures.formed.within.group_sources address) in
     let is = c.entry-entry.ensures.group address c.entry-entry.ensures.place in
     let size = here ∙ sym (ap sources_of is) in
-    let sized = λ (n : ℕ). g.F.CFamily.group_with address n (deadline_or_none (group_deadline entry.mode)) (deadline_or_none entry.v1) (deadline_or_none entry.v2) in
-    so_far_more (group_form g.F.CFamily.group_with) (source_form g.F.CFamily.source_with) c.args.link.now.state.groups c.args.first g.F.Address.Key.number c.args.groups.now c.loop-count.groups c.args.sources.now c.loop-count.sources c.put_sources.new.out c.loop-count.count c.loop-count.used address entry.sources.now _ c.group_of.result
+    let sized = λ (n : ℕ). g.F.CFamily.group_with address n (deadline_or_none (group_deadline entry.mode)) (deadline_or_none entry.v1)
+    (deadline_or_none entry.v2) in
+    so_far_more (group_form g.F.CFamily.group_with) (source_form g.F.CFamily.source_with) c.args.link.now.state.groups c.args.first
+    g.F.Address.Key.number c.args.groups.now c.loop-count.groups c.args.sources.now c.loop-count.sources c.put_sources.new.out c.loop-count.count
+    c.loop-count.used address entry.sources.now _ c.group_of.result
     c.loop-count.invariant (omega arith) c.entry-entry.ensures.place is c.entry-entry.ensures.ascending refl small (omega arith)
     (c.group_of.ensures ∙ ap sized size)
     c.put_sources.ensures

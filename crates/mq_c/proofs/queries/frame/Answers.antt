@@ -19,7 +19,8 @@ returns g c =
     let body : c.copy_from_slice.new.self ≡ c.args.bytes.now = c.copy_from_slice.ensures.after in
     let behind : c.split_at_mut-message.result.1.now ≡ rest =
     c.split_at_mut-message.ensures.back
-    ∙ ap (λ l. drop n l) (c.split_at_mut-length.ensures.back ∙ ap (λ l. drop 2 l) (c.split_at_mut-head.ensures.back ∙ ap (λ w. drop w c.args.out.now) c.WIDTH.ensures))
+    ∙ ap (λ l. drop n l)
+    (c.split_at_mut-length.ensures.back ∙ ap (λ l. drop 2 l) (c.split_at_mut-head.ensures.back ∙ ap (λ w. drop w c.args.out.now) c.WIDTH.ensures))
     ∙ drop-drop n 2 (drop W c.args.out.now) ∙ drop-drop (2 + n) W c.args.out.now in
     rw (head, tells, body, behind)
     (sym (append_assoc (to ++ told) c.args.bytes.now rest ∙ append_assoc to told (c.args.bytes.now ++ rest)))

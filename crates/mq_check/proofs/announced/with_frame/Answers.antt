@@ -7,7 +7,8 @@ use Rattle.mq_check.proofs.announced.with_frame.Goals as goal
 pub returns-in-Some : goal.returns-in-Some
 returns-in-Some g c =
     let carries = ap (datagram_of g.F.Family.FAMILY) (sym c.unwrap_frame-inner.ensures) ∙ c.in-Some.ensures in
-    c.with_datagram.ensures ∙ ap (λ (o : Option Datagram). with_datagram g.F.Family.FAMILY o (numbered_announced_if g.F.Address.Key.number c.args.found)) (sym carries)
+    c.with_datagram.ensures ∙
+    ap (λ (o : Option Datagram). with_datagram g.F.Family.FAMILY o (numbered_announced_if g.F.Address.Key.number c.args.found)) (sym carries)
 
 pub returns-in-None : goal.returns-in-None
 returns-in-None g c =

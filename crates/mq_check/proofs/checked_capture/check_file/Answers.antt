@@ -14,33 +14,53 @@ pub returns-in_err-walked-clause-puts : goal.returns-in_err-walked-clause-puts
 returns-in_err-walked-clause-puts g c =
     let p = err_from_is_err_and c.from_residual.result c.from_residual.ensures.1 in
     let family = g.met.F.CapturedFamily.same_family ∙ sym c.is_faultless.ensures.family ∙ ap (λ (k : Configuration). k.family) c.config.ensures in
-    rw (p.1, p.2) (verdict_early g.F.Address.LineKey.family (λ x. record { link = x.0.link; queries = x.0.queries; terms = x.0.terms; told = x.0.told; output = output_of g.W.Write.contents x.1 }) _ _ _ refl refl family (ap (λ (t : ToldState). t.additions) c.requires.told) c.requires.starts _ _ _ _ c.in_err-walked.ensures).0
+    rw (p.1, p.2) (verdict_early g.F.Address.LineKey.family
+    (λ x. record { link = x.0.link; queries = x.0.queries; terms = x.0.terms; told = x.0.told; output = output_of g.W.Write.contents x.1 }) _ _ _ refl
+    refl family (ap (λ (t : ToldState). t.additions) c.requires.told) (ap (λ (t : ToldState). t.last) c.requires.told) c.requires.starts _ _ _ _
+    c.in_err-walked.ensures).0
 
 pub returns-in_err-walked-clause-failed : goal.returns-in_err-walked-clause-failed
 returns-in_err-walked-clause-failed g c =
     let p = err_from_is_err_and c.from_residual.result c.from_residual.ensures.1 in
     let family = g.met.F.CapturedFamily.same_family ∙ sym c.is_faultless.ensures.family ∙ ap (λ (k : Configuration). k.family) c.config.ensures in
-    rw (p.1, p.2) (verdict_early g.F.Address.LineKey.family (λ x. record { link = x.0.link; queries = x.0.queries; terms = x.0.terms; told = x.0.told; output = output_of g.W.Write.contents x.1 }) _ _ _ refl refl family (ap (λ (t : ToldState). t.additions) c.requires.told) c.requires.starts _ _ _ _ c.in_err-walked.ensures).1
+    rw (p.1, p.2) (verdict_early g.F.Address.LineKey.family
+    (λ x. record { link = x.0.link; queries = x.0.queries; terms = x.0.terms; told = x.0.told; output = output_of g.W.Write.contents x.1 }) _ _ _ refl
+    refl family (ap (λ (t : ToldState). t.additions) c.requires.told) (ap (λ (t : ToldState). t.last) c.requires.told) c.requires.starts _ _ _ _
+    c.in_err-walked.ensures).1
 
 pub returns-in_err-walked-clause-no_memory : goal.returns-in_err-walked-clause-no_memory
 returns-in_err-walked-clause-no_memory g c =
     let p = err_from_is_err_and c.from_residual.result c.from_residual.ensures.1 in
     let family = g.met.F.CapturedFamily.same_family ∙ sym c.is_faultless.ensures.family ∙ ap (λ (k : Configuration). k.family) c.config.ensures in
-    rw (p.1, p.2) (λ is. (verdict_early g.F.Address.LineKey.family (λ x. record { link = x.0.link; queries = x.0.queries; terms = x.0.terms; told = x.0.told; output = output_of g.W.Write.contents x.1 }) _ _ _ refl refl family (ap (λ (t : ToldState). t.additions) c.requires.told) c.requires.starts _ _ _ _ c.in_err-walked.ensures).2 (ap (fault_or c.in_err-walked.field-0.0) is))
+    rw (p.1, p.2) (λ is.
+    (verdict_early g.F.Address.LineKey.family
+    (λ x. record { link = x.0.link; queries = x.0.queries; terms = x.0.terms; told = x.0.told; output = output_of g.W.Write.contents x.1 }) _ _ _ refl
+    refl family (ap (λ (t : ToldState). t.additions) c.requires.told) (ap (λ (t : ToldState). t.last) c.requires.told) c.requires.starts _ _ _ _
+    c.in_err-walked.ensures).2 (ap (fault_or c.in_err-walked.field-0.0) is))
 
 pub rest-requires : goal.rest-requires
 rest-requires g c =
     let family = g.met.F.CapturedFamily.same_family ∙ sym c.is_faultless.ensures.family ∙ ap (λ (k : Configuration). k.family) c.config.ensures in
-    let kept = kept_to_the_end g.F.Address.LineKey.family (λ x. record { link = x.0.link; queries = x.0.queries; terms = x.0.terms; told = x.0.told; output = output_of g.W.Write.contents x.1 }) _ _ _ refl refl family (ap (λ (t : ToldState). t.additions) c.requires.told) c.requires.starts _ _ _ c.in_ok-walked.walked c.in_ok-walked.ensures in
+    let kept = kept_to_the_end g.F.Address.LineKey.family
+    (λ x. record { link = x.0.link; queries = x.0.queries; terms = x.0.terms; told = x.0.told; output = output_of g.W.Write.contents x.1 }) _ _ _ refl
+    refl family (ap (λ (t : ToldState). t.additions) c.requires.told)
+    (ap (λ (t : ToldState). t.last) c.requires.told) c.requires.starts _ _ _ c.in_ok-walked.walked c.in_ok-walked.ensures in
     record { in_range = subst (λ (t : CheckTerms). IfSome t.until (λ ms. ms ≤ 2 ^ 53)) (sym kept.0) c.requires.in_range }
 
 pub returns-clause-puts : goal.returns-clause-puts
 returns-clause-puts g c =
     let family = g.met.F.CapturedFamily.same_family ∙ sym c.is_faultless.ensures.family ∙ ap (λ (k : Configuration). k.family) c.config.ensures in
-    verdict_well g.F.Address.LineKey.family (λ x. record { link = x.0.link; queries = x.0.queries; terms = x.0.terms; told = x.0.told; output = output_of g.W.Write.contents x.1 }) _ _ _ refl refl family (ap (λ (t : ToldState). t.additions) c.requires.told) c.requires.starts _ _ _ c.in_ok-walked.walked _ _ _ (ap (λ (t : ToldState). t.count) c.requires.told) c.in_ok-walked.ensures c.rest.ensures.rest
+    verdict_well g.F.Address.LineKey.family
+    (λ x. record { link = x.0.link; queries = x.0.queries; terms = x.0.terms; told = x.0.told; output = output_of g.W.Write.contents x.1 }) _ _ _ refl
+    refl family (ap (λ (t : ToldState). t.additions) c.requires.told)
+    (ap (λ (t : ToldState). t.last) c.requires.told) c.requires.starts _ _ _ c.in_ok-walked.walked _ _ _
+    (ap (λ (t : ToldState). t.count) c.requires.told) c.in_ok-walked.ensures c.rest.ensures.rest
 
 pub returns-clause-failed : goal.returns-clause-failed
 returns-clause-failed g c =
     let family = g.met.F.CapturedFamily.same_family ∙ sym c.is_faultless.ensures.family ∙ ap (λ (k : Configuration). k.family) c.config.ensures in
-    let kept = kept_to_the_end g.F.Address.LineKey.family (λ x. record { link = x.0.link; queries = x.0.queries; terms = x.0.terms; told = x.0.told; output = output_of g.W.Write.contents x.1 }) _ _ _ refl refl family (ap (λ (t : ToldState). t.additions) c.requires.told) c.requires.starts _ _ _ c.in_ok-walked.walked c.in_ok-walked.ensures in
+    let kept = kept_to_the_end g.F.Address.LineKey.family
+    (λ x. record { link = x.0.link; queries = x.0.queries; terms = x.0.terms; told = x.0.told; output = output_of g.W.Write.contents x.1 }) _ _ _ refl
+    refl family (ap (λ (t : ToldState). t.additions) c.requires.told)
+    (ap (λ (t : ToldState). t.last) c.requires.told) c.requires.starts _ _ _ c.in_ok-walked.walked c.in_ok-walked.ensures in
     c.rest.ensures.failed ∙ ap (λ (b : Bool). b || is_failed_write c.rest.result) kept.1

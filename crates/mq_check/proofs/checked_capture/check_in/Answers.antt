@@ -44,12 +44,14 @@ returns-clause-takes g c = taken_at _ c.check_on.ensures.no_memory (both (both c
 pub new-check-requires-clause-link_starts : goal.new-check-requires-clause-link_starts
 new-check-requires-clause-link_starts g c =
     let same = ap (λ (l : LinkValue). l.config) c.in-Ok-new_in.ensures.link in
-    ap (λ (l : LinkValue). l.state) c.in-Ok-new_in.ensures.link ∙ ap (link_at c.args.config) c.first_moment.ensures ∙ ap (λ (k : Configuration). link_at k 0) (sym same)
+    ap (λ (l : LinkValue). l.state) c.in-Ok-new_in.ensures.link ∙ ap (link_at c.args.config) c.first_moment.ensures ∙
+    ap (λ (k : Configuration). link_at k 0) (sym same)
 
 pub new-check-requires-clause-starts : goal.new-check-requires-clause-starts
 new-check-requires-clause-starts g c =
     let same = ap (λ (l : LinkValue). l.config) c.in-Ok-new_in.ensures.link in
-    c.in-Ok-new.ensures.starts ∙ (λ i. checking_at_start c.args.terms.within ((c.timing-timing.ensures ∙ ap (λ (k : Configuration). k.timing) (sym same)) i) c.args.terms.strict)
+    c.in-Ok-new.ensures.starts ∙
+    (λ i. checking_at_start c.args.terms.within ((c.timing-timing.ensures ∙ ap (λ (k : Configuration). k.timing) (sym same)) i) c.args.terms.strict)
 
 pub check_on-requires-clause-in_range : goal.check_on-requires-clause-in_range
 check_on-requires-clause-in_range g c = rw c.new-check.ensures.terms c.requires

@@ -13,9 +13,11 @@ pub returns-in_err-finish-clause-checks : goal.returns-in_err-finish-clause-chec
 returns-in_err-finish-clause-checks g c =
     let p = err_from_is_err_and c.from_residual.result c.from_residual.ensures.1 in
     let none = ap (λ (t : ToldState). t.held) c.requires.told in
-    rw (p.1, p.2) (not_flushed _ _ _ _ _ _ _ _ _ _ none (sym c.is_failed_write.ensures ∙ c.if-is_failed_write.false) c.check_file-answer.ensures.puts c.in_err-finish.ensures.text)
+    rw (p.1, p.2) (not_flushed _ _ _ _ _ _ _ _ _ _ none (sym c.is_failed_write.ensures ∙ c.if-is_failed_write.false) c.check_file-answer.ensures.puts
+    c.in_err-finish.ensures.text)
 
 pub returns-clause-checks : goal.returns-clause-checks
 returns-clause-checks g c =
     let none = ap (λ (t : ToldState). t.held) c.requires.told in
-    flushed _ _ _ _ _ _ _ _ _ _ _ none c.in_ok-finish.ensures.empty (sym c.is_failed_write.ensures ∙ c.if-is_failed_write.false) c.check_file-answer.ensures.puts c.in_ok-finish.ensures.text
+    flushed _ _ _ _ _ _ _ _ _ _ _ none c.in_ok-finish.ensures.empty (sym c.is_failed_write.ensures ∙ c.if-is_failed_write.false)
+    c.check_file-answer.ensures.puts c.in_ok-finish.ensures.text

@@ -7,7 +7,14 @@ use Rattle.mq_check.proofs.finding_lines.put_packets.Goals as goal
 pub returns : goal.returns
 returns c =
     let it = c.args.basis.now in
-    rw (c.put.ensures.text, c.put_count-5.ensures.text, c.put_count-4.ensures.text, c.put_count-3.ensures.text, c.put_count-2.ensures.text, c.put_count.ensures.text)
+    rw (
+      c.put.ensures.text,
+      c.put_count-5.ensures.text,
+      c.put_count-4.ensures.text,
+      c.put_count-3.ensures.text,
+      c.put_count-2.ensures.text,
+      c.put_count.ensures.text,
+    )
     (six_parts c.args.text.now.items (count_text (codes "packets ") it.packets) (count_text (codes " messages ") it.messages)
     (count_text (codes " malformed ") it.malformed) (count_text (codes " cut ") it.cut) (count_text (codes " unread ") it.unread)
     (codes "; groups held before 0 are unknown\n"))

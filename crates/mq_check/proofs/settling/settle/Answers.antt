@@ -12,7 +12,12 @@ loop-entry-preserved g c =
     let now = c.loop-entry.invariant in
     let first = c.in-Some.ensures.some in
     record {
-      found = (_, now.found.1 ∙ ap (λ (xs : List (Finding ℕ)). now.found.0 ++ xs) (first.told c.args.within c.args.changed.now) ∙ sym (append_assoc now.found.0 _ _), then_told _ _ _ _ _ _ _ _ _ _ _ now.found.2 c.in_ok-tell_entry.ensures);
+      found = (
+        _,
+        now.found.1 ∙ ap (λ (xs : List (Finding ℕ)). now.found.0 ++ xs) (first.told c.args.within c.args.changed.now) ∙
+            sym (append_assoc now.found.0 _ _),
+        then_told _ _ _ _ _ _ _ _ _ _ _ now.found.2 c.in_ok-tell_entry.ensures,
+      );
       rest = now.rest ∙ first.settled;
     }
 
@@ -36,4 +41,6 @@ returns-clause-settled g c =
 pub returns-clause-tells : goal.returns-clause-tells
 returns-clause-tells g c =
     let now = c.loop-entry.invariant in
-    tells_as _ _ _ _ _ _ _ _ (sym (now.found.1 ∙ ap (λ (xs : List (Finding ℕ)). now.found.0 ++ xs) (c.in_default.ensures.none_over.told c.args.within c.args.changed.now) ∙ append-nil now.found.0)) now.found.2
+    tells_as _ _ _ _ _ _ _ _
+    (sym (now.found.1 ∙ ap (λ (xs : List (Finding ℕ)). now.found.0 ++ xs) (c.in_default.ensures.none_over.told c.args.within c.args.changed.now) ∙
+    append-nil now.found.0)) now.found.2

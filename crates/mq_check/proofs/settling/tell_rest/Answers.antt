@@ -18,7 +18,11 @@ loop-entry-preserved g c =
     let now = c.loop-entry.invariant in
     let first = ap (λ (es : List (Entry ℕ)). flat_map (found_of_last c.args.within c.args.end c.args.changed.now) es) c.in-Some.ensures.some in
     let last = numbered_entry g.F.Address.Key.number c.in-Some.entry in
-    let one = tells_as _ _ _ _ _ _ _ _ (ap (findings_of c.args.within c.args.changed.now) (c.excused_if.ensures ∙ ap (λ (b : Bool). excused_if b last) (c.is_near-may_come.ensures ∙ ap (λ (m : ℕ). nat_le c.args.end (m + c.args.within)) c.moment.ensures))) c.in_ok-tell_entry.ensures in
+    let one = tells_as _ _ _ _ _ _ _ _
+    (ap (findings_of c.args.within c.args.changed.now)
+    (c.excused_if.ensures ∙
+    ap (λ (b : Bool). excused_if b last) (c.is_near-may_come.ensures ∙ ap (λ (m : ℕ). nat_le c.args.end (m + c.args.within)) c.moment.ensures)))
+    c.in_ok-tell_entry.ensures in
     (_, now.1 ∙ ap (λ (xs : List (Finding ℕ)). now.0 ++ xs) first ∙ sym (append_assoc now.0 _ _), then_told _ _ _ _ _ _ _ _ _ _ _ now.2 one)
 
 pub loop-entry-smaller : goal.loop-entry-smaller
@@ -30,7 +34,11 @@ returns-in_err-tell_entry g c =
     let now = c.loop-entry.invariant in
     let first = ap (λ (es : List (Entry ℕ)). flat_map (found_of_last c.args.within c.args.end c.args.changed.now) es) c.in-Some.ensures.some in
     let last = numbered_entry g.F.Address.Key.number c.in-Some.entry in
-    let one = tells_as _ _ _ _ _ _ _ _ (ap (findings_of c.args.within c.args.changed.now) (c.excused_if.ensures ∙ ap (λ (b : Bool). excused_if b last) (c.is_near-may_come.ensures ∙ ap (λ (m : ℕ). nat_le c.args.end (m + c.args.within)) c.moment.ensures))) c.in_err-tell_entry.ensures in
+    let one = tells_as _ _ _ _ _ _ _ _
+    (ap (findings_of c.args.within c.args.changed.now)
+    (c.excused_if.ensures ∙
+    ap (λ (b : Bool). excused_if b last) (c.is_near-may_come.ensures ∙ ap (λ (m : ℕ). nat_le c.args.end (m + c.args.within)) c.moment.ensures)))
+    c.in_err-tell_entry.ensures in
     rw p.1 (broken_as _ _ _ _ _ _ _ _ (tells_as _ _ _ _ _ _ _ _ (sym (now.1 ∙ ap (λ (xs : List (Finding ℕ)). now.0 ++ xs) first ∙ sym (append_assoc now.0 _ _)))
     (told_broken _ _ _ _ _ _ _ _ (then_told _ _ _ _ _ _ _ _ _ _ _ now.2 one))))
 

@@ -10,8 +10,10 @@ use Rattle.mq_check.proofs.settling.tell_rest.Given as goal
 
 abbrev pub invariant-loop-entry : goal.invariant-loop-entry
 invariant-loop-entry g l =
-    (done : List (Finding ℕ)) × (flat_map (found_of_last l.within l.end l.changed) l.fn.waiting.entries ≡ done ++ flat_map (found_of_last l.within l.end l.changed) l.waiting.entries)
-    × Tells {T = Unit} {E = LineFault} g.F.Address.LineKey.family done l.fn.told l.told (output_of g.W.Write.contents l.fn.writer) (output_of g.W.Write.contents l.writer) (Ok tt)
+    (done : List (Finding ℕ)) ×
+    (flat_map (found_of_last l.within l.end l.changed) l.fn.waiting.entries ≡ done ++ flat_map (found_of_last l.within l.end l.changed) l.waiting.entries)
+    × Tells {T = Unit} {E = LineFault} g.F.Address.LineKey.family done l.fn.told l.told (output_of g.W.Write.contents l.fn.writer)
+    (output_of g.W.Write.contents l.writer) (Ok tt)
 
 abbrev pub decreases-loop-entry : goal.decreases-loop-entry
 decreases-loop-entry g l = length l.waiting.entries

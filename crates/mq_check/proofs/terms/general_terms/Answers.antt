@@ -4,4 +4,14 @@ use Rattle.mq_check.proofs.terms.general_terms.Goals as goal
 
 pub returns : goal.returns
 returns g c =
-    rw (c.current_version.ensures, g.met.F.CapturedFamily.same_family, c.response_said.ensures, c.response_interval.ensures, c.robustness.ensures, c.interval_said.ensures, c.query_seconds.ensures, c.general_destination.ensures, c.is_faultless.ensures.family) refl
+    rw (
+      c.current_version.ensures,
+      g.met.F.CapturedFamily.same_family,
+      c.response_said.ensures,
+      c.response_interval.ensures,
+      c.robustness.ensures,
+      c.interval_said.ensures,
+      c.query_seconds.ensures,
+      c.general_destination.ensures,
+      c.is_faultless.ensures.family,
+    ) refl

@@ -8,7 +8,8 @@ use Rattle.mq_check.proofs.unheld.has_source_timer.Goals as goal
 
 -- no timer runs in a group that isn't held
 none_runs : (groups : Groups) (group source : ℕ) → map.contains_key groups group ≡ false → running (group_at groups group).group source ≡ false
-none_runs groups group source absent = ap (λ (e : ScheduledGroup). running e.group source) (absent_unheld groups group absent) ∙ ap is_running (map.get-empty _ source)
+none_runs groups group source absent = ap (λ (e : ScheduledGroup). running e.group source) (absent_unheld groups group absent) ∙
+    ap is_running (map.get-empty _ source)
 
 pub returns-in-None : goal.returns-in-None
 returns-in-None g c = sym (none_runs _ _ (g.F.Address.Key.number c.args.source) (sym c.in-None.ensures.held))

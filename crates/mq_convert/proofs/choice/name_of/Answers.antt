@@ -10,4 +10,6 @@ unfolding name_of
 returns c =
     let few = c.if-text-gt16.false in
     let fits = le-ltb 16 (length c.args.text.now) (omega (arith, few)) in
-    rw fits (c.from_be_bytes.ensures ∙ ap (from_be_bytes w128) (filled_up c.args.text.now c.copy_from_slice.new.self (length c.args.text.now) refl c.copy_from_slice.ensures.after (omega (arith, few))))
+    rw fits (c.from_be_bytes.ensures ∙
+    ap (from_be_bytes w128)
+    (filled_up c.args.text.now c.copy_from_slice.new.self (length c.args.text.now) refl c.copy_from_slice.ensures.after (omega (arith, few))))

@@ -28,22 +28,26 @@ returns-in_err-held-clause-puts g c =
     let p = err_from_is_err_and c.from_residual-in_err-held.result c.from_residual-in_err-held.ensures.1 in
     let now = c.loop-sieve.invariant in
     let next = rw c.in-Some.is at c.in_ok-size.ensures.next in
-    rw (p.1, p.2) (ended_within _ _ _ _ _ _ _ _ _ (context_of c.read_block.new.context) _ _ _ _ _ c.in_err-held.field-0.0 now.put.0 now.put.1 now.read next c.min.ensures c.in_err-held.ensures)
+    rw (p.1, p.2) (ended_within _ _ _ _ _ _ _ _ _ (context_of c.read_block.new.context) _ _ _ _ _ c.in_err-held.field-0.0 now.put.0 now.put.1 now.read
+    next c.min.ensures c.in_err-held.ensures)
 
 pub returns-in_err-put_held-clause-puts : goal.returns-in_err-put_held-clause-puts
 returns-in_err-put_held-clause-puts g c =
     let p = err_from_is_err_and c.from_residual-in_err-put_held.result c.from_residual-in_err-put_held.ensures.1 in
     let now = c.loop-sieve.invariant in
     let next = rw c.in-Some.is at c.in_ok-size.ensures.next in
-    rw (p.1, p.2) (next_broken (Unit {0}) LineFault _ _ _ _ _ _ _ _ _ _ _ _ _ _ _ _ _ _ c.in_err-put_held.field-0.0 now.put.0 now.put.1 next c.min.ensures c.in_ok-held.ensures c.in_err-put_held.ensures.text)
+    rw (p.1, p.2) (next_broken (Unit {0}) LineFault _ _ _ _ _ _ _ _ _ _ _ _ _ _ _ _ _ _ c.in_err-put_held.field-0.0 now.put.0 now.put.1 next
+    c.min.ensures c.in_ok-held.ensures c.in_err-put_held.ensures.text)
 
 pub returns-in_err-write_before_wait-clause-puts : goal.returns-in_err-write_before_wait-clause-puts
 returns-in_err-write_before_wait-clause-puts g c =
     let p = err_from_is_err_and c.from_residual-in_err-write_before_wait.result c.from_residual-in_err-write_before_wait.ensures.1 in
     let now = c.loop-sieve.invariant in
     let next = rw c.in-Some.is at c.in_ok-size.ensures.next in
-    rw (p.1, p.2) (next_broken (Unit {0}) LineFault _ _ _ _ _ _ _ _ _ _ _ _ _ _ _ _ _ _ c.in_err-write_before_wait.field-0.0 now.put.0 now.put.1 next c.min.ensures c.in_ok-held.ensures
-    (then_nothing (Unit {0}) LineFault _ _ _ _ _ [] _ (Err c.in_err-write_before_wait.field-0.0) c.in_ok-put_held.ensures.text c.in_err-write_before_wait.ensures.text))
+    rw (p.1, p.2) (next_broken (Unit {0}) LineFault _ _ _ _ _ _ _ _ _ _ _ _ _ _ _ _ _ _ c.in_err-write_before_wait.field-0.0 now.put.0 now.put.1 next
+    c.min.ensures c.in_ok-held.ensures
+    (then_nothing (Unit {0}) LineFault _ _ _ _ _ [] _ (Err c.in_err-write_before_wait.field-0.0) c.in_ok-put_held.ensures.text
+    c.in_err-write_before_wait.ensures.text))
 
 pub returns-clause-puts : goal.returns-clause-puts
 returns-clause-puts g c =
@@ -57,7 +61,8 @@ loop-sieve-preserved g c =
     let next = rw c.in-Some.is at c.in_ok-size.ensures.next in
     record {
       put = next_put (Unit {0}) LineFault _ _ _ _ _ _ _ _ _ _ _ _ _ _ _ _ _ _ _ _ now.put.0 now.put.1 next c.min.ensures c.in_ok-held.ensures
-          (then_nothing (Unit {0}) LineFault _ _ _ _ _ _ _ (Ok c.in_ok-write_before_wait.field-0) c.in_ok-put_held.ensures.text c.in_ok-write_before_wait.ensures.text) c.in_ok-put_held.ensures.sieved;
+          (then_nothing (Unit {0}) LineFault _ _ _ _ _ _ _ (Ok c.in_ok-write_before_wait.field-0) c.in_ok-put_held.ensures.text
+          c.in_ok-write_before_wait.ensures.text) c.in_ok-put_held.ensures.sieved;
       few = let few = next.answers.0 in omega (arith, few);
       room = let room = now.room in omega (arith, room, c.next_block.auto.buffer);
       read = next.failed ∙ or-false _ ∙ now.read;

@@ -16,7 +16,8 @@ invariant-loop-sieve g l =
     let now = input_of g.R.Read.remaining l.reader in
     record {
       put : (r : IsReadTo l.fn.sieve.choice old now (context_of l.context) l.number l.sieve)
-          × Passes (g.W.Write.contents (inner_of l.fn.writer)) (g.W.Write.contents (inner_of l.writer)) l.fn.buffer.items l.buffer.items (written_of l.fn.sieve.choice r.blocks);
+          × Passes (g.W.Write.contents (inner_of l.fn.writer)) (g.W.Write.contents (inner_of l.writer)) l.fn.buffer.items l.buffer.items
+          (written_of l.fn.sieve.choice r.blocks);
       few : l.number ≤ endless;
       room : most_seen ≤ length l.block;
       read : has_failed l.reader ≡ has_failed l.fn.reader;

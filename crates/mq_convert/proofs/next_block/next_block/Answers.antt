@@ -8,14 +8,20 @@ use Rattle.mq_convert.proofs.next_block.next_block.Goals.{else-count-eq0-via-the
 pub returns-then-number-ge-ENDLESS-clause-next : goal.returns-then-number-ge-ENDLESS-clause-next
 returns-then-number-ge-ENDLESS-clause-next g c =
     let some : c.in_ok-count.count ≡ 0 → is_start c.args.kind ≡ true = λ none.
-    elim c.else-count-eq0.branch [ else-count-eq0-via-then-count-eq0+else-not-is_start w ↦ grind (arith, w.is_start.ensures, w.if-not-is_start.false) | else-count-eq0-via-else-count-eq0 w ↦ absurd (w.if-count-eq0.false none) ] in
+    elim c.else-count-eq0.branch [
+      | else-count-eq0-via-then-count-eq0+else-not-is_start w ↦ grind (arith, w.is_start.ensures, w.if-not-is_start.false)
+      | else-count-eq0-via-else-count-eq0 w ↦ absurd (w.if-count-eq0.false none)
+    ] in
     let filled = rw c.head_size-head.ensures.size at c.in_ok-count.ensures.fills in
     rw c.faulty.ensures (endless_next _ _ _ _ _ _ _ some c.if-number-ge-ENDLESS.true filled)
 
 pub returns-then-count-head-clause-next : goal.returns-then-count-head-clause-next
 returns-then-count-head-clause-next g c =
     let some : c.in_ok-count.count ≡ 0 → is_start c.args.kind ≡ true = λ none.
-    elim c.else-count-eq0.branch [ else-count-eq0-via-then-count-eq0+else-not-is_start w ↦ grind (arith, w.is_start.ensures, w.if-not-is_start.false) | else-count-eq0-via-else-count-eq0 w ↦ absurd (w.if-count-eq0.false none) ] in
+    elim c.else-count-eq0.branch [
+      | else-count-eq0-via-then-count-eq0+else-not-is_start w ↦ grind (arith, w.is_start.ensures, w.if-not-is_start.false)
+      | else-count-eq0-via-else-count-eq0 w ↦ absurd (w.if-count-eq0.false none)
+    ] in
     let filled = rw c.head_size-head.ensures.size at c.in_ok-count.ensures.fills in
     let short = rw c.head_size-head.ensures.size at c.if-count-head.true in
     rw c.faulty-then-count-head.ensures (head_cut _ _ _ _ _ _ _ some c.if-number-ge-ENDLESS.false short filled)
@@ -42,7 +48,8 @@ returns-then-branch-size-clause-next g c =
     let whole = rw c.head_size-head.ensures.size at c.if-count-head.false in
     let says = rw c.head_size-head.ensures.size at c.in-Ok.ensures.size in
     let rest = rw c.head_size-head.ensures.size at c.in_ok-fill_seen.ensures.fills in
-    rw c.faulty-then-branch-size.ensures (body_cut _ _ _ _ _ _ _ _ _ (head_there _ _ _ _ _ _ whole filled) c.if-number-ge-ENDLESS.false says c.if-branch-size.true rest)
+    rw c.faulty-then-branch-size.ensures
+    (body_cut _ _ _ _ _ _ _ _ _ (head_there _ _ _ _ _ _ whole filled) c.if-number-ge-ENDLESS.false says c.if-branch-size.true rest)
 
 pub returns-clause-next : goal.returns-clause-next
 returns-clause-next g c =

@@ -13,5 +13,6 @@ loop-count-preserved g c =
       ahead = ensures.bytes.0;
       taken = ensures.taken ∙ ap (λ (n : ℕ). counted_on c.loop-count.reader.taken n) ensures.bound.1;
     } in
-    let fits : c.loop-count.count + c.in-Ok.more ≤ c.args.to = omega (arith, ensures.bound.0, c.read.auto.buf, c.min-most.ensures, length-take c.min-most.result c.loop-count.piece) in
+    let fits : c.loop-count.count + c.in-Ok.more ≤ c.args.to =
+    omega (arith, ensures.bound.0, c.read.auto.buf, c.min-most.ensures, length-take c.min-most.result c.loop-count.piece) in
     passed_more _ _ _ _ _ _ _ _ ensures.bound.1 fits c.loop-count.invariant takes (grind (arith, nat_tests, ensures.failed))

@@ -11,7 +11,8 @@ use Rattle.mq_convert.proofs.records.put_frame.Goals as goal
 pub returns-in_err-make_room-clause-text : goal.returns-in_err-make_room-clause-text
 returns-in_err-make_room-clause-text g c =
     let p = err_from_is_err_and c.from_residual.result c.from_residual.ensures.1 in
-    rw p.1 (broken_within _ _ _ [] (record_with c.args.packet.moment c.args.packet.original c.args.captured (framed c.args.frame)) c.in_err-make_room.ensures.text)
+    rw p.1 (broken_within _ _ _ [] (record_with c.args.packet.moment c.args.packet.original c.args.captured (framed c.args.frame))
+    c.in_err-make_room.ensures.text)
 
 pub put_header-requires-in-Cut-clause-few : goal.put_header-requires-in-Cut-clause-few
 put_header-requires-in-Cut-clause-few g c =
@@ -26,7 +27,8 @@ returns-in-Whole-clause-text g c =
     let is : c.put-in-Whole.new.text.items ≡ ((mid ++ header) ++ c.in-Whole.addresses) ++ big_bytes 2 c.in-Whole.kind =
     rw (c.put-in-Whole.ensures.text, c.put.ensures.text, c.put_header.ensures.text, c.to_be_bytes.ensures) refl in
     rw (c.in-Whole.is, ← c.min.ensures, ← c.original_of-original.ensures)
-    (frame_put _ _ _ _ _ _ mid _ _ header c.in-Whole.addresses (big_bytes 2 c.in-Whole.kind) carried _ c.in_ok-make_room.ensures.text is c.put_bytes.ensures.text)
+    (frame_put _ _ _ _ _ _ mid _ _ header c.in-Whole.addresses (big_bytes 2 c.in-Whole.kind) carried _ c.in_ok-make_room.ensures.text is
+    c.put_bytes.ensures.text)
 
 pub returns-in-Cut-clause-text : goal.returns-in-Cut-clause-text
 returns-in-Cut-clause-text g c =

@@ -16,7 +16,17 @@ returns c =
       header = Ok the_form;
       packets = the_packet ∷ [];
       end = None;
-      capture = (refl, (drop 24 one_report, [], refl, record { header = take 16 (drop 24 one_report); parts = refl; header_length = refl; stamp = refl; captured = refl; within = omega arith }, omega arith, refl));
+      capture = (
+        refl,
+        (
+          drop 24 one_report,
+          [],
+          refl,
+          record { header = take 16 (drop 24 one_report); parts = refl; header_length = refl; stamp = refl; captured = refl; within = omega arith },
+          omega arith,
+          refl,
+        ),
+      );
       text_is = ap (λ r. r.text) is ∙ refl;
       answer_is = ap (λ r. totals_of r.answer) is ∙ refl;
     }

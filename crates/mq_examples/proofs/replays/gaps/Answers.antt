@@ -26,7 +26,14 @@ returns-clause-packet c =
           refl,
           record { header = take 16 records; parts = refl; header_length = refl; stamp = refl; captured = refl; within = omega arith },
           omega arith,
-          (drop 16 records, [], refl, record { header = drop 16 records; parts = refl; header_length = refl; stamp = refl; captured = refl; within = omega arith }, omega arith, refl),
+          (
+            drop 16 records,
+            [],
+            refl,
+            record { header = drop 16 records; parts = refl; header_length = refl; stamp = refl; captured = refl; within = omega arith },
+            omega arith,
+            refl,
+          ),
         ),
       );
       text_is = ap (λ r. r.text) is ∙ refl;
@@ -37,4 +44,12 @@ pub returns-clause-until : goal.returns-clause-until
 unfolding header_of header_in within_known packets_known digits encode_with code_of
 returns-clause-until c =
     let is = report-known igmp (Some 86400001) the_form [] None in
-    record { header = Ok the_form; packets = []; end = None; capture = (refl, refl); text_is = ap (λ r. r.text) is ∙ refl; answer_is = ap (λ r. totals_of r.answer) is ∙ refl }
+    record {
+      header = Ok the_form;
+      packets = [];
+      end = None;
+      capture = (refl, refl);
+      text_is = ap (λ r. r.text) is ∙ refl;
+      answer_is =
+          ap (λ r. totals_of r.answer) is ∙ refl;
+    }

@@ -12,12 +12,36 @@ unfolding header_of header_in within_known packets_known digits encode_with code
 returns c = record {
   header =
       let is = report-known igmp None the_form [] None in
-      record { header = Ok the_form; packets = []; end = None; capture = (refl, refl); text_is = ap (λ r. r.text) is ∙ refl; answer_is = ap (λ r. totals_of r.answer) is ∙ refl };
+      record {
+        header = Ok the_form;
+        packets = [];
+        end = None;
+        capture = (refl, refl);
+        text_is = ap (λ r. r.text) is ∙ refl;
+        answer_is =
+            ap (λ r. totals_of r.answer) is ∙ refl;
+      };
   until =
       let is = report-known igmp (Some 156250) the_form [] None in
-      record { header = Ok the_form; packets = []; end = None; capture = (refl, refl); text_is = ap (λ r. r.text) is ∙ refl; answer_is = ap (λ r. totals_of r.answer) is ∙ refl };
+      record {
+        header = Ok the_form;
+        packets = [];
+        end = None;
+        capture = (refl, refl);
+        text_is = ap (λ r. r.text) is ∙ refl;
+        answer_is =
+            ap (λ r. totals_of r.answer) is ∙ refl;
+      };
   cut =
       let is = report-known igmp None the_form [] (Some (CutHeader 1)) in
-      record { header = Ok the_form; packets = []; end = Some (CutHeader 1); capture = (refl, refl); text_is = ap (λ r. r.text) is ∙ refl; answer_is = ap (λ r. totals_of r.answer) is ∙ refl };
+      record {
+        header = Ok the_form;
+        packets = [];
+        end = Some (CutHeader 1);
+        capture = (refl, refl);
+        text_is = ap (λ r. r.text) is ∙ refl;
+        answer_is =
+            ap (λ r. totals_of r.answer) is ∙ refl;
+      };
   nothing = record { header = Err (CutHeader 0); packets = []; end = Some (CutHeader 0); capture = (refl, refl, refl); text_is = refl; answer_is = refl };
 }

@@ -16,7 +16,8 @@ use Rattle.mq_held.proofs.earliest.earliest_with_row.Goals as goal
 use Rattle.mq_held.proofs.earliest.earliest_with_row.Goals.{then-loop-start-test+else-place-row, else-loop-start-test}
 
 -- the moments are the first that was found, and those of the sources behind it
-moments_so : (g : Over) (c : goal.After-earliest_with g) → option_to_list c.args.first ++ flat_map timer_moments c.args.row.now ≡ option_to_list (Some c.in-Some.start) ++ flat_map timer_moments (drop c.loop-start.place c.args.row.now)
+moments_so : (g : Over) (c : goal.After-earliest_with g) → option_to_list c.args.first ++ flat_map timer_moments c.args.row.now
+    ≡ option_to_list (Some c.in-Some.start) ++ flat_map timer_moments (drop c.loop-start.place c.args.row.now)
 moments_so g c =
     let row = c.args.row.now in
     let place = c.loop-start.place in
@@ -29,7 +30,8 @@ moments_so g c =
     ∙ ap (λ ms. ms ++ flat_map timer_moments behind) start
 
 -- all of these are looked at
-rest_so : (g : Over) (c : goal.After-earliest_with g) → take (length c.args.row.now - c.loop-start.place) (drop c.loop-start.place c.args.row.now) ≡ drop c.loop-start.place c.args.row.now
+rest_so : (g : Over) (c : goal.After-earliest_with g) → take (length c.args.row.now - c.loop-start.place) (drop c.loop-start.place c.args.row.now)
+    ≡ drop c.loop-start.place c.args.row.now
 rest_so g c =
     let few = length-drop c.loop-start.place c.args.row.now in
     take_all (length c.args.row.now - c.loop-start.place) (drop c.loop-start.place c.args.row.now) (omega (arith, few))
@@ -52,7 +54,8 @@ pub returns-in-Some-clause-compared : goal.returns-in-Some-clause-compared
 returns-in-Some-clause-compared g c =
     let moment_of : Source g.row.K.Denot → Option ℕ = λ x. deadline_of (Some x.timer) in
     let spent = rw (rest_so g c) at c.earliest_with.ensures.spent in
-    let count : length (option_to_list c.args.first ++ flat_map timer_moments c.args.row.now) - 1 ≡ length (moments_by moment_of (drop c.loop-start.place c.args.row.now)) = ap (λ ms. length ms - 1) (moments_so g c) ∙ omega arith in
+    let count : length (option_to_list c.args.first ++ flat_map timer_moments c.args.row.now) - 1
+    ≡ length (moments_by moment_of (drop c.loop-start.place c.args.row.now)) = ap (λ ms. length ms - 1) (moments_so g c) ∙ omega arith in
     Spends-within _ _ spent (omega (arith, count)) (omega (arith, count))
 
 pub returns-in-None-clause-compared : goal.returns-in-None-clause-compared
@@ -62,6 +65,7 @@ returns-in-None-clause-compared g c =
       | else-loop-start-test w ↦ absurd (false≢true (sym (sym c.is_none.ensures ∙ ap is_some c.in-None.is) ∙ ap not w.loop-start-test.false))
     ] in
     let all = take_all c.loop-start.place c.args.row.now past in
-    let none = ap (λ row. length (option_to_list c.args.first ++ flat_map timer_moments row)) (sym all) ∙ ap length (sym c.loop-start.invariant.start) ∙ ap (λ o. length (option_to_list o)) c.in-None.is in
+    let none = ap (λ row. length (option_to_list c.args.first ++ flat_map timer_moments row)) (sym all) ∙ ap length (sym c.loop-start.invariant.start)
+    ∙ ap (λ o. length (option_to_list o)) c.in-None.is in
     let fewer : length (option_to_list c.args.first ++ flat_map timer_moments c.args.row.now) - 1 ≡ 0 = omega (arith, none) in
     rw fewer (Spends-none c.args.m.now)

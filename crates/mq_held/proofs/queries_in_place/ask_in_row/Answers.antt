@@ -14,5 +14,6 @@ returns-clause-rows g c source is =
     let held = c.index-row-place.result in
     let here : held ≡ get_or row c.args.place held = c.index-row-place.is ∙ ap (λ xs. get_or xs c.args.place held) c.row.ensures.cells in
     let above = sym (ap (λ x. is_ahead c.args.limit (deadline_of (Rattle.std.specs.Prelude.Some x.timer))) here ∙ c.requires.above held) in
-    let all = (asked_found number c.args.limit c.args.count source row c.args.place held true c.requires.ascending c.requires.place here (ap (number_in number) here ∙ is held) above).0 in
+    let all = (asked_found number c.args.limit c.args.count source row c.args.place held true c.requires.ascending c.requires.place here
+    (ap (number_in number) here ∙ is held) above).0 in
     c.set.ensures.rows ∙ (λ i. let s : PoolState _ = record initial { rows = set initial.rows n (all i) } in s)

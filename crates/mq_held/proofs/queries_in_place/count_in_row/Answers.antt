@@ -53,7 +53,8 @@ loop-place-preserved g c =
     elim c.if-has_sendings.branch [
       | then-has_sendings w ↦
           let own : get_or (set rows.rows n (set xs place y)) n [] ≡ set xs place y = get_or-set_same rows.rows n (set xs place y) [] there in
-          let all : set rows.rows n (set xs place y) ≡ set initial.rows n (set xs place y) = ap (λ (s : PoolState _). set s.rows n (set xs place y)) so_far.rows ∙ set-set initial.rows n xs (set xs place y) in
+          let all : set rows.rows n (set xs place y) ≡ set initial.rows n (set xs place y) =
+          ap (λ (s : PoolState _). set s.rows n (set xs place y)) so_far.rows ∙ set-set initial.rows n xs (set xs place y) in
           let rest_is = so_far.rows in
           rw (w.rows-is, w.moves-is, w.left-is, w.has_sendings-left.ensures, w.set.ensures.rows, w.counted-timer.ensures, own) (record {
             rows = (λ i. record { rows = all i; cell_limit = (rest_is i).cell_limit; ahead = (rest_is i).ahead });
@@ -61,7 +62,11 @@ loop-place-preserved g c =
             made = made;
             rest = rest;
             left = ap (λ b. b || item_has_sendings y) so_far.left ∙ sym (any_with_set item_has_sendings xs place y within_xs);
-            moved = let more = sum_by_more (λ (x : Source g.row.K.Denot). cond {A = ℕ} (item_has_sendings x) 1 0) row place held within in let own : cond {A = ℕ} (item_has_sendings (get_or row place held)) 1 0 ≡ 1 = ap (λ (x : Source g.row.K.Denot). cond {A = ℕ} (item_has_sendings x) 1 0) (sym in_row) ∙ cond-true (item_has_sendings held) 1 0 (sym c.has_sendings.ensures ∙ w.if-has_sendings.true) in Spends-join_within _ _ so_far.moved w.set.ensures.moves (omega (arith, more, own)) (omega (arith, more, own));
+            moved = let more = sum_by_more (λ (x : Source g.row.K.Denot). cond {A = ℕ} (item_has_sendings x) 1 0) row place held within in
+                let own : cond {A = ℕ} (item_has_sendings (get_or row place held)) 1 0 ≡ 1 =
+                ap (λ (x : Source g.row.K.Denot). cond {A = ℕ} (item_has_sendings x) 1 0) (sym in_row) ∙
+                cond-true (item_has_sendings held) 1 0 (sym c.has_sendings.ensures ∙ w.if-has_sendings.true) in
+                Spends-join_within _ _ so_far.moved w.set.ensures.moves (omega (arith, more, own)) (omega (arith, more, own));
           })
       | else-has_sendings w ↦
           let none = sym c.has_sendings.ensures ∙ w.if-has_sendings.false in
@@ -72,7 +77,10 @@ loop-place-preserved g c =
             made = ap (take (place + 1)) (sym same) ∙ made;
             rest = ap (drop (place + 1)) (sym same) ∙ rest;
             left = so_far.left ∙ sym (any_without item_has_sendings xs place held within_xs here none);
-            moved = let more = sum_by_more (λ (x : Source g.row.K.Denot). cond {A = ℕ} (item_has_sendings x) 1 0) row place held within in let own : cond {A = ℕ} (item_has_sendings (get_or row place held)) 1 0 ≡ 0 = ap (λ (x : Source g.row.K.Denot). cond {A = ℕ} (item_has_sendings x) 1 0) (sym in_row) ∙ cond-false (item_has_sendings held) 1 0 none in Spends-within _ _ so_far.moved (omega (arith, more, own)) (omega (arith, more, own));
+            moved = let more = sum_by_more (λ (x : Source g.row.K.Denot). cond {A = ℕ} (item_has_sendings x) 1 0) row place held within in
+                let own : cond {A = ℕ} (item_has_sendings (get_or row place held)) 1 0 ≡ 0 =
+                ap (λ (x : Source g.row.K.Denot). cond {A = ℕ} (item_has_sendings x) 1 0) (sym in_row) ∙ cond-false (item_has_sendings held) 1 0 none
+                in Spends-within _ _ so_far.moved (omega (arith, more, own)) (omega (arith, more, own));
           })
     ]
 
@@ -84,7 +92,8 @@ returns-clause-rows g c =
     let row = get_or initial.rows n [] in
     let over : c.loop-place.place ≡ c.args.places.end = omega (arith, c.requires.between.ordered) in
     let none = rw (← over) at c.requires.between.none_behind in
-    let all = all_asked item_counted row (get_or c.loop-place.rows.rows n []) c.loop-place.place so_far.made so_far.rest (uncounted_all (drop c.loop-place.place row) none) in
+    let all = all_asked item_counted row (get_or c.loop-place.rows.rows n []) c.loop-place.place so_far.made so_far.rest
+    (uncounted_all (drop c.loop-place.place row) none) in
     so_far.rows ∙ (λ i. let s : PoolState _ = record initial { rows = set initial.rows n (all i) } in s)
 
 pub returns-clause-left : goal.returns-clause-left

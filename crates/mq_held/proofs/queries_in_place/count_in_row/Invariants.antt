@@ -13,5 +13,6 @@ invariant-loop-place g l = record {
   made : take l.place (get_or l.rows.rows l.fn.number []) ≡ filter_map (λ x. Some (item_counted x)) (take l.place (get_or l.initial.rows.rows l.fn.number []));
   rest : drop l.place (get_or l.rows.rows l.fn.number []) ≡ drop l.place (get_or l.initial.rows.rows l.fn.number []);
   left : l.left ≡ list_any item_has_sendings (take l.place (get_or l.rows.rows l.fn.number []));
-  moved : Spends (count_by item_has_sendings (take l.place (get_or l.initial.rows.rows l.fn.number []))) (count_by item_has_sendings (take l.place (get_or l.initial.rows.rows l.fn.number []))) l.initial.moves l.moves;
+  moved : Spends (count_by item_has_sendings (take l.place (get_or l.initial.rows.rows l.fn.number [])))
+      (count_by item_has_sendings (take l.place (get_or l.initial.rows.rows l.fn.number []))) l.initial.moves l.moves;
 }

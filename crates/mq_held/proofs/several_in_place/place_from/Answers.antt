@@ -16,13 +16,16 @@ loop-place-preserved g c =
     let found = c.loop-place.invariant.there in
     let other : number (get_or row place x) ≡ name → ⊥ = λ same.
     ⊎_elim
-    (λ less. let at : number (get_or row place x) < name = ranked (number (get_or row place x)) name Less (sym less ∙ c.order.ensures.answer) in omega (arith, at, same))
-    (λ greater. let at : name < number (get_or row place x) = ranked (number (get_or row place x)) name Greater (sym greater ∙ c.order.ensures.answer) in omega (arith, at, same))
+    (λ less. let at : number (get_or row place x) < name = ranked (number (get_or row place x)) name Less (sym less ∙ c.order.ensures.answer) in
+    omega (arith, at, same))
+    (λ greater. let at : name < number (get_or row place x) = ranked (number (get_or row place x)) name Greater (sym greater ∙ c.order.ensures.answer)
+    in omega (arith, at, same))
     c.in-Less.is in
     let behind : place + 1 ≤ found.place =
     ⊎_elim
     (λ (after : place < found.place). omega (arith, after))
-    (λ (low : found.place ≤ place). let same : found.place ≡ place = omega (arith, low, found.behind) in absurd (other (ap (λ k. number (get_or row k x)) (sym same) ∙ found.is x)))
+    (λ (low : found.place ≤ place). let same : found.place ≡ place = omega (arith, low, found.behind) in
+    absurd (other (ap (λ k. number (get_or row k x)) (sym same) ∙ found.is x)))
     (cases_lt place found.place) in
     record {
       from = omega arith;

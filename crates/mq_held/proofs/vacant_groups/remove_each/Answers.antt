@@ -25,7 +25,10 @@ remove-requires g c =
     let ns = c.args.numbers.now in
     let i = c.loop-number.number-index in
     let n = get_or ns i 0 in
-    record { held = still-there c.args.order.now.items c.loop-number.order.items ns i n c.loop-number-test.true (get_or_default ns i 0 n c.loop-number-test.true) c.requires.once c.loop-number.invariant.items (c.requires.there i 0 c.loop-number-test.true) }
+    record {
+      held = still-there c.args.order.now.items c.loop-number.order.items ns i n c.loop-number-test.true
+          (get_or_default ns i 0 n c.loop-number-test.true) c.requires.once c.loop-number.invariant.items (c.requires.there i 0 c.loop-number-test.true);
+    }
 
 pub loop-number-preserved : goal.loop-number-preserved
 loop-number-preserved g c =
@@ -39,13 +42,17 @@ loop-number-preserved g c =
     let fewer = length-left (λ (x : NumberedKey). not (is_among (take i ns) x.number)) items was in
     let digits = bitlen-mono (length old) count fewer in
     record {
-      items = left-more items old c.remove.new.self.items ns i n c.loop-number-test.true (get_or_default ns i 0 n c.loop-number-test.true) was (without-is old c.remove.new.self.items n c.lemma_is_ordered.ensures.distinct c.remove.ensures.items);
+      items = left-more items old c.remove.new.self.items ns i n c.loop-number-test.true (get_or_default ns i 0 n c.loop-number-test.true) was
+          (without-is old c.remove.new.self.items n c.lemma_is_ordered.ensures.distinct c.remove.ensures.items);
       room = c.remove.ensures.room ∙ c.loop-number.invariant.room;
-      spent = Spends-join_within _ _ c.loop-number.invariant.spent c.remove.ensures.spent (omega arith) (omega (arith, digits, times-one_more i (bitlen count + 2)));
-      moved = Spends-join_within _ _ c.loop-number.invariant.moved c.remove.ensures.moved (omega arith) (omega (arith, c.lemma_is_ordered.ensures.few_pages, fewer, times-one_more i (1023 + count / 128)));
+      spent = Spends-join_within _ _ c.loop-number.invariant.spent c.remove.ensures.spent (omega arith)
+          (omega (arith, digits, times-one_more i (bitlen count + 2)));
+      moved = Spends-join_within _ _ c.loop-number.invariant.moved c.remove.ensures.moved (omega arith)
+          (omega (arith, c.lemma_is_ordered.ensures.few_pages, fewer, times-one_more i (1023 + count / 128)));
     }
 
 pub returns-clause-items : goal.returns-clause-items
 returns-clause-items g c =
     c.loop-number.invariant.items
-    ∙ ap (λ xs. filter (λ (x : NumberedKey). not (is_among xs x.number)) c.args.order.now.items) (take_all c.loop-number.number-index c.args.numbers.now c.loop-number-test.false)
+    ∙ ap (λ xs. filter (λ (x : NumberedKey). not (is_among xs x.number)) c.args.order.now.items)
+    (take_all c.loop-number.number-index c.args.numbers.now c.loop-number-test.false)

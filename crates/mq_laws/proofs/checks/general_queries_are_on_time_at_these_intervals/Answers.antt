@@ -16,16 +16,19 @@ close within a b is = let both = and_parts _ _ is in record { not_above = leb-tr
 is_close : (within a b : ℕ) → IsClose within a b → is_within within a b ≡ true
 is_close within a b is = and_from _ _ (le-leb a (b + within) is.not_above) (le-leb b (a + within) is.not_below)
 
-wanted : (within : ℕ) (timing : Timing) (startup interval : ℕ) → is_interval within timing startup interval ≡ true → IsWantedInterval within timing startup interval
+wanted : (within : ℕ) (timing : Timing) (startup interval : ℕ) → is_interval within timing startup interval ≡ true →
+    IsWantedInterval within timing startup interval
 wanted w timing startup interval is = elim (or_cases (is_of_start w timing startup interval) (is_within w interval (query_interval timing)) is) [
   | inl start ↦ inr (let both = and_parts (nat_lt 0 startup) _ start in (ltb-true 0 startup both.0, close w interval (startup_interval timing) both.1))
   | inr usual ↦ inl (close w interval (query_interval timing) usual)
 ]
 
-tested : (within : ℕ) (timing : Timing) (startup interval : ℕ) → IsWantedInterval within timing startup interval → is_interval within timing startup interval ≡ true
+tested : (within : ℕ) (timing : Timing) (startup interval : ℕ) → IsWantedInterval within timing startup interval →
+    is_interval within timing startup interval ≡ true
 tested w timing startup interval is = elim is [
   | inl usual ↦ or_right (is_of_start w timing startup interval) _ (is_close w interval (query_interval timing) usual)
-  | inr start ↦ or_left _ (is_within w interval (query_interval timing)) (and_from _ _ (lt-ltb 0 startup start.0) (is_close w interval (startup_interval timing) start.1))
+  | inr start ↦ or_left _ (is_within w interval (query_interval timing))
+      (and_from _ _ (lt-ltb 0 startup start.0) (is_close w interval (startup_interval timing) start.1))
 ]
 
 -- nothing is told exactly where a test passes
@@ -51,8 +54,10 @@ pub returns-clause-first : goal.returns-clause-first
 returns-clause-first c w timing moment startup = (λ is. in_time w timing moment (none_told _ moment is), λ is. passed _ moment (not_late w timing moment is))
 
 pub returns-clause-next : goal.returns-clause-next
-returns-clause-next c w timing before moment startup =
-    (λ is. wanted w timing startup (moment - before) (none_told _ (moment - before) is), λ is. passed _ (moment - before) (tested w timing startup (moment - before) is))
+returns-clause-next c w timing before moment startup = (
+  λ is. wanted w timing startup (moment - before) (none_told _ (moment - before) is),
+  λ is. passed _ (moment - before) (tested w timing startup (moment - before) is),
+)
 
 pub returns-clause-again : goal.returns-clause-again
 returns-clause-again c w timing moment = refl

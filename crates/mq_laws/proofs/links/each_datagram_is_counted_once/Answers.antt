@@ -23,7 +23,8 @@ returns-clause-records c config envelope bytes now state message is =
 
 pub returns-clause-kind : goal.returns-clause-kind
 returns-clause-kind c config envelope bytes now state message is =
-    subst (λ read. (receipt_after config envelope read (tick_of config now state)).step.state.counters.spelled ≡ counted_at kind_number (kind_of message) 1 state.counters.spelled) (sym is)
+    subst (λ read. (receipt_after config envelope read (tick_of config now state)).step.state.counters.spelled
+    ≡ counted_at kind_number (kind_of message) 1 state.counters.spelled) (sym is)
     (decided_spelled config envelope (tick_of config now state) message (drop_reason config envelope (Ok message)))
 
 pub returns-clause-queries : goal.returns-clause-queries

@@ -15,7 +15,8 @@ after_datagram : (config : Configuration) (envelope : Envelope) (bytes : List �
     → IsWellFormed config (receipt_of config envelope bytes now state).step.state
 after_datagram config envelope bytes now state faultless h =
     let before = pseudo_of config.family envelope bytes in
-    IsWellFormed-receipt_after config envelope (read_of config.family before bytes) (tick_of config now state) (timing_in_range config faultless) (carried_where_read config.family before bytes) (after_tick config now state faultless h)
+    IsWellFormed-receipt_after config envelope (read_of config.family before bytes) (tick_of config now state) (timing_in_range config faultless)
+    (carried_where_read config.family before bytes) (after_tick config now state faultless h)
 
 after_event : (config : Configuration) (event : Event) (state : LinkState) → IsFaultless config → IsWellFormed config state
     → IsWellFormed config (step_of config event state).state
@@ -26,7 +27,8 @@ after_all : (config : Configuration) (before : LinkState) (hs : List Happening) 
     → AllAfter (IsWellFormed config) hs
 after_all config before [] faultless h run = tt
 after_all config before (x ∷ hs) faultless h run =
-    let so = subst (IsWellFormed config) (sym run.0.hands_out.leaves) (recounted config (step_of config x.event before).state _ (after_event config x.event before faultless h)) in
+    let so = subst (IsWellFormed config) (sym run.0.hands_out.leaves)
+    (recounted config (step_of config x.event before).state _ (after_event config x.event before faultless h)) in
     (so, after_all config x.after hs faultless so run.1)
 
 pub returns-clause-start : goal.returns-clause-start

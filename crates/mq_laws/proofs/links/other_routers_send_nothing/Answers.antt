@@ -11,7 +11,9 @@ returns-clause-tick c config now state h other = silent_tick config (moment_of s
 pub returns-clause-datagram : goal.returns-clause-datagram
 returns-clause-datagram c config envelope bytes now state faultless h other =
     let read = read_of config.family (pseudo_of config.family envelope bytes) bytes in
-    silent_decided config envelope (tick_of config now state) read (drop_reason config envelope read) (IsWellFormed-tick_at config (moment_of state now) state (timing_in_range config faultless) h) other (silent_tick config (moment_of state now) state h other)
+    silent_decided config envelope (tick_of config now state) read (drop_reason config envelope read)
+    (IsWellFormed-tick_at config (moment_of state now) state (timing_in_range config faultless) h) other
+    (silent_tick config (moment_of state now) state h other)
 
 pub returns-clause-before_the_deadline : goal.returns-clause-before_the_deadline
 returns-clause-before_the_deadline c config now address deadline state is before =

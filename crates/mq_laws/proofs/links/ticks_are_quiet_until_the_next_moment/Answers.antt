@@ -22,4 +22,5 @@ pub returns-clause-twice : goal.returns-clause-twice
 returns-clause-twice c config now state faultless h =
     let first = (tick_of config now state).state in
     ap (λ m. tick_at config m first) (again state.last now)
-    ∙ quiet_tick config (moment_of state now) first (IsWellFormed-tick_at config (moment_of state now) state (timing_in_range config faultless) h) (later config now state faultless h)
+    ∙ quiet_tick config (moment_of state now) first (IsWellFormed-tick_at config (moment_of state now) state (timing_in_range config faultless) h)
+    (later config now state faultless h)

@@ -5,4 +5,5 @@ use Rattle.mq_lines.proofs.lines.put_igmp.Goals as goal
 
 pub returns-clause-line : goal.returns-clause-line
 returns-clause-line g c =
-    answer_put _ _ _ _ Igmp [] _ c.read_igmp.result _ (λ m same. (c.read_igmp.ensures.message m).0 same) (λ f same. (c.read_igmp.ensures.fault f).0 same) c.put_answer.ensures.line
+    answer_put _ _ _ _ Igmp [] _ c.read_igmp.result _ (λ m same. (c.read_igmp.ensures.message m).0 same)
+    (λ f same. (c.read_igmp.ensures.fault f).0 same) c.put_answer.ensures.line

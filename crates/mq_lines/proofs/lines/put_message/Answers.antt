@@ -13,7 +13,8 @@ returns-in_err-make_room-clause-text g c =
 pub returns-in-Query-clause-text : goal.returns-in-Query-clause-text
 returns-in-Query-clause-text g c =
     let head = query_head g.K.LineKey.family (numbered_query g.K.Key.number c.in-Query.query) in
-    rw c.in-Query.is (then_put _ _ _ _ _ _ head _ _ (held_more _ _ _ _ _ [] head c.in_ok-make_room.ensures.text c.put_query_head.ensures) c.put_query_sources.ensures.text)
+    rw c.in-Query.is (then_put _ _ _ _ _ _ head _ _ (held_more _ _ _ _ _ [] head c.in_ok-make_room.ensures.text c.put_query_head.ensures)
+    c.put_query_sources.ensures.text)
 
 pub returns-in-Leave-clause-text : goal.returns-in-Leave-clause-text
 returns-in-Leave-clause-text g c =
@@ -22,7 +23,9 @@ returns-in-Leave-clause-text g c =
 pub returns-in-Report-clause-text : goal.returns-in-Report-clause-text
 returns-in-Report-clause-text g c =
     let head = report_head g.K.LineKey.family (length c.in-Report.records) in
-    rw c.in-Report.is (then_put _ _ _ _ _ _ head _ _ (held_more _ _ _ _ _ [] head c.in_ok-make_room.ensures.text (c.put_report_head.ensures ∙ ap (λ (n : ℕ). c.make_room.new.buffer.items ++ report_head g.K.LineKey.family n) c.len.ensures)) c.put_records.ensures.text)
+    rw c.in-Report.is (then_put _ _ _ _ _ _ head _ _
+    (held_more _ _ _ _ _ [] head c.in_ok-make_room.ensures.text
+    (c.put_report_head.ensures ∙ ap (λ (n : ℕ). c.make_room.new.buffer.items ++ report_head g.K.LineKey.family n) c.len.ensures)) c.put_records.ensures.text)
 
 pub returns-in-OldReport-clause-text : goal.returns-in-OldReport-clause-text
 returns-in-OldReport-clause-text g c =

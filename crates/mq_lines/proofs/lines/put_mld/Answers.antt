@@ -4,4 +4,5 @@ use Rattle.mq_lines.proofs.lines.put_mld.Goals as goal
 
 pub returns-clause-line : goal.returns-clause-line
 returns-clause-line g c =
-    answer_put _ _ _ _ Mld _ _ c.read_mld.result _ (λ m same. (c.read_mld.ensures.message m).0 same) (λ f same. (c.read_mld.ensures.fault f).0 same) c.put_answer.ensures.line
+    answer_put _ _ _ _ Mld _ _ c.read_mld.result _ (λ m same. (c.read_mld.ensures.message m).0 same)
+    (λ f same. (c.read_mld.ensures.fault f).0 same) c.put_answer.ensures.line

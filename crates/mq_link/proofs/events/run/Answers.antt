@@ -18,13 +18,15 @@ loop-event-preserved g c =
     elim c.match-event.branch [
       | in-Tick w ↦
           let e = Tick w.in-Tick.now in
-          let one = ticked_first g.O.Outlet.takes w.in-Tick.now others before w.tick.new.self old w.tick.new.outlet w.tick.ensures.config w.tick.ensures.ticks in
+          let one = ticked_first g.O.Outlet.takes w.in-Tick.now others before w.tick.new.self old w.tick.new.outlet w.tick.ensures.config
+          w.tick.ensures.ticks in
           rw (w.link-is, w.outlet-is)
           (one_more _ _ _ _ _ _ _ _ _ _ _ (left e c.loop-event-test.true c.event-item.is (ap f w.in-Tick.is)) c.loop-event.invariant one)
       | in-Datagram w ↦
           let envelope = g.F.Family.envelope_of w.in-Datagram.envelope in
           let e = Datagram envelope w.in-Datagram.body.now w.in-Datagram.now in
-          let one = received_first g.O.Outlet.takes envelope w.in-Datagram.body.now w.in-Datagram.now w.receive.result others before w.receive.new.self old w.receive.new.outlet w.receive.ensures.config w.receive.ensures.receives in
+          let one = received_first g.O.Outlet.takes envelope w.in-Datagram.body.now w.in-Datagram.now w.receive.result others before
+          w.receive.new.self old w.receive.new.outlet w.receive.ensures.config w.receive.ensures.receives in
           rw (w.link-is, w.outlet-is)
           (one_more _ _ _ _ _ _ _ _ _ _ _ (left e c.loop-event-test.true c.event-item.is (ap f w.in-Datagram.is)) c.loop-event.invariant one)
     ]

@@ -17,10 +17,14 @@ loop-source-init g c = (
 
 pub loop-source-preserved : goal.loop-source-preserved
 loop-source-preserved g c =
-    let so_far = c.loop-source.invariant in
-    (so_far.0 ++ g.K.Key.number c.in-Some.source ∷ [], one_lowered _ _ _ _ _ _ _ _ _ _ _ _ so_far.0 so_far.1 c.in-Some.ensures.steps c.lower_source.ensures.state c.lower_source.ensures.room c.lower_source.ensures.spent)
+    let so_far = c.loop-source.invariant in (
+      so_far.0 ++ g.K.Key.number c.in-Some.source ∷ [],
+      one_lowered _ _ _ _ _ _ _ _ _ _ _ _ so_far.0 so_far.1 c.in-Some.ensures.steps c.lower_source.ensures.state c.lower_source.ensures.room
+          c.lower_source.ensures.spent,
+    )
 
 pub returns-clause-state : goal.returns-clause-state
 returns-clause-state g c =
     let so_far = c.loop-source.invariant in
-    so_far.1.state ∙ ap (λ (done : List ℕ). sources_lowered c.args.timing.now c.args.now (λ s. list_any (λ n. eqb n s) done) c.args.group.now.state) (all_lowered _ _ _ _ _ _ _ _ so_far.0 so_far.1 c.in-None.ensures.steps.0)
+    so_far.1.state ∙ ap (λ (done : List ℕ). sources_lowered c.args.timing.now c.args.now (λ s. list_any (λ n. eqb n s) done) c.args.group.now.state)
+    (all_lowered _ _ _ _ _ _ _ _ so_far.0 so_far.1 c.in-None.ensures.steps.0)

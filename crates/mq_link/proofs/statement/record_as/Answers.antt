@@ -9,7 +9,8 @@ use Rattle.mq_link.proofs.statement.record_as.Goals as goal
 
 pub returns-in-Some-clause-acts : goal.returns-in-Some-clause-acts
 returns-in-Some-clause-acts c named =
-    restart_as c.args.muting.v1_mutes_leave c.args.muting.is_muted (hosts_of (state_of c.args.head.now map.empty) c.args.now) c.args.kind named (ap is_restart c.in-Some.ensures.0 ∙ c.in-Some.ensures.1)
+    restart_as c.args.muting.v1_mutes_leave c.args.muting.is_muted (hosts_of (state_of c.args.head.now map.empty) c.args.now) c.args.kind named
+    (ap is_restart c.in-Some.ensures.0 ∙ c.in-Some.ensures.1)
     ∙ ap (with_sources named) (sym c.unless_muted.ensures)
 
 pub returns-in-Some-clause-restarts : goal.returns-in-Some-clause-restarts

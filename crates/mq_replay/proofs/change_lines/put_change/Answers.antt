@@ -21,10 +21,12 @@ returns-in_err-put_all_named-clause-text g c =
     let family = g.K.LineKey.family in
     let mode = c.args.mode.now in
     let row = c.args.sources.now in
-    let start = change_start family c.args.moment (number c.args.address) ++ name_by (is_include mode) (list_any (λ (x : Source _). is_named mode x.timer) row) in
+    let start = change_start family c.args.moment (number c.args.address) ++
+    name_by (is_include mode) (list_any (λ (x : Source _). is_named mode x.timer) row) in
     let texts = flat_map (λ (x : Source _). named_by family mode (number x.address) x.timer) row in
     let begun = held_more _ _ _ _ _ [] start c.in_ok-make_room.ensures.text c.put_change_start.ensures in
-    rw (p.1, ← line-row number family mode row c.requires.ascending c.args.moment (number c.args.address)) (broken_behind _ _ _ _ _ start (texts ++ codes "\n") begun (broken_within _ _ _ texts (codes "\n") c.in_err-put_all_named.ensures.text))
+    rw (p.1, ← line-row number family mode row c.requires.ascending c.args.moment (number c.args.address))
+    (broken_behind _ _ _ _ _ start (texts ++ codes "\n") begun (broken_within _ _ _ texts (codes "\n") c.in_err-put_all_named.ensures.text))
 
 pub returns-clause-text : goal.returns-clause-text
 returns-clause-text g c =
@@ -32,8 +34,10 @@ returns-clause-text g c =
     let family = g.K.LineKey.family in
     let mode = c.args.mode.now in
     let row = c.args.sources.now in
-    let start = change_start family c.args.moment (number c.args.address) ++ name_by (is_include mode) (list_any (λ (x : Source _). is_named mode x.timer) row) in
+    let start = change_start family c.args.moment (number c.args.address) ++
+    name_by (is_include mode) (list_any (λ (x : Source _). is_named mode x.timer) row) in
     let texts = flat_map (λ (x : Source _). named_by family mode (number x.address) x.timer) row in
     let begun = held_more _ _ _ _ _ [] start c.in_ok-make_room.ensures.text c.put_change_start.ensures in
     put_as _ _ _ _ _ _ c.put_end.result (line-row number family mode row c.requires.ascending c.args.moment (number c.args.address))
-    (then_put _ _ _ _ _ _ start (texts ++ codes "\n") c.put_end.result begun (then_put _ _ _ _ _ _ texts (codes "\n") c.put_end.result c.in_ok-put_all_named.ensures.text c.put_end.ensures.text))
+    (then_put _ _ _ _ _ _ start (texts ++ codes "\n") c.put_end.result begun
+    (then_put _ _ _ _ _ _ texts (codes "\n") c.put_end.result c.in_ok-put_all_named.ensures.text c.put_end.ensures.text))

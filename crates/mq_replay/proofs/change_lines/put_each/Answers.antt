@@ -16,7 +16,8 @@ loop-address-preserved g c =
     let number = g.F.Address.Key.number in
     let text : _ → List ℕ = λ x. change_line g.F.Address.LineKey.family c.args.moment (number x) (group_at c.args.link.now.state.groups (number x)).group in
     record {
-      put = item_passed text _ _ _ _ _ _ _ _ c.address-item.result c.address-item.result c.loop-address-test.true c.address-item.is before.put c.in_ok-put_group.ensures.text;
+      put = item_passed text _ _ _ _ _ _ _ _ c.address-item.result c.address-item.result c.loop-address-test.true c.address-item.is before.put
+          c.in_ok-put_group.ensures.text;
       same = grind (arith, nat_tests, c.in_ok-put_group.ensures.failed, before.same);
     }
 
@@ -29,7 +30,8 @@ returns-in_err-put_group-clause-text g c =
     let groups = c.args.link.now.state.groups in
     let items = c.changed-address-items.result.now in
     rw p.1 (item_broken text _ _ _ _ _ _ _ c.address-item.result c.address-item.result _ c.loop-address-test.true c.address-item.is
-    (lines-numbered number family c.args.moment groups items ∙ ap (change_lines family c.args.moment groups) c.changed-address-items.ensures.changed) c.loop-address.invariant.put c.in_err-put_group.ensures.text)
+    (lines-numbered number family c.args.moment groups items ∙ ap (change_lines family c.args.moment groups) c.changed-address-items.ensures.changed)
+    c.loop-address.invariant.put c.in_err-put_group.ensures.text)
 
 pub returns-clause-text : goal.returns-clause-text
 returns-clause-text g c =
@@ -38,4 +40,6 @@ returns-clause-text g c =
     let groups = c.args.link.now.state.groups in
     let items = c.changed-address-items.result.now in
     let text : _ → List ℕ = λ x. change_line family c.args.moment (number x) (group_at groups (number x)).group in
-    all_passed text _ _ _ _ items c.loop-address.address-index _ (grind (arith, nat_tests)) (lines-numbered number family c.args.moment groups items ∙ ap (change_lines family c.args.moment groups) c.changed-address-items.ensures.changed) c.loop-address.invariant.put
+    all_passed text _ _ _ _ items c.loop-address.address-index _ (grind (arith, nat_tests))
+    (lines-numbered number family c.args.moment groups items ∙ ap (change_lines family c.args.moment groups) c.changed-address-items.ensures.changed)
+    c.loop-address.invariant.put

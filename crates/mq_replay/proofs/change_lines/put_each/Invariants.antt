@@ -12,6 +12,7 @@ invariant-loop-address g l =
     let number = g.F.Address.Key.number in
     record {
       put : Passes (g.W.Write.contents (inner_of l.fn.writer)) (g.W.Write.contents (inner_of l.writer)) l.fn.buffer.items l.buffer.items
-          (flat_map (λ x. change_line g.F.Address.LineKey.family l.fn.moment (number x) (group_at l.fn.link.state.groups (number x)).group) (take l.address-index l.address-items));
+          (flat_map (λ x. change_line g.F.Address.LineKey.family l.fn.moment (number x) (group_at l.fn.link.state.groups (number x)).group)
+          (take l.address-index l.address-items));
       same : has_failed l.writer ≡ has_failed l.fn.writer;
     }

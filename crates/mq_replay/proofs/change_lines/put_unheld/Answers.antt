@@ -11,4 +11,5 @@ returns-in_err-make_room-clause-text g c =
 
 pub returns-clause-text : goal.returns-clause-text
 returns-clause-text g c =
-    rw (← line-vacant g.K.LineKey.family c.args.moment (g.K.Key.number c.args.address)) (held_more _ _ _ _ _ [] _ c.in_ok-make_room.ensures.text c.put_none.ensures)
+    rw (← line-vacant g.K.LineKey.family c.args.moment (g.K.Key.number c.args.address))
+    (held_more _ _ _ _ _ [] _ c.in_ok-make_room.ensures.text c.put_none.ensures)

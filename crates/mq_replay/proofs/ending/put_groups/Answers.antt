@@ -10,7 +10,8 @@ loop-place-preserved g c =
     let now = c.loop-place.invariant in
     let has = c.entry.ensures.place in
     record {
-      put = group_passed _ _ _ _ _ _ _ _ _ _ _ _ _ g.met.F.CapturedFamily.same_family (grind (arith, nat_tests)) has (c.entry.ensures.group _ has) now.put c.in_ok-put_group.ensures.text;
+      put = group_passed _ _ _ _ _ _ _ _ _ _ _ _ _ g.met.F.CapturedFamily.same_family (grind (arith, nat_tests)) has
+          (c.entry.ensures.group _ has) now.put c.in_ok-put_group.ensures.text;
       same = c.in_ok-put_group.ensures.failed ∙ or-false _ ∙ now.same;
     }
 
@@ -19,7 +20,8 @@ returns-in_err-put_group-clause-text g c =
     let p = err_from_is_err_and c.from_residual.result c.from_residual.ensures.1 in
     let now = c.loop-place.invariant in
     let has = c.entry.ensures.place in
-    rw p.1 (group_broken _ _ _ _ _ _ _ _ _ _ _ _ g.met.F.CapturedFamily.same_family (grind (arith, nat_tests)) has (c.entry.ensures.group _ has) now.put c.in_err-put_group.ensures.text)
+    rw p.1 (group_broken _ _ _ _ _ _ _ _ _ _ _ _ g.met.F.CapturedFamily.same_family (grind (arith, nat_tests)) has
+    (c.entry.ensures.group _ has) now.put c.in_err-put_group.ensures.text)
 
 pub returns-clause-text : goal.returns-clause-text
 returns-clause-text g c =

@@ -22,7 +22,8 @@ returns-in_err-put_timers-clause-text g c =
     let timers = flat_map row group.sources.now in
     let hosts = line_of (older_hosts_text group.v1 group.v2) in
     let begun = held_more _ _ _ _ _ [] start c.in_ok-make_room.ensures.text c.put_group_start.ensures in
-    rw (p.1, timers-row g.K.Key.number g.K.LineKey.family group.sources.now c.requires.ascending) (broken_behind _ _ _ _ _ start (timers ++ hosts) begun (broken_within _ _ _ timers hosts c.in_err-put_timers.ensures.text))
+    rw (p.1, timers-row g.K.Key.number g.K.LineKey.family group.sources.now c.requires.ascending)
+    (broken_behind _ _ _ _ _ start (timers ++ hosts) begun (broken_within _ _ _ timers hosts c.in_err-put_timers.ensures.text))
 
 pub returns-in_err-make_room-2-clause-text : goal.returns-in_err-make_room-2-clause-text
 returns-in_err-make_room-2-clause-text g c =
@@ -34,7 +35,8 @@ returns-in_err-make_room-2-clause-text g c =
     let hosts = line_of (older_hosts_text group.v1 group.v2) in
     let begun = held_more _ _ _ _ _ [] start c.in_ok-make_room.ensures.text c.put_group_start.ensures in
     let last = broken_within _ _ _ [] hosts c.in_err-make_room-2.ensures.text in
-    rw (p.1, timers-row g.K.Key.number g.K.LineKey.family group.sources.now c.requires.ascending) (broken_behind _ _ _ _ _ start (timers ++ hosts) begun (broken_behind _ _ _ _ _ timers hosts c.in_ok-put_timers.ensures.text last))
+    rw (p.1, timers-row g.K.Key.number g.K.LineKey.family group.sources.now c.requires.ascending)
+    (broken_behind _ _ _ _ _ start (timers ++ hosts) begun (broken_behind _ _ _ _ _ timers hosts c.in_ok-put_timers.ensures.text last))
 
 pub returns-clause-text : goal.returns-clause-text
 returns-clause-text g c =
@@ -45,4 +47,5 @@ returns-clause-text g c =
     let hosts = line_of (older_hosts_text group.v1 group.v2) in
     let begun = held_more _ _ _ _ _ [] start c.in_ok-make_room.ensures.text c.put_group_start.ensures in
     let last = held_more _ _ _ _ _ [] hosts c.in_ok-make_room-2.ensures.text c.put_older_hosts.ensures in
-    rw (timers-row g.K.Key.number g.K.LineKey.family group.sources.now c.requires.ascending) (both_passed _ _ _ _ _ _ start (timers ++ hosts) begun (both_passed _ _ _ _ _ _ timers hosts c.in_ok-put_timers.ensures.text last))
+    rw (timers-row g.K.Key.number g.K.LineKey.family group.sources.now c.requires.ascending)
+    (both_passed _ _ _ _ _ _ start (timers ++ hosts) begun (both_passed _ _ _ _ _ _ timers hosts c.in_ok-put_timers.ensures.text last))

@@ -16,10 +16,12 @@ loop-done-preserved g c =
     let done = c.loop-done.done in
     let count = done + c.min.result - done in
     let same_end : done + count ≡ done + c.min.result = omega arith in
-    let passed = both_passed _ _ _ _ _ _ (flat_map byte_text (take done bytes)) _ before.put (held_more _ _ _ _ _ [] _ c.in_ok-make_room.ensures.text c.put_few.ensures) in
+    let passed = both_passed _ _ _ _ _ _ (flat_map byte_text (take done bytes)) _ before.put
+    (held_more _ _ _ _ _ [] _ c.in_ok-make_room.ensures.text c.put_few.ensures) in
     let so_far = sym (encode_lower-next bytes done count) ∙ ap (λ end. flat_map byte_text (take end bytes)) same_end in
     record {
-      put = subst (λ (t : List ℕ). Passes (g.W.Write.contents (inner_of c.args.writer.now)) (g.W.Write.contents (inner_of c.make_room.new.writer)) c.args.buffer.now.items c.put_few.new.buffer.items t) so_far passed;
+      put = subst (λ (t : List ℕ). Passes (g.W.Write.contents (inner_of c.args.writer.now))
+          (g.W.Write.contents (inner_of c.make_room.new.writer)) c.args.buffer.now.items c.put_few.new.buffer.items t) so_far passed;
       within = let a = before.within in let b = c.min.ensures in omega (arith, a, b);
       same = grind (arith, nat_tests, c.in_ok-make_room.ensures.failed, before.same);
     }

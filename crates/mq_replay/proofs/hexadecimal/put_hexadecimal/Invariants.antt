@@ -9,7 +9,8 @@ use Rattle.mq_replay.proofs.hexadecimal.put_hexadecimal.Given as goal
 abbrev pub invariant-loop-done : goal.invariant-loop-done
 invariant-loop-done g l =
     record {
-      put : Passes (g.W.Write.contents (inner_of l.fn.writer)) (g.W.Write.contents (inner_of l.writer)) l.fn.buffer.items l.buffer.items (flat_map byte_text (take l.done l.bytes));
+      put : Passes (g.W.Write.contents (inner_of l.fn.writer)) (g.W.Write.contents (inner_of l.writer)) l.fn.buffer.items l.buffer.items
+          (flat_map byte_text (take l.done l.bytes));
       within : l.done ≤ length l.bytes;
       same : has_failed l.writer ≡ has_failed l.fn.writer;
     }

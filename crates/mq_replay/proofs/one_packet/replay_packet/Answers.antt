@@ -16,9 +16,13 @@ pub returns-in-Some-clause-puts : goal.returns-in-Some-clause-puts
 returns-in-Some-clause-puts g c =
     let is_family = sym c.is_faultless.ensures.family ∙ ap (λ (config : Configuration). config.family) c.config.ensures in
     let datagram : Datagram = record { envelope = g.F.Family.envelope_of c.in-Some.datagram.envelope; body = c.in-Some.datagram.body.now } in
-    packet_received _ _ _ _ c.args.moment c.args.number (carried_of c.args.inner.now) _ _ _ _ _ _ _ _ _ (subst (λ (f : Family). datagram_of f (carried_of c.args.inner.now) ≡ Some datagram) is_family c.in-Some.ensures) c.in_ok-tick_before.ensures.puts c.hand_over.ensures.puts
+    packet_received _ _ _ _ c.args.moment c.args.number (carried_of c.args.inner.now) _ _ _ _ _ _ _ _ _
+    (subst (λ (f : Family). datagram_of f (carried_of c.args.inner.now) ≡ Some datagram) is_family c.in-Some.ensures) c.in_ok-tick_before.ensures.puts
+    c.hand_over.ensures.puts
 
 pub returns-in-None-clause-puts : goal.returns-in-None-clause-puts
 returns-in-None-clause-puts g c =
     let is_family = sym c.is_faultless.ensures.family ∙ ap (λ (config : Configuration). config.family) c.config.ensures in
-    packet_skipped _ _ _ c.args.moment c.args.number (carried_of c.args.inner.now) _ _ _ _ _ _ _ _ (subst (λ (f : Family). datagram_of f (carried_of c.args.inner.now) ≡ None) is_family c.in-None.ensures) c.in_ok-tick_before.ensures.puts c.put_skip.ensures.text
+    packet_skipped _ _ _ c.args.moment c.args.number (carried_of c.args.inner.now) _ _ _ _ _ _ _ _
+    (subst (λ (f : Family). datagram_of f (carried_of c.args.inner.now) ≡ None) is_family c.in-None.ensures) c.in_ok-tick_before.ensures.puts
+    c.put_skip.ensures.text

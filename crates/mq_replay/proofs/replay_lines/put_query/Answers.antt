@@ -24,4 +24,5 @@ returns-clause-text g c =
     let start = query_start g.K.LineKey.family c.args.moment (g.K.Key.number c.args.to) in
     let bytes = encode_lower c.args.bytes.now in
     let begun = held_more _ _ _ _ _ [] start c.in_ok-make_room.ensures.text c.put_query_start.ensures in
-    then_put _ _ _ _ _ _ (start ++ bytes) (codes "\n") c.put_end.result (both_passed _ _ _ _ _ _ start bytes begun c.in_ok-put_hexadecimal.ensures.text) c.put_end.ensures.text
+    then_put _ _ _ _ _ _ (start ++ bytes)
+    (codes "\n") c.put_end.result (both_passed _ _ _ _ _ _ start bytes begun c.in_ok-put_hexadecimal.ensures.text) c.put_end.ensures.text

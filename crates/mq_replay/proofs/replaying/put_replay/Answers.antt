@@ -11,31 +11,48 @@ use Rattle.mq_replay.proofs.replaying.put_replay.Goals as goal
 pub returns-in_err-walked-clause-puts : goal.returns-in_err-walked-clause-puts
 returns-in_err-walked-clause-puts g c =
     let p = err_from_is_err_and c.from_residual.result c.from_residual.ensures.1 in
-    rw (p.1, p.2) (reported_early (λ x. record { link = x.0.link; asked = x.0.asked; held = x.0.buffer.items; output = output_of g.W.Write.contents x.1 }) _ _ _ _ _ (replays_from (λ x. record { link = x.0.link; asked = x.0.asked; held = x.0.buffer.items; output = output_of g.W.Write.contents x.1 }) _ c.requires.starts) _ _ _ _ c.in_err-walked.ensures).0
+    rw (p.1, p.2) (reported_early
+    (λ x. record { link = x.0.link; asked = x.0.asked; held = x.0.buffer.items; output = output_of g.W.Write.contents x.1 }) _ _ _ _ _
+    (replays_from (λ x. record { link = x.0.link; asked = x.0.asked; held = x.0.buffer.items; output = output_of g.W.Write.contents x.1 }) _
+    c.requires.starts) _ _ _ _ c.in_err-walked.ensures).0
 
 pub returns-in_err-walked-clause-failed : goal.returns-in_err-walked-clause-failed
 returns-in_err-walked-clause-failed g c =
     let p = err_from_is_err_and c.from_residual.result c.from_residual.ensures.1 in
-    rw (p.1, p.2) (reported_early (λ x. record { link = x.0.link; asked = x.0.asked; held = x.0.buffer.items; output = output_of g.W.Write.contents x.1 }) _ _ _ _ _ (replays_from (λ x. record { link = x.0.link; asked = x.0.asked; held = x.0.buffer.items; output = output_of g.W.Write.contents x.1 }) _ c.requires.starts) _ _ _ _ c.in_err-walked.ensures).1
+    rw (p.1, p.2) (reported_early
+    (λ x. record { link = x.0.link; asked = x.0.asked; held = x.0.buffer.items; output = output_of g.W.Write.contents x.1 }) _ _ _ _ _
+    (replays_from (λ x. record { link = x.0.link; asked = x.0.asked; held = x.0.buffer.items; output = output_of g.W.Write.contents x.1 }) _
+    c.requires.starts) _ _ _ _ c.in_err-walked.ensures).1
 
 pub returns-in_err-walked-clause-no_memory : goal.returns-in_err-walked-clause-no_memory
 returns-in_err-walked-clause-no_memory g c =
     let p = err_from_is_err_and c.from_residual.result c.from_residual.ensures.1 in
-    rw (p.1, p.2) (λ is. (reported_early (λ x. record { link = x.0.link; asked = x.0.asked; held = x.0.buffer.items; output = output_of g.W.Write.contents x.1 }) _ _ _ _ _ (replays_from (λ x. record { link = x.0.link; asked = x.0.asked; held = x.0.buffer.items; output = output_of g.W.Write.contents x.1 }) _ c.requires.starts) _ _ _ _ c.in_err-walked.ensures).2 (ap (fault_or c.in_err-walked.field-0.0) is))
+    rw (p.1, p.2) (λ is.
+    (reported_early (λ x. record { link = x.0.link; asked = x.0.asked; held = x.0.buffer.items; output = output_of g.W.Write.contents x.1 }) _ _ _ _ _
+    (replays_from (λ x. record { link = x.0.link; asked = x.0.asked; held = x.0.buffer.items; output = output_of g.W.Write.contents x.1 }) _
+    c.requires.starts) _ _ _ _ c.in_err-walked.ensures).2 (ap (fault_or c.in_err-walked.field-0.0) is))
 
 pub put_rest-requires-clause-few : goal.put_rest-requires-clause-few
 put_rest-requires-clause-few g c = c.in_ok-walked.ensures.ended.few
 
 pub put_rest-requires-clause-in_range : goal.put_rest-requires-clause-in_range
 put_rest-requires-clause-in_range g c =
-    let kept = kept_to_the_end (λ x. record { link = x.0.link; asked = x.0.asked; held = x.0.buffer.items; output = output_of g.W.Write.contents x.1 }) _ _ _ _ _ (replays_from (λ x. record { link = x.0.link; asked = x.0.asked; held = x.0.buffer.items; output = output_of g.W.Write.contents x.1 }) _ c.requires.starts) _ _ _ c.in_ok-walked.walked c.in_ok-walked.ensures in
+    let kept = kept_to_the_end
+    (λ x. record { link = x.0.link; asked = x.0.asked; held = x.0.buffer.items; output = output_of g.W.Write.contents x.1 }) _ _ _ _ _
+    (replays_from (λ x. record { link = x.0.link; asked = x.0.asked; held = x.0.buffer.items; output = output_of g.W.Write.contents x.1 }) _
+    c.requires.starts) _ _ _ c.in_ok-walked.walked c.in_ok-walked.ensures in
     subst (λ (a : Asked). IfSome a.until (λ moment. moment ≤ 2 ^ 53)) (sym kept.0) c.requires.in_range
 
 pub returns-clause-puts : goal.returns-clause-puts
 returns-clause-puts g c =
-    reported_well (λ x. record { link = x.0.link; asked = x.0.asked; held = x.0.buffer.items; output = output_of g.W.Write.contents x.1 }) _ _ _ _ _ (replays_from (λ x. record { link = x.0.link; asked = x.0.asked; held = x.0.buffer.items; output = output_of g.W.Write.contents x.1 }) _ c.requires.starts) _ _ _ c.in_ok-walked.walked _ _ _ c.in_ok-walked.ensures c.put_rest.ensures.rest
+    reported_well (λ x. record { link = x.0.link; asked = x.0.asked; held = x.0.buffer.items; output = output_of g.W.Write.contents x.1 }) _ _ _ _ _
+    (replays_from (λ x. record { link = x.0.link; asked = x.0.asked; held = x.0.buffer.items; output = output_of g.W.Write.contents x.1 }) _
+    c.requires.starts) _ _ _ c.in_ok-walked.walked _ _ _ c.in_ok-walked.ensures c.put_rest.ensures.rest
 
 pub returns-clause-failed : goal.returns-clause-failed
 returns-clause-failed g c =
-    let kept = kept_to_the_end (λ x. record { link = x.0.link; asked = x.0.asked; held = x.0.buffer.items; output = output_of g.W.Write.contents x.1 }) _ _ _ _ _ (replays_from (λ x. record { link = x.0.link; asked = x.0.asked; held = x.0.buffer.items; output = output_of g.W.Write.contents x.1 }) _ c.requires.starts) _ _ _ c.in_ok-walked.walked c.in_ok-walked.ensures in
+    let kept = kept_to_the_end
+    (λ x. record { link = x.0.link; asked = x.0.asked; held = x.0.buffer.items; output = output_of g.W.Write.contents x.1 }) _ _ _ _ _
+    (replays_from (λ x. record { link = x.0.link; asked = x.0.asked; held = x.0.buffer.items; output = output_of g.W.Write.contents x.1 }) _
+    c.requires.starts) _ _ _ c.in_ok-walked.walked c.in_ok-walked.ensures in
     c.put_rest.ensures.failed ∙ ap (λ (b : Bool). b || is_failed_write c.put_rest.result) kept.1

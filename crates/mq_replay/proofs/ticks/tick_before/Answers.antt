@@ -20,7 +20,8 @@ loop-limit-preserved g c =
     let now = c.loop-limit.invariant in
     let due : c.loop-limit.next < c.args.limit = grind (arith, nat_tests) in
     record {
-      ticked = next_done _ _ _ _ _ _ _ _ _ _ _ _ _ now.config now.next due c.is_well_formed.ensures.later now.ticked.1 now.ticked.2 c.in_ok-tick_at.ensures.puts;
+      ticked = next_done _ _ _ _ _ _ _ _ _ _ _ _ _ now.config now.next due c.is_well_formed.ensures.later now.ticked.1 now.ticked.2
+          c.in_ok-tick_at.ensures.puts;
       next = c.next_deadline-next-in-loop-limit.ensures;
       config = c.in_ok-tick_at.ensures.puts.same_config ∙ now.config;
       failed = c.in_ok-tick_at.ensures.failed ∙ or-false _ ∙ now.failed;

@@ -11,7 +11,8 @@ abbrev pub invariant-loop-limit : goal.invariant-loop-limit
 invariant-loop-limit g l =
     record {
       ticked : (text : List ℕ)
-          × IsTickedTo l.fn.link.config l.fn.limit (begun_with l.fn.changes l.fn.link.state) (record { link = l.link.state; text = text; changes = l.fn.changes })
+          × IsTickedTo l.fn.link.config l.fn.limit (begun_with l.fn.changes l.fn.link.state)
+          (record { link = l.link.state; text = text; changes = l.fn.changes })
           × Passes (g.W.Write.contents (inner_of l.fn.writer)) (g.W.Write.contents (inner_of l.writer)) l.fn.buffer.items l.buffer.items text;
       next : l.next ≡ next_of l.link.state;
       config : l.link.config ≡ l.fn.link.config;

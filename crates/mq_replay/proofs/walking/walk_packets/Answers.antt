@@ -28,7 +28,10 @@ loop-read-init g c =
 
 pub of-moment-requires : goal.of-moment-requires
 of-moment-requires g c =
-    record { in_range = moment_within _ c.loop-read.stamps.first c.loop-read.stamps.before c.in-Some.read.stamp_ms c.moment_of_next.ensures.moment c.in-Some.read.in_range c.loop-read.invariant.in_range }
+    record {
+      in_range = moment_within _ c.loop-read.stamps.first c.loop-read.stamps.before c.in-Some.read.stamp_ms c.moment_of_next.ensures.moment
+          c.in-Some.read.in_range c.loop-read.invariant.in_range;
+    }
 
 pub loop-read-preserved : goal.loop-read-preserved
 loop-read-preserved g c =
@@ -37,17 +40,23 @@ loop-read-preserved g c =
     let read = read_as _ _ _ _ _ _ _ _ _ now.form now.next answered (c.in_ok-read.ensures.reads now.reading) in
     let form = c.next.ensures.form ∙ now.form in
     let is_moment = c.of-moment.ensures ∙ c.moment_of_next.ensures.moment in
-    let step = placed_as g.T.Step.takes _ _ c.loop-read.stamps c.moment_of_next.new.self _ _ _ _ _ _ _ _ (c.link.ensures ∙ ap (λ (f : Form). f.link) form) now.last is_moment c.in_ok-packet.ensures in
-    let place = place_as c.loop-read.stamps c.moment_of_next.new.self _ (c.loop-read.packets + 1) c.in-Some.read.stamp_ms c.moment_of_next.ensures.after c.moment_of_next.ensures.moment in
+    let step = placed_as g.T.Step.takes _ _ c.loop-read.stamps c.moment_of_next.new.self _ _ _ _ _ _ _ _
+    (c.link.ensures ∙ ap (λ (f : Form). f.link) form) now.last is_moment c.in_ok-packet.ensures in
+    let place = place_as c.loop-read.stamps c.moment_of_next.new.self _ (c.loop-read.packets + 1) c.in-Some.read.stamp_ms
+    c.moment_of_next.ensures.after c.moment_of_next.ensures.moment in
     record {
-      walked = subst (λ (p : Place). IsWalkedTo g.T.Step.takes (form_of c.args.capture.now) (input_of g.R.Read.remaining c.args.reader.now) (input_of g.R.Read.remaining c.next.new.reader)
+      walked = subst (λ (p : Place). IsWalkedTo g.T.Step.takes (form_of c.args.capture.now) (input_of g.R.Read.remaining c.args.reader.now)
+          (input_of g.R.Read.remaining c.next.new.reader)
           (c.args.steps.now, c.args.output.now) p (c.packet.new.self, c.packet.new.output)) place
           (next_walked _ _ _ _ _ _ _ _ _ _ c.in-Some.read now.walked read step);
       form = form;
-      next = c.in_ok-read.ensures.number ∙ ap (λ (a : Result (Option Packet) PcapFault). number_of c.loop-read.capture + records_in a) answered ∙ ap (λ (n : ℕ). n + 1) now.next;
+      next = c.in_ok-read.ensures.number ∙ ap (λ (a : Result (Option Packet) PcapFault). number_of c.loop-read.capture + records_in a) answered ∙
+          ap (λ (n : ℕ). n + 1) now.next;
       reading = c.in_ok-read.ensures.progress ∙ ap progress_after answered;
       last = c.of-moment.ensures ∙ ap (λ (s : Stamps). s.before) (sym c.moment_of_next.ensures.after);
-      in_range = rw c.moment_of_next.ensures.after (moment_within _ c.loop-read.stamps.first c.loop-read.stamps.before c.in-Some.read.stamp_ms c.moment_of_next.ensures.moment c.in-Some.read.in_range now.in_range);
+      in_range = rw c.moment_of_next.ensures.after
+          (moment_within _ c.loop-read.stamps.first c.loop-read.stamps.before c.in-Some.read.stamp_ms c.moment_of_next.ensures.moment
+          c.in-Some.read.in_range now.in_range);
       few = read.answers.0;
       room = let room = now.room in omega (arith, c.next.auto.buffer);
       read = read.failed ∙ or-false _ ∙ now.read;
@@ -68,7 +77,8 @@ returns-in_err-packet g c =
     let read = read_as _ _ _ _ _ _ _ _ _ now.form now.next answered (c.in_ok-read.ensures.reads now.reading) in
     let form = c.next.ensures.form ∙ now.form in
     let is_moment = c.of-moment.ensures ∙ c.moment_of_next.ensures.moment in
-    let step = placed_as g.T.Step.takes _ _ c.loop-read.stamps c.moment_of_next.new.self _ _ _ _ _ _ _ _ (c.link.ensures ∙ ap (λ (f : Form). f.link) form) now.last is_moment c.in_err-packet.ensures in
+    let step = placed_as g.T.Step.takes _ _ c.loop-read.stamps c.moment_of_next.new.self _ _ _ _ _ _ _ _
+    (c.link.ensures ∙ ap (λ (f : Form). f.link) form) now.last is_moment c.in_err-packet.ensures in
     rw (p.1, p.2) (walked_in_part _ _ _ _ _ _ _ _ _ _ _ c.in-Some.read _ now.walked now.read read step)
 
 pub returns : goal.returns
@@ -76,5 +86,8 @@ returns g c =
     let now = c.loop-read.invariant in
     let answered = ap Ok (none_left _ c.in_default.not-Some) in
     let read = read_as _ _ _ _ _ _ _ _ _ now.form now.next answered (c.in_ok-read.ensures.reads now.reading) in
-    walked_well _ _ _ _ _ _ _ _ _ _ _ _ (subst (λ (m : ℕ). IsWalkedTo g.T.Step.takes (form_of c.args.capture.now) (input_of g.R.Read.remaining c.args.reader.now) (input_of g.R.Read.remaining c.loop-read.reader)
-    (c.args.steps.now, c.args.output.now) (record { first = c.loop-read.stamps.first; before = m; number = c.loop-read.packets + 1 }) (c.loop-read.steps, c.loop-read.output)) (sym now.last) now.walked) now.read now.few read
+    walked_well _ _ _ _ _ _ _ _ _ _ _ _
+    (subst (λ (m : ℕ). IsWalkedTo g.T.Step.takes (form_of c.args.capture.now) (input_of g.R.Read.remaining c.args.reader.now)
+    (input_of g.R.Read.remaining c.loop-read.reader)
+    (c.args.steps.now, c.args.output.now) (record { first = c.loop-read.stamps.first; before = m; number = c.loop-read.packets + 1 })
+    (c.loop-read.steps, c.loop-read.output)) (sym now.last) now.walked) now.read now.few read

@@ -15,6 +15,7 @@ invariant-loop-source g l = record {
   room : array_vec_len l.collected.sources < l.fn.per_query;
   sent : SendsOn g.S.Sink.takes
       l.initial.sink (sources_queries l.fn.per_query (g.K.Key.number l.fn.group) l.fn.s (going_with g.K.Key.number l.fn.limit l.fn.s l.row))
-      l.sink (sources_queries l.fn.per_query (g.K.Key.number l.fn.group) l.fn.s (map g.K.Key.number l.collected.sources.items ++ going_with g.K.Key.number l.fn.limit l.fn.s (drop l.source-index l.row)));
+      l.sink (sources_queries l.fn.per_query (g.K.Key.number l.fn.group) l.fn.s (map g.K.Key.number l.collected.sources.items ++
+      going_with g.K.Key.number l.fn.limit l.fn.s (drop l.source-index l.row)));
   spent : Spends 0 l.source-index l.initial.m l.m;
 }

@@ -9,9 +9,13 @@ returns-clause-sent g c group is =
     let number = g.K.Key.number in
     let row = c.args.row.now in
     let places = c.places_of_sendings-places.result in
-    let limit : c.after-limit.result ≡ lowered_to c.args.timing.now c.args.now = c.after-limit.ensures.later ∙ ap (λ n. c.args.now + n) c.last_member_time.ensures in
-    let set = ap (going_with number c.after-limit.result true) c.part_of-part.ensures ∙ going_between number c.after-limit.result true row places.first places.end c.places_of_sendings-places.ensures in
-    let clear = ap (going_with number c.after-limit.result false) c.part_of-part.ensures ∙ going_between number c.after-limit.result false row places.first places.end c.places_of_sendings-places.ensures in
-    waiting_are_sent g.S.Sink.takes c.args.sink.now c.send_sources.new.sink c.send_sources-2.new.sink number c.args.per_query c.args.timing.now c.args.now (number c.args.address)
+    let limit : c.after-limit.result ≡ lowered_to c.args.timing.now c.args.now = c.after-limit.ensures.later ∙
+    ap (λ n. c.args.now + n) c.last_member_time.ensures in
+    let set = ap (going_with number c.after-limit.result true) c.part_of-part.ensures ∙
+    going_between number c.after-limit.result true row places.first places.end c.places_of_sendings-places.ensures in
+    let clear = ap (going_with number c.after-limit.result false) c.part_of-part.ensures ∙
+    going_between number c.after-limit.result false row places.first places.end c.places_of_sendings-places.ensures in
+    waiting_are_sent g.S.Sink.takes c.args.sink.now c.send_sources.new.sink c.send_sources-2.new.sink number c.args.per_query c.args.timing.now
+    c.args.now (number c.args.address)
     group c.after-limit.result row limit c.requires.ascending is
     (rw set at c.send_sources.ensures.sent) (rw clear at c.send_sources-2.ensures.sent)

@@ -14,7 +14,8 @@ invariant-loop-node l =
       lower : l.node ≤ l.from;
       spent : Spends (bitlen (l.from / 2) - bitlen (l.node / 2)) (bitlen (l.from / 2) - bitlen (l.node / 2)) l.initial.m l.m;
       below : (node : ℕ) → node < l.node → get_or l.lefts node false ≡ get_or l.initial.lefts node false;
-      moves : (written : ℕ) × Spends written written l.initial.moves l.moves × ((after : List Bool) → ((node : ℕ) → l.node ≤ node → get_or after node false ≡ get_or l.lefts node false)
+      moves : (written : ℕ) × Spends written written l.initial.moves l.moves ×
+          ((after : List Bool) → ((node : ℕ) → l.node ≤ node → get_or after node false ≡ get_or l.lefts node false)
           → written_above l.initial.lefts after l.from l.from ≡ written + written_above l.initial.lefts after l.node l.node);
     }
 

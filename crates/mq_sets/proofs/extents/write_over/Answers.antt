@@ -16,13 +16,16 @@ returns g c = record {
       let row = c.args.row.now in
       let cells = c.args.cells.now in
       let y : Extent = record { start = before.start; length = length row } in
-      let same = put_mid-paste before.start (before.start + length row - before.start) cells c.copy_from_slice.new.self row (length row) c.copy_from_slice.ensures.after (omega arith) refl ∙ paste_all cells before.start row (length row) refl in
+      let same = put_mid-paste before.start (before.start + length row - before.start) cells c.copy_from_slice.new.self row
+      (length row) c.copy_from_slice.ensures.after (omega arith) refl ∙ paste_all cells before.start row (length row) refl in
       let inside = subst (IsWithin cells) (sym c.requires.here) (c.requires.within c.args.place before c.requires.place) in
       ap (λ xs. rows_of xs (slice_set c.args.extents.now c.args.place y)) same
       ∙ rows-written cells row before y refl refl c.requires.fits inside c.args.extents.now c.args.place c.requires.place c.requires.here c.requires.apart;
-  apart = apart-shorter c.args.extents.now c.args.place c.args.before (record { start = c.args.before.start; length = length c.args.row.now }) c.requires.place c.requires.here refl c.requires.fits c.requires.apart;
+  apart = apart-shorter c.args.extents.now c.args.place c.args.before (record { start = c.args.before.start; length = length c.args.row.now })
+      c.requires.place c.requires.here refl c.requires.fits c.requires.apart;
   lengths = map-set (λ (e : Extent). e.length) c.args.extents.now c.args.place (record { start = c.args.before.start; length = length c.args.row.now });
-  placed = λ some placed. All-set IsPlaced c.args.extents.now c.args.place (record { start = c.args.before.start; length = length c.args.row.now }) (λ none. absurd (omega (arith, some, none))) placed;
+  placed = λ some placed. All-set IsPlaced c.args.extents.now c.args.place (record { start = c.args.before.start; length = length c.args.row.now })
+      (λ none. absurd (omega (arith, some, none))) placed;
   within = search rules;
   len = search rules;
 }

@@ -10,7 +10,9 @@ pub returns : goal.returns
 returns g c = record {
   ascending = rw c.of.ensures (merged-ascending g.L.Keyed.key_number g.R.Keyed.key_number _ _ c.requires.left_ascending c.requires.right_ascending);
   at_each_number = λ n. rw c.of.ensures (merged-at g.L.Keyed.key_number g.R.Keyed.key_number _ _ n c.requires.left_ascending);
-  compares_at_least = rw c.of.ensures (comparisons_along-at_least g.L.Keyed.key_number g.R.Keyed.key_number _ _ c.requires.left_ascending c.requires.right_ascending);
-  compares_at_most = rw c.of.ensures (comparisons_along-at_most g.L.Keyed.key_number g.R.Keyed.key_number _ _ c.requires.left_ascending c.requires.right_ascending);
+  compares_at_least = rw c.of.ensures
+      (comparisons_along-at_least g.L.Keyed.key_number g.R.Keyed.key_number _ _ c.requires.left_ascending c.requires.right_ascending);
+  compares_at_most = rw c.of.ensures
+      (comparisons_along-at_most g.L.Keyed.key_number g.R.Keyed.key_number _ _ c.requires.left_ascending c.requires.right_ascending);
   sides = search rules;
 }

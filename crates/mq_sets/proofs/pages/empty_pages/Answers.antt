@@ -17,5 +17,9 @@ returns-in_err-with_capacity-clause-memory g c =
 pub loop-preserved : goal.loop-preserved
 loop-preserved g c =
     let more = one_more c.loop.counter (bytes_for 2 511) in
-    let taken = c.in_ok-with_capacity.ensures.memory.taken refl in
-    (grind (arith, c.in_ok-push.ensures.items, c.in_ok-with_capacity.ensures.room), grind (arith, common_steps, c.in_ok-push.ensures.items), grind (arith, c.in_ok-push.ensures.capacity), omega (arith, taken, more))
+    let taken = c.in_ok-with_capacity.ensures.memory.taken refl in (
+      grind (arith, c.in_ok-push.ensures.items, c.in_ok-with_capacity.ensures.room),
+      grind (arith, common_steps, c.in_ok-push.ensures.items),
+      grind (arith, c.in_ok-push.ensures.capacity),
+      omega (arith, taken, more),
+    )

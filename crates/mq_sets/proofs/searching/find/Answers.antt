@@ -5,7 +5,8 @@ use Rattle.mq_sets.proofs.searching.find.Goals as goal
 
 pub loop-low-preserved-in-Less : goal.loop-low-preserved-in-Less
 loop-low-preserved-in-Less g c =
-    IsNarrowed-to_above g.T.Keyed.key_number c.args.items.now _ _ _ c.requires.ascending (omega (arith, c.loop-low.invariant.within)) c.index-items-middle.is c.loop-low.invariant c.loop-low-test.true refl (rw c.key.ensures at c.in-Less.ensures.answer) c.order.ensures.spent
+    IsNarrowed-to_above g.T.Keyed.key_number c.args.items.now _ _ _ c.requires.ascending (omega (arith, c.loop-low.invariant.within))
+    c.index-items-middle.is c.loop-low.invariant c.loop-low-test.true refl (rw c.key.ensures at c.in-Less.ensures.answer) c.order.ensures.spent
 
 pub returns-in-Equal-clause-spent : goal.returns-in-Equal-clause-spent
 returns-in-Equal-clause-spent g c =
@@ -13,7 +14,8 @@ returns-in-Equal-clause-spent g c =
 
 pub loop-low-preserved : goal.loop-low-preserved
 loop-low-preserved g c =
-    IsNarrowed-to_below g.T.Keyed.key_number c.args.items.now _ _ _ c.requires.ascending (omega (arith, c.loop-low.invariant.within)) c.index-items-middle.is c.loop-low.invariant c.loop-low-test.true refl (rw c.key.ensures at c.in-Greater.ensures.answer) c.order.ensures.spent
+    IsNarrowed-to_below g.T.Keyed.key_number c.args.items.now _ _ _ c.requires.ascending (omega (arith, c.loop-low.invariant.within))
+    c.index-items-middle.is c.loop-low.invariant c.loop-low-test.true refl (rw c.key.ensures at c.in-Greater.ensures.answer) c.order.ensures.spent
 
 pub returns-clause-member : goal.returns-clause-member
 returns-clause-member g c =

@@ -1,4 +1,5 @@
-use Rattle.std.proofs.Common.{◌≡◌, ◌+◌, ◌<◌, ◌≤◌, min, false, refl, Option, List, Some, length, length-drop, get_or, take, drop, sym, ap, subst, ◌∙◌, ◌||◌, arith}
+use Rattle.std.proofs.Common.{◌≡◌, ◌+◌, ◌<◌, ◌≤◌, min, false, refl, Option, List, Some, length, length-drop, get_or, take, drop, sym, ap, subst, ◌∙◌}
+use Rattle.std.proofs.Common.{◌||◌, arith}
 use Rattle.std.proofs.Math.ListN.{length-set}
 use Rattle.std.specs.List.{AllWithin, list_any}
 use Rattle.std.specs.Option.{is_some}
@@ -38,18 +39,25 @@ loop-place-preserved-then-place-len g c =
     let inside : place + run < length initial = omega (arith, end, now_long, moved_long) in
     let made = run_made rule initial xs moved left place run so_far.made so_far.rest within stay c.move_run.ensures.moved c.move_run.ensures.rest in
     let rest = run_rest rule initial xs moved left place run so_far.made so_far.rest within stay c.move_run.ensures.moved c.move_run.ensures.rest in
-    let next = subst (λ (xs : List (Source g.row.K.Denot)). AllWithin (λ x. lies_ahead c.args.now (deadline_of (Some x.timer)) ≡ false) xs run (min (run + 1) (length xs))) row c.count_ahead-run.ensures.next in
+    let next = subst (λ (xs : List (Source g.row.K.Denot)). AllWithin (λ x. lies_ahead c.args.now (deadline_of (Some x.timer)) ≡ false) xs run
+    (min (run + 1) (length xs))) row c.count_ahead-run.ensures.next in
     let is_held = c.index.ensures ∙ behind_run xs moved place run held c.move_run.ensures.rest in
-    let past = subst (λ (x : Source g.row.K.Denot). lies_ahead c.args.now (deadline_of (Some x.timer)) ≡ false) (sym is_held) (next run held (omega arith) (omega (arith, inside, rest_long, so_far.len))) in
+    let past = subst (λ (x : Source g.row.K.Denot). lies_ahead c.args.now (deadline_of (Some x.timer)) ≡ false) (sym is_held)
+    (next run held (omega arith) (omega (arith, inside, rest_long, so_far.len))) in
     let ended = ended_leaves c.args.mode.now c.args.now held past in
     let behind : left + run ≤ place + run = omega (arith, so_far.behind) in
     let of_run = running_among-run c.args.now place run initial c.rest_of.result.now (row ∙ so_far.rest) few c.count_ahead-run.ensures.ahead in
     let here = is_held ∙ ap (λ ys. get_or ys run held) (sym row) in
     let one = compared-here (λ x. deadline_of (Some x.timer)) c.rest_of.result.now run held (omega (arith, long, inside, rest_long, so_far.len)) here in
-    let more = running_among-more initial (place + run) held inside (is_held ∙ ap (λ ys. get_or ys run held) so_far.rest ∙ sym (behind_run initial initial place run held refl)) in
-    let ran_out = any_out-more c.args.now (place + run) initial held inside (is_held ∙ ap (λ ys. get_or ys run held) so_far.rest ∙ sym (behind_run initial initial place run held refl)) past ∙ ap (λ b. b || is_some (deadline_of (Some held.timer))) (any_out-run c.args.now place run initial c.rest_of.result.now (row ∙ so_far.rest) few c.count_ahead-run.ensures.ahead ∙ sym so_far.ran_out) in
+    let more = running_among-more initial (place + run) held inside (is_held ∙ ap (λ ys. get_or ys run held) so_far.rest ∙
+    sym (behind_run initial initial place run held refl)) in
+    let ran_out = any_out-more c.args.now (place + run) initial held inside (is_held ∙ ap (λ ys. get_or ys run held) so_far.rest ∙
+    sym (behind_run initial initial place run held refl)) past ∙ ap (λ b. b || is_some (deadline_of (Some held.timer)))
+    (any_out-run c.args.now place run initial c.rest_of.result.now (row ∙ so_far.rest) few c.count_ahead-run.ensures.ahead ∙ sym so_far.ran_out) in
     let is_out = ap (λ b. c.loop-place.ran_out || b) (c.is_some-ran_out.ensures ∙ ap is_some c.deadline.ensures) in
-    let spent = Spends-join_within (running_among (take (place + run + 1) initial)) (running_among (take (place + run + 1) initial)) so_far.spent c.count_ahead-run.ensures.spent (omega (arith, of_run, one, more)) (omega (arith, of_run, one, more)) in
+    let spent = Spends-join_within (running_among (take (place + run + 1) initial))
+    (running_among (take (place + run + 1) initial)) so_far.spent c.count_ahead-run.ensures.spent (omega (arith, of_run, one, more))
+    (omega (arith, of_run, one, more)) in
     elim c.match-timer_at_zero.branch [
       | in-Some w ↦
           let y : Source g.row.K.Denot = record { address = held.address; timer = w.in-Some.timer } in
@@ -96,16 +104,20 @@ loop-place-preserved g c =
     let end = c.if-place-len.false in
     let now_long = c.len-in-loop-place.ensures in
     let of_run = running_among-run c.args.now place run initial c.rest_of.result.now (row ∙ so_far.rest) few c.count_ahead-run.ensures.ahead in
-    let none = compared-past (λ x. deadline_of (Some x.timer)) c.rest_of.result.now run (omega (arith, long, rest_long, moved_long, end, now_long, so_far.within, so_far.len)) in
+    let none = compared-past (λ x. deadline_of (Some x.timer)) c.rest_of.result.now run
+    (omega (arith, long, rest_long, moved_long, end, now_long, so_far.within, so_far.len)) in
     record {
       behind = omega (arith, so_far.behind);
       within = omega (arith, within, rest_long, so_far.len, so_far.within);
       len = moved_long ∙ so_far.len;
-      made = run_made rule initial xs c.move_run.new.sources.items c.loop-place.left place run so_far.made so_far.rest within stay c.move_run.ensures.moved c.move_run.ensures.rest;
+      made = run_made rule initial xs c.move_run.new.sources.items c.loop-place.left place run so_far.made so_far.rest within stay
+          c.move_run.ensures.moved c.move_run.ensures.rest;
       ran_out = so_far.ran_out ∙ sym (any_out-run c.args.now place run initial c.rest_of.result.now (row ∙ so_far.rest) few c.count_ahead-run.ensures.ahead);
-      rest = run_rest rule initial xs c.move_run.new.sources.items c.loop-place.left place run so_far.made so_far.rest within stay c.move_run.ensures.moved c.move_run.ensures.rest;
+      rest = run_rest rule initial xs c.move_run.new.sources.items c.loop-place.left place run so_far.made so_far.rest within stay
+          c.move_run.ensures.moved c.move_run.ensures.rest;
       capacity = c.move_run.ensures.capacity ∙ so_far.capacity;
-      spent = Spends-join_within (running_among (take (place + run) initial)) (running_among (take (place + run) initial)) so_far.spent c.count_ahead-run.ensures.spent (omega (arith, of_run, none)) (omega (arith, of_run, none));
+      spent = Spends-join_within (running_among (take (place + run) initial))
+          (running_among (take (place + run) initial)) so_far.spent c.count_ahead-run.ensures.spent (omega (arith, of_run, none)) (omega (arith, of_run, none));
     }
 
 pub returns-clause-ran_out : goal.returns-clause-ran_out

@@ -16,13 +16,16 @@ returns-then-left-place-clause-rest g c =
     let value = c.as_mut_slice.ensures.value in
     let long : length after ≡ length before = c.copy_within.ensures.len ∙ ap length value in
     let full = c.as_mut_slice.ensures.len in
-    let whole = ap (take c.args.sources.now.len) (ap (λ ys. after ++ ys) (drop_all (length after) before (omega (arith, long))) ∙ append-nil after) ∙ take_all c.args.sources.now.len after (omega (arith, full, ap length value, long)) in
+    let whole = ap (take c.args.sources.now.len) (ap (λ ys. after ++ ys) (drop_all (length after) before (omega (arith, long))) ∙ append-nil after) ∙
+    take_all c.args.sources.now.len after (omega (arith, full, ap length value, long)) in
     let pasted = c.copy_within.ensures.after ∙ ap (λ xs. copy_within xs place (place + c.args.run) left) value in
     let enough = length-drop place before in
-    let behind = drop-paste before left (drop place before) run (omega (arith, c.requires.within, c.requires.behind)) (omega (arith, c.requires.within, enough)) in
+    let behind = drop-paste before left (drop place before) run (omega (arith, c.requires.within, c.requires.behind))
+    (omega (arith, c.requires.within, enough)) in
     let far : place + c.args.run ≡ (left + run) + (place - left) = omega (arith, c.requires.behind) in
     let split = λ (xs : List (Source g.row.K.Denot)). ap (λ n. drop n xs) far ∙ sym (drop-drop (place - left) (left + run) xs) in
-    ap (drop (place + c.args.run)) (whole ∙ pasted) ∙ split (copy_within before place (place + c.args.run) left) ∙ ap (drop (place - left)) behind ∙ sym (split before)
+    ap (drop (place + c.args.run)) (whole ∙ pasted) ∙ split (copy_within before place (place + c.args.run) left) ∙ ap (drop (place - left)) behind ∙
+    sym (split before)
 
 pub returns-else-left-place-clause-moved : goal.returns-else-left-place-clause-moved
 returns-else-left-place-clause-moved g c =

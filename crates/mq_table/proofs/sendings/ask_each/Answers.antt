@@ -34,11 +34,13 @@ loop-place-preserved g c =
     let held = c.index.result.now in
     let so_far = c.loop-place.invariant in
     let within : place < length initial = omega (arith, so_far.len, c.loop-place-test.true, c.len-place-end.ensures, c.args.sources.now.ok.0) in
-    let known = step g.K.Key.number c.args.limit c.args.count c.args.asked.now initial xs c.loop-place.next place held within so_far.len so_far.made so_far.rest so_far.ahead c.index.ensures in
+    let known = step g.K.Key.number c.args.limit c.args.count c.args.asked.now initial xs c.loop-place.next place held within so_far.len so_far.made
+    so_far.rest so_far.ahead c.index.ensures in
     let next : c.is_next.result ≡ true → c.loop-place.next < length c.args.asked.now = c.is_next.ensures.within in
     elim c.if-is_next.branch [
       | then-is_next+then-runs_on w ↦
-          let one = known true true (sym c.is_next.ensures.answer ∙ w.if-is_next.true) (λ _. ap (is_ahead c.args.limit) (sym w.deadline.ensures) ∙ sym w.runs_on.ensures.answer ∙ w.if-runs_on.true) in
+          let one = known true true (sym c.is_next.ensures.answer ∙ w.if-is_next.true)
+          (λ _. ap (is_ahead c.args.limit) (sym w.deadline.ensures) ∙ sym w.runs_on.ensures.answer ∙ w.if-runs_on.true) in
           rw (w.sources-is, w.next-is, w.some-is, w.m-is) (record {
             next = omega (arith, next w.if-is_next.true);
             passed = omega (arith, so_far.passed);
@@ -48,10 +50,12 @@ loop-place-preserved g c =
             rest = one.rest;
             some = sym (one.some ∙ or-true _);
             capacity = so_far.capacity;
-            spent = Spends-join_within _ _ (Spends-join so_far.spent c.is_next.ensures.spent) w.runs_on.ensures.spent (omega (arith, so_far.passed)) (omega arith);
+            spent = Spends-join_within _ _ (Spends-join so_far.spent c.is_next.ensures.spent) w.runs_on.ensures.spent (omega (arith, so_far.passed))
+                (omega arith);
           })
       | then-is_next+else-runs_on w ↦
-          let one = known true false (sym c.is_next.ensures.answer ∙ w.if-is_next.true) (λ _. ap (is_ahead c.args.limit) (sym w.deadline.ensures) ∙ sym w.runs_on.ensures.answer ∙ w.if-runs_on.false) in
+          let one = known true false (sym c.is_next.ensures.answer ∙ w.if-is_next.true)
+          (λ _. ap (is_ahead c.args.limit) (sym w.deadline.ensures) ∙ sym w.runs_on.ensures.answer ∙ w.if-runs_on.false) in
           let same = stays c.args.limit c.args.count true false xs place held c.index.ensures refl in
           rw (w.sources-is, w.next-is, w.some-is, w.m-is) (record {
             next = omega (arith, next w.if-is_next.true);
@@ -62,7 +66,8 @@ loop-place-preserved g c =
             rest = rw same at one.rest;
             some = so_far.some ∙ sym (one.some ∙ or-false _);
             capacity = so_far.capacity;
-            spent = Spends-join_within _ _ (Spends-join so_far.spent c.is_next.ensures.spent) w.runs_on.ensures.spent (omega (arith, so_far.passed)) (omega arith);
+            spent = Spends-join_within _ _ (Spends-join so_far.spent c.is_next.ensures.spent) w.runs_on.ensures.spent (omega (arith, so_far.passed))
+                (omega arith);
           })
       | else-is_next w ↦
           let one = known false false (sym c.is_next.ensures.answer ∙ w.if-is_next.false) (λ e. absurd (false≢true e)) in
@@ -83,13 +88,16 @@ loop-place-preserved g c =
 pub returns-clause-items : goal.returns-clause-items
 returns-clause-items g c =
     let so_far = c.loop-place.invariant in
-    all_made (source_if_asked g.K.Key.number c.args.limit c.args.count (set_of g.K.Key.number c.args.asked.now)) c.args.sources.now.items c.loop-place.sources.items c.loop-place.place (omega (arith, so_far.len, c.loop-place-test.false, c.len-place-end.ensures, c.args.sources.now.ok.0)) so_far.len so_far.made
+    all_made (source_if_asked g.K.Key.number c.args.limit c.args.count (set_of g.K.Key.number c.args.asked.now)) c.args.sources.now.items
+    c.loop-place.sources.items c.loop-place.place
+    (omega (arith, so_far.len, c.loop-place-test.false, c.len-place-end.ensures, c.args.sources.now.ok.0)) so_far.len so_far.made
 
 pub returns-clause-spent : goal.returns-clause-spent
 returns-clause-spent g c =
     let so_far = c.loop-place.invariant in
     let some = some_held g.K.Key.number c.args.asked.now c.args.sources.now.items c.requires.held in
-    let over : length c.args.sources.now.items ≤ c.loop-place.place = omega (arith, so_far.len, c.loop-place-test.false, c.len-place-end.ensures, c.args.sources.now.ok.0) in
+    let over : length c.args.sources.now.items ≤ c.loop-place.place =
+    omega (arith, so_far.len, c.loop-place-test.false, c.len-place-end.ensures, c.args.sources.now.ok.0) in
     Spends-within _ _ so_far.spent (omega (arith, some, over)) (omega arith)
 
 pub returns-then-next-asked : goal.returns-then-next-asked
@@ -100,7 +108,8 @@ returns-then-next-asked g c =
     let over : drop c.loop-place.next asked ≡ [] = drop_all c.loop-place.next asked (omega arith) in
     let none = none_ahead g.K.Key.number c.args.limit c.args.count asked (drop c.loop-place.place initial) (rw over at so_far.ahead) in
     record {
-      items = all_asked (source_if_asked g.K.Key.number c.args.limit c.args.count (set_of g.K.Key.number asked)) initial c.loop-place.sources.items c.loop-place.place so_far.made so_far.rest none.0;
+      items = all_asked (source_if_asked g.K.Key.number c.args.limit c.args.count (set_of g.K.Key.number asked)) initial c.loop-place.sources.items
+          c.loop-place.place so_far.made so_far.rest none.0;
       some = so_far.some ∙ some_asked (is_asked_above g.K.Key.number c.args.limit (set_of g.K.Key.number asked)) initial c.loop-place.place none.1;
       capacity = search rules;
       spent = search rules;

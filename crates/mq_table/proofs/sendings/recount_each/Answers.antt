@@ -63,7 +63,8 @@ returns g c =
     let over : c.loop-place.place ≡ c.args.places.end = omega (arith, c.requires.ordered) in
     let none = rw (← over) at c.requires.none_behind in
     record {
-      items = all_asked (source_recounted c.args.recount) initial c.loop-place.sources.items c.loop-place.place so_far.made so_far.rest (sources_stay c.args.recount (drop c.loop-place.place initial) none);
+      items = all_asked (source_recounted c.args.recount) initial c.loop-place.sources.items c.loop-place.place so_far.made so_far.rest
+          (sources_stay c.args.recount (drop c.loop-place.place initial) none);
       left = so_far.left ∙ some_asked item_has_sendings c.loop-place.sources.items c.loop-place.place (ap (list_any item_has_sendings) so_far.rest ∙ none);
       capacity = search rules;
     }

@@ -13,4 +13,5 @@ returns-clause-spent g c =
     let at_least = rw c.merge-merge.ensures.sides at c.merge-merge.ensures.compares_at_least in
     let at_most = rw c.merge-merge.ensures.sides at c.merge-merge.ensures.compares_at_most in
     let compared = comparisons_along all - comparisons_along ahead in
-    Spends-join_within {a = compared} {b = compared} _ _ c.loop-item.invariant.2 c.next.ensures.spent (omega (arith, at_least, none, c.next.ensures.comparisons_ahead)) (omega (arith, at_most, none, c.next.ensures.comparisons_ahead))
+    Spends-join_within {a = compared} {b = compared} _ _ c.loop-item.invariant.2 c.next.ensures.spent
+    (omega (arith, at_least, none, c.next.ensures.comparisons_ahead)) (omega (arith, at_most, none, c.next.ensures.comparisons_ahead))

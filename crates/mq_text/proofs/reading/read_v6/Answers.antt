@@ -10,8 +10,11 @@ returns-then-has_dot c = none_with_dot c.args.text.now (ap has_dot (sym c.as_byt
 
 pub returns-in-Ok : goal.returns-in-Ok
 unfolding number_of
-returns-in-Ok c =
-    (ipv6_segments c.in-Ok.address, spelled_from_std c.args.text.now _ (ap has_dot (sym c.as_bytes.ensures.value) ∙ sym c.has_dot.ensures ∙ c.if-has_dot.false) c.in-Ok.ensures.value, c.from_octets.ensures ∙ ap (from_be_bytes w128) c.octets.ensures)
+returns-in-Ok c = (
+  ipv6_segments c.in-Ok.address,
+  spelled_from_std c.args.text.now _ (ap has_dot (sym c.as_bytes.ensures.value) ∙ sym c.has_dot.ensures ∙ c.if-has_dot.false) c.in-Ok.ensures.value,
+  c.from_octets.ensures ∙ ap (from_be_bytes w128) c.octets.ensures,
+)
 
 pub returns-in-Err : goal.returns-in-Err
 returns-in-Err c = none_v6 c.args.text.now c.in-Err.ensures.value

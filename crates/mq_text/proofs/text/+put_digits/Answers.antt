@@ -15,7 +15,8 @@ put-requires t c =
 
 pub returns-clause-text : goal.returns-clause-text
 returns-clause-text t c =
-    put_in_two c.args.text.now.items c.put_digits.new.text.items c.put.new.text.items c.four_digits.result c.args.number (omega (arith, c.if-number-lt100000000.false)) (omega (arith, c.ranges.number.fits)) c.put_digits.ensures.text c.four_digits.ensures c.put.ensures.text
+    put_in_two c.args.text.now.items c.put_digits.new.text.items c.put.new.text.items c.four_digits.result c.args.number
+    (omega (arith, c.if-number-lt100000000.false)) (omega (arith, c.ranges.number.fits)) c.put_digits.ensures.text c.four_digits.ensures c.put.ensures.text
 
 pub returns-clause-room : goal.returns-clause-room
 returns-clause-room t c =

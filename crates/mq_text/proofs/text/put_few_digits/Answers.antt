@@ -29,7 +29,8 @@ returns-in-0-to-9-clause-room c =
 
 pub returns-in-10-to-99-clause-text : goal.returns-in-10-to-99-clause-text
 returns-in-10-to-99-clause-text c =
-    c.put-in-10-to-99.ensures.text ∙ ap (λ (digits : List ℕ). c.args.text.now.items ++ digits) (c.pair.ensures ∙ sym (two_digits c.args.number (omega arith) (omega arith)))
+    c.put-in-10-to-99.ensures.text ∙ ap (λ (digits : List ℕ). c.args.text.now.items ++ digits)
+    (c.pair.ensures ∙ sym (two_digits c.args.number (omega arith) (omega arith)))
 
 pub returns-in-10-to-99-clause-room : goal.returns-in-10-to-99-clause-room
 returns-in-10-to-99-clause-room c =
@@ -38,7 +39,9 @@ returns-in-10-to-99-clause-room c =
 pub returns-in-100-to-999-clause-text : goal.returns-in-100-to-999-clause-text
 returns-in-100-to-999-clause-text c =
     c.put-in-100-to-999.ensures.text
-    ∙ ap (λ (digits : List ℕ). c.args.text.now.items ++ digits) (three_from_pair c.args.number c.digit-in-100-to-999.result c.pair-in-100-to-999.result (omega arith) (omega arith) c.digit-in-100-to-999.ensures c.pair-in-100-to-999.ensures)
+    ∙ ap (λ (digits : List ℕ). c.args.text.now.items ++ digits)
+    (three_from_pair c.args.number c.digit-in-100-to-999.result c.pair-in-100-to-999.result (omega arith)
+    (omega arith) c.digit-in-100-to-999.ensures c.pair-in-100-to-999.ensures)
 
 pub returns-in-100-to-999-clause-room : goal.returns-in-100-to-999-clause-room
 returns-in-100-to-999-clause-room c =
@@ -47,7 +50,8 @@ returns-in-100-to-999-clause-room c =
 pub returns-in_default-clause-text : goal.returns-in_default-clause-text
 returns-in_default-clause-text c =
     c.put-in_default.ensures.text
-    ∙ ap (λ (digits : List ℕ). c.args.text.now.items ++ digits) (c.four_digits.ensures ∙ sym (all_four_digits c.args.number (omega arith) (omega (arith, c.requires.few))))
+    ∙ ap (λ (digits : List ℕ). c.args.text.now.items ++ digits)
+    (c.four_digits.ensures ∙ sym (all_four_digits c.args.number (omega arith) (omega (arith, c.requires.few))))
 
 pub returns-in_default-clause-room : goal.returns-in_default-clause-room
 returns-in_default-clause-room c =

@@ -14,7 +14,8 @@ put-requires c =
 
 pub returns-clause-text : goal.returns-clause-text
 returns-clause-text c =
-    put_in_two c.args.text.now.items c.put_few_digits-2.new.text.items c.put.new.text.items c.four_digits.result c.args.number c.if-number-lt10000.false (omega (arith, c.requires.some)) c.put_few_digits-2.ensures.text c.four_digits.ensures c.put.ensures.text
+    put_in_two c.args.text.now.items c.put_few_digits-2.new.text.items c.put.new.text.items c.four_digits.result c.args.number
+    c.if-number-lt10000.false (omega (arith, c.requires.some)) c.put_few_digits-2.ensures.text c.four_digits.ensures c.put.ensures.text
 
 pub returns-clause-room : goal.returns-clause-room
 returns-clause-room c =

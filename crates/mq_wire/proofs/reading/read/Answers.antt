@@ -13,12 +13,14 @@ returns-in_err-fields_end g c =
 pub returns-then-not-is_right_behind : goal.returns-then-not-is_right_behind
 returns-then-not-is_right_behind g c =
     let long : 4 ≤ length c.args.bytes.now = header (length c.args.bytes.now) [] c.in_ok-fields_end.ensures.0 in
-    wrong g.K.FamilyKey.FAMILY c.args.pseudo.now c.args.bytes.now long (λ right. let told : c.is_right_behind.result ≡ _ = c.is_right_behind.ensures.1 right in cc)
+    wrong g.K.FamilyKey.FAMILY c.args.pseudo.now c.args.bytes.now long
+    (λ right. let told : c.is_right_behind.result ≡ _ = c.is_right_behind.ensures.1 right in cc)
 
 pub returns-in-Some : goal.returns-in-Some
 returns-in-Some g c =
     let long : 4 ≤ length c.args.bytes.now = header (length c.args.bytes.now) [] c.in_ok-fields_end.ensures.0 in
-    reads g.K.Key.number g.K.FamilyKey.FAMILY c.args.pseudo.now c.args.bytes.now c.in-Some.kind c.read_within.result long (c.if-not-is_right_behind.ensures.0 refl) (sym c.in-Some.ensures) c.read_within.ensures
+    reads g.K.Key.number g.K.FamilyKey.FAMILY c.args.pseudo.now c.args.bytes.now c.in-Some.kind c.read_within.result long
+    (c.if-not-is_right_behind.ensures.0 refl) (sym c.in-Some.ensures) c.read_within.ensures
 
 pub returns-in-None : goal.returns-in-None
 returns-in-None g c =

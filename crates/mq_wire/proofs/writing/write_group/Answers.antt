@@ -11,4 +11,5 @@ returns-clause-text g c =
     (let front = ap length c.copy_from_slice.ensures.after in
     let all = length-append c.copy_from_slice.new.self (drop (length head) c.args.out.now) in omega (arith, front, all)) in
     rw c.WIDTH.ensures
-    (next_part (length head) g.K.WireKey.WIDTH head (big_bytes g.K.WireKey.WIDTH (g.K.Key.number c.args.group)) c.args.out.now first c.write.new.out refl long (rw c.copy_from_slice.ensures.after refl) c.write.ensures)
+    (next_part (length head) g.K.WireKey.WIDTH head (big_bytes g.K.WireKey.WIDTH (g.K.Key.number c.args.group)) c.args.out.now first c.write.new.out
+    refl long (rw c.copy_from_slice.ensures.after refl) c.write.ensures)

@@ -18,8 +18,10 @@ returns g c =
     (let address = length-bytes_high_first width (g.K.Key.number c.args.group) in omega (arith, end, address, length-append c.args.head.now group)) in
     let out = c.write_group-group_end.new.out in
     let within : c.write_group-group_end.result ≤ length out =
-    (let all = ap length c.write_group-group_end.ensures.text ∙ length-append text (drop c.write_group-group_end.result c.args.out.now) in omega (arith, all, long)) in
+    (let all = ap length c.write_group-group_end.ensures.text ∙ length-append text (drop c.write_group-group_end.result c.args.out.now) in
+    omega (arith, all, long)) in
     let none : drop (c.write_group-group_end.result + behind) c.args.out.now ≡ [] =
     drop_all _ c.args.out.now (let room = c.requires.room in omega (arith, end, room)) in
-    next_part c.write_group-group_end.result behind text fields c.args.out.now out c.write_fields.new.out long within c.write_group-group_end.ensures.text c.write_fields.ensures
+    next_part c.write_group-group_end.result behind text fields c.args.out.now out c.write_fields.new.out long within
+    c.write_group-group_end.ensures.text c.write_fields.ensures
     ∙ rw none (append-nil (text ++ fields))

@@ -21,8 +21,12 @@ returns-in_err-flush-in-Ok-clause-works g c =
     let mid = g.W.Write.contents (inner_of c.check.new.writer) in
     let new = output_of g.W.Write.contents c.flush.new.output in
     let r = Ok c.in-Ok.totals in
-    let flushed = flushed_check g.F.Family.FAMILY (g.F.Address.Key.number c.args.querier) c.args.options.now.settings c.args.options.now.terms _ input old mid new r c.in_ok-config.ensures c.in-Ok.ensures.checks refl c.in_err-flush-in-Ok.ensures.bytes in
-    rw (p.1, p.2, c.in_err-flush-in-Ok.ensures.write) (λ e. absurd (omega (arith, e)), λ e. ((c.in_ok-_end.ensures.1, c.in_ok-config.ensures.0), (c.in_err-flush-in-Ok.ensures.failed ∙ or-true _, r, λ e. absurd (cc e), flushed)))
+    let flushed = flushed_check g.F.Family.FAMILY (g.F.Address.Key.number c.args.querier) c.args.options.now.settings c.args.options.now.terms _ input
+    old mid new r c.in_ok-config.ensures c.in-Ok.ensures.checks refl c.in_err-flush-in-Ok.ensures.bytes in
+    rw (p.1, p.2, c.in_err-flush-in-Ok.ensures.write) (
+      λ e. absurd (omega (arith, e)),
+      λ e. ((c.in_ok-_end.ensures.1, c.in_ok-config.ensures.0), (c.in_err-flush-in-Ok.ensures.failed ∙ or-true _, r, λ e. absurd (cc e), flushed)),
+    )
 
 pub returns-in_err-flush-in-Err-Pcap-clause-works : goal.returns-in_err-flush-in-Err-Pcap-clause-works
 returns-in_err-flush-in-Err-Pcap-clause-works g c =
@@ -32,8 +36,14 @@ returns-in_err-flush-in-Err-Pcap-clause-works g c =
     let mid = g.W.Write.contents (inner_of c.check.new.writer) in
     let new = output_of g.W.Write.contents c.flush-in-Err-Pcap.new.output in
     let r = Err (answer.Pcap c.in-Err-Pcap.fault) in
-    let flushed = flushed_check g.F.Family.FAMILY (g.F.Address.Key.number c.args.querier) c.args.options.now.settings c.args.options.now.terms _ input old mid new r c.in_ok-config.ensures (subst (λ (f : CheckFault). Checks c.in_ok-config.config c.args.options.now.terms input.old input.new old.held mid (Err f)) c.in-Err-Pcap.field-0-is c.in-Err-Pcap.ensures.checks) refl c.in_err-flush-in-Err-Pcap.ensures.bytes in
-    rw (p.1, p.2, c.in_err-flush-in-Err-Pcap.ensures.write) (λ e. absurd (omega (arith, e)), λ e. ((c.in_ok-_end.ensures.1, c.in_ok-config.ensures.0), (c.in_err-flush-in-Err-Pcap.ensures.failed ∙ or-true _, r, λ e. absurd (cc e), flushed)))
+    let flushed = flushed_check g.F.Family.FAMILY (g.F.Address.Key.number c.args.querier) c.args.options.now.settings c.args.options.now.terms _ input
+    old mid new r c.in_ok-config.ensures
+    (subst (λ (f : CheckFault). Checks c.in_ok-config.config c.args.options.now.terms input.old input.new old.held mid (Err f))
+    c.in-Err-Pcap.field-0-is c.in-Err-Pcap.ensures.checks) refl c.in_err-flush-in-Err-Pcap.ensures.bytes in
+    rw (p.1, p.2, c.in_err-flush-in-Err-Pcap.ensures.write) (
+      λ e. absurd (omega (arith, e)),
+      λ e. ((c.in_ok-_end.ensures.1, c.in_ok-config.ensures.0), (c.in_err-flush-in-Err-Pcap.ensures.failed ∙ or-true _, r, λ e. absurd (cc e), flushed)),
+    )
 
 pub returns-in_err-flush-in-Err-Gap-clause-works : goal.returns-in_err-flush-in-Err-Gap-clause-works
 returns-in_err-flush-in-Err-Gap-clause-works g c =
@@ -43,8 +53,14 @@ returns-in_err-flush-in-Err-Gap-clause-works g c =
     let mid = g.W.Write.contents (inner_of c.check.new.writer) in
     let new = output_of g.W.Write.contents c.flush-in-Err-Gap.new.output in
     let r = Err (answer.Gap c.in-Err-Gap.number) in
-    let flushed = flushed_check g.F.Family.FAMILY (g.F.Address.Key.number c.args.querier) c.args.options.now.settings c.args.options.now.terms _ input old mid new r c.in_ok-config.ensures (subst (λ (f : CheckFault). Checks c.in_ok-config.config c.args.options.now.terms input.old input.new old.held mid (Err f)) c.in-Err-Gap.field-0-is c.in-Err-Gap.ensures.checks) refl c.in_err-flush-in-Err-Gap.ensures.bytes in
-    rw (p.1, p.2, c.in_err-flush-in-Err-Gap.ensures.write) (λ e. absurd (omega (arith, e)), λ e. ((c.in_ok-_end.ensures.1, c.in_ok-config.ensures.0), (c.in_err-flush-in-Err-Gap.ensures.failed ∙ or-true _, r, λ e. absurd (cc e), flushed)))
+    let flushed = flushed_check g.F.Family.FAMILY (g.F.Address.Key.number c.args.querier) c.args.options.now.settings c.args.options.now.terms _ input
+    old mid new r c.in_ok-config.ensures
+    (subst (λ (f : CheckFault). Checks c.in_ok-config.config c.args.options.now.terms input.old input.new old.held mid (Err f))
+    c.in-Err-Gap.field-0-is c.in-Err-Gap.ensures.checks) refl c.in_err-flush-in-Err-Gap.ensures.bytes in
+    rw (p.1, p.2, c.in_err-flush-in-Err-Gap.ensures.write) (
+      λ e. absurd (omega (arith, e)),
+      λ e. ((c.in_ok-_end.ensures.1, c.in_ok-config.ensures.0), (c.in_err-flush-in-Err-Gap.ensures.failed ∙ or-true _, r, λ e. absurd (cc e), flushed)),
+    )
 
 pub returns-in_err-flush-in-Err-Waiting-clause-works : goal.returns-in_err-flush-in-Err-Waiting-clause-works
 returns-in_err-flush-in-Err-Waiting-clause-works g c =
@@ -54,8 +70,14 @@ returns-in_err-flush-in-Err-Waiting-clause-works g c =
     let mid = g.W.Write.contents (inner_of c.check.new.writer) in
     let new = output_of g.W.Write.contents c.flush-in-Err-Waiting.new.output in
     let r = Err (answer.Waiting c.in-Err-Waiting.number) in
-    let flushed = flushed_check g.F.Family.FAMILY (g.F.Address.Key.number c.args.querier) c.args.options.now.settings c.args.options.now.terms _ input old mid new r c.in_ok-config.ensures (subst (λ (f : CheckFault). Checks c.in_ok-config.config c.args.options.now.terms input.old input.new old.held mid (Err f)) c.in-Err-Waiting.field-0-is c.in-Err-Waiting.ensures.checks) refl c.in_err-flush-in-Err-Waiting.ensures.bytes in
-    rw (p.1, p.2, c.in_err-flush-in-Err-Waiting.ensures.write) (λ e. absurd (omega (arith, e)), λ e. ((c.in_ok-_end.ensures.1, c.in_ok-config.ensures.0), (c.in_err-flush-in-Err-Waiting.ensures.failed ∙ or-true _, r, λ e. absurd (cc e), flushed)))
+    let flushed = flushed_check g.F.Family.FAMILY (g.F.Address.Key.number c.args.querier) c.args.options.now.settings c.args.options.now.terms _ input
+    old mid new r c.in_ok-config.ensures
+    (subst (λ (f : CheckFault). Checks c.in_ok-config.config c.args.options.now.terms input.old input.new old.held mid (Err f))
+    c.in-Err-Waiting.field-0-is c.in-Err-Waiting.ensures.checks) refl c.in_err-flush-in-Err-Waiting.ensures.bytes in
+    rw (p.1, p.2, c.in_err-flush-in-Err-Waiting.ensures.write) (
+      λ e. absurd (omega (arith, e)),
+      λ e. ((c.in_ok-_end.ensures.1, c.in_ok-config.ensures.0), (c.in_err-flush-in-Err-Waiting.ensures.failed ∙ or-true _, r, λ e. absurd (cc e), flushed)),
+    )
 
 pub returns-in_ok-flush-in-Ok-clause-works : goal.returns-in_ok-flush-in-Ok-clause-works
 returns-in_ok-flush-in-Ok-clause-works g c =
@@ -64,7 +86,8 @@ returns-in_ok-flush-in-Ok-clause-works g c =
     let mid = g.W.Write.contents (inner_of c.check.new.writer) in
     let new = output_of g.W.Write.contents c.flush.new.output in
     let r = Ok c.in-Ok.totals in
-    let flushed = flushed_check g.F.Family.FAMILY (g.F.Address.Key.number c.args.querier) c.args.options.now.settings c.args.options.now.terms _ input old mid new r c.in_ok-config.ensures c.in-Ok.ensures.checks refl c.in_ok-flush-in-Ok.ensures.bytes in
+    let flushed = flushed_check g.F.Family.FAMILY (g.F.Address.Key.number c.args.querier) c.args.options.now.settings c.args.options.now.terms _ input
+    old mid new r c.in_ok-config.ensures c.in-Ok.ensures.checks refl c.in_ok-flush-in-Ok.ensures.bytes in
     ((c.in_ok-_end.ensures.1, c.in_ok-config.ensures.0), search rules, flushed)
 
 pub returns-in_ok-flush-in-Err-Pcap-clause-works : goal.returns-in_ok-flush-in-Err-Pcap-clause-works
@@ -74,7 +97,10 @@ returns-in_ok-flush-in-Err-Pcap-clause-works g c =
     let mid = g.W.Write.contents (inner_of c.check.new.writer) in
     let new = output_of g.W.Write.contents c.flush-in-Err-Pcap.new.output in
     let r = Err (answer.Pcap c.in-Err-Pcap.fault) in
-    let flushed = flushed_check g.F.Family.FAMILY (g.F.Address.Key.number c.args.querier) c.args.options.now.settings c.args.options.now.terms _ input old mid new r c.in_ok-config.ensures (subst (λ (f : CheckFault). Checks c.in_ok-config.config c.args.options.now.terms input.old input.new old.held mid (Err f)) c.in-Err-Pcap.field-0-is c.in-Err-Pcap.ensures.checks) refl c.in_ok-flush-in-Err-Pcap.ensures.bytes in
+    let flushed = flushed_check g.F.Family.FAMILY (g.F.Address.Key.number c.args.querier) c.args.options.now.settings c.args.options.now.terms _ input
+    old mid new r c.in_ok-config.ensures
+    (subst (λ (f : CheckFault). Checks c.in_ok-config.config c.args.options.now.terms input.old input.new old.held mid (Err f))
+    c.in-Err-Pcap.field-0-is c.in-Err-Pcap.ensures.checks) refl c.in_ok-flush-in-Err-Pcap.ensures.bytes in
     (λ e. absurd (omega (arith, e)), λ e. ((c.in_ok-_end.ensures.1, c.in_ok-config.ensures.0), (search rules, flushed)))
 
 pub returns-in_ok-flush-in-Err-Gap-clause-works : goal.returns-in_ok-flush-in-Err-Gap-clause-works
@@ -84,7 +110,10 @@ returns-in_ok-flush-in-Err-Gap-clause-works g c =
     let mid = g.W.Write.contents (inner_of c.check.new.writer) in
     let new = output_of g.W.Write.contents c.flush-in-Err-Gap.new.output in
     let r = Err (answer.Gap c.in-Err-Gap.number) in
-    let flushed = flushed_check g.F.Family.FAMILY (g.F.Address.Key.number c.args.querier) c.args.options.now.settings c.args.options.now.terms _ input old mid new r c.in_ok-config.ensures (subst (λ (f : CheckFault). Checks c.in_ok-config.config c.args.options.now.terms input.old input.new old.held mid (Err f)) c.in-Err-Gap.field-0-is c.in-Err-Gap.ensures.checks) refl c.in_ok-flush-in-Err-Gap.ensures.bytes in
+    let flushed = flushed_check g.F.Family.FAMILY (g.F.Address.Key.number c.args.querier) c.args.options.now.settings c.args.options.now.terms _ input
+    old mid new r c.in_ok-config.ensures
+    (subst (λ (f : CheckFault). Checks c.in_ok-config.config c.args.options.now.terms input.old input.new old.held mid (Err f))
+    c.in-Err-Gap.field-0-is c.in-Err-Gap.ensures.checks) refl c.in_ok-flush-in-Err-Gap.ensures.bytes in
     (λ e. absurd (omega (arith, e)), λ e. ((c.in_ok-_end.ensures.1, c.in_ok-config.ensures.0), (search rules, flushed)))
 
 pub returns-in_ok-flush-in-Err-Waiting-clause-works : goal.returns-in_ok-flush-in-Err-Waiting-clause-works
@@ -94,5 +123,8 @@ returns-in_ok-flush-in-Err-Waiting-clause-works g c =
     let mid = g.W.Write.contents (inner_of c.check.new.writer) in
     let new = output_of g.W.Write.contents c.flush-in-Err-Waiting.new.output in
     let r = Err (answer.Waiting c.in-Err-Waiting.number) in
-    let flushed = flushed_check g.F.Family.FAMILY (g.F.Address.Key.number c.args.querier) c.args.options.now.settings c.args.options.now.terms _ input old mid new r c.in_ok-config.ensures (subst (λ (f : CheckFault). Checks c.in_ok-config.config c.args.options.now.terms input.old input.new old.held mid (Err f)) c.in-Err-Waiting.field-0-is c.in-Err-Waiting.ensures.checks) refl c.in_ok-flush-in-Err-Waiting.ensures.bytes in
+    let flushed = flushed_check g.F.Family.FAMILY (g.F.Address.Key.number c.args.querier) c.args.options.now.settings c.args.options.now.terms _ input
+    old mid new r c.in_ok-config.ensures
+    (subst (λ (f : CheckFault). Checks c.in_ok-config.config c.args.options.now.terms input.old input.new old.held mid (Err f))
+    c.in-Err-Waiting.field-0-is c.in-Err-Waiting.ensures.checks) refl c.in_ok-flush-in-Err-Waiting.ensures.bytes in
     (λ e. absurd (omega (arith, e)), λ e. ((c.in_ok-_end.ensures.1, c.in_ok-config.ensures.0), (search rules, flushed)))

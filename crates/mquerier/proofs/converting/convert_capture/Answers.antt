@@ -21,12 +21,14 @@ pub returns-in_err-flush-in-Err-Read-clause-works : goal.returns-in_err-flush-in
 returns-in_err-flush-in-Err-Read-clause-works g c =
     let p = err_from_is_err_and c.from_residual-in_err-flush-in-Err-Read.result c.from_residual-in_err-flush-in-Err-Read.ensures.1 in
     let r = Err answer.Read in
-    let kept = converted_kept _ _ _ _ _ _ r (λ e. absurd (cc e)) (rw c.in-Err-Read.field-0-is at c.in-Err-Read.ensures.converts) c.in_err-flush-in-Err-Read.ensures.bytes in
+    let kept = converted_kept _ _ _ _ _ _ r (λ e. absurd (cc e))
+    (rw c.in-Err-Read.field-0-is at c.in-Err-Read.ensures.converts) c.in_err-flush-in-Err-Read.ensures.bytes in
     rw (p.1, p.2, c.in_err-flush-in-Err-Read.ensures.write) (c.in_err-flush-in-Err-Read.ensures.failed ∙ or-true _, r, λ e. absurd (cc e), kept)
 
 pub returns-in_err-flush-in-Err-Block-clause-works : goal.returns-in_err-flush-in-Err-Block-clause-works
 returns-in_err-flush-in-Err-Block-clause-works g c =
     let p = err_from_is_err_and c.from_residual-in_err-flush-in-Err-Block.result c.from_residual-in_err-flush-in-Err-Block.ensures.1 in
     let r = Err (answer.Block c.in-Err-Block.number c.in-Err-Block.fault) in
-    let kept = converted_kept _ _ _ _ _ _ r (λ e. absurd (cc e)) (rw c.in-Err-Block.field-0-is at c.in-Err-Block.ensures.converts) c.in_err-flush-in-Err-Block.ensures.bytes in
+    let kept = converted_kept _ _ _ _ _ _ r (λ e. absurd (cc e))
+    (rw c.in-Err-Block.field-0-is at c.in-Err-Block.ensures.converts) c.in_err-flush-in-Err-Block.ensures.bytes in
     rw (p.1, p.2, c.in_err-flush-in-Err-Block.ensures.write) (c.in_err-flush-in-Err-Block.ensures.failed ∙ or-true _, r, λ e. absurd (cc e), kept)

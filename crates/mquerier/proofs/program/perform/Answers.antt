@@ -12,7 +12,8 @@ returns-in-Convert-clause-performs g c =
     let input = input_by g.R.Read.remaining c.args.input.now c.perform_conversion.new.input in
     let output = output_by g.W.Write.contents c.args.console.now.output c.perform_conversion.new.console.output in
     let errors = output_by g.E.Write.contents c.args.console.now.errors c.perform_conversion.new.console.errors in
-    let performs = subst (λ (choice : Choice). PerformsConversion choice c.args.console.now.in_words input output errors c.perform_conversion.result) c.choice_of-choice.ensures c.perform_conversion.ensures.performs in
+    let performs = subst (λ (choice : Choice). PerformsConversion choice c.args.console.now.in_words input output errors c.perform_conversion.result)
+    c.choice_of-choice.ensures c.perform_conversion.ensures.performs in
     rw c.in-Convert.is (conversion_performed _ _ _ _ _ input output errors c.perform_conversion.result performs)
 
 pub returns-in-Check-clause-performs : goal.returns-in-Check-clause-performs
@@ -20,5 +21,7 @@ returns-in-Check-clause-performs g c =
     let input = input_by g.R.Read.remaining c.args.input.now c.perform_check.new.input in
     let output = output_by g.W.Write.contents c.args.console.now.output c.perform_check.new.console.output in
     let errors = output_by g.E.Write.contents c.args.console.now.errors c.perform_check.new.console.errors in
-    let performs = subst (λ (terms : CheckTerms). PerformsCheck (record { protocol = c.in-Check.protocol; settings = c.in-Check.settings; terms = terms }) c.in-Check.querier.now c.args.console.now.in_words input output errors c.perform_check.result) c.terms_of.ensures c.perform_check.ensures.performs in
+    let performs = subst
+    (λ (terms : CheckTerms). PerformsCheck (record { protocol = c.in-Check.protocol; settings = c.in-Check.settings; terms = terms })
+    c.in-Check.querier.now c.args.console.now.in_words input output errors c.perform_check.result) c.terms_of.ensures c.perform_check.ensures.performs in
     rw c.in-Check.is (check_performed _ _ _ _ _ _ _ _ _ _ input output errors c.perform_check.result performs)

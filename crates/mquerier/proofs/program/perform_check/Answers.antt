@@ -21,4 +21,5 @@ returns-in-Err-clause-performs g c =
     let input = input_by g.R.Read.remaining c.args.input.now c.check_capture.new.input in
     let output = output_by g.W.Write.contents c.args.console.now.output c.check_capture.new.output in
     let errors = output_by g.E.Write.contents c.args.console.now.errors c.told.new.errors in
-    check_failed c.args.options.now _ c.args.console.now.in_words input output errors _ _ c.in-Err.ensures.works (λ none. rw (c.in-Err.ensures.unread none) refl) (λ none. rw (c.in-Err.ensures.unwritten none) refl) c.told.ensures.status c.told.ensures.line
+    check_failed c.args.options.now _ c.args.console.now.in_words input output errors _ _ c.in-Err.ensures.works
+    (λ none. rw (c.in-Err.ensures.unread none) refl) (λ none. rw (c.in-Err.ensures.unwritten none) refl) c.told.ensures.status c.told.ensures.line

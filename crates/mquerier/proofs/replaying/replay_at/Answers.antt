@@ -18,8 +18,13 @@ returns-in_err-flush-in-Ok-clause-works g c =
     let mid = g.W.Write.contents (inner_of c.replay.new.writer) in
     let new = output_of g.W.Write.contents c.flush.new.output in
     let r = Ok c.in-Ok._counts in
-    let flushed = flushed_at g.F.Family.FAMILY (g.F.Address.Key.number c.args.own) c.args.options.now.settings c.args.options.now.until _ c.args.options.now.changes _ input old mid new r c.in_ok-end.ensures c.in_ok-config.ensures c.in-Ok.ensures.replays (λ e. absurd (cc e)) c.in_err-flush-in-Ok.ensures.bytes in
-    rw (p.1, p.2, c.in_err-flush-in-Ok.ensures.write) (λ e. absurd (omega (arith, e)), λ e. ((c.in_ok-end.ensures.1, c.in_ok-config.ensures.0), (c.in_err-flush-in-Ok.ensures.failed ∙ or-true _, r, λ e. absurd (cc e), flushed)))
+    let flushed = flushed_at g.F.Family.FAMILY (g.F.Address.Key.number c.args.own) c.args.options.now.settings c.args.options.now.until _
+    c.args.options.now.changes _ input old mid new r c.in_ok-end.ensures c.in_ok-config.ensures c.in-Ok.ensures.replays
+    (λ e. absurd (cc e)) c.in_err-flush-in-Ok.ensures.bytes in
+    rw (p.1, p.2, c.in_err-flush-in-Ok.ensures.write) (
+      λ e. absurd (omega (arith, e)),
+      λ e. ((c.in_ok-end.ensures.1, c.in_ok-config.ensures.0), (c.in_err-flush-in-Ok.ensures.failed ∙ or-true _, r, λ e. absurd (cc e), flushed)),
+    )
 
 pub returns-in_err-flush-in-Err-Pcap-clause-works : goal.returns-in_err-flush-in-Err-Pcap-clause-works
 returns-in_err-flush-in-Err-Pcap-clause-works g c =
@@ -29,8 +34,14 @@ returns-in_err-flush-in-Err-Pcap-clause-works g c =
     let mid = g.W.Write.contents (inner_of c.replay.new.writer) in
     let new = output_of g.W.Write.contents c.flush-in-Err-Pcap.new.output in
     let r = Err (answer.Pcap c.in-Err-Pcap.fault) in
-    let flushed = flushed_at g.F.Family.FAMILY (g.F.Address.Key.number c.args.own) c.args.options.now.settings c.args.options.now.until _ c.args.options.now.changes _ input old mid new r c.in_ok-end.ensures c.in_ok-config.ensures (subst (λ (f : ReplayFault). Replays c.in_ok-config.config (record { until = c.in_ok-end.end; changes = c.args.options.now.changes }) input.old input.new old.held mid (Err f)) c.in-Err-Pcap.field-0-is c.in-Err-Pcap.ensures.replays) (λ e. absurd (cc e)) c.in_err-flush-in-Err-Pcap.ensures.bytes in
-    rw (p.1, p.2, c.in_err-flush-in-Err-Pcap.ensures.write) (λ e. absurd (omega (arith, e)), λ e. ((c.in_ok-end.ensures.1, c.in_ok-config.ensures.0), (c.in_err-flush-in-Err-Pcap.ensures.failed ∙ or-true _, r, λ e. absurd (cc e), flushed)))
+    let flushed = flushed_at g.F.Family.FAMILY (g.F.Address.Key.number c.args.own) c.args.options.now.settings c.args.options.now.until _
+    c.args.options.now.changes _ input old mid new r c.in_ok-end.ensures c.in_ok-config.ensures
+    (subst (λ (f : ReplayFault). Replays c.in_ok-config.config (record { until = c.in_ok-end.end; changes = c.args.options.now.changes }) input.old
+    input.new old.held mid (Err f)) c.in-Err-Pcap.field-0-is c.in-Err-Pcap.ensures.replays) (λ e. absurd (cc e)) c.in_err-flush-in-Err-Pcap.ensures.bytes in
+    rw (p.1, p.2, c.in_err-flush-in-Err-Pcap.ensures.write) (
+      λ e. absurd (omega (arith, e)),
+      λ e. ((c.in_ok-end.ensures.1, c.in_ok-config.ensures.0), (c.in_err-flush-in-Err-Pcap.ensures.failed ∙ or-true _, r, λ e. absurd (cc e), flushed)),
+    )
 
 pub returns-in_err-flush-in-Err-Gap-clause-works : goal.returns-in_err-flush-in-Err-Gap-clause-works
 returns-in_err-flush-in-Err-Gap-clause-works g c =
@@ -40,8 +51,14 @@ returns-in_err-flush-in-Err-Gap-clause-works g c =
     let mid = g.W.Write.contents (inner_of c.replay.new.writer) in
     let new = output_of g.W.Write.contents c.flush-in-Err-Gap.new.output in
     let r = Err (answer.Gap c.in-Err-Gap.number) in
-    let flushed = flushed_at g.F.Family.FAMILY (g.F.Address.Key.number c.args.own) c.args.options.now.settings c.args.options.now.until _ c.args.options.now.changes _ input old mid new r c.in_ok-end.ensures c.in_ok-config.ensures (subst (λ (f : ReplayFault). Replays c.in_ok-config.config (record { until = c.in_ok-end.end; changes = c.args.options.now.changes }) input.old input.new old.held mid (Err f)) c.in-Err-Gap.field-0-is c.in-Err-Gap.ensures.replays) (λ e. absurd (cc e)) c.in_err-flush-in-Err-Gap.ensures.bytes in
-    rw (p.1, p.2, c.in_err-flush-in-Err-Gap.ensures.write) (λ e. absurd (omega (arith, e)), λ e. ((c.in_ok-end.ensures.1, c.in_ok-config.ensures.0), (c.in_err-flush-in-Err-Gap.ensures.failed ∙ or-true _, r, λ e. absurd (cc e), flushed)))
+    let flushed = flushed_at g.F.Family.FAMILY (g.F.Address.Key.number c.args.own) c.args.options.now.settings c.args.options.now.until _
+    c.args.options.now.changes _ input old mid new r c.in_ok-end.ensures c.in_ok-config.ensures
+    (subst (λ (f : ReplayFault). Replays c.in_ok-config.config (record { until = c.in_ok-end.end; changes = c.args.options.now.changes }) input.old
+    input.new old.held mid (Err f)) c.in-Err-Gap.field-0-is c.in-Err-Gap.ensures.replays) (λ e. absurd (cc e)) c.in_err-flush-in-Err-Gap.ensures.bytes in
+    rw (p.1, p.2, c.in_err-flush-in-Err-Gap.ensures.write) (
+      λ e. absurd (omega (arith, e)),
+      λ e. ((c.in_ok-end.ensures.1, c.in_ok-config.ensures.0), (c.in_err-flush-in-Err-Gap.ensures.failed ∙ or-true _, r, λ e. absurd (cc e), flushed)),
+    )
 
 pub returns-in_ok-flush-in-Ok-clause-works : goal.returns-in_ok-flush-in-Ok-clause-works
 returns-in_ok-flush-in-Ok-clause-works g c =
@@ -50,7 +67,9 @@ returns-in_ok-flush-in-Ok-clause-works g c =
     let mid = g.W.Write.contents (inner_of c.replay.new.writer) in
     let new = output_of g.W.Write.contents c.flush.new.output in
     let r = Ok c.in-Ok._counts in
-    let flushed = flushed_at g.F.Family.FAMILY (g.F.Address.Key.number c.args.own) c.args.options.now.settings c.args.options.now.until _ c.args.options.now.changes _ input old mid new r c.in_ok-end.ensures c.in_ok-config.ensures c.in-Ok.ensures.replays (λ e. absurd (cc e)) c.in_ok-flush-in-Ok.ensures.bytes in
+    let flushed = flushed_at g.F.Family.FAMILY (g.F.Address.Key.number c.args.own) c.args.options.now.settings c.args.options.now.until _
+    c.args.options.now.changes _ input old mid new r c.in_ok-end.ensures c.in_ok-config.ensures c.in-Ok.ensures.replays
+    (λ e. absurd (cc e)) c.in_ok-flush-in-Ok.ensures.bytes in
     ((c.in_ok-end.ensures.1, c.in_ok-config.ensures.0), refl, search rules, c.in-Ok._counts, flushed)
 
 pub returns-in_ok-flush-in-Err-Pcap-clause-works : goal.returns-in_ok-flush-in-Err-Pcap-clause-works
@@ -60,5 +79,8 @@ returns-in_ok-flush-in-Err-Pcap-clause-works g c =
     let mid = g.W.Write.contents (inner_of c.replay.new.writer) in
     let new = output_of g.W.Write.contents c.flush-in-Err-Pcap.new.output in
     let r = Err (answer.Pcap c.in-Err-Pcap.fault) in
-    let flushed = flushed_at g.F.Family.FAMILY (g.F.Address.Key.number c.args.own) c.args.options.now.settings c.args.options.now.until _ c.args.options.now.changes _ input old mid new r c.in_ok-end.ensures c.in_ok-config.ensures (subst (λ (f : ReplayFault). Replays c.in_ok-config.config (record { until = c.in_ok-end.end; changes = c.args.options.now.changes }) input.old input.new old.held mid (Err f)) c.in-Err-Pcap.field-0-is c.in-Err-Pcap.ensures.replays) (λ e. absurd (cc e)) c.in_ok-flush-in-Err-Pcap.ensures.bytes in
+    let flushed = flushed_at g.F.Family.FAMILY (g.F.Address.Key.number c.args.own) c.args.options.now.settings c.args.options.now.until _
+    c.args.options.now.changes _ input old mid new r c.in_ok-end.ensures c.in_ok-config.ensures
+    (subst (λ (f : ReplayFault). Replays c.in_ok-config.config (record { until = c.in_ok-end.end; changes = c.args.options.now.changes }) input.old
+    input.new old.held mid (Err f)) c.in-Err-Pcap.field-0-is c.in-Err-Pcap.ensures.replays) (λ e. absurd (cc e)) c.in_ok-flush-in-Err-Pcap.ensures.bytes in
     (λ e. absurd (omega (arith, e)), λ e. ((c.in_ok-end.ensures.1, c.in_ok-config.ensures.0), (search rules, flushed)))

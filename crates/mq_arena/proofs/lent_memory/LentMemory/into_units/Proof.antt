@@ -26,7 +26,8 @@ use mir.Syntax.{Fn, static}
 use mir.Val.{Val, vint, vstruct, vcons, vnil, of_list}
 use prog.Wp.{Env, WpFn}
 use types.ByLocal.{alloc_all, pass_all, free_all, look_at, get, get_in, sets, sets_last, env}
-use types.Kit.{‵, raw, ◌⊛◌, prop, at_ret, ◌$◌, ◌∵◌, !, qed, by, move, keep, drop, use0, use1, use2, split, rewrite, regoal, fsplit, fjoin, fpick, fpack, feq_l, feq_i}
+use types.Kit.{‵, raw, ◌⊛◌, prop, at_ret, ◌$◌, ◌∵◌, !, qed, by, move, keep, drop, use0, use1, use2, split, rewrite, regoal, fsplit, fjoin, fpick}
+use types.Kit.{fpack, feq_l, feq_i}
 use types.Part.{whole, sub, agg}
 use types.Run.{stop, fld, of_opd, no_more, and_then, first, blocks, exec, returns, enter}
 use types.SemTy.{Arr, cells}
@@ -52,7 +53,8 @@ stayed = (stay_dropped self yes, tt)
 abbrev pair : Ptr → ℕ → Val
 pair p n = vstruct (vcons (ptr_val p) (vcons (vint w64 n) vnil))
 
-told_of : (p : Ptr) (n : ℕ) (vs : List Val) → shadow ((Struct (record { name = []; args = []; types = []; fields = RawPtr ∷ usize ∷ [] })).own_val (p, (n, tt)) vs) → (vs ≡ pair p n ∷ []) × (n < 2 ^ 64)
+told_of : (p : Ptr) (n : ℕ) (vs : List Val) →
+    shadow ((Struct (record { name = []; args = []; types = []; fields = RawPtr ∷ usize ∷ [] })).own_val (p, (n, tt)) vs) → (vs ≡ pair p n ∷ []) × (n < 2 ^ 64)
 told_of p n vs s = (s.1.0 ∙ (λ i. vstruct (of_list (s.1.1.0 i ++ (s.1.1.1.0.0 i ++ []))) ∷ []), s.1.1.1.0.1)
 
 pub into_units_spec : {M : Type 1} → statement M
@@ -71,8 +73,10 @@ into_units_spec 𝓤 𝓛 𝓜 𝓡 wired =
     let told = told_of x.first n vss.0 are.0.0 in
     let fits = told.1 in
     let small = x.small in
-    qed 𝓛 ((raw (alive 𝓛 ended.signature z.0.0 z.0.1) ⊛ ‵ (owns (types_at ended.signature.params z.0.0) a vss)) ∷ ‵ ftrue ∷ []) ∵ move ! (1 ∷ []) $ drop ! $ split ! $ move ! (1 ∷ []) $
-    fsplit ! $ fsplit ! $ drop ! $ move ! (1 ∷ []) $ drop ! $ fpick ! (λ xs. in_a_block ! x.first (λ p. lies_at (Array u128 n) full_share p xs) (id⊢ 𝓤 _) (λ b o at.
+    qed 𝓛 ((raw (alive 𝓛 ended.signature z.0.0 z.0.1) ⊛ ‵ (owns (types_at ended.signature.params z.0.0) a vss)) ∷ ‵ ftrue ∷ []) ∵ move !
+    (1 ∷ []) $ drop ! $ split ! $ move ! (1 ∷ []) $
+    fsplit ! $ fsplit ! $ drop ! $ move ! (1 ∷ []) $ drop ! $ fpick !
+    (λ xs. in_a_block ! x.first (λ p. lies_at (Array u128 n) full_share p xs) (id⊢ 𝓤 _) (λ b o at.
     use1 𝓛 (‵ ((arr_parts (shares u128) n).part full_share xs b o)) (Array-apart 𝓛 u128 full_share tt n xs b o) $ fsplit ! $ feq_l ! (λ e.
     use1 𝓛 (‵ (cells (mem u128) xs b o)) (whole_in 𝓛 u128 xs b o) $
     regoal ! (λ (us : List Val). prop (WpFn 𝓤 H C Λ fn us Post)) (λ i. (told.0 ∙ ap (λ (p : Ptr). pair p n ∷ []) at) i ++ []) refl $

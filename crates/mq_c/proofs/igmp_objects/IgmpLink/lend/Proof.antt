@@ -14,4 +14,5 @@ use Rattle.mq_c.proofs.igmp_objects.IgmpLink.lend.Code as code
 pub lend_spec : {M : Type 1} → statement M
 lend_spec 𝓤 𝓛 𝓜 𝓡 wired =
     lend_meets igmp_row igmp_link (λ d. d.kept) tt (λ d w. record d { kept = w }) (λ d w. refl) (λ d w. refl) 𝓤 𝓛 𝓜 𝓡 f.Key.name (f.clauses 𝓛 𝓜.mem 𝓡.returns)
-    (λ κs a g r e is. qed 𝓛 (‵ (follows the_row igmp_row a.0.ghost_name r.ghost_name (λ w. record a.0.now { kept = w })) ∷ []) ∵ says ! is $ done !) (code.unfolded 𝓤 𝓛.H 𝓜 𝓡 wired)
+    (λ κs a g r e is. qed 𝓛 (‵ (follows the_row igmp_row a.0.ghost_name r.ghost_name (λ w. record a.0.now { kept = w })) ∷ []) ∵ says ! is $ done !)
+    (code.unfolded 𝓤 𝓛.H 𝓜 𝓡 wired)

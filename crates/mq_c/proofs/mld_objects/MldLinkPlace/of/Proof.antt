@@ -12,5 +12,6 @@ use Rattle.mq_c.proofs.mld_objects.MldLinkPlace.of.Code as code
 
 pub of_spec : {M : Type 1} → statement M
 of_spec 𝓤 𝓛 𝓜 𝓡 wired =
-    stay_meets mld_row mld_link_place the_heap (λ p v. record { at = p; kept = Some v }) (λ p v. refl) (λ p v. refl) tt 𝓤 𝓛 𝓜 𝓡 f.Key.name (f.clauses 𝓛 𝓜.mem 𝓡.returns)
+    stay_meets mld_row mld_link_place the_heap (λ p v. record { at = p; kept = Some v }) (λ p v. refl) (λ p v. refl) tt 𝓤 𝓛 𝓜 𝓡 f.Key.name
+    (f.clauses 𝓛 𝓜.mem 𝓡.returns)
     (λ κs a g e. fact_i 𝓤 (Some a.0.now ≡ Some a.0.now) (emp 𝓤) refl) (code.unfolded 𝓤 𝓛.H 𝓜 𝓡 wired)

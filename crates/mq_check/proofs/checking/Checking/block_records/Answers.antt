@@ -9,7 +9,8 @@ use Rattle.mq_check.proofs.checking.Checking.block_records.Goals as goal
 
 pub loop-view-init : goal.loop-view-init
 loop-view-init g c =
-    ap (λ (xs : List (RecordView _)). all_blocked c.args.moment (flat_map blocked_by xs) c.args.self.now) (sym c.into_iter-view-iterator.ensures.into_iter_gives)
+    ap (λ (xs : List (RecordView _)). all_blocked c.args.moment (flat_map blocked_by xs) c.args.self.now)
+    (sym c.into_iter-view-iterator.ensures.into_iter_gives)
 
 pub loop-view-preserved : goal.loop-view-preserved
 loop-view-preserved g c =

@@ -7,7 +7,8 @@ use Rattle.mq_check.proofs.checking.Checking.block_sources.Goals as goal
 pub loop-source-init : goal.loop-source-init
 loop-source-init g c =
     let number = g.F.Address.Key.number in
-    ap (λ (xs : List ℕ). all_blocked c.args.moment (list_map (Source (number c.args.group)) xs) c.args.self.now) (sym c.into_iter-source-iterator.ensures.into_iter_gives)
+    ap (λ (xs : List ℕ). all_blocked c.args.moment (list_map (Source (number c.args.group)) xs) c.args.self.now)
+    (sym c.into_iter-source-iterator.ensures.into_iter_gives)
 
 pub loop-source-preserved : goal.loop-source-preserved
 loop-source-preserved g c =

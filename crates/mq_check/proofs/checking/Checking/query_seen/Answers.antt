@@ -11,7 +11,9 @@ pub returns-then-is_general : goal.returns-then-is_general
 returns-then-is_general g c =
     let is_config = c.config-config.ensures in
     let family = g.met.F.CapturedFamily.same_family ∙ sym c.is_faultless.ensures.family ∙ ap (λ (k : Configuration). k.family) is_config in
-    let terms = c.terms_of-terms.ensures ∙ ap (λ (f : Family). terms_of f c.args.packet (g.F.Address.Key.number c.args.to) (numbered_query g.F.Address.Key.number c.args.query.now)) family in
+    let terms = c.terms_of-terms.ensures ∙
+    ap (λ (f : Family). terms_of f c.args.packet.number (g.F.Address.Key.number c.args.packet.to)
+    (numbered_query g.F.Address.Key.number c.args.query.now)) family in
     let wanted = c.general_terms-wanted.ensures ∙ (λ i. general_terms (is_config i) (c.timing-in_force.ensures i)) in
     let configured = c.timing-configured.ensures ∙ ap (λ (k : Configuration). k.timing) is_config in
     general_came _ _ _ _ _ _ _ _ _ _ _ _ (sym c.is_general.ensures ∙ c.if-is_general.true) terms wanted configured c.see_general.ensures
@@ -20,7 +22,10 @@ pub returns : goal.returns
 returns g c =
     let is_config = c.config-config.ensures in
     let family = g.met.F.CapturedFamily.same_family ∙ sym c.is_faultless.ensures.family ∙ ap (λ (k : Configuration). k.family) is_config in
-    let terms = c.terms_of-terms.ensures ∙ ap (λ (f : Family). terms_of f c.args.packet (g.F.Address.Key.number c.args.to) (numbered_query g.F.Address.Key.number c.args.query.now)) family in
-    let wanted = c.specific_terms-wanted.ensures ∙ (λ i. specific_terms (is_config i) (c.timing-in_force.ensures i) (numbered_query g.F.Address.Key.number c.args.query.now)) in
+    let terms = c.terms_of-terms.ensures ∙
+    ap (λ (f : Family). terms_of f c.args.packet.number (g.F.Address.Key.number c.args.packet.to)
+    (numbered_query g.F.Address.Key.number c.args.query.now)) family in
+    let wanted = c.specific_terms-wanted.ensures ∙
+    (λ i. specific_terms (is_config i) (c.timing-in_force.ensures i) (numbered_query g.F.Address.Key.number c.args.query.now)) in
     let named = sym c.is_faultless.ensures.family ∙ ap (λ (k : Configuration). k.family) is_config in
     specific_came _ _ _ _ _ _ _ _ _ _ _ _ _ (sym c.is_general.ensures ∙ c.if-is_general.false) named terms wanted c.moment.ensures.same c.see_specific.ensures

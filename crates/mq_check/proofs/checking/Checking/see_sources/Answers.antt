@@ -10,7 +10,10 @@ use Rattle.mq_check.proofs.checking.Checking.see_sources.Goals as goal
 pub loop-source-init : goal.loop-source-init
 loop-source-init g c =
     let number = g.F.Address.Key.number in
-    ap (λ (xs : List ℕ). fold (one_seen c.args.moment (numbered_terms number c.args.terms) (unheld g.F.Family.FAMILY c.args.link.now.state.groups (numbered_terms number c.args.wanted))) c.args.self.now (list_map (Source (number c.args.group)) xs)) (sym c.into_iter-source-iterator.ensures.into_iter_gives)
+    ap (λ (xs : List ℕ). fold
+    (one_seen c.args.seen.moment (numbered_terms number c.args.seen.terms)
+    (unheld g.F.Family.FAMILY c.args.link.now.state.groups (numbered_terms number c.args.seen.wanted))) c.args.self.now
+    (list_map (Source (number c.args.group)) xs)) (sym c.into_iter-source-iterator.ensures.into_iter_gives)
 
 pub loop-source-preserved : goal.loop-source-preserved
 loop-source-preserved g c =
@@ -18,6 +21,12 @@ loop-source-preserved g c =
     let rest = list_map (Source (number c.args.group)) c.next.new.self in
     let asked = Source (number c.args.group) (number c.in-Some.source) in
     c.loop-source.invariant
-    ∙ ap (λ (xs : List ℕ). fold (one_seen c.args.moment (numbered_terms number c.args.terms) (unheld g.F.Family.FAMILY c.args.link.now.state.groups (numbered_terms number c.args.wanted))) c.loop-source.self (list_map (Source (number c.args.group)) xs)) c.in-Some.ensures.steps
-    ∙ ap (λ (v : CheckingValue). fold (one_seen c.args.moment (numbered_terms number c.args.terms) (unheld g.F.Family.FAMILY c.args.link.now.state.groups (numbered_terms number c.args.wanted))) v rest)
-    (ap (λ (held : Option (Terms ℕ)). with_seen c.args.moment (numbered_terms number c.args.terms) held c.loop-source.self asked) (sym c.unheld-held.ensures) ∙ sym c.see.ensures)
+    ∙ ap (λ (xs : List ℕ). fold
+    (one_seen c.args.seen.moment (numbered_terms number c.args.seen.terms)
+    (unheld g.F.Family.FAMILY c.args.link.now.state.groups (numbered_terms number c.args.seen.wanted))) c.loop-source.self
+    (list_map (Source (number c.args.group)) xs)) c.in-Some.ensures.steps
+    ∙ ap (λ (v : CheckingValue). fold
+    (one_seen c.args.seen.moment (numbered_terms number c.args.seen.terms)
+    (unheld g.F.Family.FAMILY c.args.link.now.state.groups (numbered_terms number c.args.seen.wanted))) v rest)
+    (ap (λ (held : Option (Terms ℕ)). with_seen c.args.seen.moment (numbered_terms number c.args.seen.terms) held c.loop-source.self asked)
+    (sym c.unheld-held.ensures) ∙ sym c.see.ensures)

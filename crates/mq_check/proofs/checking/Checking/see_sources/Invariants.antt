@@ -10,5 +10,7 @@ use Rattle.mq_check.proofs.checking.Checking.see_sources.Given as goal
 abbrev pub invariant-loop-source : goal.invariant-loop-source
 invariant-loop-source g l =
     let number = g.F.Address.Key.number in
-    fold (one_seen l.moment (numbered_terms number l.terms) (unheld g.F.Family.FAMILY l.fn.link.state.groups (numbered_terms number l.wanted))) l.fn.self (list_map (Source (number l.group)) l.fn.sources)
-    ≡ fold (one_seen l.moment (numbered_terms number l.terms) (unheld g.F.Family.FAMILY l.fn.link.state.groups (numbered_terms number l.wanted))) l.self (list_map (Source (number l.group)) l.source-iterator)
+    fold (one_seen l.seen.moment (numbered_terms number l.seen.terms)
+    (unheld g.F.Family.FAMILY l.fn.link.state.groups (numbered_terms number l.seen.wanted))) l.fn.self (list_map (Source (number l.group)) l.fn.sources)
+    ≡ fold (one_seen l.seen.moment (numbered_terms number l.seen.terms)
+    (unheld g.F.Family.FAMILY l.fn.link.state.groups (numbered_terms number l.seen.wanted))) l.self (list_map (Source (number l.group)) l.source-iterator)

@@ -13,7 +13,9 @@ returns-in_err-settle-clause-comes g c =
     rw p.1 (record {
       same_config = refl;
       checked = tt;
-      tells = broken_as _ _ _ _ _ _ _ _ (tells_as _ _ _ _ _ _ _ _ (ap (λ (m : ℕ). told c.args.self.now.terms.within m c.args.self.now.queries.checking) c.moment-now.ensures.same) c.in_err-settle.ensures.tells);
+      tells = broken_as _ _ _ _ _ _ _ _
+          (tells_as _ _ _ _ _ _ _ _ (ap (λ (m : ℕ). told c.args.self.now.terms.within m c.args.self.now.queries.checking) c.moment-now.ensures.same)
+          c.in_err-settle.ensures.tells);
     })
 
 -- the headers, behind what is over
@@ -23,9 +25,15 @@ returns-in_default-clause-comes g c =
     let settles = c.in_ok-settle.ensures.settled in
     record {
       same_config = c.receive.ensures.config;
-      checked = received_comes c.args.self.now.link.config c.config-3.result.now c.args.packet.now.link c.args.self.now.terms.within c.args.packet.now.moment c.moment-now.result c.args.packet.now.number c.args.packet.now.frame.now _ c.args.self.now.link c.receive.new.self.link c.args.self.now.queries c.see_headers.new.queries c.receive.new.self.queries
-          c.in_default.ensures c.config-3.ensures c.moment-now.ensures.same (headers_left _ _ _ _ _ _ _ _ _ _ (c.config-2.ensures ∙ sym c.config-3.ensures) settles looks) (ap (λ (w : WantingValue). w.basis) c.see_headers.ensures ∙ c.in_ok-settle.ensures.basis) c.receive.ensures.receives;
-      tells = rw c.receive.ensures.told (tells_as _ _ _ _ _ _ _ _ (ap (λ (m : ℕ). told c.args.self.now.terms.within m c.args.self.now.queries.checking) c.moment-now.ensures.same) c.in_ok-settle.ensures.tells);
+      checked = received_comes c.args.self.now.link.config c.config-3.result.now c.args.packet.now.link c.args.self.now.terms.within
+          c.args.packet.now.moment c.moment-now.result c.args.packet.now.number c.args.packet.now.frame.now _ c.args.self.now.link
+          c.receive.new.self.link c.args.self.now.queries c.see_headers.new.queries c.receive.new.self.queries
+          c.in_default.ensures c.config-3.ensures c.moment-now.ensures.same
+          (headers_left _ _ _ _ _ _ _ _ _ _ (c.config-2.ensures ∙ sym c.config-3.ensures) settles looks)
+          (ap (λ (w : WantingValue). w.basis) c.see_headers.ensures ∙ c.in_ok-settle.ensures.basis) c.receive.ensures.receives;
+      tells = rw c.receive.ensures.told
+          (tells_as _ _ _ _ _ _ _ _ (ap (λ (m : ℕ). told c.args.self.now.terms.within m c.args.self.now.queries.checking) c.moment-now.ensures.same)
+          c.in_ok-settle.ensures.tells);
     }
 
 pub returns-clause-comes : goal.returns-clause-comes
@@ -35,9 +43,14 @@ returns-clause-comes g c =
     let settles = c.in_ok-settle.ensures.settled in
     record {
       same_config = refl;
-      checked = seen_comes c.args.self.now.link.config c.config-3.result.now c.args.self.now.link.config c.args.packet.now.link c.args.self.now.terms.within c.args.packet.now.moment c.moment-now.result c.args.packet.now.number _ c.args.packet.now.frame.now _ _ g.F.Family.FAMILY c.args.self.now.link c.args.self.now.queries c.see_headers.new.queries c.see.new.self
-          c.in-Some.ensures c.config-3.ensures c.moment-now.ensures.same (headers_left _ _ _ _ _ _ _ _ _ _ (c.config-2.ensures ∙ sym c.config-3.ensures) settles looks)
+      checked = seen_comes c.args.self.now.link.config c.config-3.result.now c.args.self.now.link.config c.args.packet.now.link
+          c.args.self.now.terms.within c.args.packet.now.moment c.moment-now.result c.args.packet.now.number _ c.args.packet.now.frame.now _ _
+          g.F.Family.FAMILY c.args.self.now.link c.args.self.now.queries c.see_headers.new.queries c.see.new.self
+          c.in-Some.ensures c.config-3.ensures c.moment-now.ensures.same
+          (headers_left _ _ _ _ _ _ _ _ _ _ (c.config-2.ensures ∙ sym c.config-3.ensures) settles looks)
           (ap (λ (w : WantingValue). w.basis) c.see_headers.ensures ∙ c.in_ok-settle.ensures.basis)
-          (ap (λ (w : WantingValue). w.basis) c.see.ensures ∙ ap (λ (w : WantingValue). w.basis) c.see_headers.ensures ∙ c.in_ok-settle.ensures.basis) (ap (λ (w : WantingValue). w.checking) c.see.ensures) refl c.destination-to.ensures family;
-      tells = tells_as _ _ _ _ _ _ _ _ (ap (λ (m : ℕ). told c.args.self.now.terms.within m c.args.self.now.queries.checking) c.moment-now.ensures.same) c.in_ok-settle.ensures.tells;
+          (ap (λ (w : WantingValue). w.basis) c.see.ensures ∙ ap (λ (w : WantingValue). w.basis) c.see_headers.ensures ∙ c.in_ok-settle.ensures.basis)
+          (ap (λ (w : WantingValue). w.checking) c.see.ensures) refl c.destination-to.ensures family;
+      tells = tells_as _ _ _ _ _ _ _ _
+          (ap (λ (m : ℕ). told c.args.self.now.terms.within m c.args.self.now.queries.checking) c.moment-now.ensures.same) c.in_ok-settle.ensures.tells;
     }

@@ -16,14 +16,27 @@ returns-in_err-tick_through-clause-comes g c =
 pub returns-in-Some-clause-comes : goal.returns-in-Some-clause-comes
 returns-in-Some-clause-comes g c =
     let carries = sym c.in-Some.ensures ∙ (λ i. datagram_of (sym c.is_faultless.ensures.family i) (c.unwrap_frame-inner.ensures i)) in
-    let notes = counted_in _ _ (record { envelope = g.F.Family.envelope_of c.in-Some.datagram.envelope; body = c.in-Some.datagram.body.now }) c.tick_through.new.self.queries c.note_datagram.new.self c.note_datagram.ensures (sym c.is_faultless.ensures.family) in
-    packet_came g.F.Address.LineKey.family c.config.result.now c.args.packet.now.link c.args.self.now.terms.within c.tick_through.new.self.terms.within c.args.packet.now.moment c.args.packet.now.number c.args.packet.now.frame.now (Some (record { envelope = g.F.Family.envelope_of c.in-Some.datagram.envelope; body = c.in-Some.datagram.body.now })) _
-    c.args.self.now.link c.tick_through.new.self.link c.check_datagram.new.self.link c.tick_through.new.self.queries c.note_datagram.new.self c.check_datagram.new.self.queries c.args.self.now.told c.tick_through.new.self.told c.check_datagram.new.self.told
-    (output_of g.W.Write.contents c.args.writer.now) (output_of g.W.Write.contents c.tick_through.new.writer) (output_of g.W.Write.contents c.check_datagram.new.writer) _ c.check_datagram.result
-    (ap (λ (t : CheckTerms). t.within) c.in_ok-tick_through.ensures.terms) c.config.ensures carries (ticks_at _ _ _ _ _ _ _ _ _ _ _ _ _ c.moment.ensures.same c.in_ok-tick_through.ensures.comes) notes c.check_datagram.ensures.comes
+    let notes = counted_in _ _ (record { envelope = g.F.Family.envelope_of c.in-Some.datagram.envelope; body = c.in-Some.datagram.body.now })
+    c.tick_through.new.self.queries c.note_datagram.new.self c.note_datagram.ensures (sym c.is_faultless.ensures.family) in
+    packet_came g.F.Address.LineKey.family c.config.result.now c.args.packet.now.link c.args.self.now.terms.within
+    c.tick_through.new.self.terms.within c.args.packet.now.moment c.args.packet.now.number c.args.packet.now.frame.now
+    (Some (record { envelope = g.F.Family.envelope_of c.in-Some.datagram.envelope; body = c.in-Some.datagram.body.now })) _
+    c.args.self.now.link c.tick_through.new.self.link c.check_datagram.new.self.link c.tick_through.new.self.queries c.note_datagram.new.self
+    c.check_datagram.new.self.queries c.args.self.now.told c.tick_through.new.self.told c.check_datagram.new.self.told
+    (output_of g.W.Write.contents c.args.writer.now) (output_of g.W.Write.contents c.tick_through.new.writer)
+    (output_of g.W.Write.contents c.check_datagram.new.writer) _ c.check_datagram.result
+    (ap (λ (t : CheckTerms). t.within) c.in_ok-tick_through.ensures.terms) c.config.ensures carries
+    (ticks_at _ _ _ _ _ _ _ _ _ _ _ _ _ c.moment.ensures.same c.in_ok-tick_through.ensures.comes) notes c.check_datagram.ensures.comes
 
 pub returns-in-None-clause-comes : goal.returns-in-None-clause-comes
 returns-in-None-clause-comes g c =
     let carries = sym c.in-None.ensures ∙ (λ i. datagram_of (sym c.is_faultless.ensures.family i) (c.unwrap_frame-inner.ensures i)) in
-    let notes = c.note_other.ensures ∙ ap (λ (content : Carried). record c.tick_through.new.self.queries { basis = with_other c.args.packet.now.link c.args.packet.now.frame.now content (with_packet c.tick_through.new.self.queries.basis) }) c.unwrap_frame-inner.ensures in
-    packet_came _ _ _ _ _ _ _ _ _ _ _ _ _ _ _ _ _ _ _ _ _ _ _ _ refl c.config.ensures carries (ticks_at _ _ _ _ _ _ _ _ _ _ _ _ _ c.moment.ensures.same c.in_ok-tick_through.ensures.comes) notes (nothing_came g.F.Address.LineKey.family c.tick_through.new.self.link.config c.args.packet.now.link c.args.self.now.terms.within c.args.packet.now.moment c.args.packet.now.number c.args.packet.now.frame.now c.tick_through.new.self.link c.note_other.new.self _ _)
+    let notes = c.note_other.ensures ∙
+    ap (λ (content : Carried). record c.tick_through.new.self.queries {
+      basis = with_other c.args.packet.now.link c.args.packet.now.frame.now content
+          (with_packet c.tick_through.new.self.queries.basis);
+    }) c.unwrap_frame-inner.ensures in
+    packet_came _ _ _ _ _ _ _ _ _ _ _ _ _ _ _ _ _ _ _ _ _ _ _ _ refl c.config.ensures carries
+    (ticks_at _ _ _ _ _ _ _ _ _ _ _ _ _ c.moment.ensures.same c.in_ok-tick_through.ensures.comes) notes
+    (nothing_came g.F.Address.LineKey.family c.tick_through.new.self.link.config c.args.packet.now.link c.args.self.now.terms.within
+    c.args.packet.now.moment c.args.packet.now.number c.args.packet.now.frame.now c.tick_through.new.self.link c.note_other.new.self _ _)

@@ -1,4 +1,4 @@
-use Rattle.std.proofs.Common.{not, ap, sym, ◌∙◌}
+use Rattle.std.proofs.Common.{false, not, ap, sym, ◌∙◌}
 use Rattle.mq_link.specs.Configuration.{Configuration}
 use Rattle.mq_replay.specs.Report.{Datagram}
 use Rattle.mq_check.specs.Basis.{with_other_querier}
@@ -16,22 +16,33 @@ returns-clause-receives g c =
     let is_family = sym c.is_faultless.ensures.family ∙ ap (λ (config : Configuration). config.family) c.config.ensures in
     let now = c.moment-now.result in
     let datagram : Datagram = record { envelope = g.F.Family.envelope_of c.args.datagram.now.envelope; body = c.args.datagram.now.body.now } in
-    let notes = c.block_all.ensures ∙ (λ i. record c.args.self.now.queries { checking = all_blocked now (blocked_in (is_family i) datagram) c.args.self.now.queries.checking }) in
-    let begins = c.begin.ensures ∙ (λ i. record c.block_all.new.self { moment = now; is_returning = not (c.is_querier-was_querier.ensures i) }) in
+    let notes = c.block_all.ensures ∙
+    (λ i. record c.args.self.now.queries { checking = all_blocked now (blocked_in (is_family i) datagram) c.args.self.now.queries.checking }) in
+    let begins = c.begin.ensures ∙
+    (λ i. record c.block_all.new.self { moment = now; by_tick = false; is_returning = not (c.is_querier-was_querier.ensures i) }) in
     let receives = c.receive.ensures.receives in
     let configured = c.timing-configured.ensures ∙ ap (λ (config : Configuration). config.timing) c.config-2.ensures in
     let role =
     ap (λ (w : WantingValue). w.checking) c.name_other.ensures ∙ ap (λ (w : WantingValue). w.checking) c.change_role.ensures
-    ∙ (λ i. role_changed c.args.self.now.terms.within (configured i) (sym c.moment-now.ensures.same i) (c.is_querier-was_querier.ensures i) (c.is_querier-stays_querier.ensures i) c.receive.new.outlet.checking) in
+    ∙ (λ i. role_changed c.args.self.now.terms.within (configured i) (sym c.moment-now.ensures.same i) (c.is_querier-was_querier.ensures i)
+    (c.is_querier-stays_querier.ensures i) c.receive.new.outlet.checking) in
     let rests =
     ap (λ (w : WantingValue). w.basis) c.name_other.ensures
     ∙ other_named g.F.Family.FAMILY g.F.Address.Key.number c.receive.new.self.state.election.role _ c.change_role.new.queries.basis c.other_querier.ensures
     ∙ ap (with_other_querier g.F.Family.FAMILY c.receive.new.self.state.election.role) (ap (λ (w : WantingValue). w.basis) c.change_role.ensures)
     ∙ (λ i. with_other_querier (is_family i) c.receive.new.self.state.election.role
-    (basis.role_changed (sym c.moment-now.ensures.same i) (c.is_querier-was_querier.ensures i) (c.is_querier-stays_querier.ensures i) c.receive.new.outlet.basis)) in
+    (basis.role_changed (sym c.moment-now.ensures.same i) (c.is_querier-was_querier.ensures i)
+    (c.is_querier-stays_querier.ensures i) c.receive.new.outlet.basis)) in
     received_at _ _ _ _ _ _ _ c.moment-now.ensures.same
-    (received_is g.F.Family.FAMILY c.args.self.now.terms.within now _ c.args.self.now.link c.receive.new.self c.args.self.now.queries c.block_all.new.self c.begin.new.self c.receive.new.outlet c.name_other.new.self _ _ is_family c.args.self.now.own notes begins receives.receives.hands_out receives.handed role rests)
+    (received_is g.F.Family.FAMILY c.args.self.now.terms.within now _ c.args.self.now.link c.receive.new.self c.args.self.now.queries
+    c.block_all.new.self c.begin.new.self c.receive.new.outlet c.name_other.new.self _ _ is_family c.args.self.now.own notes begins
+    receives.receives.hands_out receives.handed role rests)
 
 pub invariant_of-self : goal.invariant_of-self
 invariant_of-self g c =
-    record { own = ap (λ (w : WantingValue). w.own) c.name_other.ensures ∙ ap (λ (w : WantingValue). w.own) c.change_role.ensures ∙ own_kept g.F.Family.FAMILY c.begin.new.self c.receive.new.outlet _ _ c.receive.ensures.receives.handed ∙ ap (λ (w : WantingValue). w.own) c.begin.ensures ∙ ap (λ (w : WantingValue). w.own) c.block_all.ensures ∙ c.args.self.now.own ∙ sym (ap (λ (config : Configuration). config.own) c.receive.ensures.config) }
+    record {
+      own = ap (λ (w : WantingValue). w.own) c.name_other.ensures ∙ ap (λ (w : WantingValue). w.own) c.change_role.ensures ∙
+          own_kept g.F.Family.FAMILY c.begin.new.self c.receive.new.outlet _ _ c.receive.ensures.receives.handed ∙
+          ap (λ (w : WantingValue). w.own) c.begin.ensures ∙ ap (λ (w : WantingValue). w.own) c.block_all.ensures ∙ c.args.self.now.own ∙
+          sym (ap (λ (config : Configuration). config.own) c.receive.ensures.config);
+    }

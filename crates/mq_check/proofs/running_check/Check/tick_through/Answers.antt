@@ -26,13 +26,20 @@ loop-limit-preserved g c =
     let due : c.loop-limit.next < c.args.moment + 1 = grind (arith, nat_tests, limit) in
     let at_next = subst (λ m. m < c.args.moment + 1) now.next due in
     let later = subst (λ m. m < next_of c.tick.new.self.link.state) now.next c.tick.ensures.later in
-    let ticks = c.tick.ensures.ticks ∙ ap (λ (t : CheckTerms). ticked c.loop-limit.self.link.config t.within c.loop-limit.next (checked_in c.loop-limit.self.link c.settle.new.self)) now.terms in
+    let ticks = c.tick.ensures.ticks ∙
+    ap (λ (t : CheckTerms). ticked c.loop-limit.self.link.config t.within c.loop-limit.next (checked_in c.loop-limit.self.link c.settle.new.self)) now.terms in
     record {
       ticked = (
         _,
-        once_more c.args.self.now.link.config c.args.self.now.terms.within (c.args.moment + 1) _ _ (checked_in c.loop-limit.self.link c.loop-limit.self.queries) (checked_in c.tick.new.self.link c.tick.new.self.queries) at_next
-            (tick_next c.args.self.now.link.config c.args.self.now.terms.within c.loop-limit.next c.loop-limit.self.link c.tick.new.self.link c.loop-limit.self.queries c.settle.new.self c.tick.new.self.queries now.config now.next c.in_ok-settle.ensures.settled c.in_ok-settle.ensures.basis ticks) later now.ticked.1,
-        rw c.tick.ensures.told (then_told _ _ _ _ _ _ _ _ _ _ _ now.ticked.2 (tells_as _ _ _ _ _ _ _ _ (ap (λ (m : ℕ). told c.args.self.now.terms.within m c.loop-limit.self.queries.checking) now.next) c.in_ok-settle.ensures.tells)),
+        once_more c.args.self.now.link.config c.args.self.now.terms.within (c.args.moment + 1) _ _
+            (checked_in c.loop-limit.self.link c.loop-limit.self.queries) (checked_in c.tick.new.self.link c.tick.new.self.queries) at_next
+            (tick_next c.args.self.now.link.config c.args.self.now.terms.within c.loop-limit.next c.loop-limit.self.link c.tick.new.self.link
+            c.loop-limit.self.queries c.settle.new.self c.tick.new.self.queries now.config now.next c.in_ok-settle.ensures.settled
+            c.in_ok-settle.ensures.basis ticks) later now.ticked.1,
+        rw c.tick.ensures.told
+            (then_told _ _ _ _ _ _ _ _ _ _ _ now.ticked.2
+            (tells_as _ _ _ _ _ _ _ _ (ap (λ (m : ℕ). told c.args.self.now.terms.within m c.loop-limit.self.queries.checking) now.next)
+            c.in_ok-settle.ensures.tells)),
       );
       next = c.next_deadline-next-in-loop-limit.ensures;
       config = c.tick.ensures.config ∙ now.config;
@@ -51,7 +58,9 @@ returns-in_err-settle-clause-comes g c =
       same_config = now.config;
       checked = tt;
       tells = broken_as _ _ _ _ _ _ _ _ (tells_as _ _ _ _ _ _ _ _ (sym first.1) (told_broken _ _ _ _ _ _ _ _
-          (then_told _ _ _ _ _ _ _ _ _ _ _ now.ticked.2 (tells_as _ _ _ _ _ _ _ _ (ap (λ (m : ℕ). told c.args.self.now.terms.within m c.loop-limit.self.queries.checking) now.next) c.in_err-settle.ensures.tells))));
+          (then_told _ _ _ _ _ _ _ _ _ _ _ now.ticked.2
+          (tells_as _ _ _ _ _ _ _ _ (ap (λ (m : ℕ). told c.args.self.now.terms.within m c.loop-limit.self.queries.checking) now.next)
+          c.in_err-settle.ensures.tells))));
     })
 
 pub returns-clause-comes : goal.returns-clause-comes

@@ -14,8 +14,10 @@ abbrev pub invariant-loop-limit : goal.invariant-loop-limit
 invariant-loop-limit g l =
     let all = ticked_through l.fn.self.link.config l.fn.self.terms.within l.fn.moment (checked_in l.fn.self.link l.fn.self.queries) in
     record {
-      ticked : (done : List (Finding ℕ)) × IsTickedTo l.fn.self.link.config l.fn.self.terms.within (l.fn.moment + 1) all done (checked_in l.self.link l.self.queries)
-          × Tells {T = Unit} {E = LineFault} g.F.Address.LineKey.family done l.fn.self.told l.self.told (output_of g.W.Write.contents l.fn.writer) (output_of g.W.Write.contents l.writer) (Ok tt);
+      ticked : (done : List (Finding ℕ)) × IsTickedTo l.fn.self.link.config l.fn.self.terms.within (l.fn.moment + 1) all done
+          (checked_in l.self.link l.self.queries)
+          × Tells {T = Unit} {E = LineFault} g.F.Address.LineKey.family done l.fn.self.told l.self.told (output_of g.W.Write.contents l.fn.writer)
+          (output_of g.W.Write.contents l.writer) (Ok tt);
       next : l.next ≡ next_of l.self.link.state;
       config : l.self.link.config ≡ l.fn.self.link.config;
       terms : l.self.terms ≡ l.fn.self.terms;

@@ -36,7 +36,9 @@ returns-in_err-write_before_wait g c =
     rw (p.1, p.2) (record {
       no_gap = sym c.follows_gap.ensures ∙ c.if-follows_gap.false;
       same_terms = c.in_ok-check_packet.ensures.terms;
-      comes = comes_broken _ _ _ _ _ _ _ _ _ _ (comes_then (Unit {0}) LineFault _ _ _ _ _ _ _ c.write_before_wait.new.self _ _ _ _ (Err c.in_err-write_before_wait.field-0.0) c.in_ok-check_packet.ensures.comes written.text written.additions written.count written.failed);
+      comes = comes_broken _ _ _ _ _ _ _ _ _ _
+          (comes_then (Unit {0}) LineFault _ _ _ _ _ _ _ c.write_before_wait.new.self _ _ _ _ (Err c.in_err-write_before_wait.field-0.0)
+          c.in_ok-check_packet.ensures.comes written.text written.additions written.last written.count written.failed);
     })
 
 pub returns : goal.returns
@@ -46,7 +48,9 @@ returns g c =
       record {
         no_gap = sym c.follows_gap.ensures ∙ c.if-follows_gap.false;
         same_terms = c.in_ok-check_packet.ensures.terms;
-        comes = comes_well _ _ _ _ _ _ _ _ _ (comes_then (Unit {0}) LineFault _ _ _ _ _ _ _ c.write_before_wait.new.self _ _ _ _ (Ok c.in_ok-write_before_wait.field-0) c.in_ok-check_packet.ensures.comes written.text written.additions written.count written.failed);
+        comes = comes_well _ _ _ _ _ _ _ _ _
+            (comes_then (Unit {0}) LineFault _ _ _ _ _ _ _ c.write_before_wait.new.self _ _ _ _
+            (Ok c.in_ok-write_before_wait.field-0) c.in_ok-check_packet.ensures.comes written.text written.additions written.last written.count written.failed);
       },
       sym state ∙ c.if-is_full.false,
     )

@@ -23,4 +23,5 @@ pub returns-clause-text : goal.returns-clause-text
 returns-clause-text g c =
     let t = c.args.totals.now in
     then_put _ _ _ _ _ _ (totals_line t ++ packets_line t.basis) (querier_line t.basis) _
-    (both_passed _ _ _ _ _ _ (totals_line t) (packets_line t.basis) c.in_ok-tell_totals.ensures.text c.in_ok-tell_packets.ensures.text) c.tell_querier.ensures.text
+    (both_passed _ _ _ _ _ _ (totals_line t) (packets_line t.basis) c.in_ok-tell_totals.ensures.text c.in_ok-tell_packets.ensures.text)
+    c.tell_querier.ensures.text

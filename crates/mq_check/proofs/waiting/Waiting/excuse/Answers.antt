@@ -13,7 +13,10 @@ invariant_of-self g c =
     let are = c.self.invariant in
     let width = g.F.Address.WireKey.WIDTH in (
       omega (arith, are.0, c.excuse_each.ensures.capacity),
-      subst (λ (es : List (Entry ℕ)). AreMarked width es c.self.inside.trails) (sym {A = List (Entry ℕ)} c.excuse_each.ensures.entries) (marked_still width c.args.within c.args.end c.args.sent.now _ _ are.1),
-      subst (λ (es : List (Entry ℕ)). AreBounded width es c.self.inside.latest.items) (sym {A = List (Entry ℕ)} c.excuse_each.ensures.entries) (bounded_still width c.args.within c.args.end c.args.sent.now _ _ are.2),
+      subst (λ (es : List (Entry ℕ)). AreMarked width c.self.inside.horizon es c.self.inside.trails)
+          (sym {A = List (Entry ℕ)} c.excuse_each.ensures.entries)
+          (marked_still width c.self.inside.horizon c.args.within c.args.end c.args.sent.now _ _ are.1),
+      subst (λ (es : List (Entry ℕ)). AreBounded width es c.self.inside.latest.items) (sym {A = List (Entry ℕ)} c.excuse_each.ensures.entries)
+          (bounded_still width c.args.within c.args.end c.args.sent.now _ _ are.2),
       are.3,
     )

@@ -11,8 +11,10 @@ returns-in-Some g c =
     let f = numbered_entry g.F.Address.Key.number in
     let made = ap (λ (w : WaitingValue). w.entries) c.self.view_is in
     let here = made_at f _ _ c.in-Some.place _ made c.index.ensures in
-    ap Some here ∙ sym (c.in-Some.ensures.some.entry (f c.index.result.now)) ∙ ap (λ (from : ℕ). first_entry (is_free c.args.side (numbered_asked g.F.Address.Key.number c.args.asked) from) c.args.self.now.entries) c.start.ensures
+    ap Some here ∙ sym (c.in-Some.ensures.some.entry (f c.index.result.now)) ∙
+    ap (λ (from : ℕ). first_entry (is_free c.args.side (numbered_asked g.F.Address.Key.number c.args.asked) from) c.args.self.now.entries) c.start.ensures
 
 pub returns-in-None : goal.returns-in-None
 returns-in-None g c =
-    sym c.in-None.ensures.none.entry ∙ ap (λ (from : ℕ). first_entry (is_free c.args.side (numbered_asked g.F.Address.Key.number c.args.asked) from) c.args.self.now.entries) c.start.ensures
+    sym c.in-None.ensures.none.entry ∙
+    ap (λ (from : ℕ). first_entry (is_free c.args.side (numbered_asked g.F.Address.Key.number c.args.asked) from) c.args.self.now.entries) c.start.ensures

@@ -12,14 +12,16 @@ loop-place-preserved g c =
     let f = numbered_entry g.F.Address.Key.number in
     let made = ap (λ (w : WaitingValue). w.entries) c.self.view_is in
     let within : c.loop-place.place < length c.args.self.now.entries = omega (arith, made_long f _ _ made, c.self.inside.entries.ok.0) in
-    one_any _ _ c.loop-place.place _ within (made_at f _ _ _ _ made c.index.ensures) (sym c.is_group_wanted.ensures ∙ c.if-is_group_wanted.false) c.loop-place.invariant
+    one_any _ _ c.loop-place.place _ within (made_at f _ _ _ _ made c.index.ensures)
+    (sym c.is_group_wanted.ensures ∙ c.if-is_group_wanted.false) c.loop-place.invariant
 
 pub returns-then-is_group_wanted : goal.returns-then-is_group_wanted
 returns-then-is_group_wanted g c =
     let f = numbered_entry g.F.Address.Key.number in
     let made = ap (λ (w : WaitingValue). w.entries) c.self.view_is in
     let within : c.loop-place.place < length c.args.self.now.entries = omega (arith, made_long f _ _ made, c.self.inside.entries.ok.0) in
-    sym (any_at _ _ c.loop-place.place _ within (made_at f _ _ _ _ made c.index.ensures) (sym c.is_group_wanted.ensures ∙ c.if-is_group_wanted.true) c.loop-place.invariant)
+    sym (any_at _ _ c.loop-place.place _ within (made_at f _ _ _ _ made c.index.ensures)
+    (sym c.is_group_wanted.ensures ∙ c.if-is_group_wanted.true) c.loop-place.invariant)
 
 pub returns : goal.returns
 returns g c =

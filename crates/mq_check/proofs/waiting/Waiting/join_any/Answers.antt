@@ -12,4 +12,5 @@ returns-clause-terms g c =
 pub returns-clause-joined : goal.returns-clause-joined
 returns-clause-joined g c =
     let number = g.F.Address.Key.number in
-    c.join.ensures.joined ∙ ap (λ (from : ℕ). with_partner c.args.side (numbered_asked number c.args.asked) from (numbered_terms number c.args.other) c.args.self.now) c.start.ensures
+    c.join.ensures.joined ∙
+    ap (λ (from : ℕ). with_partner c.args.side (numbered_asked number c.args.asked) from (numbered_terms number c.args.other) c.args.self.now) c.start.ensures

@@ -14,7 +14,8 @@ invariant_of-result g c =
     let entries = c.from_vec.ensures.items ∙ c.in_ok-with_capacity.ensures.room.0 in
     let none = ap (list_map (numbered_entry g.F.Address.Key.number)) entries in (
       c.from_vec.ensures.capacity ∙ c.in_ok-with_capacity.ensures.room.1,
-      subst (λ (es : List (Entry ℕ)). AreMarked g.F.Address.WireKey.WIDTH es c.in_ok-new.field-0) (sym {A = List (Entry ℕ)} none) (marked_none _ _ c.in_ok-new.ensures.empty),
+      subst (λ (es : List (Entry ℕ)). AreMarked g.F.Address.WireKey.WIDTH c.start.result es c.in_ok-new.field-0) (sym {A = List (Entry ℕ)} none)
+          (marked_none _ _ _ c.in_ok-new.ensures.empty),
       subst (λ (es : List (Entry ℕ)). AreBounded g.F.Address.WireKey.WIDTH es c.in_ok-filled.field-0.items) (sym {A = List (Entry ℕ)} none) (bounded_none _ _),
       ap (λ (xs : List ℕ). length xs) c.in_ok-filled.ensures.items ∙ length-replicate {A = ℕ} 65522 c.moment.result,
     )

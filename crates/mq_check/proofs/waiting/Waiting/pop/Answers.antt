@@ -14,7 +14,7 @@ invariant_of-self g c =
     let some_too : 0 < length (list_map f c.self.inside.entries.items) = omega (arith, some, made_long f c.self.inside.entries.items _ refl) in
     let rest = made_behind f c.self.inside.entries.items c.pop_front.new.self.items c.pop_front.ensures.rest in (
       omega (arith, c.pop_front.ensures.capacity, are.0),
-      marked_popped _ _ _ _ _ are.1 rest some_too c.pop.ensures.slots c.pop.ensures.others,
+      marked_popped _ _ _ _ _ _ are.1 rest some_too c.pop.ensures.slots c.pop.ensures.others c.pop.ensures.nears,
       bounded_popped _ _ _ _ are.2 rest,
       are.3,
     )

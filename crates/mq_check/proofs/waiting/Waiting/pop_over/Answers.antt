@@ -14,7 +14,8 @@ pub returns-then-is_empty-clause-none_over : goal.returns-then-is_empty-clause-n
 returns-then-is_empty-clause-none_over g c =
     let f = numbered_entry g.F.Address.Key.number in
     let none : length c.self.inside.entries.items ≡ 0 = grind (arith, nat_tests, c.self.inside.entries.ok.0) in
-    none_of_none _ _ _ (sym (ap (λ (w : WaitingValue). w.is_full) c.self.view_is) ∙ c.if-self.false) (none_made f _ _ (ap (λ (w : WaitingValue). w.entries) c.self.view_is) none)
+    none_of_none _ _ _ (sym (ap (λ (w : WaitingValue). w.is_full) c.self.view_is) ∙ c.if-self.false)
+    (none_made f _ _ (ap (λ (w : WaitingValue). w.entries) c.self.view_is) none)
 
 pub returns-then-not-is_over-clause-none_over : goal.returns-then-not-is_over-clause-none_over
 returns-then-not-is_over-clause-none_over g c =
@@ -22,7 +23,8 @@ returns-then-not-is_over-clause-none_over g c =
     let made = ap (λ (w : WaitingValue). w.entries) c.self.view_is in
     let some : 0 < length c.self.inside.entries.items = grind (arith, nat_tests, c.self.inside.entries.ok.0) in
     let within : 0 < length c.args.self.now.entries = omega (arith, some, made_long f _ _ made) in
-    none_of_first _ _ _ _ _ (sym (ap (λ (w : WaitingValue). w.is_full) c.self.view_is) ∙ c.if-self.false) (from_place c.args.self.now.entries 0 _ within (made_at f _ _ 0 _ made c.index.ensures))
+    none_of_first _ _ _ _ _ (sym (ap (λ (w : WaitingValue). w.is_full) c.self.view_is) ∙ c.if-self.false)
+    (from_place c.args.self.now.entries 0 _ within (made_at f _ _ 0 _ made c.index.ensures))
     (ap (λ (m : ℕ). nat_lt (m + c.args.keep) c.args.now) (sym c.moment.ensures) ∙ sym c.is_over.ensures ∙ c.if-not-is_over.true)
 
 pub returns-clause-some : goal.returns-clause-some
@@ -39,7 +41,7 @@ invariant_of-self g c =
     let some_too : 0 < length (list_map f c.self.inside.entries.items) = omega (arith, some, made_long f c.self.inside.entries.items _ refl) in
     let rest = made_behind f c.self.inside.entries.items c.pop_front.new.self.items c.pop_front.ensures.rest in (
       omega (arith, c.pop_front.ensures.capacity, are.0),
-      marked_popped _ _ _ _ _ are.1 rest some_too c.pop.ensures.slots c.pop.ensures.others,
+      marked_popped _ _ _ _ _ _ are.1 rest some_too c.pop.ensures.slots c.pop.ensures.others c.pop.ensures.nears,
       bounded_popped _ _ _ _ are.2 rest,
       are.3,
     )

@@ -32,12 +32,15 @@ invariant_of-self g c =
     let here : c.wanted_slot-slot.result < length latest = omega (arith, c.wanted_slot-slot.ensures.within, are.3) in
     let known : wanted_slot width (f c.args.entry) < length latest = omega (arith, slot, here) in
     let read = get_or_read latest c.wanted_slot-slot.result c.index-before.result.now here c.index-before.ensures 0 in
-    let first : get_or latest (wanted_slot width (f c.args.entry)) 0 ≤ c.later_of.result = omega (arith, ap (λ (s : ℕ). get_or latest s 0) slot, read, c.later_of.ensures.first) in
+    let first : get_or latest (wanted_slot width (f c.args.entry)) 0 ≤ c.later_of.result =
+    omega (arith, ap (λ (s : ℕ). get_or latest s 0) slot, read, c.later_of.ensures.first) in
     let second : wanted_moment (f c.args.entry) ≤ c.later_of.result = omega (arith, c.wanted_moment-at.ensures, c.later_of.ensures.second) in
     let slots = c.push.ensures.slots ∙ ap (λ (s : ℕ). c.self.inside.trails.slots ++ s ∷ []) c.slot_in.ensures.slot in (
       omega (arith, are.0, c.push_back_reserved.ensures.capacity),
-      subst (λ (es : List (Entry ℕ)). AreMarked width es c.push.new.self) (sym {A = List (Entry ℕ)} put) (marked_pushed _ _ _ _ _ are.1 slots c.push.ensures.here c.push.ensures.others),
+      subst (λ (es : List (Entry ℕ)). AreMarked width c.self.inside.horizon es c.push.new.self) (sym {A = List (Entry ℕ)} put)
+          (marked_pushed _ _ _ _ _ _ are.1 slots c.push.ensures.here c.push.ensures.near c.push.ensures.others c.push.ensures.nears),
       subst (λ (es : List (Entry ℕ)). AreBounded width es (set latest c.wanted_slot-slot.result c.later_of.result)) (sym {A = List (Entry ℕ)} put)
-          (subst (λ (s : ℕ). AreBounded width (list_map f items ++ f c.args.entry ∷ []) (set latest s c.later_of.result)) (sym {A = ℕ} slot) (bounded_pushed _ _ _ _ _ are.2 known first second)),
+          (subst (λ (s : ℕ). AreBounded width (list_map f items ++ f c.args.entry ∷ []) (set latest s c.later_of.result)) (sym {A = ℕ} slot)
+          (bounded_pushed _ _ _ _ _ are.2 known first second)),
       omega (arith, length-set {A = ℕ}, are.3),
     )

@@ -16,7 +16,8 @@ pub returns-then-is_again : goal.returns-then-is_again
 returns-then-is_again g c =
     let made = ap (λ (s : SieveState). s.gone) c.self.view_is in
     let within : c.loop-place.place < length c.args.self.now.gone = omega (arith, made_long gone_of _ _ made, c.self.inside.gone.ok.0) in
-    sym (any_at _ _ c.loop-place.place _ within (made_at gone_of _ _ _ _ made c.index.ensures) (sym c.is_again.ensures ∙ c.if-is_again.true) c.loop-place.invariant)
+    sym (any_at _ _ c.loop-place.place _ within (made_at gone_of _ _ _ _ made c.index.ensures)
+    (sym c.is_again.ensures ∙ c.if-is_again.true) c.loop-place.invariant)
 
 pub returns : goal.returns
 returns g c =

@@ -61,5 +61,6 @@ returns-clause-spent g c =
     let same = ap (λ xs. length (moments_by g.T.Timed.moment_of xs)) all in
     let few = ap length all in
     let counted = c.loop-x.invariant.without in
-    let count : length c.args.items.now - c.loop-x.without ≡ length (moments_by g.T.Timed.moment_of c.args.items.now) = omega (arith, same, counted, few, c.loop-x-test.false) in
+    let count : length c.args.items.now - c.loop-x.without ≡ length (moments_by g.T.Timed.moment_of c.args.items.now) =
+    omega (arith, same, counted, few, c.loop-x-test.false) in
     subst (λ n. Spends n n c.args.self.now c.count_comparisons.new.self) count c.count_comparisons.ensures

@@ -28,8 +28,10 @@ returns-then-self-pages-clause-steps g c =
 
 -- the next place, and the number that stands there
 next_at : (g : Over) (c : goal.After-self-2-1 g)
-    → (let s = c.self.inside.held.now in let there = c.if-self-page in let rank = rank_at s.order.pages c.self.inside.page c.self.inside.place in IsNext s.order.pages rank there.self-inside.page there.self-inside.place
-    × (there.self-inside.held ≡ c.self.inside.held) × (sum s.order.pages ≡ map.len s.groups) × (get_or (numbers_in s.order.items) rank 0 ≡ get_or c.page-2.result.now there.self-inside.place 0))
+    → (let s = c.self.inside.held.now in let there = c.if-self-page in let rank = rank_at s.order.pages c.self.inside.page c.self.inside.place in
+    IsNext s.order.pages rank there.self-inside.page there.self-inside.place
+    × (there.self-inside.held ≡ c.self.inside.held) × (sum s.order.pages ≡ map.len s.groups) ×
+    (get_or (numbers_in s.order.items) rank 0 ≡ get_or c.page-2.result.now there.self-inside.place 0))
 next_at g c =
     let s = c.self.inside.held.now in
     let pages = s.order.pages in
@@ -43,12 +45,22 @@ next_at g c =
     let next : IsNext pages (rank_at pages page place) there.self-inside.page there.self-inside.place × (there.self-inside.held ≡ c.self.inside.held) =
     elim c.if-self-page.branch [
       | then-self-page+else-self-pages w ↦
-          rw w.self-inside-is (IsNext-turned pages page place filled c.self.invariant.0 (λ last. w.if-self-pages.false (last ∙ sym count ∙ sym w.pages.ensures)) (omega (arith, w.if-self-page.true, c.page.ensures.len, size)), refl)
+          rw w.self-inside-is (
+            IsNext-turned pages page place filled c.self.invariant.0
+                (λ last. w.if-self-pages.false (last ∙ sym count ∙ sym w.pages.ensures)) (omega (arith, w.if-self-page.true, c.page.ensures.len, size)),
+            refl,
+          )
       | else-self-page w ↦
-          rw w.self-inside-is (IsNext-here pages page place c.self.invariant.0 c.self.invariant.1 (λ end. w.if-self-page.false (end ∙ sym size ∙ sym c.page.ensures.len)), refl)
+          rw w.self-inside-is (
+            IsNext-here pages page place c.self.invariant.0 c.self.invariant.1
+                (λ end. w.if-self-page.false (end ∙ sym size ∙ sym c.page.ensures.len)),
+            refl,
+          )
     ] in
     let total = ap (λ (s : HeldState). sum s.order.pages) c.held.view_is in
-    let shown = c.page-2.ensures.numbers ∙ ap (λ (s : HeldState). take (get_or s.order.pages there.self-inside.page 0) (drop (sum (take there.self-inside.page s.order.pages)) (numbers_in s.order.items))) c.held.view_is in (
+    let shown = c.page-2.ensures.numbers ∙
+    ap (λ (s : HeldState). take (get_or s.order.pages there.self-inside.page 0)
+    (drop (sum (take there.self-inside.page s.order.pages)) (numbers_in s.order.items))) c.held.view_is in (
       next.0,
       next.1,
       omega (arith, total, c.lemma_is_ordered.ensures.paged, len-view known (ap (λ (s : HeldState). s.order) c.held.view_is)),
@@ -68,7 +80,8 @@ returns-clause-steps g c =
     let has = c.entry_of.ensures.address in
     rw next.1
     (sym c.self.view_is
-    ∙ next-entries next.0 known next.2 g.K.Key.number c.entry_of.result (get_or c.page-2.result.now c.if-self-page.self-inside.place 0) next.3 has (c.entry_of.ensures.group (g.K.Key.number c.entry_of.result.address) has))
+    ∙ next-entries next.0 known next.2 g.K.Key.number c.entry_of.result (get_or c.page-2.result.now c.if-self-page.self-inside.place 0) next.3 has
+    (c.entry_of.ensures.group (g.K.Key.number c.entry_of.result.address) has))
 
 pub returns-clause-goes : goal.returns-clause-goes
 returns-clause-goes g c =

@@ -20,4 +20,5 @@ pub returns-clause-ascending : goal.returns-clause-ascending
 returns-clause-ascending g c = rw c.row.ensures.cells (located g.K.Key.number c.self.inside c.self.invariant c.self.view_is c.requires.number).up
 
 pub returns-clause-len : goal.returns-clause-len
-returns-clause-len g c address has = ap length c.row.ensures.cells ∙ sym ((located g.K.Key.number c.self.inside c.self.invariant c.self.view_is c.requires.number).size has)
+returns-clause-len g c address has = ap length c.row.ensures.cells ∙
+    sym ((located g.K.Key.number c.self.inside c.self.invariant c.self.view_is c.requires.number).size has)

@@ -16,7 +16,8 @@ index-requires g c =
 pub returns-then-matches : goal.returns-then-matches
 returns-then-matches g c address has =
     let l = located g.K.Key.number c.self.inside c.self.invariant c.self.view_is c.requires.number in
-    let vacant = vacant-of g.K.Key.number c.self.invariant.0 c.self.view_is c.index.result.now c.row.result.now true has l.in_heads c.index.ensures c.row.ensures.cells in
+    let vacant = vacant-of g.K.Key.number c.self.invariant.0 c.self.view_is c.index.result.now c.row.result.now true has l.in_heads c.index.ensures
+    c.row.ensures.cells in
     elim c.match-matches.branch [
       | in-Include w ↦ c.is_empty.ensures ∙ sym (vacant (ap is_include w.in-Include.is))
       | in_default w ↦ absurd (true≢false (sym c.if-matches.true ∙ w.matches-is))
@@ -25,7 +26,8 @@ returns-then-matches g c address has =
 pub returns-else-matches : goal.returns-else-matches
 returns-else-matches g c address has =
     let l = located g.K.Key.number c.self.inside c.self.invariant c.self.view_is c.requires.number in
-    let vacant = vacant-of g.K.Key.number c.self.invariant.0 c.self.view_is c.index.result.now (row_of c.self.inside c.args.number) false has l.in_heads c.index.ensures refl in
+    let vacant = vacant-of g.K.Key.number c.self.invariant.0 c.self.view_is c.index.result.now (row_of c.self.inside c.args.number) false has
+    l.in_heads c.index.ensures refl in
     elim c.match-matches.branch [
       | in-Include w ↦ absurd (true≢false (sym w.matches-is ∙ c.if-matches.false))
       | in_default w ↦ w.matches-is ∙ sym (vacant (ap is_include w.in_default.is))

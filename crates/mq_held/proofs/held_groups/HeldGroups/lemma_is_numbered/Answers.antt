@@ -28,11 +28,21 @@ returns-clause-within g c address number has =
 
 pub returns-clause-fits : goal.returns-clause-fits
 returns-clause-fits g c =
-    omega (arith, c.lemma_is_ordered.ensures.fits, len-held g.K.Key.number c.self.invariant.0 c.self.view_is, room_is g.K.Key.number c.self.invariant.0 c.self.view_is)
+    omega (
+      arith,
+      c.lemma_is_ordered.ensures.fits,
+      len-held g.K.Key.number c.self.invariant.0 c.self.view_is,
+      room_is g.K.Key.number c.self.invariant.0 c.self.view_is,
+    )
 
 pub returns-clause-filled : goal.returns-clause-filled
 returns-clause-filled g c = subst (λ (s : HeldState). AreFilled s.order.pages) c.self.view_is c.lemma_is_ordered.ensures.filled
 
 pub returns-clause-few_pages : goal.returns-clause-few_pages
 returns-clause-few_pages g c =
-    omega (arith, c.lemma_is_ordered.ensures.few_pages, len-held g.K.Key.number c.self.invariant.0 c.self.view_is, ap (λ (s : HeldState). length s.order.pages) c.self.view_is)
+    omega (
+      arith,
+      c.lemma_is_ordered.ensures.few_pages,
+      len-held g.K.Key.number c.self.invariant.0 c.self.view_is,
+      ap (λ (s : HeldState). length s.order.pages) c.self.view_is,
+    )

@@ -47,7 +47,8 @@ returns-clause-groups g c address has =
     let l = located g.K.Key.number c.self.inside c.self.invariant c.self.view_is c.requires.number in
     let number = g.K.Key.number in
     rw (c.remove_row.ensures, c.vacant_head.ensures)
-    (state-set number c.self.invariant.0 c.self.view_is no_head [] unheld c.self.inside.sources.ahead c.args.self.now.ahead has l.in_heads (group_of-none number) (ahead_is number c.self.invariant.0 c.self.view_is))
+    (state-set number c.self.invariant.0 c.self.view_is no_head [] unheld c.self.inside.sources.ahead c.args.self.now.ahead has l.in_heads
+    (group_of-none number) (ahead_is number c.self.invariant.0 c.self.view_is))
 
 pub returns-clause-spent : goal.returns-clause-spent
 returns-clause-spent g c = rw (located g.K.Key.number c.self.inside c.self.invariant c.self.view_is c.requires.number).running c.remove_moment.ensures.spent

@@ -35,14 +35,21 @@ loop-place-preserved g c =
     let within : c.loop-place.place < length c.all.new.numbers.items = omega (arith, c.loop-place-test.true, c.len-place-end.ensures, c.all.new.numbers.ok.0) in
     let is : IsNumber c.args.self.now n = subst (IsNumber c.args.self.now) (sym c.index-number.ensures) (all-known known all c.loop-place.place n within) in
     let told = c.is_vacant.ensures (key_in c.args.self.now.order.items n) (number-has c.args.self.now n is) in
-    let inside : c.loop-place.count < length c.loop-place.kept = omega (arith, within, c.loop-place.invariant.1, len-all known all, c.requires.kept_space, c.loop-place.auto.kept) in
+    let inside : c.loop-place.count < length c.loop-place.kept =
+    omega (arith, within, c.loop-place.invariant.1, len-all known all, c.requires.kept_space, c.loop-place.auto.kept) in
     let front = c.loop-place.invariant.0 in
     let upto = c.loop-place.invariant.1 in
     elim c.if-not-is_vacant.branch [
       | then-not-is_vacant w ↦
-          rw (w.kept-is, w.count-is) (passed_yes _ _ _ _ _ n front inside within c.index-number.ensures (ap not (sym told ∙ w.if-not-is_vacant.true)), omega (arith, upto))
+          rw (w.kept-is, w.count-is) (
+            passed_yes _ _ _ _ _ n front inside within c.index-number.ensures (ap not (sym told ∙ w.if-not-is_vacant.true)),
+            omega (arith, upto),
+          )
       | else-not-is_vacant w ↦
-          rw (w.kept-is, w.count-is) (passed_no _ _ _ _ _ n front within c.index-number.ensures (ap not (sym told ∙ w.if-not-is_vacant.false)), omega (arith, upto))
+          rw (w.kept-is, w.count-is) (
+            passed_no _ _ _ _ _ n front within c.index-number.ensures (ap not (sym told ∙ w.if-not-is_vacant.false)),
+            omega (arith, upto),
+          )
     ]
 
 pub leave_vacant-requires : goal.leave_vacant-requires
@@ -54,7 +61,16 @@ pub returns-clause-within : goal.returns-clause-within
 returns-clause-within g c =
     let known = IsOrdered-stored g.K.Key.number c.self.invariant.0 c.self.view_is in
     let all = c.all.ensures.numbers ∙ ap (λ s. numbers_in s.order.items) c.self.view_is in
-    omega (arith, c.loop-place.auto.place-end, c.len-place-end.ensures, c.all.new.numbers.ok.0, c.loop-place.invariant.1, len-all known all, c.requires.kept_space, c.loop-place.auto.kept)
+    omega (
+      arith,
+      c.loop-place.auto.place-end,
+      c.len-place-end.ensures,
+      c.all.new.numbers.ok.0,
+      c.loop-place.invariant.1,
+      len-all known all,
+      c.requires.kept_space,
+      c.loop-place.auto.kept,
+    )
 
 pub returns-clause-moved : goal.returns-clause-moved
 returns-clause-moved g c =

@@ -1,4 +1,4 @@
-use Rattle.std.proofs.Common.{cond, ◌-◌, ◌∙◌, length, get_or, min, Some, arith, ap, sym, subst}
+use Rattle.std.proofs.Common.{cond, ◌∙◌, length, get_or, min, Some, arith, ap, sym, subst}
 use Rattle.std.specs.Prelude.{map as list_map}
 use Rattle.std.specs.List.{list_all}
 use Rattle.std.proofs.lemmas.Bool.{lt-ltb}
@@ -11,22 +11,34 @@ use Rattle.mq_held.specs.Groups.{group_at}
 use Rattle.mq_held.specs.Moments.{moments_of}
 use Rattle.mq_held.specs.Restarted.{has_each, restarted_each, some_stopped}
 use Rattle.mq_held.specs.Stored.{earliest_of, group_of, no_head}
-use Rattle.mq_held.proofs.Located.{located, row-inside, row-seen, row_of, rows-len}
+use Rattle.mq_held.proofs.Located.{Located, first-held, located, row-inside, row-seen, row_of, rows-len}
 use Rattle.mq_held.proofs.RestartedEach.{has_each-row}
-use Rattle.mq_held.proofs.RestartedRows.{formed-each, group-each, has_named}
+use Rattle.mq_held.proofs.RestartedRows.{HasNamed, formed-each, group-each, has_named}
+use Rattle.mq_held.proofs.held_groups.HeldGroups.restart_several.Given.{Over}
 use Rattle.mq_held.proofs.held_groups.HeldGroups.restart_several.Goals as goal
+use Rattle.mq_held.proofs.held_groups.HeldGroups.restart_several.Goals.{After-index, After-self}
+
+-- the group of the number
+at_so : (g : Over) (c : After-self g) → Located g.K.Key.number c.self.inside c.args.self.now c.args.number
+at_so g c = located g.K.Key.number c.self.inside c.self.invariant c.self.view_is c.requires.number
+
+-- has each named source
+named_so : (g : Over) (c : After-index g)
+    → HasNamed g.K.Key.number c.self.inside c.args.self.now c.args.number c.args.named.now c.index.result.now
+named_so g c =
+    let l = located g.K.Key.number c.self.inside c.self.invariant c.self.view_is c.requires.number in
+    has_named l c.index.ensures c.requires.some c.row-row.ensures.cells c.has_each.ensures.all c.if-not-has_each.false
 
 pub row-row-requires : goal.row-row-requires
-row-row-requires g c = record { number = (located g.K.Key.number c.self.inside c.self.invariant c.self.view_is c.requires.number).in_rows }
+row-row-requires g c = record { number = (at_so g (goal.at.row-row-requires g c).After-self).in_rows }
 
 pub has_each-requires-clause-ascending : goal.has_each-requires-clause-ascending
 has_each-requires-clause-ascending g c =
-    let l = located g.K.Key.number c.self.inside c.self.invariant c.self.view_is c.requires.number in
-    subst (IsAscending (number_in g.K.Key.number)) (sym c.row-row.ensures.cells) l.up
+    subst (IsAscending (number_in g.K.Key.number)) (sym c.row-row.ensures.cells) (at_so g (goal.at.has_each-requires-clause-ascending g c).After-self).up
 
 pub returns-then-not-has_each-clause-all : goal.returns-then-not-has_each-clause-all
 returns-then-not-has_each-clause-all g c address has =
-    let l = located g.K.Key.number c.self.inside c.self.invariant c.self.view_is c.requires.number in
+    let l = at_so g (goal.at.returns-then-not-has_each-clause-all g c).After-self in
     let names = list_map g.K.Key.number c.args.named.now in
     sym c.if-not-has_each.true
     ∙ c.has_each.ensures.all
@@ -36,88 +48,83 @@ returns-then-not-has_each-clause-all g c address has =
 
 pub returns-then-not-has_each-clause-spent : goal.returns-then-not-has_each-clause-spent
 returns-then-not-has_each-clause-spent g c address has =
-    let l = located g.K.Key.number c.self.inside c.self.invariant c.self.view_is c.requires.number in
+    let l = at_so g (goal.at.returns-then-not-has_each-clause-spent g c).After-self in
     let size = ap length c.row-row.ensures.cells ∙ sym (l.size has) in
     Spends-within _ _ c.has_each.ensures.spent (omega arith) (omega (arith, size, ap bitlen size))
 
 pub index-requires : goal.index-requires
 index-requires g c =
-    let l = located g.K.Key.number c.self.inside c.self.invariant c.self.view_is c.requires.number in
+    let l = at_so g (goal.at.index-requires g c).After-self in
     omega (arith, l.in_heads, c.self.inside.heads.ok.0)
 
 pub moment-earliest-requires : goal.moment-earliest-requires
 moment-earliest-requires g c =
-    let l = located g.K.Key.number c.self.inside c.self.invariant c.self.view_is c.requires.number in
-    let f = has_named l c.args.named.now c.requires.some c.row-row.ensures.cells c.has_each.ensures.all c.if-not-has_each.false in
-    record { there = l.moment f.some }
+    let f = named_so g (goal.at.moment-earliest-requires g c).After-index in
+    record { there = f.at.moment f.some }
 
 pub restart_row-were-requires-clause-number : goal.restart_row-were-requires-clause-number
-restart_row-were-requires-clause-number g c = (located g.K.Key.number c.self.inside c.self.invariant c.self.view_is c.requires.number).in_rows
+restart_row-were-requires-clause-number g c = (at_so g (goal.at.restart_row-were-requires-clause-number g c).After-self).in_rows
 
 pub restart_row-were-requires-clause-ascending : goal.restart_row-were-requires-clause-ascending
-restart_row-were-requires-clause-ascending g c = (located g.K.Key.number c.self.inside c.self.invariant c.self.view_is c.requires.number).up
+restart_row-were-requires-clause-ascending g c = (at_so g (goal.at.restart_row-were-requires-clause-ascending g c).After-self).up
 
 pub row-row-requires-2 : goal.row-row-requires-2
 row-row-requires-2 g c =
-    let l = located g.K.Key.number c.self.inside c.self.invariant c.self.view_is c.requires.number in
+    let l = at_so g (goal.at.row-row-requires-2 g c).After-self in
     record { number = omega (arith, l.in_rows, rows-len l _ c.restart_row-were.ensures.rows) }
 
 pub earliest_then-due-requires-clause-held : goal.earliest_then-due-requires-clause-held
 earliest_then-due-requires-clause-held g c =
-    let l = located g.K.Key.number c.self.inside c.self.invariant c.self.view_is c.requires.number in
-    let f = has_named l c.args.named.now c.requires.some c.row-row.ensures.cells c.has_each.ensures.all c.if-not-has_each.false in
+    let f = named_so g (goal.at.earliest_then-due-requires-clause-held g c).After-index in
     let h = c.index.result.now in
-    subst (λ xs. IsWellFormed (group_of g.K.Key.number h xs).group) (sym c.row-row-2.ensures.cells) (formed-each l f c.index.ensures _ c.args.deadline (c.restart_row-were.ensures.group h))
+    subst (λ xs. IsWellFormed (group_of g.K.Key.number h xs).group) (sym c.row-row-2.ensures.cells)
+    (formed-each f _ c.args.deadline (c.restart_row-were.ensures.group h))
 
 pub earliest_then-due-requires-clause-later : goal.earliest_then-due-requires-clause-later
 earliest_then-due-requires-clause-later g c later =
-    let l = located g.K.Key.number c.self.inside c.self.invariant c.self.view_is c.requires.number in
     let h = c.index.result.now in
-    let first = ap (λ x. earliest_of (moments_of (group_of g.K.Key.number x (row_of c.self.inside c.args.number)))) (sym (l.head h c.index.ensures)) ∙ l.earliest c.moment-earliest.result c.moment-earliest.ensures in
+    let first = first-held (at_so g (goal.at.earliest_then-due-requires-clause-later g c).After-self) c.index.ensures c.moment-earliest.ensures in
     ap (λ xs. earliest_of (moments_of (group_of g.K.Key.number h xs))) c.row-row-2.ensures.cells
     ∙ c.restart_row-were.ensures.later later h first
     ∙ ap (λ b. Some (cond b (min c.moment-earliest.result c.args.deadline) c.moment-earliest.result)) (lt-ltb 0 (length c.args.named.now) c.requires.some)
 
 pub invariant_of-self : goal.invariant_of-self
 invariant_of-self g c =
-    let l = located g.K.Key.number c.self.inside c.self.invariant c.self.view_is c.requires.number in
-    let f = has_named l c.args.named.now c.requires.some c.row-row.ensures.cells c.has_each.ensures.all c.if-not-has_each.false in
-    let h = c.index.result.now in
+    let f = named_so g (goal.at.invariant_of-self g c).After-index in
     let set_row = c.restart_row-were.ensures in
+    let h = c.index.result.now in
     let first = ap (λ xs. earliest_of (moments_of (group_of g.K.Key.number h xs))) (sym c.row-row-2.ensures.cells) ∙ c.earliest_then-due.ensures.earliest in
-    row-inside l _ set_row.rows c.index.ensures set_row.ascending (formed-each l f c.index.ensures _ c.args.deadline (set_row.group h)) first (c.change_moment.ensures.moments c.moment-earliest.result c.moment-earliest.ensures)
+    let moments = c.change_moment.ensures.moments c.moment-earliest.result c.moment-earliest.ensures in
+    row-inside f.at _ set_row.rows f.head set_row.ascending (formed-each f _ c.args.deadline (set_row.group h)) first moments
 
 pub returns-clause-all : goal.returns-clause-all
 returns-clause-all g c address has =
-    let l = located g.K.Key.number c.self.inside c.self.invariant c.self.view_is c.requires.number in
-    let f = has_named l c.args.named.now c.requires.some c.row-row.ensures.cells c.has_each.ensures.all c.if-not-has_each.false in
-    sym f.all ∙ ap (has_each (list_map g.K.Key.number c.args.named.now)) (sym (l.group has))
+    let f = named_so g (goal.at.returns-clause-all g c).After-index in
+    sym f.all ∙ ap (has_each (list_map g.K.Key.number c.args.named.now)) (sym (f.at.group has))
 
 pub returns-clause-stopped : goal.returns-clause-stopped
 returns-clause-stopped g c address has =
-    let l = located g.K.Key.number c.self.inside c.self.invariant c.self.view_is c.requires.number in
+    let l = at_so g (goal.at.returns-clause-stopped g c).After-self in
     c.restart_row-were.ensures.stopped ∙ ap (some_stopped (list_map g.K.Key.number c.args.named.now)) (sym (l.group has))
 
 pub returns-clause-groups : goal.returns-clause-groups
 returns-clause-groups g c address has =
-    let l = located g.K.Key.number c.self.inside c.self.invariant c.self.view_is c.requires.number in
-    let f = has_named l c.args.named.now c.requires.some c.row-row.ensures.cells c.has_each.ensures.all c.if-not-has_each.false in
+    let f = named_so g (goal.at.returns-clause-groups g c).After-index in
+    let set_row = c.restart_row-were.ensures in
     let change = restarted_each c.args.deadline (list_map g.K.Key.number c.args.named.now) in
-    row-seen l _ c.restart_row-were.ensures.rows c.index.ensures (change (group_at c.args.self.now.groups address)) has
-    (group-each l f c.index.ensures _ c.args.deadline (c.restart_row-were.ensures.group c.index.result.now) ∙ ap change (sym (l.group has)))
+    let is = group-each f _ c.args.deadline (set_row.group c.index.result.now) ∙ ap change (sym (f.at.group has)) in
+    row-seen f.at _ set_row.rows f.head (change (group_at c.args.self.now.groups address)) has is
 
 pub returns-clause-spent : goal.returns-clause-spent
 returns-clause-spent g c address has =
-    let l = located g.K.Key.number c.self.inside c.self.invariant c.self.view_is c.requires.number in
-    let others = ap (λ k. bitlen (k - 1)) l.running in
+    let l = at_so g (goal.at.returns-clause-spent g c).After-self in
     let size = sym (l.size has) in
-    let size_looked = ap length c.row-row.ensures.cells in
+    let looked = ap length c.row-row.ensures.cells in
     let size_then = ap length c.row-row-2.ensures.cells ∙ c.restart_row-were.ensures.len in
     let told = Spends-join (Spends-join c.has_each.ensures.spent c.restart_row-were.ensures.spent) c.earliest_then-due.ensures.spent in
-    Spends-join_within _ _ told c.change_moment.ensures.spent (omega arith) (omega (arith, size, size_looked, size_then, ap bitlen (size_looked ∙ size), others))
+    Spends-join_within _ _ told c.change_moment.ensures.spent (omega arith) (omega (arith, size, looked, size_then, ap bitlen (looked ∙ size), l.others))
 
 pub returns-clause-moved : goal.returns-clause-moved
 returns-clause-moved g c =
-    let l = located g.K.Key.number c.self.inside c.self.invariant c.self.view_is c.requires.number in
-    let others = ap (λ k. bitlen (k - 1)) l.running in
-    Spends-join_within _ _ c.restart_row-were.ensures.moved c.change_moment.ensures.moved (omega arith) (omega (arith, others))
+    let l = at_so g (goal.at.returns-clause-moved g c).After-self in
+    Spends-join_within _ _ c.restart_row-were.ensures.moved c.change_moment.ensures.moved (omega arith) (omega (arith, l.others))

@@ -5,25 +5,32 @@ use Rattle.mq_held.specs.Held.{is_vacant_at}
 use Rattle.mq_held.proofs.GroupsInOrder.{IsOrdered-stored}
 use Rattle.mq_held.proofs.Inside.{len-held}
 use Rattle.mq_held.proofs.TakenItems.{length-vacant}
-use Rattle.mq_held.proofs.TakenGroups.{groups-left, given-within, inside-left, has-left, left-removed, gone-there, gone-once, parts-left, order-left, left-kept, all-vacant, few-searches, few-moves, many-moves}
+use Rattle.mq_held.proofs.TakenGroups.{groups-left, given-within, inside-left, has-left, left-removed, gone-there, gone-once, parts-left, order-left}
+use Rattle.mq_held.proofs.TakenGroups.{left-kept, all-vacant, few-searches, few-moves, many-moves}
 use Rattle.mq_held.proofs.held_groups.HeldGroups.take_out_vacant.Given.{Over}
 use Rattle.mq_held.proofs.held_groups.HeldGroups.take_out_vacant.Goals as goal
 
 pub remove_each-requires-clause-there : goal.remove_each-requires-clause-there
-remove_each-requires-clause-there g c = gone-there g.K.Key.number c.self.invariant.0 c.self.view_is c.args.numbers.now.items c.requires.there (c.as_slice.ensures.value ∙ c.leave_vacant.ensures.numbers)
+remove_each-requires-clause-there g c = gone-there g.K.Key.number c.self.invariant.0 c.self.view_is c.args.numbers.now.items c.requires.there
+    (c.as_slice.ensures.value ∙ c.leave_vacant.ensures.numbers)
 
 pub remove_each-requires-clause-once : goal.remove_each-requires-clause-once
-remove_each-requires-clause-once g c = gone-once g.K.Key.number c.self.invariant.0 c.self.view_is c.args.numbers.now.items c.requires.each (c.as_slice.ensures.value ∙ c.leave_vacant.ensures.numbers)
+remove_each-requires-clause-once g c = gone-once g.K.Key.number c.self.invariant.0 c.self.view_is c.args.numbers.now.items c.requires.each
+    (c.as_slice.ensures.value ∙ c.leave_vacant.ensures.numbers)
 
 pub keep-requires-clause-parts : goal.keep-requires-clause-parts
-keep-requires-clause-parts g c = parts-left g.K.Key.number c.self.invariant.0 c.self.view_is c.part-kept.ensures.kept (c.as_slice-else-len.ensures.value ∙ c.part-kept.ensures.gone)
+keep-requires-clause-parts g c = parts-left g.K.Key.number c.self.invariant.0 c.self.view_is c.part-kept.ensures.kept
+    (c.as_slice-else-len.ensures.value ∙ c.part-kept.ensures.gone)
 
 pub keep-requires-clause-in_order : goal.keep-requires-clause-in_order
 keep-requires-clause-in_order g c = order-left g.K.Key.number c.self.invariant.0 c.self.view_is c.part-kept.ensures.kept
 
 -- what is left, where they are removed one by one
-left_few : (g : Over) (c : goal.After-remove_each g) → c.remove_each.new.order.items ≡ filter (λ x. not (is_vacant_at c.args.self.now x.number)) c.self.inside.order.items
-left_few g c = c.remove_each.ensures.items ∙ left-removed g.K.Key.number c.self.invariant.0 c.self.view_is c.args.numbers.now.items c.requires.there c.requires.each c.requires.vacant (c.as_slice.ensures.value ∙ c.leave_vacant.ensures.numbers)
+left_few : (g : Over) (c : goal.After-remove_each g) →
+    c.remove_each.new.order.items ≡ filter (λ x. not (is_vacant_at c.args.self.now x.number)) c.self.inside.order.items
+left_few g c = c.remove_each.ensures.items ∙
+    left-removed g.K.Key.number c.self.invariant.0 c.self.view_is c.args.numbers.now.items c.requires.there c.requires.each c.requires.vacant
+    (c.as_slice.ensures.value ∙ c.leave_vacant.ensures.numbers)
 
 few : (g : Over) (c : goal.After-remove_each g) → length c.as_slice.result.now ≤ length c.self.inside.order.items / 32
 few g c = omega (arith, c.if-len.true, c.len.ensures, c.as_slice.ensures.len, ap (λ n. n / 32) c.len-2.ensures.len)
@@ -43,17 +50,20 @@ returns-then-len-clause-spent g c =
     let part = length-vacant (is_vacant_at c.args.self.now) given (c.as_slice.ensures.value ∙ c.leave_vacant.ensures.numbers) in
     let small : length c.self.inside.order.items ≤ 2 ^ 16 = omega (arith, c.self.invariant.5, c.self.invariant.6) in
     rw (len-held g.K.Key.number c.self.invariant.0 c.self.view_is)
-    (Spends-within _ _ c.remove_each.ensures.spent (omega arith) (few-searches (length c.as_slice.result.now) (length given) (length c.self.inside.order.items) (few g c) part small))
+    (Spends-within _ _ c.remove_each.ensures.spent (omega arith)
+    (few-searches (length c.as_slice.result.now) (length given) (length c.self.inside.order.items) (few g c) part small))
 
 pub returns-then-len-clause-moved : goal.returns-then-len-clause-moved
 returns-then-len-clause-moved g c =
     let given = c.args.numbers.now.items in
     let within = given-within g.K.Key.number c.self.invariant.0 c.self.view_is given c.requires.there c.requires.each c.requires.vacant in
-    let vacant = all-vacant (IsOrdered-stored g.K.Key.number c.self.invariant.0 c.self.view_is) given c.requires.there c.requires.each c.requires.vacant (c.as_slice.ensures.value ∙ c.leave_vacant.ensures.numbers) in
+    let vacant = all-vacant (IsOrdered-stored g.K.Key.number c.self.invariant.0 c.self.view_is) given c.requires.there c.requires.each
+    c.requires.vacant (c.as_slice.ensures.value ∙ c.leave_vacant.ensures.numbers) in
     let part = length-vacant (is_vacant_at c.args.self.now) given (c.as_slice.ensures.value ∙ c.leave_vacant.ensures.numbers) in
     let small : length c.self.inside.order.items ≤ 2 ^ 16 = omega (arith, c.self.invariant.5, c.self.invariant.6) in
     rw (len-held g.K.Key.number c.self.invariant.0 c.self.view_is)
-    (Spends-join_within _ _ c.leave_vacant.ensures.moved c.remove_each.ensures.moved (omega (arith, vacant)) (few-moves (length c.as_slice.result.now) (length given) (length c.self.inside.order.items) (few g c) part within small))
+    (Spends-join_within _ _ c.leave_vacant.ensures.moved c.remove_each.ensures.moved (omega (arith, vacant))
+    (few-moves (length c.as_slice.result.now) (length given) (length c.self.inside.order.items) (few g c) part within small))
 
 -- and where the order is walked
 left_many : (g : Over) (c : goal.After-keep g) → c.keep.new.self.items ≡ filter (λ x. not (is_vacant_at c.args.self.now x.number)) c.self.inside.order.items
@@ -73,10 +83,13 @@ returns-else-len-clause-moved g c =
     let size = len-held g.K.Key.number c.self.invariant.0 c.self.view_is in
     let given = c.args.numbers.now.items in
     let within = given-within g.K.Key.number c.self.invariant.0 c.self.view_is given c.requires.there c.requires.each c.requires.vacant in
-    let vacant = all-vacant (IsOrdered-stored g.K.Key.number c.self.invariant.0 c.self.view_is) given c.requires.there c.requires.each c.requires.vacant c.leave_vacant.ensures.numbers in
+    let vacant = all-vacant (IsOrdered-stored g.K.Key.number c.self.invariant.0 c.self.view_is) given c.requires.there c.requires.each
+    c.requires.vacant c.leave_vacant.ensures.numbers in
     let gone = length c.leave_vacant.new.numbers.items in
     let part = length-vacant (is_vacant_at c.args.self.now) given c.leave_vacant.ensures.numbers in
-    let many : length c.self.inside.order.items / 32 < gone = omega (arith, c.if-len.false, c.len.ensures, c.leave_vacant.new.numbers.ok.0, ap (λ n. n / 32) c.len-2.ensures.len) in
+    let many : length c.self.inside.order.items / 32 < gone =
+    omega (arith, c.if-len.false, c.len.ensures, c.leave_vacant.new.numbers.ok.0, ap (λ n. n / 32) c.len-2.ensures.len) in
     let bound = many-moves gone (length given) (length c.self.inside.order.items) many part within in
     rw size
-    (Spends-join_within _ _ (Spends-join c.leave_vacant.ensures.moved c.part-kept.ensures.moved) c.keep.ensures.moved (omega (arith, vacant, part, within, size)) (omega (arith, bound, size)))
+    (Spends-join_within _ _ (Spends-join c.leave_vacant.ensures.moved c.part-kept.ensures.moved) c.keep.ensures.moved
+    (omega (arith, vacant, part, within, size)) (omega (arith, bound, size)))

@@ -28,4 +28,5 @@ returns-in_err-with_room-2-clause-memory g c =
 
 pub returns-clause-memory : goal.returns-clause-memory
 unfolding bytes_of_groups
-returns-clause-memory g c = both (both (both c.in_ok-with_room.ensures.memory c.in_ok-filled.ensures.memory) c.in_ok-new.ensures.memory) c.in_ok-with_room-2.ensures.memory
+returns-clause-memory g c = both (both (both c.in_ok-with_room.ensures.memory c.in_ok-filled.ensures.memory) c.in_ok-new.ensures.memory)
+    c.in_ok-with_room-2.ensures.memory

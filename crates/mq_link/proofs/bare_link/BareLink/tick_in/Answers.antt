@@ -16,7 +16,8 @@ returns-clause-later g c =
 
 pub returns-clause-spent : goal.returns-clause-spent
 returns-clause-spent g c =
-    subst (λ (v : LinkValue). Spends (2 + least_ticked (moment_of v.state c.args.now) v.state.groups) (4 * sources_in v.state.groups + 44 * map.len v.state.groups + 3) v.spent c.tick.new.self.spent)
+    subst (λ (v : LinkValue). Spends (2 + least_ticked (moment_of v.state c.args.now) v.state.groups)
+    (4 * sources_in v.state.groups + 44 * map.len v.state.groups + 3) v.spent c.tick.new.self.spent)
     c.self.view_is c.tick.ensures.spent
 
 pub returns-clause-moved : goal.returns-clause-moved

@@ -10,8 +10,11 @@ pub invariant_of-result : goal.invariant_of-result
 invariant_of-result g c =
     let limits = c.limits.ensures in
     let config = ap (λ (l : LinkValue). l.config.limits) c.in_ok-new_in.ensures.link in (
-      (λ i. suffices (config i) (c.in_ok-workspace.ensures.workspace i)) ∙ (λ i. suffices c.args.config.limits (record { groups = (limits i).groups; group_sources = (limits i).group_sources; changed = [] })) ∙ suffices_own c.args.config.limits [],
-      ap (λ (w : WorkspaceState). w.groups) c.in_ok-workspace.ensures.workspace ∙ ap (λ (l : Limits). l.groups) limits ∙ sym (ap (λ (l : Limits). l.groups) config),
+      (λ i. suffices (config i) (c.in_ok-workspace.ensures.workspace i)) ∙
+          (λ i. suffices c.args.config.limits (record { groups = (limits i).groups; group_sources = (limits i).group_sources; changed = [] })) ∙
+          suffices_own c.args.config.limits [],
+      ap (λ (w : WorkspaceState). w.groups) c.in_ok-workspace.ensures.workspace ∙ ap (λ (l : Limits). l.groups) limits ∙
+          sym (ap (λ (l : Limits). l.groups) config),
     )
 
 pub returns-in_err-new_in-clause-memory : goal.returns-in_err-new_in-clause-memory

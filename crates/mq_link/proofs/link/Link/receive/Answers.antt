@@ -22,5 +22,6 @@ returns-clause-receives g c =
     let before : LinkValue = record c.self.inside.bare { changed = c.self.inside.workspace.changed } in
     let left : LinkValue = record c.receive_in.new.self { changed = c.receive_in.new.workspace.changed } in
     let did = c.receive_in.ensures.receives in
-    let there : HasReceived takes around c.args.body.now c.args.now c.receive_in.result before left c.args.outlet.now c.receive_in.new.outlet = record { messages = did.messages; answers = did.answers; receives = did.receives; handed = did.handed } in
+    let there : HasReceived takes around c.args.body.now c.args.now c.receive_in.result before left c.args.outlet.now c.receive_in.new.outlet =
+    record { messages = did.messages; answers = did.answers; receives = did.receives; handed = did.handed } in
     subst (λ v. HasReceived takes around c.args.body.now c.args.now c.receive_in.result v left c.args.outlet.now c.receive_in.new.outlet) c.self.view_is there

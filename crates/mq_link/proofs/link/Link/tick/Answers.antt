@@ -21,5 +21,6 @@ returns-clause-ticks g c =
     let before : LinkValue = record c.self.inside.bare { changed = c.self.inside.workspace.changed } in
     let left : LinkValue = record c.tick_in.new.self { changed = c.tick_in.new.workspace.changed } in
     let did = c.tick_in.ensures.ticks in
-    let there : HasTicked takes c.args.now before left c.args.outlet.now c.tick_in.new.outlet = record { messages = did.messages; answers = did.answers; ticks = did.ticks; handed = did.handed } in
+    let there : HasTicked takes c.args.now before left c.args.outlet.now c.tick_in.new.outlet =
+    record { messages = did.messages; answers = did.answers; ticks = did.ticks; handed = did.handed } in
     subst (λ v. HasTicked takes c.args.now v left c.args.outlet.now c.tick_in.new.outlet) c.self.view_is there

@@ -28,7 +28,8 @@ do_due-requires-clause-ready g c =
     let inside = c.self.inside in
     let enough = enough_inside c.self.view_is c.work.view_is c.requires.enough in
     let room = enough_room inside.status.config.limits _ _ enough _ c.work.invariant in
-    ready_counted _ inside.storage c.later-now.new.m (ready_in inside.status inside.storage c.lemma_is_sound.ensures.faultless c.self.invariant.sound _ room.group)
+    ready_counted _ inside.storage c.later-now.new.m
+    (ready_in inside.status inside.storage c.lemma_is_sound.ensures.faultless c.self.invariant.sound _ room.group)
 
 pub do_due-requires-clause-space : goal.do_due-requires-clause-space
 do_due-requires-clause-space g c =
@@ -59,7 +60,8 @@ at_moment g c = c.later-now.ensures.later ∙ ap (λ n. max n c.args.now) c.mome
 
 -- what is due then is done
 did : (g : Over) (c : After-do_due g) → (let parts = c.self.inside in
-    HasDone g.O.Outlet.takes g.F.Family.FAMILY c.later-now.result (router_of parts.status parts.storage parts.counts) (router_of c.do_due.new.self c.do_due.new.storage parts.counts) c.args.sender.now c.do_due.new.sender)
+    HasDone g.O.Outlet.takes g.F.Family.FAMILY c.later-now.result (router_of parts.status parts.storage parts.counts)
+    (router_of c.do_due.new.self c.do_due.new.storage parts.counts) c.args.sender.now c.do_due.new.sender)
 did g c = let done = c.do_due.ensures in record { status_is = done.status; groups_are = done.groups; counters_are = refl; sent = done.sent }
 
 pub invariant_of-self : goal.invariant_of-self
@@ -68,7 +70,8 @@ invariant_of-self g c =
     let sure = c.lemma_is_sound.ensures in
     stored_next parts.status c.do_due.new.self parts.storage c.do_due.new.storage c.self.invariant
     (does_tick _ _ c.args.now _ _ _ _ _ sure.family (at_moment g c) (did g c)).leaves.config
-    (sound_after_tick _ _ c.args.now _ _ _ _ _ sure.family (at_moment g c) (did g c) (timing_in_range parts.status.config sure.faultless) sure.timing c.self.invariant.sound)
+    (sound_after_tick _ _ c.args.now _ _ _ _ _ sure.family (at_moment g c) (did g c)
+    (timing_in_range parts.status.config sure.faultless) sure.timing c.self.invariant.sound)
     (record { groups = c.do_due.ensures.rooms.groups; sources = c.do_due.ensures.rooms.sources })
 
 pub invariant_of-work : goal.invariant_of-work
@@ -80,7 +83,15 @@ invariant_of-work g c =
     let changed = space.changed in
     let by_tick = space.by_tick in
     let by_records = space.by_records in
-    let cleared : HasSpace c.work.inside.groups (record c.work.inside.lists { changed = c.clear.new.self }) = record { due = omega arith; spare = omega arith; changed = omega (arith, changed, c.clear.ensures.capacity); by_tick = omega arith; by_records = omega arith } in
+    let cleared : HasSpace c.work.inside.groups (record c.work.inside.lists { changed = c.clear.new.self }) =
+    record {
+      due = omega arith;
+      spare = omega arith;
+      changed = omega (arith, changed, c.clear.ensures.capacity);
+      by_tick = omega arith;
+      by_records =
+          omega arith;
+    } in
     workspace_next g.F.Address.Key.number _ _ c.work.invariant
     (record { group = c.do_due.ensures.room; named = refl; asked = omega arith; met = refl; changed = refl })
     (still_space c.work.inside.groups cleared c.do_due.ensures.space)
@@ -93,7 +104,8 @@ pub returns-clause-step : goal.returns-clause-step
 returns-clause-step g c =
     let parts = c.self.inside in
     let after = router_of c.do_due.new.self c.do_due.new.storage parts.counts in
-    subst (λ (r : RouterValue). let step = tick_of r.at.config c.args.now (state_of r) in HasStep (TakesQuery g.O.Outlet.takes g.F.Family.FAMILY) step r after (begun r.at.config step.timing c.args.sender.now) c.do_due.new.sender) c.self.view_is
+    subst (λ (r : RouterValue). let step = tick_of r.at.config c.args.now (state_of r) in
+    HasStep (TakesQuery g.O.Outlet.takes g.F.Family.FAMILY) step r after (begun r.at.config step.timing c.args.sender.now) c.do_due.new.sender) c.self.view_is
     (does_tick _ _ c.args.now _ _ after _ _ c.lemma_is_sound.ensures.family (at_moment g c) (did g c))
 
 pub returns-clause-workspace : goal.returns-clause-workspace
@@ -119,9 +131,11 @@ pub returns-clause-spent : goal.returns-clause-spent
 returns-clause-spent g c =
     let groups = c.self.inside.storage.held.groups in
     let most = 4 * sources_in groups + 44 * map.len groups + 3 in
-    let spent = Spends-join_within (2 + least_ticked c.later-now.result groups) most c.later-now.ensures.spent c.do_due.ensures.spent (omega arith) (omega arith) in
+    let spent = Spends-join_within (2 + least_ticked c.later-now.result groups) most c.later-now.ensures.spent c.do_due.ensures.spent (omega arith)
+    (omega arith) in
     let there = subst (λ m. Spends (2 + least_ticked m groups) most c.self.inside.storage.meter c.do_due.new.storage.meter) (at_moment g c) spent in
-    subst (λ (r : RouterValue). Spends (2 + least_ticked (moment_of (state_of r) c.args.now) r.groups) (4 * sources_in r.groups + 44 * map.len r.groups + 3) r.spent c.do_due.new.storage.meter) c.self.view_is there
+    subst (λ (r : RouterValue). Spends (2 + least_ticked (moment_of (state_of r) c.args.now) r.groups)
+    (4 * sources_in r.groups + 44 * map.len r.groups + 3) r.spent c.do_due.new.storage.meter) c.self.view_is there
 
 pub returns-clause-quiet : goal.returns-clause-quiet
 returns-clause-quiet g c before =
@@ -129,7 +143,8 @@ returns-clause-quiet g c before =
     let inside = router_of parts.status parts.storage parts.counts in
     let earlier = subst (λ (r : RouterValue). moment_of (state_of r) c.args.now < next_of (state_of r)) (sym c.self.view_is) before in
     let moment : c.later-now.result < next_of (state_of inside) = subst (λ m. m < next_of (state_of inside)) (sym (at_moment g c)) earlier in
-    let spent = Spends-join_within 2 3 c.later-now.ensures.spent (c.do_due.ensures.quiet (none_due (state_of inside) c.later-now.result moment)) (omega arith) (omega arith) in
+    let spent = Spends-join_within 2 3 c.later-now.ensures.spent (c.do_due.ensures.quiet (none_due (state_of inside) c.later-now.result moment))
+    (omega arith) (omega arith) in
     subst (λ (r : RouterValue). Spends 2 3 r.spent c.do_due.new.storage.meter) c.self.view_is spent
 
 pub returns-clause-moved : goal.returns-clause-moved

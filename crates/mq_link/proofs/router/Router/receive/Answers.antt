@@ -21,17 +21,22 @@ use Rattle.mq_link.proofs.router.Router.receive.Given.{Over}
 use Rattle.mq_link.proofs.router.Router.receive.Goals as goal
 
 -- the answers are those that the sender has counted
-counted : (g : Over) (c : goal.After-count_answers g) → (let left = c.take_in-received.new in c.count_answers.new.self ≡ record left.self { counters = with_answers left.self.counters left.sender.sent left.sender.unsent })
+counted : (g : Over) (c : goal.After-count_answers g) →
+    (let left = c.take_in-received.new in c.count_answers.new.self
+    ≡ record left.self { counters = with_answers left.self.counters left.sender.sent left.sender.unsent })
 counted g c =
     let left = c.take_in-received.new in
     c.count_answers.ensures ∙ (λ i. record left.self { counters = with_answers left.self.counters (c.sent.ensures i) (c.unsent.ensures i) })
 
 pub returns-clause-config : goal.returns-clause-config
-returns-clause-config g c = ap (λ (r : RouterValue). r.at.config) (counted g c) ∙ c.take_in-received.ensures.receipt.step.leaves.config ∙ c.come_to.ensures.step.leaves.config
+returns-clause-config g c = ap (λ (r : RouterValue). r.at.config) (counted g c) ∙ c.take_in-received.ensures.receipt.step.leaves.config ∙
+    c.come_to.ensures.step.leaves.config
 
 pub returns-clause-receives : goal.returns-clause-receives
 returns-clause-receives g c =
-    has_received g.O.Outlet.takes g.F.Family.FAMILY (g.F.Family.envelope_of c.args.envelope.now) c.args.body.now c.args.now c.args.self.now c.come_to.new.self c.take_in-received.new.self c.count_answers.new.self c.take_in-received.result c.args.sender.now c.come_to.new.sender c.take_in-received.new.sender c.lemma_is_stored.ensures.family c.come_to.ensures.step c.take_in-received.ensures.receipt (counted g c)
+    has_received g.O.Outlet.takes g.F.Family.FAMILY (g.F.Family.envelope_of c.args.envelope.now) c.args.body.now c.args.now c.args.self.now
+    c.come_to.new.self c.take_in-received.new.self c.count_answers.new.self c.take_in-received.result c.args.sender.now c.come_to.new.sender
+    c.take_in-received.new.sender c.lemma_is_stored.ensures.family c.come_to.ensures.step c.take_in-received.ensures.receipt (counted g c)
 
 pub returns-clause-same_outlet : goal.returns-clause-same_outlet
 returns-clause-same_outlet g c = same_outlet _ _ _ _ _ c.take_in-received.ensures.receipt.step.sent ∙ same_outlet _ _ _ _ _ c.come_to.ensures.step.sent
@@ -45,11 +50,16 @@ returns-clause-spent g c =
     let envelope = g.F.Family.envelope_of c.args.envelope.now in
     let moment = max before.at.now c.args.now in
     let leaves = c.come_to.ensures.step.leaves in
-    let spent = received_within (ticked config.timing moment before.at.election).timing moment before.groups between.groups (length c.args.body.now) _ _ _ _ _ (ap (λ (s : LinkState). s.groups) leaves.state_is) c.come_to.ensures.few (Spends-within _ _ c.come_to.ensures.spent (omega arith) (omega arith)) c.take_in-received.ensures.spent in
-    let least = (λ i. let at : Setting = record { config = leaves.config i; election = between.at.election; now = between.at.now } in least_after at envelope (read_in family envelope c.args.body.now) between.groups)
-    ∙ least_after_tick family config envelope c.args.body.now c.args.now moment (state_of before) (state_of between) c.lemma_is_stored.ensures.family refl leaves.state_is
+    let spent = received_within (ticked config.timing moment before.at.election).timing moment before.groups between.groups
+    (length c.args.body.now) _ _ _ _ _ (ap (λ (s : LinkState). s.groups) leaves.state_is) c.come_to.ensures.few
+    (Spends-within _ _ c.come_to.ensures.spent (omega arith) (omega arith)) c.take_in-received.ensures.spent in
+    let least = (λ i. let at : Setting = record { config = leaves.config i; election = between.at.election; now = between.at.now } in
+    least_after at envelope (read_in family envelope c.args.body.now) between.groups)
+    ∙ least_after_tick family config envelope c.args.body.now c.args.now moment (state_of before)
+    (state_of between) c.lemma_is_stored.ensures.family refl leaves.state_is
     in
-    let so = subst (λ n. Spends (2 + n) (cost_of (length c.args.body.now) (held_of (state_of before))) before.spent c.take_in-received.new.self.spent) least spent in
+    let so = subst (λ n. Spends (2 + n) (cost_of (length c.args.body.now) (held_of (state_of before))) before.spent c.take_in-received.new.self.spent)
+    least spent in
     subst (Spends _ _ before.spent) (sym (ap (λ (r : RouterValue). r.spent) (counted g c))) so
 
 pub returns-clause-moved : goal.returns-clause-moved
@@ -60,7 +70,9 @@ returns-clause-moved g c =
     let config = before.at.config in
     let moment = max before.at.now c.args.now in
     let leaves = c.come_to.ensures.step.leaves in
-    let moved = moved_within (ticked config.timing moment before.at.election).timing moment before.groups between.groups (length c.args.body.now) _ _ _ _ _ _ (ap (λ (s : LinkState). s.groups) leaves.state_is) c.lemma_is_stored.ensures.put_by c.come_to.ensures.moved c.take_in-received.ensures.moved in
+    let moved = moved_within (ticked config.timing moment before.at.election).timing moment before.groups between.groups
+    (length c.args.body.now) _ _ _ _ _ _ (ap (λ (s : LinkState). s.groups) leaves.state_is) c.lemma_is_stored.ensures.put_by c.come_to.ensures.moved
+    c.take_in-received.ensures.moved in
     subst (Spends _ _ before.moved) (sym (ap (λ (r : RouterValue). r.moved) (counted g c))) moved
 
 pub take_in-received-requires-clause-enough : goal.take_in-received-requires-clause-enough
@@ -87,5 +99,6 @@ returns-clause-changed g c =
     let at_is : c.come_to.new.self.at ≡ setting_of config (tick_of config c.args.now (state_of c.args.self.now)).state =
     (λ i. record { config = leaves.config i; election = (leaves.state_is i).election; now = (leaves.state_is i).last })
     in
-    those_so (λ address. λ i. by_tick address || changed_by_read (at_is i) (read_in (family i) around bytes) (drop_reason (leaves.config i) around (read_in (family i) around bytes)) (leaves.state_is i).groups address)
+    those_so (λ address. λ i. by_tick address || changed_by_read (at_is i) (read_in (family i) around bytes)
+    (drop_reason (leaves.config i) around (read_in (family i) around bytes)) (leaves.state_is i).groups address)
     (c.take_in-received.ensures.changed by_tick c.come_to.ensures.changed)

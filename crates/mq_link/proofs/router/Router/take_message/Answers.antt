@@ -38,13 +38,15 @@ returns-in-Report-clause-receipt g c = rw c.in-Report.is c.take_records.ensures.
 pub returns-in-OldReport-clause-spent : goal.returns-in-OldReport-clause-spent
 returns-in-OldReport-clause-spent g c =
     let before = c.args.self.now in
-    let few : map.len before.groups ≤ 65535 = omega (arith, c.lemma_is_stored.ensures.sound.within.group_count, few_groups before.at.config c.lemma_is_stored.ensures.faultless) in
+    let few : map.len before.groups ≤ 65535 =
+    omega (arith, c.lemma_is_stored.ensures.sound.within.group_count, few_groups before.at.config c.lemma_is_stored.ensures.faultless) in
     rw c.in-OldReport.is (statement_within before.groups (g.F.Address.Key.number c.in-OldReport.group) _ _ _ _ few c.take_statement.ensures.spent)
 
 pub returns-in-Leave-clause-spent : goal.returns-in-Leave-clause-spent
 returns-in-Leave-clause-spent g c =
     let before = c.args.self.now in
-    let few : map.len before.groups ≤ 65535 = omega (arith, c.lemma_is_stored.ensures.sound.within.group_count, few_groups before.at.config c.lemma_is_stored.ensures.faultless) in
+    let few : map.len before.groups ≤ 65535 =
+    omega (arith, c.lemma_is_stored.ensures.sound.within.group_count, few_groups before.at.config c.lemma_is_stored.ensures.faultless) in
     rw c.in-Leave.is (statement_within before.groups (g.F.Address.Key.number c.in-Leave.group) _ _ _ _ few c.take_statement-in-Leave.ensures.spent)
 
 pub returns-in-Report-clause-spent : goal.returns-in-Report-clause-spent

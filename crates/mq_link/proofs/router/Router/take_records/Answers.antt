@@ -66,17 +66,23 @@ invariant_of-self g c =
     let held = c.list_changed.ensures.held in
     stored_next parts.status parts.status parts.storage c.list_changed.new.self c.self.invariant refl
     (subst (AreSound parts.status) (ap (λ (h : HeldState). h.groups) (sym held)) left.sound)
-    (record { groups = ap (λ (h : HeldState). h.order.room) held ∙ left.rooms.groups; sources = ap (λ (h : HeldState). h.source_room) held ∙ left.rooms.sources })
+    (record {
+      groups = ap (λ (h : HeldState). h.order.room) held ∙ left.rooms.groups;
+      sources = ap (λ (h : HeldState). h.source_room) held ∙
+          left.rooms.sources;
+    })
 
 pub invariant_of-work : goal.invariant_of-work
 invariant_of-work g c =
     let taken = c.take_each-received.new.work in
     let listed = c.list_changed.ensures in
-    let cleared : KeepsRoom taken (record taken { met = c.clear.new.self; changed = c.list_changed.new.marks }) = record { group = omega arith; named = refl; asked = omega arith; met = c.clear.ensures.room; changed = listed.len } in
+    let cleared : KeepsRoom taken (record taken { met = c.clear.new.self; changed = c.list_changed.new.marks }) =
+    record { group = omega arith; named = refl; asked = omega arith; met = c.clear.ensures.room; changed = listed.len } in
     let enough = enough_inside c.self.view_is c.work.view_is c.requires.enough in
     let limits = ap (λ (r : RouterValue). r.at.config.limits.groups) c.self.view_is in
     let few = few_inside g.F.Address.Key.number c.work.inside.lists _ _ _ c.work.view_is refl c.requires.few_changed in
-    workspace_next _ _ _ c.work.invariant (room_on c.take_each-received.ensures.room cleared) (subst (λ n. HasSpace n c.list_changed.new.lists) (marks g c) listed.space) c.clear.ensures.none listed.none listed.ascending
+    workspace_next _ _ _ c.work.invariant (room_on c.take_each-received.ensures.room cleared)
+    (subst (λ n. HasSpace n c.list_changed.new.lists) (marks g c) listed.space) c.clear.ensures.none listed.none listed.ascending
     (omega (arith, listed.count, few, limits, enough_groups c.self.inside.status.config.limits _ _ enough, marks g c))
 
 pub returns-clause-receipt : goal.returns-clause-receipt
@@ -86,7 +92,9 @@ returns-clause-receipt g c =
     let did = c.take_each-received.ensures.outcomes in
     let after = router_of parts.status c.list_changed.new.self left.counts in
     let groups = ap (λ (h : HeldState). h.groups) c.list_changed.ensures.held ∙ did.groups_are in
-    subst (λ (r : RouterValue). HasReceipt g.S.Sink.takes (with_outcomes (silent_step (state_of r)) (all_judged r.at map.empty c.args.records.now r.groups)) c.take_each-received.result r after c.args.sink.now left.sink) c.self.view_is (record {
+    subst (λ (r : RouterValue). HasReceipt g.S.Sink.takes
+    (with_outcomes (silent_step (state_of r)) (all_judged r.at map.empty c.args.records.now r.groups)) c.take_each-received.result r after
+    c.args.sink.now left.sink) c.self.view_is (record {
       step = record {
         leaves = record {
           config = refl;
@@ -104,7 +112,8 @@ pub returns-clause-changed : goal.returns-clause-changed
 returns-clause-changed g c by_tick those =
     let before = subst (λ (w : WorkspaceState). AreThose by_tick w.changed) (sym c.work.view_is) those in
     let listed = list_map g.F.Address.Key.number c.list_changed.new.lists.changed.items in
-    subst (λ (r : RouterValue). AreThose (λ address. by_tick address || changed_by_all r.at map.empty c.args.records.now r.groups address) listed) c.self.view_is
+    subst (λ (r : RouterValue). AreThose (λ address. by_tick address || changed_by_all r.at map.empty c.args.records.now r.groups address) listed)
+    c.self.view_is
     (c.list_changed.ensures.changed by_tick _ before c.take_each-received.ensures.changed)
 
 pub returns-clause-spent : goal.returns-clause-spent
@@ -112,8 +121,12 @@ returns-clause-spent g c =
     let groups = c.self.inside.storage.held.groups in
     let records = c.args.records.now in
     let few = few_inside g.F.Address.Key.number c.work.inside.lists _ _ (length c.args.work.now.changed) c.work.view_is refl (omega arith) in
-    let spent = Spends-join_within (least_all c.self.inside.status map.empty records groups) (24 * sources_in groups + sum_by own_cost records + (length c.args.work.now.changed + 7 * length records)) c.take_each-received.ensures.spent c.list_changed.ensures.spent (omega arith) (omega (arith, few, c.take_each-received.ensures.few_changed)) in
-    subst (λ (r : RouterValue). Spends (least_all r.at map.empty records r.groups) (24 * sources_in r.groups + sum_by own_cost records + (length c.args.work.now.changed + 7 * length records)) r.spent c.list_changed.new.self.meter) c.self.view_is spent
+    let spent = Spends-join_within (least_all c.self.inside.status map.empty records groups)
+    (24 * sources_in groups + sum_by own_cost records + (length c.args.work.now.changed + 7 * length records)) c.take_each-received.ensures.spent
+    c.list_changed.ensures.spent (omega arith) (omega (arith, few, c.take_each-received.ensures.few_changed)) in
+    subst (λ (r : RouterValue). Spends (least_all r.at map.empty records r.groups)
+    (24 * sources_in r.groups + sum_by own_cost records + (length c.args.work.now.changed + 7 * length records)) r.spent
+    c.list_changed.new.self.meter) c.self.view_is spent
 
 pub returns-clause-moved : goal.returns-clause-moved
 returns-clause-moved g c =
@@ -122,7 +135,11 @@ returns-clause-moved g c =
     let records = c.args.records.now in
     let left = c.list_changed.new.self in
     let did = c.take_each-received.ensures in
-    let grown : map.len c.take_each-received.new.storage.held.groups ≤ map.len groups + length records = subst (λ (m : Groups). map.len m ≤ map.len groups + length records) (sym did.outcomes.groups_are) (all_judged_grow parts.status map.empty records groups) in
-    let within = listed_within (met_in c.take_each-received.new.work.changed) (length records) (map.len c.take_each-received.new.storage.held.groups) (map.len groups) did.few_changed grown in
-    let moved = paid_join (24 * sources_in groups + sum_by own_moves records + (map.len groups + 65 * length records)) did.moved c.list_changed.ensures.moved (omega (arith, within)) in
-    subst (λ (r : RouterValue). IsPaid (24 * sources_in r.groups + sum_by own_moves records + (map.len r.groups + 65 * length records)) r.put_by (put_by_rows left.held) r.moved left.moves) c.self.view_is moved
+    let grown : map.len c.take_each-received.new.storage.held.groups ≤ map.len groups + length records =
+    subst (λ (m : Groups). map.len m ≤ map.len groups + length records) (sym did.outcomes.groups_are) (all_judged_grow parts.status map.empty records groups) in
+    let within = listed_within (met_in c.take_each-received.new.work.changed) (length records) (map.len c.take_each-received.new.storage.held.groups)
+    (map.len groups) did.few_changed grown in
+    let moved = paid_join (24 * sources_in groups + sum_by own_moves records + (map.len groups + 65 * length records)) did.moved
+    c.list_changed.ensures.moved (omega (arith, within)) in
+    subst (λ (r : RouterValue). IsPaid (24 * sources_in r.groups + sum_by own_moves records + (map.len r.groups + 65 * length records)) r.put_by
+    (put_by_rows left.held) r.moved left.moves) c.self.view_is moved

@@ -29,7 +29,8 @@ returns-clause-receipt g c =
     }
 
 pub returns-clause-spent : goal.returns-clause-spent
-returns-clause-spent g c = subst (Spends _ _ c.args.self.now.spent) (sym (ap (λ (r : RouterValue). r.spent) c.count_verdict.ensures)) c.apply_older-verdict.ensures.spent
+returns-clause-spent g c = subst (Spends _ _ c.args.self.now.spent)
+    (sym (ap (λ (r : RouterValue). r.spent) c.count_verdict.ensures)) c.apply_older-verdict.ensures.spent
 
 pub returns-clause-moved : goal.returns-clause-moved
 returns-clause-moved g c = rw c.count_verdict.ensures c.apply_older-verdict.ensures.moved

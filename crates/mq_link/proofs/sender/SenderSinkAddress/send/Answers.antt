@@ -29,7 +29,8 @@ returns-clause-takes g c =
     let fits = c.fits_one.ensures.0 c.if-not-fits_one.false in
     let room = ap length c.as_mut_slice.ensures.value in
     let stored = ap (take c.write-to.result.1) c.as_slice.ensures.value
-    ∙ written_back _ _ c.from-out.result.items c.write-to.new.out (omega (arith, written.within, written.len, room)) (omega (arith, written.within, written.len, room)) in
+    ∙ written_back _ _ c.from-out.result.items c.write-to.new.out (omega (arith, written.within, written.len, room))
+    (omega (arith, written.within, written.len, room)) in
     record {
       same_terms = handed.terms;
       same_outlet = handed.same_outlet;
@@ -37,7 +38,8 @@ returns-clause-takes g c =
         handed = λ small. (
           c.hand_over.result,
           subst (λ bytes. takes before.outlet.now message.to bytes c.hand_over.result c.hand_over.new.self.outlet.now) (stored ∙ written.bytes)
-              (subst (λ to. takes before.outlet.now to (take c.write-to.result.1 c.as_slice.result.now) c.hand_over.result c.hand_over.new.self.outlet.now) written.to handed.takes),
+              (subst (λ to. takes before.outlet.now to (take c.write-to.result.1 c.as_slice.result.now) c.hand_over.result
+              c.hand_over.new.self.outlet.now) written.to handed.takes),
           handed.sent,
           handed.unsent,
         );

@@ -17,8 +17,11 @@ returns-in-Some-clause-spent g c =
 
 pub returns-then-block-clause-left : goal.returns-then-block-clause-left
 returns-then-block-clause-left g c =
-    let left = c.block.ensures.left c.if-block.true in
-    (left.0, left.1 ∙ ap (λ (s : Storage _ _). with_group s.held.groups (g.F.Address.Key.number c.args.sought.address) left.0) (c.refresh.ensures.none c.in-None.is))
+    let left = c.block.ensures.left c.if-block.true in (
+      left.0,
+      left.1 ∙ ap (λ (s : Storage _ _). with_group s.held.groups (g.F.Address.Key.number c.args.sought.address) left.0)
+          (c.refresh.ensures.none c.in-None.is),
+    )
 
 pub returns-then-block-clause-spent : goal.returns-then-block-clause-spent
 returns-then-block-clause-spent g c =
@@ -27,7 +30,9 @@ returns-then-block-clause-spent g c =
     let count = length c.args.named.now in
     let tried = c.in-None.ensures.spent in
     let told = subst (λ (s : Storage _ _). let size = sources_of (group_at s.held.groups a) in
-    Spends (cond c.block.result (min size count) 0) (cond c.block.result (most_blocked c.args.said size count + 3 * size + 5 + bitlen (map.len s.held.groups)) (most_blocked c.args.said size count)) s.meter c.block.new.storage.meter)
+    Spends (cond c.block.result (min size count) 0)
+    (cond c.block.result (most_blocked c.args.said size count + 3 * size + 5 + bitlen (map.len s.held.groups)) (most_blocked c.args.said size count))
+    s.meter c.block.new.storage.meter)
     (c.refresh.ensures.none c.in-None.is) c.block.ensures.spent in
     let blocked = rw c.if-block.true at told in
     Spends-join_within _ _ tried blocked (omega arith) (omega (arith, blocked_few c.args.said (sources_of (group_at groups a)) count (map.len groups)))

@@ -28,7 +28,12 @@ returns-then-at-clause-groups g c address has =
     let asks = sym (ap (λ (f : InForce). f.is_querier) in_force) ∙ c.if-at.true in
     let asked = set_of (λ s. s) (g.F.Address.Key.number c.args.source ∷ []) in
     c.ask.ensures.groups address has
-    ∙ (λ i. let s : HeldState = record c.args.storage.now.held { groups = map.insert groups address (after_round (in_force i).timing (in_force i).moment (acted (sym asks i) (in_force i).timing (in_force i).moment false asked (group_at groups address))) } in s)
+    ∙ (λ i. let s : HeldState =
+    record c.args.storage.now.held {
+      groups = map.insert groups address
+          (after_round (in_force i).timing (in_force i).moment
+          (acted (sym asks i) (in_force i).timing (in_force i).moment false asked (group_at groups address)));
+    } in s)
 
 pub returns-then-at-clause-sent : goal.returns-then-at-clause-sent
 returns-then-at-clause-sent g c address has =
@@ -38,14 +43,16 @@ returns-then-at-clause-sent g c address has =
     let per = c.PER_QUERY.ensures ∙ g.met.F.Family.per_query ∙ ap per_query (sym c.lemma_is_sound.ensures.family) in
     let asked = set_of (λ s. s) (g.F.Address.Key.number c.args.source ∷ []) in
     subst (λ queries. Sends g.S.Sink.takes c.args.sink.now queries c.ask.new.sink)
-    (λ i. messages_due (per i) (in_force i).timing (in_force i).moment address (acted (sym asks i) (in_force i).timing (in_force i).moment false asked (group_at groups address))) (c.ask.ensures.sent address has)
+    (λ i. messages_due (per i) (in_force i).timing (in_force i).moment address
+    (acted (sym asks i) (in_force i).timing (in_force i).moment false asked (group_at groups address))) (c.ask.ensures.sent address has)
 
 pub returns-then-at-clause-absent : goal.returns-then-at-clause-absent
 returns-then-at-clause-absent g c absent =
     let found = some-address c.args.storage.now.held c.args.number c.requires.number in
     let size = sources_of (group_at c.args.storage.now.held.groups found.0) in
     let still = c.ask.ensures.absent absent in
-    let unmoved = spends_none (c.ask.ensures.moved found.0 found.1) (ap (λ b. cond b (size + 2 + bitlen (running_in c.args.storage.now.held.groups - 1)) 0) absent) in
+    let unmoved = spends_none (c.ask.ensures.moved found.0 found.1)
+    (ap (λ b. cond b (size + 2 + bitlen (running_in c.args.storage.now.held.groups - 1)) 0) absent) in
     λ i. let s : Storage _ _ = record { held = still i; meter = c.ask.new.m; moves = unmoved i } in s
 
 pub returns-then-at-clause-spent : goal.returns-then-at-clause-spent
@@ -78,8 +85,10 @@ returns-else-at-clause-groups g c address has =
     let e = group_at groups address in
     let asks = sym (ap (λ (f : InForce). f.is_querier) c.in_force-at.ensures.in_force) ∙ c.if-at.false in
     let asked = set_of (λ s. s) (g.F.Address.Key.number c.args.source ∷ []) in
-    let stays = ap (λ b. after_round at.election.timing at.now (acted b at.election.timing at.now false asked e)) asks ∙ same_round at.election.timing at.now e (c.requires.quiet address has) in
-    let same = sym (insert-same groups address e (group_found groups address (c.lemma_is_numbered.ensures.of_one address c.args.number has))) ∙ ap (map.insert groups address) (sym stays) in
+    let stays = ap (λ b. after_round at.election.timing at.now (acted b at.election.timing at.now false asked e)) asks ∙
+    same_round at.election.timing at.now e (c.requires.quiet address has) in
+    let same = sym (insert-same groups address e (group_found groups address (c.lemma_is_numbered.ensures.of_one address c.args.number has))) ∙
+    ap (map.insert groups address) (sym stays) in
     λ i. let s : HeldState = record c.args.storage.now.held { groups = same i } in s
 
 pub returns-else-at-clause-sent : goal.returns-else-at-clause-sent
@@ -88,5 +97,7 @@ returns-else-at-clause-sent g c address has =
     let e = group_at c.args.storage.now.held.groups address in
     let asks = sym (ap (λ (f : InForce). f.is_querier) c.in_force-at.ensures.in_force) ∙ c.if-at.false in
     let asked = set_of (λ s. s) (g.F.Address.Key.number c.args.source ∷ []) in
-    let silent = ap (λ b. messages_due (per_query at.config.family) at.election.timing at.now address (acted b at.election.timing at.now false asked e)) asks ∙ quiet_is_silent (per_query at.config.family) at.election.timing at.now address e (c.requires.quiet address has) in
+    let silent = ap (λ b. messages_due (per_query at.config.family) at.election.timing at.now address
+    (acted b at.election.timing at.now false asked e)) asks ∙ quiet_is_silent (per_query at.config.family) at.election.timing at.now address e
+    (c.requires.quiet address has) in
     subst (λ queries. Sends g.S.Sink.takes c.args.sink.now queries c.args.sink.now) (sym silent) refl

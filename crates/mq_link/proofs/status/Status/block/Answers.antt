@@ -1,4 +1,5 @@
-use Rattle.std.proofs.Common.{◌≡◌, ℕ, zero, suc, ◌+◌, ◌*◌, ◌≤◌, ◌==◌, ◌||◌, Bool, true, false, cond, min, [], ◌∷◌, is_some, length, refl, sym, ap, ◌∙◌, subst, arith}
+use Rattle.std.proofs.Common.{◌≡◌, ℕ, zero, suc, ◌+◌, ◌*◌, ◌≤◌, ◌==◌, ◌||◌, Bool, true, false, cond, min, [], ◌∷◌, is_some, length, refl, sym, ap}
+use Rattle.std.proofs.Common.{◌∙◌, subst, arith}
 use Rattle.std.specs.FinMap as map
 use Rattle.std.proofs.lemmas.Bool.{eq-eqb, eqb-false, eqb-true, or_right, true≢false}
 use Rattle.std.proofs.lemmas.List.{nil_from_length}
@@ -51,12 +52,14 @@ list_so g c = one_item c.args.named.now c.index-named-0.result (some_so g c) c.i
 
 -- what is done, where no source is named
 done_empty : (g : Over) (c : Then-is_empty g) → (let number = g.F.Address.Key.number in
-    IsDone g.S.Sink.takes c.args.self.now (number c.args.sought.address) c.args.said (named_in number c.args.named.now) c.args.storage.now.held.groups c.number_blocked.new.storage.held.groups c.args.sink.now c.args.sink.now)
+    IsDone g.S.Sink.takes c.args.self.now (number c.args.sought.address) c.args.said (named_in number c.args.named.now) c.args.storage.now.held.groups
+    c.number_blocked.new.storage.held.groups c.args.sink.now c.args.sink.now)
 done_empty g c =
     let number = g.F.Address.Key.number in
     let facts = c.in-Some.ensures in
     let none = nil_from_length c.args.named.now (eqb-true (length c.args.named.now) 0 (sym c.is_empty.ensures ∙ c.if-is_empty.true)) in
-    done_unnamed number g.S.Sink.takes c.args.self.now (number c.args.sought.address) c.args.said c.args.named.now c.args.storage.now.held c.number_blocked.new.storage.held c.requires.sound facts.can facts.kind (ap (λ (s : Storage _ _). s.held) facts.left)
+    done_unnamed number g.S.Sink.takes c.args.self.now (number c.args.sought.address) c.args.said c.args.named.now c.args.storage.now.held
+    c.number_blocked.new.storage.held c.requires.sound facts.can facts.kind (ap (λ (s : Storage _ _). s.held) facts.left)
     none c.args.sink.now
 
 -- where the group has the one that is named
@@ -69,21 +72,25 @@ there_then g c =
     let x = number c.index-named-0.result in
     let e = group_at c.args.storage.now.held.groups a in
     or_right (is_include e.group.mode) (is_some (timer_at e.group x))
-    ((λ i. is_some (timer_at (group_at (sym (same_so g c.before.before) i).groups a).group x)) ∙ sym (c.ask-there.ensures.there a (has_so g c.before.before)) ∙ c.if-there.true)
+    ((λ i. is_some (timer_at (group_at (sym (same_so g c.before.before) i).groups a).group x)) ∙
+    sym (c.ask-there.ensures.there a (has_so g c.before.before)) ∙ c.if-there.true)
 
 done_then : (g : Over) (c : Then-there g) → (let number = g.F.Address.Key.number in
-    IsDone g.S.Sink.takes c.args.self.now (number c.args.sought.address) c.args.said (named_in number c.args.named.now) c.args.storage.now.held.groups c.ask-there.new.storage.held.groups c.args.sink.now c.ask-there.new.sink)
+    IsDone g.S.Sink.takes c.args.self.now (number c.args.sought.address) c.args.said (named_in number c.args.named.now) c.args.storage.now.held.groups
+    c.ask-there.new.storage.held.groups c.args.sink.now c.ask-there.new.sink)
 done_then g c =
     let number = g.F.Address.Key.number in
     let a = number c.args.sought.address in
     let has = has_so g c.before.before in
     let facts = c.in-Some.ensures in
-    done_named number g.S.Sink.takes c.args.self.now a c.args.said c.args.named.now c.args.storage.now.held c.number_blocked.new.storage.held c.requires.sound facts.can facts.kind (same_so g c.before.before)
+    done_named number g.S.Sink.takes c.args.self.now a c.args.said c.args.named.now c.args.storage.now.held c.number_blocked.new.storage.held
+    c.requires.sound facts.can facts.kind (same_so g c.before.before)
     c.index-named-0.result (list_so g c.before.before) (there_then g c) c.ask-there.new.storage.held (c.ask-there.ensures.groups a has)
     c.args.sink.now c.ask-there.new.sink (c.ask-there.ensures.sent a has)
 
 -- where the group hasn't, and is in INCLUDE
-include_so : (g : Over) (c : Else-there g) → c.is_include-is_include.result ≡ is_include (group_at c.args.storage.now.held.groups (g.F.Address.Key.number c.args.sought.address)).group.mode
+include_so : (g : Over) (c : Else-there g) →
+    c.is_include-is_include.result ≡ is_include (group_at c.args.storage.now.held.groups (g.F.Address.Key.number c.args.sought.address)).group.mode
 include_so g c =
     let a = g.F.Address.Key.number c.args.sought.address in
     c.is_include-is_include.ensures
@@ -91,7 +98,8 @@ include_so g c =
     ∙ (λ i. is_include (group_at (same_so g c.before.before i).groups a).group.mode)
 
 done_else : (g : Over) (c : Else-there g) → c.is_include-is_include.result ≡ true → (let number = g.F.Address.Key.number in
-    IsDone g.S.Sink.takes c.args.self.now (number c.args.sought.address) c.args.said (named_in number c.args.named.now) c.args.storage.now.held.groups c.ask-there.new.storage.held.groups c.args.sink.now c.ask-there.new.sink)
+    IsDone g.S.Sink.takes c.args.self.now (number c.args.sought.address) c.args.said (named_in number c.args.named.now) c.args.storage.now.held.groups
+    c.ask-there.new.storage.held.groups c.args.sink.now c.ask-there.new.sink)
 done_else g c include =
     let number = g.F.Address.Key.number in
     let a = number c.args.sought.address in
@@ -99,7 +107,8 @@ done_else g c include =
     let has = has_so g c.before.before in
     let facts = c.in-Some.ensures in
     let there = ap (λ b. b || is_some (timer_at e.group (number c.index-named-0.result))) (sym (include_so g c) ∙ include) in
-    done_named number g.S.Sink.takes c.args.self.now a c.args.said c.args.named.now c.args.storage.now.held c.number_blocked.new.storage.held c.requires.sound facts.can facts.kind (same_so g c.before.before)
+    done_named number g.S.Sink.takes c.args.self.now a c.args.said c.args.named.now c.args.storage.now.held c.number_blocked.new.storage.held
+    c.requires.sound facts.can facts.kind (same_so g c.before.before)
     c.index-named-0.result (list_so g c.before.before) there c.ask-there.new.storage.held (c.ask-there.ensures.groups a has)
     c.args.sink.now c.ask-there.new.sink (c.ask-there.ensures.sent a has)
 
@@ -119,7 +128,8 @@ ask-there-requires-clause-quiet g c address has_it =
     let held = c.args.storage.now.held in
     let quiet = quiet_by at.now (group_at held.groups a).schedule c.in-Some.ensures.can.quiet in
     let is = c.lemma_is_numbered.ensures.same address a c.in-Some.number has_it (has_so g c) in
-    subst (λ k. IsQuietAt at.now (group_at c.number_blocked.new.storage.held.groups k).schedule) (sym is) (subst (λ (h : HeldState). IsQuietAt at.now (group_at h.groups a).schedule) (sym (same_so g c)) quiet)
+    subst (λ k. IsQuietAt at.now (group_at c.number_blocked.new.storage.held.groups k).schedule) (sym is)
+    (subst (λ (h : HeldState). IsQuietAt at.now (group_at h.groups a).schedule) (sym (same_so g c)) quiet)
 
 pub returns-then-there-clause-outcome : goal.returns-then-there-clause-outcome
 returns-then-there-clause-outcome g c done = let did = done_then g c in did.outcome
@@ -150,13 +160,15 @@ returns-then-there-clause-moved g c =
     let facts = c.in-Some.ensures in
     let has = has_so g c.before.before in
     let same = same_so g c.before.before in
-    let kept_by = rows_named number g.S.Sink.takes at a c.args.said c.args.named.now held c.number_blocked.new.storage.held c.requires.sound facts.can facts.kind same c.index-named-0.result (list_so g c.before.before) (there_then g c) next.held (c.ask-there.ensures.groups a has) in
+    let kept_by = rows_named number g.S.Sink.takes at a c.args.said c.args.named.now held c.number_blocked.new.storage.held c.requires.sound facts.can
+    facts.kind same c.index-named-0.result (list_so g c.before.before) (there_then g c) next.held (c.ask-there.ensures.groups a has) in
     let few = c.requires.sound.within.group_count in
     let most = few_groups at.config c.lemma_is_sound.ensures.faultless in
     let sixteen = few_digits (map.len groups) (omega (arith, few, most)) in
     let size = ap (λ (h : HeldState). sources_of (group_at h.groups a)) same in
     let digits = ap (λ (h : HeldState). bitlen (map.len h.groups)) same in
-    subst (λ m. IsPaid (sources_of (group_at groups a) + moved_by_edit) (put_by_rows held) (put_by_rows next.held) m next.moves) (ap (λ (s : Storage _ _). s.moves) facts.left)
+    subst (λ m. IsPaid (sources_of (group_at groups a) + moved_by_edit) (put_by_rows held) (put_by_rows next.held) m next.moves)
+    (ap (λ (s : Storage _ _). s.moves) facts.left)
     (paid_by (sources_of (group_at groups a) + moved_by_edit) (c.ask-there.ensures.moved a has) (omega (arith, kept_by, size, digits, sixteen)))
 
 pub returns-else-there-clause-done : goal.returns-else-there-clause-done
@@ -165,7 +177,8 @@ returns-else-there-clause-done g c block ok can_it there =
     let a = number c.args.sought.address in
     let e = group_at c.args.storage.now.held.groups a in
     let x = number c.index-named-0.result in
-    let gone : is_some (timer_at e.group x) ≡ false = (λ i. is_some (timer_at (group_at (sym (same_so g c.before.before) i).groups a).group x)) ∙ sym (c.ask-there.ensures.there a (has_so g c.before.before)) ∙ c.if-there.false in
+    let gone : is_some (timer_at e.group x) ≡ false = (λ i. is_some (timer_at (group_at (sym (same_so g c.before.before) i).groups a).group x)) ∙
+    sym (c.ask-there.ensures.there a (has_so g c.before.before)) ∙ c.if-there.false in
     include_so g c ∙ either (is_include e.group.mode) (is_some (timer_at e.group x)) gone (there c.index-named-0.result (list_so g c.before.before))
   where
     either : (d e : Bool) → e ≡ false → (d || e) ≡ true → d ≡ true
@@ -181,15 +194,22 @@ returns-else-there-clause-spent g c =
     let some = some_so g c.before.before in
     let size = sources_of (group_at groups a) in
     let size_is = ap (λ (h : HeldState). sources_of (group_at h.groups a)) same in
-    let first : Spends 0 4 c.args.storage.now.meter c.number_blocked.new.storage.meter = subst (λ b. Spends 0 (cond b 4 0) c.args.storage.now.meter c.number_blocked.new.storage.meter) facts.kind c.number_blocked.ensures.spent in
+    let first : Spends 0 4 c.args.storage.now.meter c.number_blocked.new.storage.meter =
+    subst (λ b. Spends 0 (cond b 4 0) c.args.storage.now.meter c.number_blocked.new.storage.meter) facts.kind c.number_blocked.ensures.spent in
     let second = c.ask-there.ensures.spent a (has_so g c.before.before) in
-    let gone = ap (λ b. cond b (3 * sources_of (group_at c.number_blocked.new.storage.held.groups a) + 5 + bitlen (map.len c.number_blocked.new.storage.held.groups)) 0) c.if-there.false in
+    let gone = ap (λ b. cond b
+    (3 * sources_of (group_at c.number_blocked.new.storage.held.groups a) + 5 + bitlen (map.len c.number_blocked.new.storage.held.groups)) 0)
+    c.if-there.false in
     let digits = ap bitlen size_is in
     let counted = eq-eqb (length c.args.named.now) 1 some in
     let most : most_blocked c.args.said size (length c.args.named.now) ≡ 4 + bitlen size = λ i. cond (facts.kind i) (4 + cond (counted i) (bitlen size) 0) 0 in
-    by_test c.is_include-is_include.result first second size (length c.args.named.now) (most_blocked c.args.said size (length c.args.named.now)) some size_is digits most gone
+    by_test c.is_include-is_include.result first second size (length c.args.named.now)
+    (most_blocked c.args.said size (length c.args.named.now)) some size_is digits most gone
   where
-    by_test : (b : Bool) {old between new low high : ℕ} → Spends 0 4 old between → Spends (min 1 low) (bitlen low + high) between new → (size named most : ℕ) → named ≡ 1 → low ≡ size → bitlen low ≡ bitlen size → most ≡ 4 + bitlen size → high ≡ 0
+    by_test : (b : Bool) {old between new low high : ℕ} → Spends 0 4 old between → Spends (min 1 low) (bitlen low + high) between new →
+        (size named most : ℕ) → named ≡ 1 → low ≡ size → bitlen low ≡ bitlen size → most ≡ 4 + bitlen size → high ≡ 0
         → Spends (cond b (min size named) 0) (cond b (most + 3 * size + 5 + bitlen (map.len c.args.storage.now.held.groups)) most) old new
-    by_test true first second size named most one low_is digits most_is none = Spends-join_within _ _ first second (omega (arith, one, low_is)) (omega (arith, digits, most_is, none))
-    by_test false first second size named most one low_is digits most_is none = Spends-join_within _ _ first second (omega arith) (omega (arith, digits, most_is, none))
+    by_test true first second size named most one low_is digits most_is none = Spends-join_within _ _ first second (omega (arith, one, low_is))
+        (omega (arith, digits, most_is, none))
+    by_test false first second size named most one low_is digits most_is none = Spends-join_within _ _ first second (omega arith)
+        (omega (arith, digits, most_is, none))

@@ -41,13 +41,17 @@ returns-clause-sent g c =
     let in_force = c.in_force-at.ensures.in_force in
     let timing = ap (λ (f : InForce). f.timing) in_force ∙ ap (λ (s : Setting). s.election.timing) c.tick-is_due.ensures.ticked in
     let moment : c.in_force-at.result.moment ≡ now = ap (λ (f : InForce). f.moment) in_force ∙ ap (λ (s : Setting). s.now) c.tick-is_due.ensures.ticked in
-    let begun_is = c.begin.ensures ∙ ap (λ k. begun k c.in_force-at.result.timing c.args.sender.now) (c.config.ensures ∙ ap (λ (s : Setting). s.config) c.tick-is_due.ensures.ticked) in
-    due_sent g.O.Outlet.takes family config now c.args.self.now.election c.args.storage.now.held.groups c.in_force-at.result.timing c.args.sender.now c.begin.new.self c.send_general.new.sender c.tick_groups.new.sink c.tick-is_due.result
+    let begun_is = c.begin.ensures ∙ ap (λ k. begun k c.in_force-at.result.timing c.args.sender.now)
+    (c.config.ensures ∙ ap (λ (s : Setting). s.config) c.tick-is_due.ensures.ticked) in
+    due_sent g.O.Outlet.takes family config now c.args.self.now.election c.args.storage.now.held.groups c.in_force-at.result.timing c.args.sender.now
+    c.begin.new.self c.send_general.new.sender c.tick_groups.new.sink c.tick-is_due.result
     timing
     begun_is
     c.tick-is_due.ensures.sent
     c.send_general.ensures
-    (subst (λ n. Sends (TakesQuery g.O.Outlet.takes family) c.send_general.new.sender (queries_due family c.in_force-at.result.timing n (groups_expired n c.args.storage.now.held.groups)) c.tick_groups.new.sink) moment (c.tick_groups.ensures.sent family g.met.F.Family.per_query))
+    (subst (λ n. Sends (TakesQuery g.O.Outlet.takes family) c.send_general.new.sender
+    (queries_due family c.in_force-at.result.timing n (groups_expired n c.args.storage.now.held.groups)) c.tick_groups.new.sink) moment
+    (c.tick_groups.ensures.sent family g.met.F.Family.per_query))
 
 pub returns-clause-rooms : goal.returns-clause-rooms
 returns-clause-rooms g c = record { groups = c.tick_groups.ensures.rooms.groups; sources = c.tick_groups.ensures.rooms.sources }
@@ -56,17 +60,20 @@ pub returns-clause-spent : goal.returns-clause-spent
 returns-clause-spent g c =
     let groups = c.args.storage.now.held.groups in
     let moment = ap (λ (f : InForce). f.moment) c.in_force-at.ensures.in_force ∙ ap (λ (s : Setting). s.now) c.tick-is_due.ensures.ticked in
-    let served = subst (λ n. Spends (least_ticked n groups) (4 * sources_in groups + 44 * map.len groups + 1) c.tick-is_due.new.m c.tick_groups.new.self.meter) moment c.tick_groups.ensures.spent in
+    let served = subst (λ n. Spends (least_ticked n groups)
+    (4 * sources_in groups + 44 * map.len groups + 1) c.tick-is_due.new.m c.tick_groups.new.self.meter) moment c.tick_groups.ensures.spent in
     Spends-join_within (1 + least_ticked c.args.now groups) _ c.tick-is_due.ensures.spent served (omega arith) (omega arith)
 
 pub returns-clause-quiet : goal.returns-clause-quiet
 returns-clause-quiet g c none =
     let moment = ap (λ (f : InForce). f.moment) c.in_force-at.ensures.in_force ∙ ap (λ (s : Setting). s.now) c.tick-is_due.ensures.ticked in
-    let none_then = subst (λ n. (address : ℕ) (e : ScheduledGroup) → map.get c.args.storage.now.held.groups address ≡ Some e → has_due n e ≡ false) (sym moment) none in
+    let none_then = subst (λ n. (address : ℕ) (e : ScheduledGroup) → map.get c.args.storage.now.held.groups address ≡ Some e → has_due n e ≡ false)
+    (sym moment) none in
     Spends-join_within 1 2 c.tick-is_due.ensures.spent (c.tick_groups.ensures.quiet none_then) (omega arith) (omega arith)
 
 pub returns-clause-still : goal.returns-clause-still
 returns-clause-still g c none =
     let moment = ap (λ (f : InForce). f.moment) c.in_force-at.ensures.in_force ∙ ap (λ (s : Setting). s.now) c.tick-is_due.ensures.ticked in
-    let none_then = subst (λ n. (address : ℕ) (e : ScheduledGroup) → map.get c.args.storage.now.held.groups address ≡ Some e → has_due n e ≡ false) (sym moment) none in
+    let none_then = subst (λ n. (address : ℕ) (e : ScheduledGroup) → map.get c.args.storage.now.held.groups address ≡ Some e → has_due n e ≡ false)
+    (sym moment) none in
     c.tick_groups.ensures.still none_then

@@ -22,7 +22,9 @@ use Rattle.mq_link.proofs.status.Status.hear_query.Goals.{then-hear, else-hear}
 pub lower_held-requires-clause-ready : goal.lower_held-requires-clause-ready
 lower_held-requires-clause-ready g c = elim c.if-hear.branch [
   | then-hear w ↦
-      rw (w.storage-is, w.group-is) (cleared_ready c.args.group.now.room w.clear_groups.new.group.room _ _ (ready_counted c.args.group.now.room c.args.storage.now c.hear.new.m c.requires.ready) w.clear_groups.ensures.groups w.clear_groups.ensures.room)
+      rw (w.storage-is, w.group-is)
+      (cleared_ready c.args.group.now.room w.clear_groups.new.group.room _ _
+      (ready_counted c.args.group.now.room c.args.storage.now c.hear.new.m c.requires.ready) w.clear_groups.ensures.groups w.clear_groups.ensures.room)
   | else-hear w ↦ rw (w.storage-is, w.group-is) (ready_counted c.args.group.now.room c.args.storage.now c.hear.new.m c.requires.ready)
 ]
 
@@ -32,14 +34,21 @@ clear_groups-requires g c = record { space = c.requires.space; ready = ready_cou
 pub lower_held-requires-clause-small : goal.lower_held-requires-clause-small
 lower_held-requires-clause-small g c address = elim c.if-hear.branch [
   | then-hear w ↦
-      subst (λ groups. sources_of (group_at groups address) ≤ 1024) (sym (ap (λ (s : Storage _ _). s.held.groups) w.storage-is ∙ w.clear_groups.ensures.groups)) (cleared_small 1024 c.args.storage.now.held.groups address (c.requires.small address))
+      subst (λ groups. sources_of (group_at groups address) ≤ 1024)
+      (sym (ap (λ (s : Storage _ _). s.held.groups) w.storage-is ∙ w.clear_groups.ensures.groups))
+      (cleared_small 1024 c.args.storage.now.held.groups address (c.requires.small address))
   | else-hear w ↦ subst (λ (s : Storage _ _). sources_of (group_at s.held.groups address) ≤ 1024) (sym w.storage-is) (c.requires.small address)
 ]
 
 pub returns-clause-election : goal.returns-clause-election
 returns-clause-election g c =
     let before : Setting = c.args.self.now in
-    c.hear.ensures.heard ∙ ap (λ a. let after : Setting = record before { election = Rattle.mq_sched.specs.Election.heard before.config.timing before.config.own before.now (g.F.Address.Key.number c.args.source) a before.election } in after) c.announcement-announced.ensures
+    c.hear.ensures.heard ∙
+    ap (λ a. let after : Setting =
+    record before {
+      election = Rattle.mq_sched.specs.Election.heard before.config.timing before.config.own before.now
+          (g.F.Address.Key.number c.args.source) a before.election;
+    } in after) c.announcement-announced.ensures
 
 pub returns-clause-groups : goal.returns-clause-groups
 returns-clause-groups g c =
@@ -50,7 +59,8 @@ returns-clause-groups g c =
     let loses = loses_role before.config.own source before.election.role in
     let left : c.if-hear.storage.held.groups ≡ cond loses (groups_cleared groups) groups = elim c.if-hear.branch [
       | then-hear w ↦
-          ap (λ (s : Storage _ _). s.held.groups) w.storage-is ∙ w.clear_groups.ensures.groups ∙ ap (λ b. cond b (groups_cleared groups) groups) (sym w.if-hear.true ∙ c.hear.ensures.lost)
+          ap (λ (s : Storage _ _). s.held.groups) w.storage-is ∙ w.clear_groups.ensures.groups ∙ ap (λ b. cond b (groups_cleared groups) groups)
+          (sym w.if-hear.true ∙ c.hear.ensures.lost)
       | else-hear w ↦
           ap (λ (s : Storage _ _). s.held.groups) w.storage-is ∙ ap (λ b. cond b (groups_cleared groups) groups) (sym w.if-hear.false ∙ c.hear.ensures.lost)
     ] in
@@ -60,7 +70,9 @@ returns-clause-groups g c =
 
 pub returns-clause-rooms : goal.returns-clause-rooms
 returns-clause-rooms g c = elim c.if-hear.branch [
-  | then-hear w ↦ rooms_on (subst (KeepsRooms c.args.storage.now) (sym w.storage-is) (record { groups = w.clear_groups.ensures.rooms.groups; sources = w.clear_groups.ensures.rooms.sources })) c.lower_held.ensures.rooms
+  | then-hear w ↦ rooms_on
+      (subst (KeepsRooms c.args.storage.now) (sym w.storage-is)
+      (record { groups = w.clear_groups.ensures.rooms.groups; sources = w.clear_groups.ensures.rooms.sources })) c.lower_held.ensures.rooms
   | else-hear w ↦ rooms_on (subst (KeepsRooms c.args.storage.now) (sym w.storage-is) (record { groups = refl; sources = refl })) c.lower_held.ensures.rooms
 ]
 
@@ -91,7 +103,8 @@ returns-clause-moved g c =
     let asked = g.F.Address.Key.number c.args.query.now.group in
     let between : MovesWithin (5 * sources_in groups + 22 * map.len groups) c.args.storage.now c.if-hear.storage = elim c.if-hear.branch [
       | then-hear w ↦ rw w.storage-is w.clear_groups.ensures.moved
-      | else-hear w ↦ rw w.storage-is (paid_within (5 * sources_in groups + 22 * map.len groups) (paid_none (put_by_rows c.args.storage.now.held) c.args.storage.now.moves) (omega arith))
+      | else-hear w ↦ rw w.storage-is
+          (paid_within (5 * sources_in groups + 22 * map.len groups) (paid_none (put_by_rows c.args.storage.now.held) c.args.storage.now.moves) (omega arith))
     ] in
     let fewer : sources_in c.if-hear.storage.held.groups ≤ sources_in groups = elim c.if-hear.branch [
       | then-hear w ↦ rw (w.storage-is, w.clear_groups.ensures.groups) (cleared_sources groups)

@@ -8,7 +8,8 @@ use Rattle.mq_link.specs.declared.status.InForce.{InForce}
 use Rattle.mq_link.specs.Blocked.{has_older_hosts}
 use Rattle.mq_link.specs.Configuration.{Configuration}
 use Rattle.mq_link.proofs.status.Status.number_blocked.Goals as goal
-use Rattle.mq_link.proofs.status.Status.number_blocked.Goals.{then-is_due-via-then-is_due, then-is_due-via-else-is_due+then-has_older_hosts, then-is_some, else-is_some}
+use Rattle.mq_link.proofs.status.Status.number_blocked.Goals.{then-is_due-via-then-is_due, then-is_due-via-else-is_due+then-has_older_hosts}
+use Rattle.mq_link.proofs.status.Status.number_blocked.Goals.{then-is_some, else-is_some}
 
 pub returns-then-is_due-clause-done : goal.returns-then-is_due-clause-done
 returns-then-is_due-clause-done g c block ok can =
@@ -21,7 +22,8 @@ returns-then-is_due-clause-done g c block ok can =
       | then-is_due-via-then-is_due w ↦
           absurd (true≢false (sym (sym c.is_due.ensures.due ∙ w.if-is_due.true) ∙ (λ i. is_due_at (moment i) (entry i).schedule) ∙ can.quiet))
       | then-is_due-via-else-is_due+then-has_older_hosts w ↦
-          absurd (true≢false (sym (sym (w.has_older_hosts.ensures.hosts (timers_in number c.entry_of-stored.result.sources.now)) ∙ w.if-has_older_hosts.true) ∙ (λ i. has_older_hosts (entry i) (moment i)) ∙ can.unmuted))
+          absurd (true≢false (sym (sym (w.has_older_hosts.ensures.hosts (timers_in number c.entry_of-stored.result.sources.now)) ∙
+          w.if-has_older_hosts.true) ∙ (λ i. has_older_hosts (entry i) (moment i)) ∙ can.unmuted))
     ]
 
 pub returns-then-schedules-limits-clause-can : goal.returns-then-schedules-limits-clause-can
@@ -36,10 +38,12 @@ returns-then-schedules-limits-clause-can g c =
     record {
       held = c.lemma_is_numbered.ensures.of_one a c.in-Ok.number has;
       quiet = (λ i. is_due_at (sym moment i) (sym entry i).schedule) ∙ sym c.is_due.ensures.due ∙ c.if-is_due.false;
-      unmuted = (λ i. has_older_hosts (sym entry i) (sym moment i)) ∙ sym (c.has_older_hosts.ensures.hosts (timers_in number c.entry_of-stored.result.sources.now)) ∙ c.if-has_older_hosts.false;
+      unmuted = (λ i. has_older_hosts (sym entry i) (sym moment i)) ∙
+          sym (c.has_older_hosts.ensures.hosts (timers_in number c.entry_of-stored.result.sources.now)) ∙ c.if-has_older_hosts.false;
       few = omega (arith, c.if-named-gt1.false);
       left = elim c.if-is_some.branch [
-        | then-is_some w ↦ ap (λ b. b || ltb (schedules_in c.args.storage.now.held.groups) c.args.self.now.config.limits.scheduled) (sym due ∙ sym c.is_some.ensures ∙ w.if-is_some.true)
+        | then-is_some w ↦ ap (λ b. b || ltb (schedules_in c.args.storage.now.held.groups) c.args.self.now.config.limits.scheduled)
+            (sym due ∙ sym c.is_some.ensures ∙ w.if-is_some.true)
         | else-is_some w ↦
             let none = sym due ∙ sym c.is_some.ensures ∙ w.if-is_some.false in
             let same = sym w.schedules.ensures in

@@ -43,7 +43,8 @@ has_so g c = rw c.in-Ok.is at c.requires.sought
 held_so : (g : Over) (c : After-restart_each g) → map.contains_key c.args.storage.now.held.groups (g.F.Address.Key.number c.args.sought.address) ≡ true
 held_so g c = c.lemma_is_numbered.ensures.of_one (g.F.Address.Key.number c.args.sought.address) c.in-Ok.number (has_so g c)
 
-quiet_so : (g : Over) (c : After-restart_each g) → IsQuietAt c.args.self.now.now (group_at c.args.storage.now.held.groups (g.F.Address.Key.number c.args.sought.address)).schedule
+quiet_so : (g : Over) (c : After-restart_each g) →
+    IsQuietAt c.args.self.now.now (group_at c.args.storage.now.held.groups (g.F.Address.Key.number c.args.sought.address)).schedule
 quiet_so g c =
     let moment = ap (λ (f : InForce). f.moment) c.in_force-at.ensures.in_force in
     let entry = c.entry_of.ensures.group (g.F.Address.Key.number c.args.sought.address) (has_so g c) in
@@ -52,32 +53,41 @@ quiet_so g c =
 formed_so : (g : Over) (c : After-restart_each g) → IsWellFormed (group_at c.args.storage.now.held.groups (g.F.Address.Key.number c.args.sought.address)).group
 formed_so g c =
     let number = g.F.Address.Key.number in
-    let h = held_as c.args.self.now (number c.args.sought.address) c.in_ok-_kind._kind (named_in number c.args.named.now) c.args.storage.now.held.groups c.in_ok-_kind.ensures.1 c.requires.sound (held_so g c) (quiet_so g c) in
+    let h = held_as c.args.self.now (number c.args.sought.address) c.in_ok-_kind._kind
+    (named_in number c.args.named.now) c.args.storage.now.held.groups c.in_ok-_kind.ensures.1 c.requires.sound (held_so g c) (quiet_so g c) in
     h.held
 
 -- the group then, where it has each source that is named
 abbrev after_so : (g : Over) (c : After-restart_each g) → ScheduledGroup
-after_so g c = let number = g.F.Address.Key.number in restarted_each c.after-deadline.result (list_map number c.args.named.now) (group_at c.args.storage.now.held.groups (number c.args.sought.address))
+after_so g c = let number = g.F.Address.Key.number in restarted_each c.after-deadline.result (list_map number c.args.named.now)
+    (group_at c.args.storage.now.held.groups (number c.args.sought.address))
 
-all_so : (g : Over) (c : After-restart_each g) → is_some c.restart_each.result ≡ true → (let number = g.F.Address.Key.number in has_each (list_map number c.args.named.now) (group_at c.args.storage.now.held.groups (number c.args.sought.address)) ≡ true)
+all_so : (g : Over) (c : After-restart_each g) → is_some c.restart_each.result ≡ true →
+    (let number = g.F.Address.Key.number in has_each (list_map number c.args.named.now)
+    (group_at c.args.storage.now.held.groups (number c.args.sought.address)) ≡ true)
 all_so g c there = sym (c.restart_each.ensures.all (g.F.Address.Key.number c.args.sought.address) (has_so g c)) ∙ there
 
 formed_then : (g : Over) (c : After-restart_each g) → is_some c.restart_each.result ≡ true → IsWellFormed (after_so g c).group
 formed_then g c there =
     let number = g.F.Address.Key.number in
-    IsWellFormed-restarted_each c.after-deadline.result (list_map number c.args.named.now) (group_at c.args.storage.now.held.groups (number c.args.sought.address)) (all_so g c there) (formed_so g c)
+    IsWellFormed-restarted_each c.after-deadline.result (list_map number c.args.named.now)
+    (group_at c.args.storage.now.held.groups (number c.args.sought.address)) (all_so g c there) (formed_so g c)
 
-left_so : (g : Over) (c : After-restart_each g) → is_some c.restart_each.result ≡ true → c.restart_each.new.self ≡ record c.args.storage.now.held { groups = map.insert c.args.storage.now.held.groups (g.F.Address.Key.number c.args.sought.address) (after_so g c) }
+left_so : (g : Over) (c : After-restart_each g) → is_some c.restart_each.result ≡ true →
+    c.restart_each.new.self
+    ≡ record c.args.storage.now.held { groups = map.insert c.args.storage.now.held.groups (g.F.Address.Key.number c.args.sought.address) (after_so g c) }
 left_so g c there =
     let a = g.F.Address.Key.number c.args.sought.address in
     let held = c.args.storage.now.held in
     c.restart_each.ensures.groups a (has_so g c)
     ∙ ap (λ b. let s : HeldState = record held { groups = cond b (map.insert held.groups a (after_so g c)) held.groups } in s) there
 
-left_groups : (g : Over) (c : After-restart_each g) → is_some c.restart_each.result ≡ true → c.restart_each.new.self.groups ≡ map.insert c.args.storage.now.held.groups (g.F.Address.Key.number c.args.sought.address) (after_so g c)
+left_groups : (g : Over) (c : After-restart_each g) → is_some c.restart_each.result ≡ true →
+    c.restart_each.new.self.groups ≡ map.insert c.args.storage.now.held.groups (g.F.Address.Key.number c.args.sought.address) (after_so g c)
 left_groups g c there = ap (λ (s : HeldState). s.groups) (left_so g c there)
 
-put_so : (g : Over) (c : After-restart_each g) → is_some c.restart_each.result ≡ true → c.restart_each.new.self.groups ≡ with_group c.args.storage.now.held.groups (g.F.Address.Key.number c.args.sought.address) (after_so g c)
+put_so : (g : Over) (c : After-restart_each g) → is_some c.restart_each.result ≡ true →
+    c.restart_each.new.self.groups ≡ with_group c.args.storage.now.held.groups (g.F.Address.Key.number c.args.sought.address) (after_so g c)
 put_so g c there =
     left_groups g c there ∙ sym (put_is c.args.storage.now.held.groups (g.F.Address.Key.number c.args.sought.address) (after_so g c) (formed_then g c there))
 
@@ -98,10 +108,13 @@ returns-clause-outcome g c = on_some c.restart_each.result (λ there.
     let groups = c.args.storage.now.held.groups in
     let sources = list_map number c.args.named.now in
     let in_force = c.in_force-at.ensures.in_force in
-    let deadline : c.after-deadline.result ≡ at.now + membership_interval at.election.timing = c.after-deadline.ensures.later ∙ (λ i. (in_force i).moment + c.membership_interval.ensures i) ∙ (λ i. at.now + membership_interval (in_force i).timing) in
+    let deadline : c.after-deadline.result ≡ at.now + membership_interval at.election.timing = c.after-deadline.ensures.later ∙
+    (λ i. (in_force i).moment + c.membership_interval.ensures i) ∙ (λ i. at.now + membership_interval (in_force i).timing) in
     ap (λ said. stated at a (statement_of said (named_in number c.args.named.now)) groups) c.in_ok-_kind.ensures.0
-    ∙ stated-each at a c.in_ok-_kind._kind (named_in number c.args.named.now) groups c.in_ok-_kind.ensures.1 c.requires.sound (held_so g c) (quiet_so g c) sources (set.contains-from_list nat_cmp_total sources) (all_so g c there)
-    ∙ (λ i. let o : Outcome = record { verdict = Applied; groups = with_group groups a (restarted_each (sym deadline i) sources (group_at groups a)); queries = [] } in o)
+    ∙ stated-each at a c.in_ok-_kind._kind (named_in number c.args.named.now) groups c.in_ok-_kind.ensures.1 c.requires.sound (held_so g c)
+    (quiet_so g c) sources (set.contains-from_list nat_cmp_total sources) (all_so g c there)
+    ∙ (λ i. let o : Outcome =
+    record { verdict = Applied; groups = with_group groups a (restarted_each (sym deadline i) sources (group_at groups a)); queries = [] } in o)
     ∙ (λ i. let o : Outcome = record { verdict = Applied; groups = sym (put_so g c there) i; queries = [] } in o))
 
 pub returns-clause-left : goal.returns-clause-left
@@ -118,7 +131,8 @@ returns-clause-changes g c = if_some _ c.restart_each.result (λ changes_it is.
     let there = ap is_some is in
     let stopped = rw is at c.restart_each.ensures.stopped a (has_so g c) in
     stopped
-    ∙ sym (filter-restarted_each c.after-deadline.result sources before (all_so g c there) (no_stopped at a c.in_ok-_kind._kind (named_in number c.args.named.now) groups c.in_ok-_kind.ensures.1 c.requires.sound (held_so g c) (quiet_so g c)))
+    ∙ sym (filter-restarted_each c.after-deadline.result sources before (all_so g c there)
+    (no_stopped at a c.in_ok-_kind._kind (named_in number c.args.named.now) groups c.in_ok-_kind.ensures.1 c.requires.sound (held_so g c) (quiet_so g c)))
     ∙ (λ i. changes_filter before.group (sym (group_put groups a (after_so g c)) i).group)
     ∙ (λ i. changes groups (sym (left_groups g c there) i) a))
 
@@ -149,8 +163,10 @@ returns-clause-spent g c =
     let tried = ap (λ b. cond b (2 + most_looked size count) 0) (ap is_restart c.in_ok-_kind.ensures.0 ∙ c.in_ok-_kind.ensures.1) in
     let most = set-mono size count (bitlen (running_in groups - 1)) (bitlen (map.len groups)) (digits_so g c) in
     match_option c.restart_each.result
-    (λ none. let spent = rw none at c.restart_each.ensures.spent a (has_so g c) in Spends-join_within _ _ c.is_due.ensures.spent spent (omega arith) (omega (arith, tried)))
-    (λ x is. let spent = rw is at c.restart_each.ensures.spent a (has_so g c) in Spends-join_within _ _ c.is_due.ensures.spent spent (omega arith) (omega (arith, most)))
+    (λ none. let spent = rw none at c.restart_each.ensures.spent a (has_so g c) in Spends-join_within _ _ c.is_due.ensures.spent spent (omega arith)
+    (omega (arith, tried)))
+    (λ x is. let spent = rw is at c.restart_each.ensures.spent a (has_so g c) in Spends-join_within _ _ c.is_due.ensures.spent spent (omega arith)
+    (omega (arith, most)))
 
 pub returns-clause-moves : goal.returns-clause-moves
 returns-clause-moves g c = on_some c.restart_each.result (λ there.
@@ -168,9 +184,12 @@ returns-clause-moved g c =
     let most = few_groups c.args.self.now.config c.lemma_is_sound.ensures.faultless in
     let sixteen = few_digits (map.len groups) (omega (arith, few, most)) in
     by_option c.restart_each.result
-    (λ none. let unmoved = rw none at c.restart_each.ensures.moved in rw (unchanged_so g c none, unmoved) (paid_within (count + moved_by_edit) (paid_none _ _) (omega arith)))
+    (λ none. let unmoved = rw none at c.restart_each.ensures.moved in rw (unchanged_so g c none, unmoved)
+    (paid_within (count + moved_by_edit) (paid_none _ _) (omega arith)))
     (λ x is.
     let there = ap is_some is in
     let moved = rw is at c.restart_each.ensures.moved in
-    let same = put_by_same c.args.storage.now.held c.restart_each.new.self a (after_so g c) (left_so g c there) (size-restarted_each c.after-deadline.result (list_map number c.args.named.now) (group_at groups a) (all_so g c there)) (formed_then g c there) (formed_so g c) in
+    let same = put_by_same c.args.storage.now.held c.restart_each.new.self a (after_so g c) (left_so g c there)
+    (size-restarted_each c.after-deadline.result (list_map number c.args.named.now) (group_at groups a) (all_so g c there)) (formed_then g c there)
+    (formed_so g c) in
     paid_by (count + moved_by_edit) moved (omega (arith, same, digits_so g c, sixteen)))

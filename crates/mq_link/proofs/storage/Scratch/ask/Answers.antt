@@ -35,4 +35,5 @@ returns-else-not-is_empty-clause-asked g c =
     ] in
     sym (unasked timing now e)
     ∙ (λ i. sources_asked timing now (set_of g.K.Key.number (sym none i)) (e_is i))
-    ∙ (λ i. after_change (sym c.if-not-at.false i) timing now (record { group = c.args.self.now.group.state; query = set_of g.K.Key.number items; query_group = c.args.asks_group }) c.args.schedule.now)
+    ∙ (λ i. after_change (sym c.if-not-at.false i) timing now
+    (record { group = c.args.self.now.group.state; query = set_of g.K.Key.number items; query_group = c.args.asks_group }) c.args.schedule.now)

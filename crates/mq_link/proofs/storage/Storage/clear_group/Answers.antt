@@ -17,7 +17,8 @@ put-requires-clause-held g c not_vacant =
     let has = number_found c.args.self.now.held c.args.number c.requires.number in
     let before : ScheduledGroup = record { group = c.load-schedule.new.into.state; schedule = c.load-schedule.result } in
     let left : ScheduledGroup = record { group = c.clear.new.group.state; schedule = c.clear.new.self } in
-    cleared_held left before c.clear.ensures.cleared (rw (ap (λ (e : ScheduledGroup). e.group) (c.load-schedule.ensures.group _ has)) (c.requires.served _ has).held)
+    cleared_held left before c.clear.ensures.cleared
+    (rw (ap (λ (e : ScheduledGroup). e.group) (c.load-schedule.ensures.group _ has)) (c.requires.served _ has).held)
 
 pub put-requires-clause-fits : goal.put-requires-clause-fits
 put-requires-clause-fits g c address has =
@@ -30,9 +31,11 @@ pub returns-then-is_some-clause-groups : goal.returns-then-is_some-clause-groups
 returns-then-is_some-clause-groups g c address has =
     let left : ScheduledGroup = record { group = c.clear.new.group.state; schedule = c.clear.new.self } in
     let before : ScheduledGroup = record { group = c.load-schedule.new.into.state; schedule = c.load-schedule.result } in
-    let held = cleared_held left before c.clear.ensures.cleared (rw (ap (λ (e : ScheduledGroup). e.group) (c.load-schedule.ensures.group address has)) (c.requires.served address has).held) in
+    let held = cleared_held left before c.clear.ensures.cleared (rw (ap (λ (e : ScheduledGroup). e.group) (c.load-schedule.ensures.group address has))
+    (c.requires.served address has).held) in
     c.put.ensures.groups address has
-    ∙ ap (map.insert c.args.self.now.held.groups address) (kept_held left held ∙ c.clear.ensures.cleared ∙ ap cleared (c.load-schedule.ensures.group address has))
+    ∙ ap (map.insert c.args.self.now.held.groups address)
+    (kept_held left held ∙ c.clear.ensures.cleared ∙ ap cleared (c.load-schedule.ensures.group address has))
 
 pub returns-then-is_some-clause-spent : goal.returns-then-is_some-clause-spent
 returns-then-is_some-clause-spent g c address has =
@@ -54,7 +57,8 @@ pub returns-else-is_some-2-clause-groups : goal.returns-else-is_some-2-clause-gr
 returns-else-is_some-2-clause-groups g c address has =
     let schedule = c.load-schedule.result in
     let query = none_of schedule.group_query (ap Rattle.std.specs.Option.is_some (sym c.group_query.ensures) ∙ sym c.is_some.ensures ∙ c.if-is_some.false) in
-    let sources = none_of schedule.sources_due (ap Rattle.std.specs.Option.is_some (sym c.sources_due.ensures) ∙ sym c.is_some-else-is_some.ensures ∙ c.if-is_some-2.false) in
+    let sources = none_of schedule.sources_due (ap Rattle.std.specs.Option.is_some (sym c.sources_due.ensures) ∙ sym c.is_some-else-is_some.ensures ∙
+    c.if-is_some-2.false) in
     let silent : ◌≡◌ {A = ScheduleState} schedule no_schedule = λ i. record { group_query = query i; sources_due = sources i } in
     left_alone c.args.self.now.held.groups c.args.group.now.room address (c.lemma_is_numbered.ensures.of_one _ _ has) (c.requires.served address has)
     (ap (λ (e : ScheduledGroup). e.schedule) (sym (c.load-schedule.ensures.group address has)) ∙ silent)

@@ -15,7 +15,8 @@ put-requires-clause-number g c = is_number _ _ _ (rw c.in-Ok.is at c.requires.so
 pub put-requires-clause-fits : goal.put-requires-clause-fits
 put-requires-clause-fits g c address has =
     let same = c.lemma_is_numbered.ensures.same address _ _ has (rw c.in-Ok.is at c.requires.sought) in
-    subst (λ a. sources_in c.args.self.now.held.groups + size_of c.args.group.now.state ≤ c.args.self.now.held.source_room + sources_of (group_at c.args.self.now.held.groups a)) (sym same) c.requires.fits
+    subst (λ a. sources_in c.args.self.now.held.groups + size_of c.args.group.now.state ≤ c.args.self.now.held.source_room + sources_of
+    (group_at c.args.self.now.held.groups a)) (sym same) c.requires.fits
 
 pub returns-in-Ok-clause-groups : goal.returns-in-Ok-clause-groups
 returns-in-Ok-clause-groups g c =
@@ -33,7 +34,8 @@ returns-in-Ok-clause-moved g c =
 pub insert-requires-clause-room : goal.insert-requires-clause-room
 insert-requires-clause-room g c =
     let absent = spot_absent _ _ _ (rw c.in-Err.is at c.requires.sought) c.lemma_is_numbered.ensures.held in
-    let grown = len_with_new c.args.self.now.held.groups (g.K.Key.number c.args.sought.address) absent (record { group = c.args.group.now.state; schedule = c.args.schedule }) (sym c.is_vacant.ensures ∙ c.if-is_vacant.false) in
+    let grown = len_with_new c.args.self.now.held.groups (g.K.Key.number c.args.sought.address) absent
+    (record { group = c.args.group.now.state; schedule = c.args.schedule }) (sym c.is_vacant.ensures ∙ c.if-is_vacant.false) in
     omega (arith, grown, c.requires.room)
 
 pub insert-requires-clause-fits : goal.insert-requires-clause-fits

@@ -28,16 +28,19 @@ put-requires-clause-held g c not_vacant =
     let has = c.in-Ok.ensures.found in
     let before : ScheduledGroup = record { group = c.load-schedule.new.into.state; schedule = c.load-schedule.result } in
     let left : ScheduledGroup = record { group = c.lower.new.group.state; schedule = c.load-schedule.result } in
-    let is : left ≡ group_lowered c.args.at.now.timing c.args.at.now.moment version before = λ i. record { group = c.lower.ensures.state i; schedule = c.load-schedule.result } in
+    let is : left ≡ group_lowered c.args.at.now.timing c.args.at.now.moment version before =
+    λ i. record { group = c.lower.ensures.state i; schedule = c.load-schedule.result } in
     let held = (c.requires.ready.served _ _ (group_found _ _ (c.lemma_is_numbered.ensures.of_one _ _ has))).held in
-    one_lowered_held c.args.at.now.timing c.args.at.now.moment version left before is (rw (ap (λ (e : ScheduledGroup). e.group) (c.load-schedule.ensures.group _ has)) held)
+    one_lowered_held c.args.at.now.timing c.args.at.now.moment version left before is
+    (rw (ap (λ (e : ScheduledGroup). e.group) (c.load-schedule.ensures.group _ has)) held)
 
 pub put-requires-clause-fits : goal.put-requires-clause-fits
 put-requires-clause-fits g c address has =
     let version = numbered_version c.args.query.now.version in
     let before : ScheduledGroup = record { group = c.load-schedule.new.into.state; schedule = c.load-schedule.result } in
     let left : ScheduledGroup = record { group = c.lower.new.group.state; schedule = c.load-schedule.result } in
-    let is : left ≡ group_lowered c.args.at.now.timing c.args.at.now.moment version before = λ i. record { group = c.lower.ensures.state i; schedule = c.load-schedule.result } in
+    let is : left ≡ group_lowered c.args.at.now.timing c.args.at.now.moment version before =
+    λ i. record { group = c.lower.ensures.state i; schedule = c.load-schedule.result } in
     let loaded = ap sources_of (c.load-schedule.ensures.group address has) in
     omega (arith, one_lowered_size c.args.at.now.timing c.args.at.now.moment version left before is, loaded, c.lemma_sources_fit.ensures)
 
@@ -46,11 +49,14 @@ returns-in-Ok-clause-groups g c =
     let query = numbered_query g.K.Key.number c.args.query.now in
     let has = c.in-Ok.ensures.found in
     let left : ScheduledGroup = record { group = c.lower.new.group.state; schedule = c.load-schedule.result } in
-    let is : left ≡ group_lowered c.args.at.now.timing c.args.at.now.moment query.version (record { group = c.load-schedule.new.into.state; schedule = c.load-schedule.result }) = λ i. record { group = c.lower.ensures.state i; schedule = c.load-schedule.result } in
+    let is : left ≡ group_lowered c.args.at.now.timing c.args.at.now.moment query.version
+    (record { group = c.load-schedule.new.into.state; schedule = c.load-schedule.result }) =
+    λ i. record { group = c.lower.ensures.state i; schedule = c.load-schedule.result } in
     let before : ScheduledGroup = record { group = c.load-schedule.new.into.state; schedule = c.load-schedule.result } in
     let there = c.lemma_is_numbered.ensures.of_one _ _ has in
     let held = (c.requires.ready.served _ _ (group_found _ _ there)).held in
-    let left_held = one_lowered_held c.args.at.now.timing c.args.at.now.moment query.version left before is (rw (ap (λ (e : ScheduledGroup). e.group) (c.load-schedule.ensures.group _ has)) held) in
+    let left_held = one_lowered_held c.args.at.now.timing c.args.at.now.moment query.version left before is
+    (rw (ap (λ (e : ScheduledGroup). e.group) (c.load-schedule.ensures.group _ has)) held) in
     c.put.ensures.groups _ has
     ∙ ap (map.insert c.args.self.now.held.groups query.group) (kept_held left left_held)
     ∙ lowered_at c.args.at.now.timing c.args.at.now.moment query c.args.self.now.held.groups left there
@@ -63,18 +69,21 @@ returns-in-Ok-clause-spent g c =
     let groups = c.args.self.now.held.groups in
     let before : ScheduledGroup = record { group = c.load-schedule.new.into.state; schedule = c.load-schedule.result } in
     let left : ScheduledGroup = record { group = c.lower.new.group.state; schedule = c.load-schedule.result } in
-    let is : left ≡ group_lowered c.args.at.now.timing c.args.at.now.moment version before = λ i. record { group = c.lower.ensures.state i; schedule = c.load-schedule.result } in
+    let is : left ≡ group_lowered c.args.at.now.timing c.args.at.now.moment version before =
+    λ i. record { group = c.lower.ensures.state i; schedule = c.load-schedule.result } in
     let loaded = ap sources_of (c.load-schedule.ensures.group _ has) in
     let fewer = one_lowered_size c.args.at.now.timing c.args.at.now.moment version left before is in
     let small = c.requires.small (g.K.Key.number c.args.query.now.group) in
     let digits = bitlen-le 16 (map.len groups) (omega (arith, c.requires.ready.few)) in
     let own = bitlen-le 11 (sources_of before) (omega (arith, loaded, small)) in
     let asked = spent_lowering (source_count c.args.query.now.version) (bitlen (sources_of before)) own in
-    Spends-join_within _ _ (Spends-join c.find.ensures.spent c.lower.ensures.spent) c.put.ensures.spent (omega arith) (omega (arith, digits, asked, fewer, loaded))
+    Spends-join_within _ _ (Spends-join c.find.ensures.spent c.lower.ensures.spent) c.put.ensures.spent (omega arith)
+    (omega (arith, digits, asked, fewer, loaded))
 
 pub returns-in_default-clause-groups : goal.returns-in_default-clause-groups
 returns-in_default-clause-groups g c =
-    lowered_none c.args.at.now.timing c.args.at.now.moment (numbered_query g.K.Key.number c.args.query.now) c.args.self.now.held.groups (sym c.in_default.ensures.held)
+    lowered_none c.args.at.now.timing c.args.at.now.moment (numbered_query g.K.Key.number c.args.query.now) c.args.self.now.held.groups
+    (sym c.in_default.ensures.held)
 
 pub returns-in_default-clause-spent : goal.returns-in_default-clause-spent
 returns-in_default-clause-spent g c =
@@ -87,7 +96,8 @@ returns-in-Ok-clause-moved g c =
     let has = c.in-Ok.ensures.found in
     let before : ScheduledGroup = record { group = c.load-schedule.new.into.state; schedule = c.load-schedule.result } in
     let left : ScheduledGroup = record { group = c.lower.new.group.state; schedule = c.load-schedule.result } in
-    let is : left ≡ group_lowered c.args.at.now.timing c.args.at.now.moment version before = λ i. record { group = c.lower.ensures.state i; schedule = c.load-schedule.result } in
+    let is : left ≡ group_lowered c.args.at.now.timing c.args.at.now.moment version before =
+    λ i. record { group = c.lower.ensures.state i; schedule = c.load-schedule.result } in
     let loaded = ap sources_of (c.load-schedule.ensures.group _ has) in
     let fewer = one_lowered_size c.args.at.now.timing c.args.at.now.moment version left before is in
     let digits = bitlen-le 16 (map.len c.args.self.now.held.groups) (omega (arith, c.requires.ready.few)) in

@@ -14,10 +14,19 @@ returns-clause-spent g c =
     let s = c.args.self.now.held in
     let has = number_found s c.args.number c.requires.number in
     let all = few-running s.groups in
-    Spends-within _ _ (c.put.ensures.spent _ has) (omega arith) (omega (arith, bitlen-mono (running_in s.groups - one_if (Rattle.std.specs.Prelude.not (Rattle.mq_table.specs.Group.is_vacant (group_at s.groups (key_in s.order.items c.args.number)).group))) (map.len s.groups) (omega (arith, all))))
+    Spends-within _ _ (c.put.ensures.spent _ has) (omega arith)
+    (omega (
+      arith,
+      bitlen-mono
+          (running_in s.groups - one_if
+          (Rattle.std.specs.Prelude.not (Rattle.mq_table.specs.Group.is_vacant (group_at s.groups (key_in s.order.items c.args.number)).group)))
+          (map.len s.groups) (omega (arith, all)),
+    ))
 
 pub returns-clause-moved : goal.returns-clause-moved
 returns-clause-moved g c =
     let s = c.args.self.now.held in
     let has = number_found s c.args.number c.requires.number in
-    put_paid s c.put.new.self (key_in s.order.items c.args.number) (record { group = c.args.group.now.state; schedule = c.args.schedule }) _ _ c.lemma_is_numbered.ensures.fits (c.requires.fits _ has) (c.put.ensures.groups _ has) c.put.ensures.order c.put.ensures.source_room (c.put.ensures.ahead _ has) (c.put.ensures.moved _ has)
+    put_paid s c.put.new.self (key_in s.order.items c.args.number) (record { group = c.args.group.now.state; schedule = c.args.schedule }) _ _
+    c.lemma_is_numbered.ensures.fits (c.requires.fits _ has) (c.put.ensures.groups _ has) c.put.ensures.order c.put.ensures.source_room
+    (c.put.ensures.ahead _ has) (c.put.ensures.moved _ has)

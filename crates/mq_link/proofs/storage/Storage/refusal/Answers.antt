@@ -12,7 +12,9 @@ use Rattle.mq_link.proofs.storage.Storage.refusal.Goals as goal
 use Rattle.mq_link.proofs.storage.Storage.refusal.Goals.{then-is_vacant, else-is_vacant}
 
 -- as many schedules as there are of this schedule
-same_schedules : (had schedule : ScheduleState) → had ≡ schedule → (let stated : ScheduledGroup = record { group = vacant; schedule = had } in schedules_of stated) ≡ (let stated : ScheduledGroup = record { group = vacant; schedule = schedule } in schedules_of stated)
+same_schedules : (had schedule : ScheduleState) → had ≡ schedule →
+    (let stated : ScheduledGroup = record { group = vacant; schedule = had } in schedules_of stated)
+    ≡ (let stated : ScheduledGroup = record { group = vacant; schedule = schedule } in schedules_of stated)
 same_schedules had schedule is = ap (λ s. let stated : ScheduledGroup = record { group = vacant; schedule = s } in schedules_of stated) is
 
 pub overflow_sub-groups : goal.overflow_sub-groups
@@ -46,8 +48,10 @@ overflow_sub-scheduled g c =
     let after : ScheduledGroup = record { group = c.args.after.now.state; schedule = c.args.change.now.schedule } in
     let enough = enough_schedules c.args.self.now.held.groups p.0 any_timing c.args.now _ after c.args.change.now.is_held p.1.is_held refl in
     let left : c.if-is_vacant.left ≡ cond (is_vacant after.group) 0 (schedules_of (after_round any_timing c.args.now after)) = elim c.if-is_vacant.branch [
-      | then-is_vacant w ↦ w.left-is ∙ ap (λ b. cond b 0 (schedules_of (after_round any_timing c.args.now after))) (sym w.if-is_vacant.true ∙ c.is_vacant-is_vacant.ensures)
-      | else-is_vacant w ↦ w.left-is ∙ w.schedules_after_round-left.ensures.left any_timing ∙ ap (λ b. cond b 0 (schedules_of (after_round any_timing c.args.now after))) (sym w.if-is_vacant.false ∙ c.is_vacant-is_vacant.ensures)
+      | then-is_vacant w ↦ w.left-is ∙ ap (λ b. cond b 0 (schedules_of (after_round any_timing c.args.now after)))
+          (sym w.if-is_vacant.true ∙ c.is_vacant-is_vacant.ensures)
+      | else-is_vacant w ↦ w.left-is ∙ w.schedules_after_round-left.ensures.left any_timing ∙
+          ap (λ b. cond b 0 (schedules_of (after_round any_timing c.args.now after))) (sym w.if-is_vacant.false ∙ c.is_vacant-is_vacant.ensures)
     ] in
     let had = same_schedules _ _ p.1.schedule in
     let held : c.if-is_vacant.self.held ≡ c.args.self.now.held = elim c.if-is_vacant.branch [
@@ -62,8 +66,10 @@ returns-clause-name g c timing address is =
     let had = c.from-2.ensures ∙ as_number c.args.change.now.is_held in
     let has = c.from.ensures ∙ as_number (not c.is_vacant-is_vacant.result) ∙ ap (λ b. one_if (not b)) c.is_vacant-is_vacant.ensures in
     let left : c.if-is_vacant.left ≡ cond (is_vacant after.group) 0 (schedules_of (after_round timing c.args.now after)) = elim c.if-is_vacant.branch [
-      | then-is_vacant w ↦ w.left-is ∙ ap (λ b. cond b 0 (schedules_of (after_round timing c.args.now after))) (sym w.if-is_vacant.true ∙ c.is_vacant-is_vacant.ensures)
-      | else-is_vacant w ↦ w.left-is ∙ w.schedules_after_round-left.ensures.left timing ∙ ap (λ b. cond b 0 (schedules_of (after_round timing c.args.now after))) (sym w.if-is_vacant.false ∙ c.is_vacant-is_vacant.ensures)
+      | then-is_vacant w ↦ w.left-is ∙ ap (λ b. cond b 0 (schedules_of (after_round timing c.args.now after)))
+          (sym w.if-is_vacant.true ∙ c.is_vacant-is_vacant.ensures)
+      | else-is_vacant w ↦ w.left-is ∙ w.schedules_after_round-left.ensures.left timing ∙
+          ap (λ b. cond b 0 (schedules_of (after_round timing c.args.now after))) (sym w.if-is_vacant.false ∙ c.is_vacant-is_vacant.ensures)
     ] in
     let held : c.if-is_vacant.self.held ≡ c.args.self.now.held = elim c.if-is_vacant.branch [
       | then-is_vacant w ↦ ap (λ (s : Storage _ _). s.held) w.self-is
@@ -73,5 +79,6 @@ returns-clause-name g c timing address is =
     let sources = c.sources.ensures ∙ ap (λ (h : HeldState). sources_in h.groups) held in
     let schedules = c.schedules.ensures ∙ ap (λ (h : HeldState). schedules_in h.groups) held in
     c.limit_passed.ensures
-    ∙ (λ i. limit_passed_by c.args.limits.now (len i + has i - had i) (c.sources-3.ensures.len i) (sources i + c.sources-2.ensures.len i - sym is.sources i) (schedules i + left i - (c.count_schedules.ensures ∙ sym (same_schedules _ _ is.schedule)) i))
+    ∙ (λ i. limit_passed_by c.args.limits.now (len i + has i - had i) (c.sources-3.ensures.len i)
+    (sources i + c.sources-2.ensures.len i - sym is.sources i) (schedules i + left i - (c.count_schedules.ensures ∙ sym (same_schedules _ _ is.schedule)) i))
     ∙ judged_by c.args.self.now.held.groups address timing c.args.now _ after c.args.change.now.is_held is.is_held refl c.args.limits.now

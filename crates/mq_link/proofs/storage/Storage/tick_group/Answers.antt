@@ -40,7 +40,8 @@ pub returns-clause-sent : goal.returns-clause-sent
 returns-clause-sent g c address has =
     let same = c.lemma_is_numbered.ensures.same _ address _ c.address-address.ensures.address has in
     subst (λ queries. Sends g.S.Sink.takes c.args.sink.now queries c.serve-changes.new.sink)
-    (λ i. messages_due g.K.WireKey.PER_QUERY c.args.at.now.timing c.args.at.now.moment (same i) (group_expired c.args.at.now.moment (c.load-schedule.ensures.group address has i)))
+    (λ i. messages_due g.K.WireKey.PER_QUERY c.args.at.now.timing c.args.at.now.moment (same i)
+    (group_expired c.args.at.now.moment (c.load-schedule.ensures.group address has i)))
     c.serve-changes.ensures.sent
 
 pub returns-clause-spent : goal.returns-clause-spent

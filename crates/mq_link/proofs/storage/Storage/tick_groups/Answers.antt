@@ -27,8 +27,20 @@ use Rattle.mq_link.proofs.storage.Storage.tick_groups.Goals as goal
 use Rattle.mq_link.proofs.storage.Storage.tick_groups.Goals.{in-Some, in_default}
 
 pub loop-number-init : goal.loop-number-init
-loop-number-init g c =
-    ((0, none_ticked g.K.WireKey.PER_QUERY c.args.at.now.timing c.args.at.now.moment c.args.self.now.held.groups g.S.Sink.takes c.args.sink.now c.due.new.m, paid_none _ _), (λ _. refl), refl, record { groups = refl; sources = refl }, omega arith, ap (list_map g.K.Key.number) c.requires.empty, omega arith)
+loop-number-init g c = (
+  (
+    0,
+    none_ticked g.K.WireKey.PER_QUERY c.args.at.now.timing c.args.at.now.moment c.args.self.now.held.groups g.S.Sink.takes c.args.sink.now
+        c.due.new.m,
+    paid_none _ _,
+  ),
+  (λ _. refl),
+  refl,
+  record { groups = refl; sources = refl },
+  omega arith,
+  ap (list_map g.K.Key.number) c.requires.empty,
+  omega arith,
+)
 
 pub tick_group-requires-clause-number : goal.tick_group-requires-clause-number
 tick_group-requires-clause-number g c =
@@ -41,15 +53,20 @@ tick_group-requires-clause-room g c address other =
     let old = c.args.self.now.held in
     let i = c.loop-number.number-index in
     let same = ap (list_map (key_in old.order.items)) c.as_slice-number-items.ensures.value ∙ c.due.ensures.due in
-    let within : i < length (due_entries now old.groups) = omega (arith, as_many (key_in old.order.items) _ (due_entries now old.groups) same, c.loop-number-test.true) in
+    let within : i < length (due_entries now old.groups) =
+    omega (arith, as_many (key_in old.order.items) _ (due_entries now old.groups) same, c.loop-number-test.true) in
     let known = c.lemma_is_numbered.ensures.known address _ (number_stayed old c.loop-number.self.held address _ c.loop-number.invariant.2 other) in
-    let key : address ≡ (entry_at (due_entries now old.groups) i).0 = sym known ∙ address_of (key_in old.order.items) _ (due_entries now old.groups) same i c.loop-number-test.true in
-    let group = ap (group_at c.loop-number.self.held.groups) key ∙ next_group (served_as c.args.at.now.timing now) old.groups (due_entries now old.groups) (are_due now old.groups) i c.loop-number.self.held.groups c.loop-number.invariant.0.1.done within in
+    let key : address ≡ (entry_at (due_entries now old.groups) i).0 = sym known ∙
+    address_of (key_in old.order.items) _ (due_entries now old.groups) same i c.loop-number-test.true in
+    let group = ap (group_at c.loop-number.self.held.groups) key ∙
+    next_group (served_as c.args.at.now.timing now) old.groups (due_entries now old.groups)
+    (are_due now old.groups) i c.loop-number.self.held.groups c.loop-number.invariant.0.1.done within in
     let fits = (c.requires.ready.served _ _ ((are_due now old.groups).held i within)).room_for in
     omega (arith, ap sources_of group, fits, c.loop-number.invariant.4)
 
 -- an address that is answered is listed, and nothing else
-named_more : (g : Over) (c : goal.Joined-tick_group g) → c.match-tick_group.lists.1.1.1.0.items ≡ with_answer c.loop-number.lists.1.1.1.0.items c.tick_group.result
+named_more : (g : Over) (c : goal.Joined-tick_group g) → c.match-tick_group.lists.1.1.1.0.items
+    ≡ with_answer c.loop-number.lists.1.1.1.0.items c.tick_group.result
 named_more g c =
     let named = c.loop-number.lists.1.1.1.0.items in
     elim c.match-tick_group.branch [
@@ -63,8 +80,10 @@ named_more g c =
 
 room_stays : (g : Over) (c : goal.Joined-tick_group g) → vec_capacity c.loop-number.lists.1.1.1.0 ≤ vec_capacity c.match-tick_group.lists.1.1.1.0
 room_stays g c = elim c.match-tick_group.branch [
-  | in-Some w ↦ let left : vec_capacity c.match-tick_group.lists.1.1.1.0 ≡ vec_capacity w.push.new.self = λ i. vec_capacity (w.lists-is i).1.1.1.0 in omega (arith, w.push.ensures.capacity, left)
-  | in_default w ↦ let left : vec_capacity c.match-tick_group.lists.1.1.1.0 ≡ vec_capacity c.loop-number.lists.1.1.1.0 = λ i. vec_capacity (w.lists-is i).1.1.1.0 in omega (arith, left)
+  | in-Some w ↦ let left : vec_capacity c.match-tick_group.lists.1.1.1.0 ≡ vec_capacity w.push.new.self = λ i. vec_capacity (w.lists-is i).1.1.1.0 in
+      omega (arith, w.push.ensures.capacity, left)
+  | in_default w ↦ let left : vec_capacity c.match-tick_group.lists.1.1.1.0 ≡ vec_capacity c.loop-number.lists.1.1.1.0 =
+      λ i. vec_capacity (w.lists-is i).1.1.1.0 in omega (arith, left)
 ]
 
 pub loop-number-preserved : goal.loop-number-preserved
@@ -81,17 +100,23 @@ loop-number-preserved g c =
     let within : i < length (due_entries now old.groups) = omega (arith, as_many (key_in old.order.items) _ es same, c.loop-number-test.true) in
     let key = address_of (key_in old.order.items) _ es same i c.loop-number-test.true in
     let n = get_or c.as_slice-number-items.result.now i 0 in
-    let has = number_stays old current (entry_at es i).0 n c.loop-number.invariant.2 (subst (λ a. HasNumber old a n) key (number_found old n (named i 0 c.loop-number-test.true))) in
+    let has = number_stays old current (entry_at es i).0 n c.loop-number.invariant.2
+    (subst (λ a. HasNumber old a n) key (number_found old n (named i 0 c.loop-number-test.true))) in
     let size = ap sources_of (next_group (served_as timing now) old.groups es (are_due now old.groups) i current.groups so_far.done within) in
     let digits = few_digits (map.len current.groups) (omega (arith, so_far.done.len_is, c.requires.ready.few)) in
-    let more = one_ticked g.K.WireKey.PER_QUERY timing now old.groups g.S.Sink.takes c.args.sink.now c.due.new.m i current.groups c.loop-number.sink c.loop-number.self.meter c.loop-number.invariant.0.0 so_far within c.tick_group.new.self.held.groups c.tick_group.new.sink c.tick_group.new.self.meter _ (c.tick_group.ensures.groups _ has) (c.tick_group.ensures.sent _ has) (c.tick_group.ensures.spent _ has) digits in
-    let paid = paid_join (5 * (c.loop-number.invariant.0.0 + sources_of (entry_at es i).1) + 21 * (i + 1)) c.loop-number.invariant.0.2 (c.tick_group.ensures.moved _ has) (omega (arith, size, digits)) in (
+    let more = one_ticked g.K.WireKey.PER_QUERY timing now old.groups g.S.Sink.takes c.args.sink.now c.due.new.m i current.groups c.loop-number.sink
+    c.loop-number.self.meter c.loop-number.invariant.0.0 so_far within c.tick_group.new.self.held.groups c.tick_group.new.sink
+    c.tick_group.new.self.meter _ (c.tick_group.ensures.groups _ has) (c.tick_group.ensures.sent _ has) (c.tick_group.ensures.spent _ has) digits in
+    let paid = paid_join (5 * (c.loop-number.invariant.0.0 + sources_of (entry_at es i).1) + 21 * (i + 1)) c.loop-number.invariant.0.2
+    (c.tick_group.ensures.moved _ has) (omega (arith, size, digits)) in (
       (c.loop-number.invariant.0.0 + sources_of (entry_at es i).1, more, paid),
       (λ first. absurd (omega arith)),
       c.tick_group.ensures.order ∙ c.loop-number.invariant.2,
       rooms_on c.loop-number.invariant.3 c.tick_group.ensures.rooms,
       omega (arith, c.loop-number.invariant.4, c.tick_group.ensures.room),
-      one_turned timing now old.groups i within current.groups c.tick_group.new.self.held.groups so_far.done (c.tick_group.ensures.groups _ has) g.K.Key.number c.tick_group.result c.loop-number.lists.1.1.1.0.items c.match-tick_group.lists.1.1.1.0.items (c.tick_group.ensures.changed _ has) c.loop-number.invariant.5 (named_more g c),
+      one_turned timing now old.groups i within current.groups c.tick_group.new.self.held.groups so_far.done
+          (c.tick_group.ensures.groups _ has) g.K.Key.number c.tick_group.result c.loop-number.lists.1.1.1.0.items
+          c.match-tick_group.lists.1.1.1.0.items (c.tick_group.ensures.changed _ has) c.loop-number.invariant.5 (named_more g c),
       omega (arith, c.loop-number.invariant.6, room_stays g c),
     )
 
@@ -103,17 +128,21 @@ pub take_out_vacant-requires-clause-each : goal.take_out_vacant-requires-clause-
 take_out_vacant-requires-clause-each g c number =
     let now = c.args.at.now.moment in
     let old = c.args.self.now.held in
-    stands_once (key_in old.order.items) c.due.new.numbers.items (subst (IsAscending (λ k. k)) (sym c.due.ensures.due) (are_due now old.groups).ascending) number
+    stands_once (key_in old.order.items) c.due.new.numbers.items
+    (subst (IsAscending (λ k. k)) (sym c.due.ensures.due) (are_due now old.groups).ascending) number
 
 pub take_out_vacant-requires-clause-vacant : goal.take_out_vacant-requires-clause-vacant
 take_out_vacant-requires-clause-vacant g c number is vacant =
     let now = c.args.at.now.moment in
     let old = c.args.self.now.held in
     let same = ap (list_map (key_in old.order.items)) c.as_slice-number-items.ensures.value ∙ c.due.ensures.due in
-    let all : length (due_entries now old.groups) ≤ c.loop-number.number-index = omega (arith, as_many (key_in old.order.items) _ (due_entries now old.groups) same, c.loop-number-test.false) in
+    let all : length (due_entries now old.groups) ≤ c.loop-number.number-index =
+    omega (arith, as_many (key_in old.order.items) _ (due_entries now old.groups) same, c.loop-number-test.false) in
     let numbered = c.lemma_is_numbered.ensures in
-    vacant_named c.args.at.now.timing now c.args.group.now.room old.groups c.requires.ready.served c.loop-number.self.held.groups c.loop-number.number-index c.loop-number.invariant.0.1.done all
-    old c.loop-number.self.held c.due.new.numbers.items refl refl c.loop-number.invariant.2 c.due.ensures.numbers c.due.ensures.due numbered.of_one numbered.one number is vacant
+    vacant_named c.args.at.now.timing now c.args.group.now.room old.groups c.requires.ready.served c.loop-number.self.held.groups
+    c.loop-number.number-index c.loop-number.invariant.0.1.done all
+    old c.loop-number.self.held c.due.new.numbers.items refl refl c.loop-number.invariant.2 c.due.ensures.numbers c.due.ensures.due numbered.of_one
+    numbered.one number is vacant
 
 pub take_out_vacant-requires-clause-space : goal.take_out_vacant-requires-clause-space
 take_out_vacant-requires-clause-space g c =
@@ -125,9 +154,11 @@ returns-clause-groups g c =
     let now = c.args.at.now.moment in
     let old = c.args.self.now.held in
     let same = ap (list_map (key_in old.order.items)) c.as_slice-number-items.ensures.value ∙ c.due.ensures.due in
-    let all : length (due_entries now old.groups) ≤ c.loop-number.number-index = omega (arith, as_many (key_in old.order.items) _ (due_entries now old.groups) same, c.loop-number-test.false) in
+    let all : length (due_entries now old.groups) ≤ c.loop-number.number-index =
+    omega (arith, as_many (key_in old.order.items) _ (due_entries now old.groups) same, c.loop-number-test.false) in
     c.take_out_vacant.ensures.groups
-    ∙ ticked_left c.args.at.now.timing now c.args.group.now.room old.groups c.requires.ready.served c.loop-number.self.held.groups c.loop-number.number-index c.loop-number.invariant.0.1.done all
+    ∙ ticked_left c.args.at.now.timing now c.args.group.now.room old.groups c.requires.ready.served c.loop-number.self.held.groups
+    c.loop-number.number-index c.loop-number.invariant.0.1.done all
 
 pub returns-clause-sent : goal.returns-clause-sent
 returns-clause-sent g c family is =
@@ -136,7 +167,8 @@ returns-clause-sent g c family is =
     let old = c.args.self.now.held in
     let es = due_entries now old.groups in
     let same = ap (list_map (key_in old.order.items)) c.as_slice-number-items.ensures.value ∙ c.due.ensures.due in
-    let all : length (due_entries now old.groups) ≤ c.loop-number.number-index = omega (arith, as_many (key_in old.order.items) _ (due_entries now old.groups) same, c.loop-number-test.false) in
+    let all : length (due_entries now old.groups) ≤ c.loop-number.number-index =
+    omega (arith, as_many (key_in old.order.items) _ (due_entries now old.groups) same, c.loop-number-test.false) in
     let queries = ap (flat_map (queries_at g.K.WireKey.PER_QUERY timing now)) (take_all c.loop-number.number-index es all)
     ∙ sent_of_due now old.groups c.args.group.now.room g.K.WireKey.PER_QUERY timing c.requires.ready.served
     ∙ ap (λ n. flat_map (queries_at n timing now) (map.entries old.groups)) is
@@ -156,7 +188,17 @@ returns-clause-spent g c =
     let running = all_running c.args.group.now.room old.groups c.requires.ready.served in
     let so_far = c.loop-number.invariant.0.1 in
     Spends-join_within _ _ (Spends-join c.due.ensures.spent so_far.spent) c.take_out_vacant.ensures.spent (omega (arith, running))
-    (omega (arith, running, many, due.few, so_far.weight_is, so_far.done.len_is, c.loop-number.auto.number-index-end, some_of (due_in now old.groups) (7 * map.len old.groups), some_of (length c.due.new.numbers.items) (map.len c.loop-number.self.held.groups)))
+    (omega (
+      arith,
+      running,
+      many,
+      due.few,
+      so_far.weight_is,
+      so_far.done.len_is,
+      c.loop-number.auto.number-index-end,
+      some_of (due_in now old.groups) (7 * map.len old.groups),
+      some_of (length c.due.new.numbers.items) (map.len c.loop-number.self.held.groups),
+    ))
 
 pub returns-clause-quiet : goal.returns-clause-quiet
 returns-clause-quiet g c quiet =
@@ -181,11 +223,22 @@ returns-clause-moved g c =
     let many = as_many (key_in old.order.items) _ es same in
     let due = are_due now old.groups in
     let so_far = c.loop-number.invariant.0.1 in
-    let looked = paid_by (64 * map.len old.groups) {before = put_by_rows old} {after = put_by_rows old} c.due.ensures.moved (omega (arith, some_of (due_in now old.groups) (64 * map.len old.groups))) in
+    let looked = paid_by (64 * map.len old.groups) {before = put_by_rows old} {after = put_by_rows old} c.due.ensures.moved
+    (omega (arith, some_of (due_in now old.groups) (64 * map.len old.groups))) in
     let taken = c.take_out_vacant.ensures in
     let gone = taken_out_paid current c.take_out_vacant.new.self _ _ _ _ taken.groups taken.room taken.source_room taken.ahead taken.moved in
-    paid_join (most_moved_by_tick old.groups) (paid_join (64 * map.len old.groups + (5 * c.loop-number.invariant.0.0 + 21 * c.loop-number.number-index)) looked c.loop-number.invariant.0.2 (omega arith)) gone
-    (omega (arith, many, due.few, so_far.weight_is, so_far.done.len_is, c.loop-number.auto.number-index-end, some_of (length c.due.new.numbers.items) (50 * map.len current.groups)))
+    paid_join (most_moved_by_tick old.groups)
+    (paid_join (64 * map.len old.groups + (5 * c.loop-number.invariant.0.0 + 21 * c.loop-number.number-index)) looked c.loop-number.invariant.0.2
+    (omega arith)) gone
+    (omega (
+      arith,
+      many,
+      due.few,
+      so_far.weight_is,
+      so_far.done.len_is,
+      c.loop-number.auto.number-index-end,
+      some_of (length c.due.new.numbers.items) (50 * map.len current.groups),
+    ))
 
 pub returns-clause-still : goal.returns-clause-still
 returns-clause-still g c quiet =
@@ -196,7 +249,8 @@ returns-clause-still g c quiet =
     let nothing : length c.as_slice-number-items.result.now ≡ 0 = ap length c.as_slice-number-items.ensures.value ∙ count ∙ none in
     let first : c.loop-number.number-index ≡ 0 = omega (arith, nothing, c.loop-number.auto.number-index-end) in
     let looked = spends_none c.due.ensures.moved (none_of_all (due_in now old.groups) (64 * map.len old.groups) none) in
-    let gone = spends_none c.take_out_vacant.ensures.moved (none_of_all (length c.due.new.numbers.items) (50 * map.len c.loop-number.self.held.groups) (count ∙ none)) in
+    let gone = spends_none c.take_out_vacant.ensures.moved (none_of_all (length c.due.new.numbers.items) (50 * map.len c.loop-number.self.held.groups)
+    (count ∙ none)) in
     gone ∙ c.loop-number.invariant.1 first ∙ looked
 
 pub unwrap-requires : goal.unwrap-requires
@@ -206,7 +260,8 @@ unwrap-requires g c =
     let i = c.loop-number.number-index in
     let named = c.loop-number.lists.1.1.1.0 in
     let same = ap (list_map (key_in old.order.items)) c.as_slice-number-items.ensures.value ∙ c.due.ensures.due in
-    let within : i < length (due_entries now old.groups) = omega (arith, as_many (key_in old.order.items) _ (due_entries now old.groups) same, c.loop-number-test.true) in
+    let within : i < length (due_entries now old.groups) =
+    omega (arith, as_many (key_in old.order.items) _ (due_entries now old.groups) same, c.loop-number-test.true) in
     let few = few_turned c.args.at.now.timing now old.groups i (omega (arith, within)) in
     let listed = ap length c.loop-number.invariant.5 in
     let size = length-map named.items g.K.Key.number in
@@ -218,8 +273,10 @@ returns-clause-changed g c =
     let now = c.args.at.now.moment in
     let old = c.args.self.now.held in
     let same = ap (list_map (key_in old.order.items)) c.as_slice-number-items.ensures.value ∙ c.due.ensures.due in
-    let all : length (due_entries now old.groups) ≤ c.loop-number.number-index = omega (arith, as_many (key_in old.order.items) _ (due_entries now old.groups) same, c.loop-number-test.false) in
-    those_turned c.args.at.now.timing now old.groups c.args.group.now.room c.requires.ready.served c.loop-number.self.held.groups c.loop-number.number-index c.loop-number.invariant.0.1.done all
+    let all : length (due_entries now old.groups) ≤ c.loop-number.number-index =
+    omega (arith, as_many (key_in old.order.items) _ (due_entries now old.groups) same, c.loop-number-test.false) in
+    those_turned c.args.at.now.timing now old.groups c.args.group.now.room c.requires.ready.served c.loop-number.self.held.groups
+    c.loop-number.number-index c.loop-number.invariant.0.1.done all
     c.take_out_vacant.new.self.groups _ c.take_out_vacant.ensures.groups c.loop-number.invariant.5
 
 pub returns-clause-few : goal.returns-clause-few

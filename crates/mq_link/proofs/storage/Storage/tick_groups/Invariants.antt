@@ -11,7 +11,8 @@ use Rattle.mq_link.proofs.storage.Storage.tick_groups.Given as goal
 abbrev pub invariant-loop-number : goal.invariant-loop-number
 invariant-loop-number g l =
     ((weight : ℕ)
-    × AreTickedTo g.S.Sink.takes g.K.WireKey.PER_QUERY l.fn.at.timing l.fn.at.moment l.fn.self.held.groups l.fn.sink l.initial.self.meter l.number-index l.self.held.groups l.sink l.self.meter weight
+    × AreTickedTo g.S.Sink.takes g.K.WireKey.PER_QUERY l.fn.at.timing l.fn.at.moment l.fn.self.held.groups l.fn.sink l.initial.self.meter
+    l.number-index l.self.held.groups l.sink l.self.meter weight
     × IsPaid (5 * weight + 21 * l.number-index) (put_by_rows l.fn.self.held) (put_by_rows l.self.held) l.initial.self.moves l.self.moves)
     × (l.number-index ≡ 0 → l.self.moves ≡ l.initial.self.moves)
     × (l.self.held.order ≡ l.fn.self.held.order)

@@ -17,7 +17,8 @@ returns-in_err-put_packet g c =
 pub returns-in_err-write_before_wait : goal.returns-in_err-write_before_wait
 returns-in_err-write_before_wait g c =
     let p = err_from_is_err_and c.from_residual-in_err-write_before_wait.result c.from_residual-in_err-write_before_wait.ensures.1 in
-    let line = packet_then_nothing (Unit {0}) LineFault _ _ _ _ _ c.write_before_wait.new.buffer.items _ _ _ _ (Err c.in_err-write_before_wait.field-0.0) c.in_ok-put_packet.ensures.line c.in_err-write_before_wait.ensures.text in
+    let line = packet_then_nothing (Unit {0}) LineFault _ _ _ _ _ c.write_before_wait.new.buffer.items _ _ _ _
+    (Err c.in_err-write_before_wait.field-0.0) c.in_ok-put_packet.ensures.line c.in_err-write_before_wait.ensures.text in
     rw (p.1, p.2) (record {
       puts = record { said = line.said; is_said = line.is_said; put = line.put };
       failed = c.in_err-write_before_wait.ensures.failed ∙ ap (λ (b : Bool). b || true) (c.in_ok-put_packet.ensures.failed ∙ or-false _);
@@ -25,7 +26,8 @@ returns-in_err-write_before_wait g c =
 
 pub returns : goal.returns
 returns g c =
-    let line = packet_then_nothing (Unit {0}) LineFault _ _ _ _ _ _ _ _ _ _ (Ok c.in_ok-write_before_wait.field-0) c.in_ok-put_packet.ensures.line c.in_ok-write_before_wait.ensures.text in
+    let line = packet_then_nothing (Unit {0}) LineFault _ _ _ _ _ _ _ _ _ _ (Ok c.in_ok-write_before_wait.field-0) c.in_ok-put_packet.ensures.line
+    c.in_ok-write_before_wait.ensures.text in
     record {
       puts = record { said = line.said; is_said = line.is_said; put = line.put };
       failed = both_unfailed _ _ _ c.in_ok-put_packet.ensures.failed c.in_ok-write_before_wait.ensures.failed ∙ sym (or-false _);

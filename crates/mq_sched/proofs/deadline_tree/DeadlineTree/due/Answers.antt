@@ -47,14 +47,17 @@ returns-then-len-eq0-clause-due g c leaf =
     let n = length c.self.inside.lefts.items in
     rw (← nodes, ← count)
     (elim c.then-len-eq0.branch [
-      | then-len-eq0-via-then-len-eq0 w ↦ let none : n ≡ 0 = omega (arith, w.if-len-eq0.true, c.len.ensures, c.self.inside.lefts.ok.0) in rw (le-leb n leaf (omega arith), le-ltb leaf (2 * n) (omega arith)) refl
+      | then-len-eq0-via-then-len-eq0 w ↦ let none : n ≡ 0 = omega (arith, w.if-len-eq0.true, c.len.ensures, c.self.inside.lefts.ok.0) in
+          rw (le-leb n leaf (omega arith), le-ltb leaf (2 * n) (omega arith)) refl
       | then-len-eq0-via-else-len-eq0+then-not-reached w ↦
           let items = c.self.inside.nodes.items in
           let known = c.self.invariant.0 in
           let some : 0 < n = omega (arith, w.if-len-eq0.false, c.len.ensures, c.self.inside.lefts.ok.0) in
           let read = get_or_read items 1 w.index.result.now (omega (arith, known.size, some)) w.index.ensures 0 in
           let later : c.args.now < get_or items 1 0 =
-          ⊎_elim (λ (later : c.args.now < get_or items 1 0). later) (λ (upto : get_or items 1 0 ≤ c.args.now). absurd (false≢true (sym w.if-not-reached.true ∙ w.reached.ensures.answer.1 (omega (arith, read))))) (cases_lt c.args.now (get_or items 1 0)) in
+          ⊎_elim (λ (later : c.args.now < get_or items 1 0). later)
+          (λ (upto : get_or items 1 0 ≤ c.args.now). absurd
+          (false≢true (sym w.if-not-reached.true ∙ w.reached.ensures.answer.1 (omega (arith, read))))) (cases_lt c.args.now (get_or items 1 0)) in
           omega (arith, none_below items c.self.inside.lefts.items c.args.now leaf known 1 (omega arith) later, one-top items c.args.now leaf n some)
     ])
 

@@ -9,4 +9,10 @@ pub returns-clause-moves : goal.returns-clause-moves
 returns-clause-moves g c =
     let count = ap (λ (s : TreeState). s.count) c.self.view_is in
     let few = written-few c.deref_mut-2.result.now c.settle.new.lefts (2 * c.len-count.result + 1) in
-    Spends-join_within _ _ c.count.ensures c.settle.ensures.moves (omega arith) (omega (arith, few, bitlen-mono ((2 * c.len-count.result + 1) / 2) c.args.self.now.count (omega (arith, count, c.len-count.ensures, c.self.inside.lefts.ok.0))))
+    Spends-join_within _ _ c.count.ensures c.settle.ensures.moves (omega arith)
+    (omega (
+      arith,
+      few,
+      bitlen-mono ((2 * c.len-count.result + 1) / 2) c.args.self.now.count
+          (omega (arith, count, c.len-count.ensures, c.self.inside.lefts.ok.0)),
+    ))

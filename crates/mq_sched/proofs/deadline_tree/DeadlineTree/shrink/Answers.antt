@@ -22,13 +22,16 @@ settle-requires-clause-tree g c =
     let y = c.index-2.result.now in
     let pair = rw (← firsts, ← seconds) at (pair_below lefts (length lefts - 1)) in
     let is_x = get_or_read nodes c.nodes_below-earlier.result.1 x (omega (arith, pair, known.size, some)) c.index.ensures 0 in
-    let is_y = get_or_read (set nodes c.args.leaf x) c.nodes_below-earlier.result.0 y (omega (arith, pair, known.size, some, length-set nodes c.args.leaf x)) c.index-2.ensures 0 in
-    let cases : ((c.args.leaf < 2 * (length lefts - 1)) × (c.if-leaf-last.changed ≡ c.args.leaf)) ⊎ ((2 * (length lefts - 1) ≤ c.args.leaf) × (c.if-leaf-last.changed ≡ length lefts - 1)) = elim c.if-leaf-last.branch [
+    let is_y = get_or_read (set nodes c.args.leaf x) c.nodes_below-earlier.result.0 y
+    (omega (arith, pair, known.size, some, length-set nodes c.args.leaf x)) c.index-2.ensures 0 in
+    let cases : ((c.args.leaf < 2 * (length lefts - 1)) × (c.if-leaf-last.changed ≡ c.args.leaf)) ⊎
+    ((2 * (length lefts - 1) ≤ c.args.leaf) × (c.if-leaf-last.changed ≡ length lefts - 1)) = elim c.if-leaf-last.branch [
       | then-leaf-last w ↦ inl (omega (arith, w.if-leaf-last.true, is_last), w.changed-is)
       | else-leaf-last w ↦ inr (omega (arith, w.if-leaf-last.false, is_last), omega (arith, w.changed-is, is_last))
     ] in
     rw (c.deref_mut.ensures.value, c.deref_mut-2.ensures.value, c.truncate.ensures.items, c.truncate-2.ensures.items, is_last)
-    (shrunk nodes lefts c.args.leaf c.if-leaf-last.changed x y known some (omega (arith, count, c.requires.leaf)) (omega (arith, count, c.requires.within)) (rw (← seconds) is_x) (rw (← firsts) is_y) cases)
+    (shrunk nodes lefts c.args.leaf c.if-leaf-last.changed x y known some (omega (arith, count, c.requires.leaf))
+    (omega (arith, count, c.requires.within)) (rw (← seconds) is_x) (rw (← firsts) is_y) cases)
 
 pub returns-clause-spent : goal.returns-clause-spent
 returns-clause-spent g c =
@@ -69,10 +72,14 @@ returns-clause-leaves g c other from below =
     let y = c.index-2.result.now in
     let pair = rw (← firsts, ← seconds) at (pair_below lefts last) in
     let is_x = get_or_read nodes c.nodes_below-earlier.result.1 x (omega (arith, pair, known.size, some)) c.index.ensures 0 in
-    let is_y = get_or_read (set nodes c.args.leaf x) c.nodes_below-earlier.result.0 y (omega (arith, pair, known.size, some, length-set nodes c.args.leaf x)) c.index-2.ensures 0 in
+    let is_y = get_or_read (set nodes c.args.leaf x) c.nodes_below-earlier.result.0 y
+    (omega (arith, pair, known.size, some, length-set nodes c.args.leaf x)) c.index-2.ensures 0 in
     let size : length c.settle.new.nodes ≡ c.truncate.new.self.len = omega (arith, c.settle.ensures.size, c.deref_mut.ensures.len) in
     let items = rw is_last at c.truncate.ensures.items in
-    let kept = rw (c.deref_mut.ensures.value, items) at (c.settle.ensures.leaves other (omega (arith, c.deref_mut-2.ensures.len, c.truncate-2.ensures.len, from, count, is_last))) in
+    let kept = rw (c.deref_mut.ensures.value, items) at
+    (c.settle.ensures.leaves other (omega (arith, c.deref_mut-2.ensures.len, c.truncate-2.ensures.len, from, count, is_last))) in
     let same : c.args.self.now.count - 1 ≡ last = omega (arith, count) in
     rw (take_at c.settle.new.nodes _ c.truncate.new.self.len size, same, ← state)
-    (kept ∙ get_or-take (2 * last) _ other 0 (omega (arith, below, count)) ∙ went_to nodes last c.args.leaf c.nodes_below-earlier.result.0 c.nodes_below-earlier.result.1 x y (omega (arith, known.size, count, c.requires.within), omega (arith, known.size, some)) pair.0 is_x is_y other)
+    (kept ∙ get_or-take (2 * last) _ other 0 (omega (arith, below, count)) ∙
+    went_to nodes last c.args.leaf c.nodes_below-earlier.result.0 c.nodes_below-earlier.result.1 x y
+    (omega (arith, known.size, count, c.requires.within), omega (arith, known.size, some)) pair.0 is_x is_y other)

@@ -19,13 +19,15 @@ change-requires g c =
 
 -- the moments then
 made_so : (g : Over) (c : goal.After-change g) → (let i = c.self.inside in
-    moments_at c.change.new.self.nodes i.leaves.items i.numbers.items i.tree.count ≡ map.insert (moments_at i.tree.nodes i.leaves.items i.numbers.items i.tree.count) c.args.number c.args.due)
+    moments_at c.change.new.self.nodes i.leaves.items i.numbers.items i.tree.count
+    ≡ map.insert (moments_at i.tree.nodes i.leaves.items i.numbers.items i.tree.count) c.args.number c.args.due)
 made_so g c =
     let own = leaf-of_held c.self.inside.tree.nodes c.args.number c.self.invariant.0 c.self.view_is c.requires.there in
     let is_leaf = own.told c.index.result.now c.index.ensures in
     let changed = rw is_leaf at c.change.ensures.changed in
     let others = rw is_leaf at c.change.ensures.others in
-    moments-changed c.self.inside.tree.nodes c.change.new.self.nodes c.self.inside.leaves.items c.self.inside.numbers.items c.self.inside.tree.count c.args.number own.leaf c.args.due c.self.invariant.0 own.is changed others
+    moments-changed c.self.inside.tree.nodes c.change.new.self.nodes c.self.inside.leaves.items c.self.inside.numbers.items c.self.inside.tree.count
+    c.args.number own.leaf c.args.due c.self.invariant.0 own.is changed others
 
 pub invariant_of-self : goal.invariant_of-self
 invariant_of-self g c =
@@ -34,7 +36,8 @@ invariant_of-self g c =
     let there = ap (λ (s : DeadlinesState). map.contains_key s.moments c.args.number) c.self.view_is ∙ c.requires.there in
     rw c.change.ensures.count (
       c.self.invariant.0,
-      ap map.len (made_so g c) ∙ map.len-insert nat_cmp_total m c.args.number c.args.due ∙ ap (λ b. cond b (map.len m) (map.len m + 1)) there ∙ c.self.invariant.1,
+      ap map.len (made_so g c) ∙ map.len-insert nat_cmp_total m c.args.number c.args.due ∙ ap (λ b. cond b (map.len m) (map.len m + 1)) there ∙
+          c.self.invariant.1,
       c.change.ensures.room ∙ c.self.invariant.2,
       c.self.invariant.3,
       c.self.invariant.4,

@@ -22,9 +22,11 @@ index_mut-requires g c =
     omega (arith, first-below nodes leaves numbers count n known first within first_is, c.self.inside.leaves.ok.0)
 
 -- the moments then
-made_so : (g : Over) (c : goal.After-count g) → (let i = c.self.inside in let leaves = i.leaves.items in let numbers = i.numbers.items in let count = i.tree.count in let n = c.args.number in
+made_so : (g : Over) (c : goal.After-count g) →
+    (let i = c.self.inside in let leaves = i.leaves.items in let numbers = i.numbers.items in let count = i.tree.count in let n = c.args.number in
     let first = c.number_or-first.result in let grown = set (set leaves first (2 * count)) n (2 * count + 1) in let more = (numbers ++ first ∷ []) ++ n ∷ [] in
-    AreNumbered grown more (count + 1) × (moments_at c.grow.new.self.nodes grown more (count + 1) ≡ map.insert (moments_at i.tree.nodes leaves numbers count) n c.args.due))
+    AreNumbered grown more (count + 1) ×
+    (moments_at c.grow.new.self.nodes grown more (count + 1) ≡ map.insert (moments_at i.tree.nodes leaves numbers count) n c.args.due))
 made_so g c =
     let nodes = c.self.inside.tree.nodes in
     let leaves = c.self.inside.leaves.items in
@@ -36,7 +38,8 @@ made_so g c =
     let half : c.len-count.result / 2 ≡ count = omega (arith, c.len-count.ensures, c.self.inside.numbers.ok.0, known.size) in
     let within : n < length leaves = omega (arith, c.requires.number, ap (λ (s : DeadlinesState). s.room) c.self.view_is, c.self.invariant.4) in
     let first_is = rw (c.deref.ensures.value, half) at c.number_or-first.ensures in
-    let absent = none-of_absent nodes leaves numbers count n known (ap (λ (s : DeadlinesState). map.contains_key s.moments n) c.self.view_is ∙ c.requires.absent) in
+    let absent = none-of_absent nodes leaves numbers count n known (ap (λ (s : DeadlinesState). map.contains_key s.moments n) c.self.view_is ∙
+    c.requires.absent) in
     let grow = c.grow.ensures in (
       AreNumbered-grown nodes c.grow.new.self.nodes leaves numbers count n first c.args.due known within absent first_is grow.last grow.moved grow.others,
       moments-made nodes c.grow.new.self.nodes leaves numbers count n first c.args.due known within absent first_is grow.last grow.moved grow.others,
@@ -55,7 +58,8 @@ invariant_of-self g c =
     let gone = ap (λ (s : DeadlinesState). map.contains_key s.moments n) c.self.view_is ∙ c.requires.absent in
     let items = rw c.unwrap.ensures at c.push.ensures.items in
     let items_too = rw c.unwrap-2.ensures at c.push-2.ensures.items in
-    let sizes : length (set (set leaves first (2 * count)) n (2 * count + 1)) ≡ length leaves = length-set (set leaves first (2 * count)) n (2 * count + 1) ∙ length-set leaves first (2 * count) in
+    let sizes : length (set (set leaves first (2 * count)) n (2 * count + 1)) ≡ length leaves =
+    length-set (set leaves first (2 * count)) n (2 * count + 1) ∙ length-set leaves first (2 * count) in
     let m = moments_at i.tree.nodes leaves i.numbers.items count in
     let len = ap (λ (s : DeadlinesState). map.len s.moments) c.self.view_is in
     rw (items_too, items, c.grow.ensures.count, half) (
@@ -73,4 +77,12 @@ returns-clause-moments g c =
     let half : c.len-count.result / 2 ≡ c.self.inside.tree.count = omega (arith, c.len-count.ensures, c.self.inside.numbers.ok.0, c.self.invariant.0.size) in
     let items = rw c.unwrap.ensures at c.push.ensures.items in
     let items_too = rw c.unwrap-2.ensures at c.push-2.ensures.items in
-    rw (items_too, items, c.grow.ensures.count, half, (made_so g c).1, ap (λ (s : DeadlinesState). s.moments) c.self.view_is, ap (λ (s : DeadlinesState). s.room) c.self.view_is) refl
+    rw (
+      items_too,
+      items,
+      c.grow.ensures.count,
+      half,
+      (made_so g c).1,
+      ap (λ (s : DeadlinesState). s.moments) c.self.view_is,
+      ap (λ (s : DeadlinesState). s.room) c.self.view_is,
+    ) refl

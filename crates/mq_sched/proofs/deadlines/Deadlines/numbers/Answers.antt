@@ -12,7 +12,8 @@ returns g c =
     let count = c.self.inside.tree.count in
     let known = c.self.invariant.0 in
     let half : c.len-first.result / 2 ≡ count = omega (arith, c.len-first.ensures, c.self.inside.numbers.ok.0, known.size) in
-    let all : take (length numbers - count) (drop count numbers) ≡ drop count numbers = take_all (length numbers - count) (drop count numbers) (omega (arith, length-drop count numbers)) in
+    let all : take (length numbers - count) (drop count numbers) ≡ drop count numbers = take_all (length numbers - count) (drop count numbers)
+    (omega (arith, length-drop count numbers)) in
     record {
       each = λ number.
           let moments = ap (λ (s : DeadlinesState). s.moments) c.self.view_is in

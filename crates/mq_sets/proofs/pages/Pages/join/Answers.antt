@@ -1,4 +1,5 @@
-use Rattle.std.proofs.Common.{ℕ, ◌≡◌, ◌<◌, ◌≤◌, ◌+◌, suc, List, [], ◌∷◌, ◌++◌, sym, ap, ◌∙◌, subst, arith, length, map, take, drop, set, get_or, length-append, length-set, Vec}
+use Rattle.std.proofs.Common.{ℕ, ◌≡◌, ◌<◌, ◌≤◌, ◌+◌, suc, List, [], ◌∷◌, ◌++◌, sym, ap, ◌∙◌, subst, arith, length, map, take, drop, set, get_or}
+use Rattle.std.proofs.Common.{length-append, length-set, Vec}
 use Rattle.std.specs.Prelude.{vec_capacity}
 use Rattle.std.specs.List.{remove, All}
 use Rattle.std.proofs.lemmas.List.{map-set, get_or-map, length-map}
@@ -28,7 +29,8 @@ returns-clause-pages g c =
     let left_is = c.remove-behind.ensures.items in
     let kept = ap length left_is in
     let first : c.index_mut.result.now.items ≡ get_or pages c.args.page [] =
-    ap items (c.index_mut.ensures.value ∙ ap (λ xs. get_or xs c.args.page c.index_mut.result.now) left_is ∙ get_or-remove_below used (c.args.page + 1) c.index_mut.result.now c.args.page (omega arith) two)
+    ap items (c.index_mut.ensures.value ∙ ap (λ xs. get_or xs c.args.page c.index_mut.result.now) left_is ∙
+    get_or-remove_below used (c.args.page + 1) c.index_mut.result.now c.args.page (omega arith) two)
     ∙ sym (get_or-map items used c.args.page c.index_mut.result.now [] (omega (arith, two))) in
     let second : c.remove-behind.result.items ≡ get_or pages (c.args.page + 1) [] =
     ap items c.remove-behind.ensures.value ∙ sym (get_or-map items used (c.args.page + 1) c.remove-behind.result [] two) in
@@ -59,19 +61,28 @@ invariant_of-self g c =
     let fewer = length-remove used (c.args.page + 1) two in
     let left_is = c.remove-behind.ensures.items in
     let kept = ap length left_is in
-    let all : All IsPage (remove used (c.args.page + 1)) = All-append IsPage (take (c.args.page + 1) used) (drop (suc (c.args.page + 1)) used) (All-take IsPage (c.args.page + 1) used c.self.invariant.0) (All-drop IsPage (suc (c.args.page + 1)) used c.self.invariant.0) in
+    let all : All IsPage (remove used (c.args.page + 1)) = All-append IsPage (take (c.args.page + 1) used) (drop (suc (c.args.page + 1)) used)
+    (All-take IsPage (c.args.page + 1) used c.self.invariant.0) (All-drop IsPage (suc (c.args.page + 1)) used c.self.invariant.0) in
     let all_left : All IsPage left = subst (All IsPage) (sym left_is) all in
-    let here : IsPage c.index_mut.result.now = subst IsPage (sym c.index_mut.ensures.value) (all_left c.args.page c.index_mut.result.now (omega (arith, kept, fewer, two))) in
-    let gone : IsPage c.remove-behind.result = subst IsPage (sym c.remove-behind.ensures.value) (c.self.invariant.0 (c.args.page + 1) c.remove-behind.result two) in
+    let here : IsPage c.index_mut.result.now = subst IsPage (sym c.index_mut.ensures.value)
+    (all_left c.args.page c.index_mut.result.now (omega (arith, kept, fewer, two))) in
+    let gone : IsPage c.remove-behind.result = subst IsPage (sym c.remove-behind.ensures.value)
+    (c.self.invariant.0 (c.args.page + 1) c.remove-behind.result two) in
     let first : c.index_mut.result.now.items ≡ get_or pages c.args.page [] =
-    ap items (c.index_mut.ensures.value ∙ ap (λ xs. get_or xs c.args.page c.index_mut.result.now) left_is ∙ get_or-remove_below used (c.args.page + 1) c.index_mut.result.now c.args.page (omega arith) two)
+    ap items (c.index_mut.ensures.value ∙ ap (λ xs. get_or xs c.args.page c.index_mut.result.now) left_is ∙
+    get_or-remove_below used (c.args.page + 1) c.index_mut.result.now c.args.page (omega arith) two)
     ∙ sym (get_or-map items used c.args.page c.index_mut.result.now [] (omega (arith, two))) in
     let second : c.remove-behind.result.items ≡ get_or pages (c.args.page + 1) [] =
     ap items c.remove-behind.ensures.value ∙ sym (get_or-map items used (c.args.page + 1) c.remove-behind.result [] two) in
-    let fits : length (get_or pages c.args.page []) + length (get_or pages (c.args.page + 1) []) ≤ 511 = subst (λ (s : PagesState). length (get_or s.pages c.args.page []) + length (get_or s.pages (c.args.page + 1) []) ≤ 511) (sym c.self.view_is) c.requires.fits in
+    let fits : length (get_or pages c.args.page []) + length (get_or pages (c.args.page + 1) []) ≤ 511 =
+    subst (λ (s : PagesState). length (get_or s.pages c.args.page []) + length (get_or s.pages (c.args.page + 1) []) ≤ 511)
+    (sym c.self.view_is) c.requires.fits in
     let long = ap length (rw c.unwrap.ensures at c.extend_from_slice.ensures.items) in
     let sum = length-append c.index_mut.result.now.items c.as_slice.result.now in
-    let page : IsPage c.extend_from_slice.new.self = (omega (arith, here.0, c.extend_from_slice.ensures.capacity), omega (arith, long, sum, ap length first, ap length second, ap length c.as_slice.ensures.value, fits)) in
+    let page : IsPage c.extend_from_slice.new.self = (
+      omega (arith, here.0, c.extend_from_slice.ensures.capacity),
+      omega (arith, long, sum, ap length first, ap length second, ap length c.as_slice.ensures.value, fits),
+    ) in
     let pushed = rw c.unwrap-2.ensures at c.push.ensures.items in
     let longer = length-append c.self.inside.spare.items (c.clear.new.self ∷ []) in
     let written = length-set left c.args.page c.extend_from_slice.new.self in

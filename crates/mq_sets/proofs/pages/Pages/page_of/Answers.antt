@@ -12,7 +12,8 @@ items_of page = page.items
 
 pub search-requires : goal.search-requires
 search-requires g c =
-    let later = slice-later items_of c.self.inside.used.items c.deref.result.now c.args.self.now.pages c.deref.ensures.value (ap (λ (s : PagesState). s.pages) c.self.view_is) in
+    let later = slice-later items_of c.self.inside.used.items c.deref.result.now c.args.self.now.pages c.deref.ensures.value
+    (ap (λ (s : PagesState). s.pages) c.self.view_is) in
     record {
       ascending =
           let key_of = key_at g.K.Key.number c.args.keys.now in
@@ -32,11 +33,14 @@ returns-in-Ok-clause-found g c =
     let key_of = key_at g.K.Key.number c.args.keys.now in
     let slice = take (length c.deref.result.now - 1) (drop 1 c.deref.result.now) in
     let pages = c.args.self.now.pages in
-    let later = slice-later items_of c.self.inside.used.items c.deref.result.now pages c.deref.ensures.value (ap (λ (s : PagesState). s.pages) c.self.view_is) in
+    let later = slice-later items_of c.self.inside.used.items c.deref.result.now pages c.deref.ensures.value
+    (ap (λ (s : PagesState). s.pages) c.self.view_is) in
     let size : length slice ≡ length pages - 1 = sym (length-map slice items_of) ∙ ap length later ∙ length-drop 1 pages in
-    let at = holds-map items_of (λ page. first_key key_of page ≡ g.K.Key.number c.args.key) slice c.in-Ok.behind [] c.in-Ok.ensures.found_in c.in-Ok.ensures.found in
+    let at = holds-map items_of (λ page. first_key key_of page ≡ g.K.Key.number c.args.key) slice c.in-Ok.behind [] c.in-Ok.ensures.found_in
+    c.in-Ok.ensures.found in
     let index : 1 + c.in-Ok.behind ≡ c.in-Ok.behind + 1 = omega arith in
-    let here : get_or (map items_of slice) c.in-Ok.behind [] ≡ get_or pages (c.in-Ok.behind + 1) [] = ap (λ xs. get_or xs c.in-Ok.behind []) later ∙ get_or-drop 1 pages c.in-Ok.behind [] ∙ ap (λ k. get_or pages k []) index in
+    let here : get_or (map items_of slice) c.in-Ok.behind [] ≡ get_or pages (c.in-Ok.behind + 1) [] = ap (λ xs. get_or xs c.in-Ok.behind []) later ∙
+    get_or-drop 1 pages c.in-Ok.behind [] ∙ ap (λ k. get_or pages k []) index in
     (omega arith, omega (arith, size, c.in-Ok.ensures.found_in), subst (λ page. first_key key_of page ≡ g.K.Key.number c.args.key) here at)
 
 pub returns-in-Err-clause-absent : goal.returns-in-Err-clause-absent
@@ -44,7 +48,10 @@ returns-in-Err-clause-absent g c =
     let key_of = key_at g.K.Key.number c.args.keys.now in
     let slice = take (length c.deref.result.now - 1) (drop 1 c.deref.result.now) in
     let pages = c.args.self.now.pages in
-    let later = slice-later items_of c.self.inside.used.items c.deref.result.now pages c.deref.ensures.value (ap (λ (s : PagesState). s.pages) c.self.view_is) in
+    let later = slice-later items_of c.self.inside.used.items c.deref.result.now pages c.deref.ensures.value
+    (ap (λ (s : PagesState). s.pages) c.self.view_is) in
     let size : length slice ≡ length pages - 1 = sym (length-map slice items_of) ∙ ap length later ∙ length-drop 1 pages in
-    let at = place-map items_of (first_key key_of) slice (g.K.Key.number c.args.key) c.in-Err.page c.in-Err.ensures.absent in
-    (omega (arith, size, c.in-Err.ensures.absent.within, c.requires.filled.some, length-map pages (length {A = ℕ})), subst (λ xs. IsPlaceFor (first_key key_of) xs (g.K.Key.number c.args.key) c.in-Err.page) later at)
+    let at = place-map items_of (first_key key_of) slice (g.K.Key.number c.args.key) c.in-Err.page c.in-Err.ensures.absent in (
+      omega (arith, size, c.in-Err.ensures.absent.within, c.requires.filled.some, length-map pages (length {A = ℕ})),
+      subst (λ xs. IsPlaceFor (first_key key_of) xs (g.K.Key.number c.args.key) c.in-Err.page) later at,
+    )

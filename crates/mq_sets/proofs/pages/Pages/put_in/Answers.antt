@@ -12,7 +12,8 @@ returns-clause-pages g c =
     let count = ap (λ (s : PagesState). length s.pages) c.self.view_is in
     let same : length (map items used) ≡ length used = length-map used items in
     let in_list : c.args.page < length used = omega (arith, count, same, c.requires.page) in
-    let here : c.index_mut-numbers.result.now.items ≡ get_or (map items used) c.args.page [] = ap items c.index_mut-numbers.ensures.value ∙ sym (get_or-map items used c.args.page c.index_mut-numbers.result.now [] in_list) in
+    let here : c.index_mut-numbers.result.now.items ≡ get_or (map items used) c.args.page [] = ap items c.index_mut-numbers.ensures.value ∙
+    sym (get_or-map items used c.args.page c.index_mut-numbers.result.now [] in_list) in
     let page = c.insert_at_once.ensures.items ∙ ap (λ xs. insert xs c.args.place c.args.number) here in
     paged-same
     (map-set items used c.args.page c.insert_at_once.new.list ∙ ap (set (map items used) c.args.page) page)

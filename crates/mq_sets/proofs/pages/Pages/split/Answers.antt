@@ -1,4 +1,5 @@
-use Rattle.std.proofs.Common.{ℕ, ◌≡◌, ◌<◌, ◌≤◌, ◌+◌, List, [], ◌∷◌, sym, ap, ◌∙◌, arith, length, map, take, drop, set, get_or, subst, length-append, length-take, length-drop, length-set, Vec}
+use Rattle.std.proofs.Common.{ℕ, ◌≡◌, ◌<◌, ◌≤◌, ◌+◌, List, [], ◌∷◌, sym, ap, ◌∙◌, arith, length, map, take, drop, set, get_or, subst, length-append}
+use Rattle.std.proofs.Common.{length-take, length-drop, length-set, Vec}
 use Rattle.std.specs.Prelude.{vec_capacity}
 use Rattle.std.specs.List.{insert, All}
 use Rattle.std.proofs.lemmas.List.{map-set, get_or-map, length-map}
@@ -31,7 +32,8 @@ returns-clause-pages g c =
     let count = ap (λ (s : PagesState). length s.pages) c.self.view_is in
     let same : length (map items used) ≡ length used = length-map used items in
     let in_list : c.args.page < length used = omega (arith, count, same, c.requires.page) in
-    let here : c.index_mut.result.now.items ≡ get_or (map items used) c.args.page [] = ap items c.index_mut.ensures.value ∙ sym (get_or-map items used c.args.page c.index_mut.result.now [] in_list) in
+    let here : c.index_mut.result.now.items ≡ get_or (map items used) c.args.page [] = ap items c.index_mut.ensures.value ∙
+    sym (get_or-map items used c.args.page c.index_mut.result.now [] in_list) in
     let inserted = rw c.unwrap.ensures at c.insert.ensures.items in
     let taken = ap length (rw c.unwrap-behind.ensures at c.pop.ensures.items) in
     let written = set used c.args.page c.halve.new.full in
@@ -43,10 +45,12 @@ returns-clause-pages g c =
     paged-same
     (ap (map items) inserted
     ∙ map-insert items written (c.args.page + 1) c.halve.new.behind
-    ∙ ap (λ xs. insert xs (c.args.page + 1) c.halve.new.behind.items) (map-set items used c.args.page c.halve.new.full ∙ ap (set (map items used) c.args.page) first)
+    ∙ ap (λ xs. insert xs (c.args.page + 1) c.halve.new.behind.items)
+    (map-set items used c.args.page c.halve.new.full ∙ ap (set (map items used) c.args.page) first)
     ∙ ap (insert (set (map items used) c.args.page (take 255 (get_or (map items used) c.args.page []))) (c.args.page + 1)) second)
     (omega (arith, ap length inserted, longer, kept, taken, less))
-    ∙ ap (λ (s : PagesState). paged (insert (set s.pages c.args.page (take 255 (get_or s.pages c.args.page []))) (c.args.page + 1) (drop 255 (get_or s.pages c.args.page []))) s.limit) c.self.view_is
+    ∙ ap (λ (s : PagesState). paged (insert (set s.pages c.args.page (take 255 (get_or s.pages c.args.page []))) (c.args.page + 1)
+    (drop 255 (get_or s.pages c.args.page []))) s.limit) c.self.view_is
 
 pub invariant_of-self : goal.invariant_of-self
 invariant_of-self g c =
@@ -66,8 +70,16 @@ invariant_of-self g c =
     let page : IsPage c.index_mut.result.now = subst IsPage (sym c.index_mut.ensures.value) (c.self.invariant.0 c.args.page c.index_mut.result.now in_list) in
     let first = ap length c.halve.ensures.first in
     let second = ap length c.halve.ensures.behind in
-    let front : IsPage c.halve.new.full = (omega (arith, page.0, c.halve.ensures.capacity), omega (arith, first, length-take 255 c.index_mut.result.now.items)) in
-    let back : IsPage c.halve.new.behind = (omega (arith, empty.0, c.halve.ensures.capacity_behind), omega (arith, second, page.1, length-drop 255 c.index_mut.result.now.items)) in
+    let front : IsPage c.halve.new.full =
+    (omega (arith, page.0, c.halve.ensures.capacity), omega (arith, first, length-take 255 c.index_mut.result.now.items)) in
+    let back : IsPage c.halve.new.behind =
+    (omega (arith, empty.0, c.halve.ensures.capacity_behind), omega (arith, second, page.1, length-drop 255 c.index_mut.result.now.items)) in
     let all = All-set IsPage used c.args.page c.halve.new.full front c.self.invariant.0 in
-    let whole : All IsPage (insert written (c.args.page + 1) c.halve.new.behind) = All-append IsPage (take (c.args.page + 1) written) (c.halve.new.behind ∷ drop (c.args.page + 1) written) (All-take IsPage (c.args.page + 1) written all) (All-cons IsPage c.halve.new.behind (drop (c.args.page + 1) written) back (All-drop IsPage (c.args.page + 1) written all)) in
-    (subst (All IsPage) (sym inserted) whole, popped.0, omega (arith, ap length inserted, longer, kept, taken, less, c.insert.ensures.capacity, c.self.invariant.2), omega (arith, ap length inserted, longer, kept, taken, less, c.pop.ensures.capacity, c.self.invariant.3))
+    let whole : All IsPage (insert written (c.args.page + 1) c.halve.new.behind) = All-append IsPage (take (c.args.page + 1) written)
+    (c.halve.new.behind ∷ drop (c.args.page + 1) written) (All-take IsPage (c.args.page + 1) written all)
+    (All-cons IsPage c.halve.new.behind (drop (c.args.page + 1) written) back (All-drop IsPage (c.args.page + 1) written all)) in (
+      subst (All IsPage) (sym inserted) whole,
+      popped.0,
+      omega (arith, ap length inserted, longer, kept, taken, less, c.insert.ensures.capacity, c.self.invariant.2),
+      omega (arith, ap length inserted, longer, kept, taken, less, c.pop.ensures.capacity, c.self.invariant.3),
+    )

@@ -3,7 +3,8 @@ use Rattle.std.specs.Prelude.{vec_capacity}
 use Rattle.std.specs.List.{All}
 use Rattle.mq_sets.proofs.pages.Pages.with_room.Goals as goal
 
-one_empty : {A : Type 0} (pages : List (Vec ℕ A)) → length pages ≡ 1 → All (λ page. (511 ≤ vec_capacity page) × (page.items ≡ [])) pages → map (λ page. page.items) pages ≡ [] ∷ []
+one_empty : {A : Type 0} (pages : List (Vec ℕ A)) → length pages ≡ 1 → All (λ page. (511 ≤ vec_capacity page) × (page.items ≡ [])) pages →
+    map (λ page. page.items) pages ≡ [] ∷ []
 one_empty [] e all = search (arith, e)
 one_empty (page ∷ []) e all = ap (λ x. x ∷ []) ((all 0 page (omega arith)).1)
 one_empty (page ∷ other ∷ pages) e all = search (arith, e)

@@ -10,8 +10,15 @@ invariant_of-result g c =
     let rows = c.args.rows in
     let all : c.in_ok-filled.field-0.items ≡ replicate rows none = c.in_ok-filled.ensures.items in
     let count = length-replicate rows none in
-    rw (all, c.in_ok-with_capacity.ensures.room.0)
-    (IsStored-none rows c.args.cells, IsPlaced-none rows, c.in_ok-with_capacity-2.ensures.room.0, omega (arith, count, c.in_ok-with_capacity.ensures.room.1), omega (arith, count, c.in_ok-with_capacity-2.ensures.room.1), omega arith, omega (arith, count, c.requires.counted))
+    rw (all, c.in_ok-with_capacity.ensures.room.0) (
+      IsStored-none rows c.args.cells,
+      IsPlaced-none rows,
+      c.in_ok-with_capacity-2.ensures.room.0,
+      omega (arith, count, c.in_ok-with_capacity.ensures.room.1),
+      omega (arith, count, c.in_ok-with_capacity-2.ensures.room.1),
+      omega arith,
+      omega (arith, count, c.requires.counted),
+    )
 
 pub returns-clause-rows : goal.returns-clause-rows
 returns-clause-rows g c =

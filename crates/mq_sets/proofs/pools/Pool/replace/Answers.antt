@@ -15,16 +15,20 @@ invariant_of-self g c =
     let known = c.self.invariant in
     let stored = known.0 in
     let here = c.index-before.ensures in
-    let some : 0 < length row = ⊎_elim (λ (some : 0 < length row). some) (λ (none : length row ≤ 0). absurd (false≢true (sym c.if-is_empty.false ∙ c.is_empty.ensures ∙ eq-eqb (length row) 0 (omega (arith, none))))) (cases_lt 0 (length row)) in
+    let some : 0 < length row = ⊎_elim (λ (some : 0 < length row). some)
+    (λ (none : length row ≤ 0). absurd (false≢true (sym c.if-is_empty.false ∙ c.is_empty.ensures ∙ eq-eqb (length row) 0 (omega (arith, none)))))
+    (cases_lt 0 (length row)) in
     let is = shows cells extents c.args.number _ c.self.view_is stored c.requires.number here in
     let lengths = over.lengths ∙ ap (λ (es : _). set (map l es) c.args.number (length row)) c.deref_mut.ensures.value in
     let placed = rw c.deref_mut.ensures.value at over.placed in
     let kept_cells : length c.write_over.new.cells ≡ length cells = over.len ∙ ap length c.deref_mut-then-row-before.ensures.value in
-    let kept_rows : length c.write_over.new.extents ≡ length extents = sym (length-map c.write_over.new.extents l) ∙ ap length lengths ∙ length-set (map l extents) c.args.number (length row) ∙ length-map extents l in
+    let kept_rows : length c.write_over.new.extents ≡ length extents = sym (length-map c.write_over.new.extents l) ∙ ap length lengths ∙
+    length-set (map l extents) c.args.number (length row) ∙ length-map extents l in
     let all_rows = whole_again extents c.write_over.new.extents c.self.inside.extents.len kept_rows (omega (arith, c.self.inside.extents.ok.0)) in
     let all_cells = whole_again cells c.write_over.new.cells c.self.inside.cells.len kept_cells (omega (arith, c.self.inside.cells.ok.0)) in
     rw (all_rows, all_cells) (
-      IsStored-over cells c.write_over.new.cells (length row) extents c.write_over.new.extents c.args.number _ is.in_list here over.within over.apart lengths (omega (arith, is.used, is.limit_is, is.size, stored.used_is, c.requires.fits)) stored,
+      IsStored-over cells c.write_over.new.cells (length row) extents c.write_over.new.extents c.args.number _ is.in_list here over.within over.apart
+          lengths (omega (arith, is.used, is.limit_is, is.size, stored.used_is, c.requires.fits)) stored,
       placed some known.1,
       known.2,
       omega (arith, kept_rows, known.3),

@@ -10,7 +10,8 @@ use Rattle.mq_table.proofs.group.Group.clear_sendings.Goals as goal
 
 pub recount_each-requires : goal.recount_each-requires
 recount_each-requires g c =
-    between_in_row g.K.Key.number c.args.self.now.state c.self.inside.sources.items c.self.invariant (ap (λ s. s.state.sources) c.self.view_is) c.all_places-places.result.first c.all_places-places.result.end c.all_places-places.ensures
+    between_in_row g.K.Key.number c.args.self.now.state c.self.inside.sources.items c.self.invariant (ap (λ s. s.state.sources) c.self.view_is)
+    c.all_places-places.result.first c.all_places-places.result.end c.all_places-places.ensures
 
 pub invariant_of-self : goal.invariant_of-self
 invariant_of-self g c =
@@ -19,4 +20,5 @@ invariant_of-self g c =
 pub returns-clause-state : goal.returns-clause-state
 returns-clause-state g c =
     replaced_state g.K.Key.number (λ s. source_cleared) (source_recounted NoneLeft) (λ x. refl)
-    c.self.inside.mode c.self.inside.v1 c.self.inside.v2 c.self.inside.sources.items c.recount_each.new.sources.items c.args.self.now.state (ap (λ s. s.state) c.self.view_is) c.recount_each.ensures.items
+    c.self.inside.mode c.self.inside.v1 c.self.inside.v2 c.self.inside.sources.items c.recount_each.new.sources.items c.args.self.now.state
+    (ap (λ s. s.state) c.self.view_is) c.recount_each.ensures.items

@@ -25,10 +25,14 @@ interval_end : (g : Over) (c : goal.After-changes_mode g) → c.after.result ≡
 interval_end g c = c.after.ensures.later ∙ ap (λ n. c.args.now + n) c.membership_interval.ensures
 
 -- what was pushed
-made : (g : Over) (c : goal.After-changes_mode g) → c.push_within-turned.new.sources.items ≡ filter_map (source_made (record { kind = c.args.kind; mode = c.args.head.now.mode; interval_end = c.after.result })) (merged_lists (number_in g.K.Key.number) g.K.Key.number c.args.row.now c.args.named.now.members)
+made : (g : Over) (c : goal.After-changes_mode g) → c.push_within-turned.new.sources.items
+    ≡ filter_map (source_made (record { kind = c.args.kind; mode = c.args.head.now.mode; interval_end = c.after.result }))
+    (merged_lists (number_in g.K.Key.number) g.K.Key.number c.args.row.now c.args.named.now.members)
 made g c = rw c.as_slice.ensures.members at c.push_within-turned.ensures.sources
 
-asked : (g : Over) (c : goal.After-changes_mode g) → c.push_within-turned.new.asked.items ≡ filter_map (source_asked (record { kind = c.args.kind; mode = c.args.head.now.mode; interval_end = c.after.result })) (merged_lists (number_in g.K.Key.number) g.K.Key.number c.args.row.now c.args.named.now.members)
+asked : (g : Over) (c : goal.After-changes_mode g) → c.push_within-turned.new.asked.items
+    ≡ filter_map (source_asked (record { kind = c.args.kind; mode = c.args.head.now.mode; interval_end = c.after.result }))
+    (merged_lists (number_in g.K.Key.number) g.K.Key.number c.args.row.now c.args.named.now.members)
 asked g c = rw c.as_slice.ensures.members at c.push_within-turned.ensures.asked
 
 named_ascends : (g : Over) (c : goal.After-changes_mode g) → IsAscending g.K.Key.number c.args.named.now.members
@@ -38,23 +42,27 @@ pub invariant_of-self : goal.invariant_of-self
 invariant_of-self g c = rw (made g c) (made_ascends g.K.Key.number _ c.args.row.now c.args.named.now.members c.requires.row_ascending (named_ascends g c))
 
 pub returns-clause-ascending : goal.returns-clause-ascending
-returns-clause-ascending g c = rw (asked g c) (asked_ascends g.K.Key.number _ c.args.row.now c.args.named.now.members c.requires.row_ascending (named_ascends g c))
+returns-clause-ascending g c =
+    rw (asked g c) (asked_ascends g.K.Key.number _ c.args.row.now c.args.named.now.members c.requires.row_ascending (named_ascends g c))
 
 pub returns-clause-group : goal.returns-clause-group
 returns-clause-group g c =
-    recorded_group g.K.Key.number c.args.timing.now c.args.now c.args.head.now.mode c.args.kind c.args.head.now.v1 c.args.head.now.v2 c.args.row.now c.args.named.now.members c.requires.row_ascending (named_ascends g c)
+    recorded_group g.K.Key.number c.args.timing.now c.args.now c.args.head.now.mode c.args.kind c.args.head.now.v1 c.args.head.now.v2 c.args.row.now
+    c.args.named.now.members c.requires.row_ascending (named_ascends g c)
     (state_of c.args.head.now (timers_in g.K.Key.number c.args.row.now)) c.after.result (interval_end g c) refl
     c.mode_after-self-inside.result c.push_within-turned.new.sources.items c.mode_after-self-inside.ensures (made g c)
 
 pub returns-clause-query : goal.returns-clause-query
 returns-clause-query g c =
-    recorded_query g.K.Key.number c.args.timing.now c.args.now c.args.head.now.mode c.args.kind c.args.head.now.v1 c.args.head.now.v2 c.args.row.now c.args.named.now.members c.requires.row_ascending (named_ascends g c)
+    recorded_query g.K.Key.number c.args.timing.now c.args.now c.args.head.now.mode c.args.kind c.args.head.now.v1 c.args.head.now.v2 c.args.row.now
+    c.args.named.now.members c.requires.row_ascending (named_ascends g c)
     (state_of c.args.head.now (timers_in g.K.Key.number c.args.row.now)) c.after.result (interval_end g c) refl
     c.push_within-turned.new.asked.items (asked g c)
 
 pub returns-clause-query_group : goal.returns-clause-query_group
 returns-clause-query_group g c =
-    recorded_query_group g.K.Key.number c.args.timing.now c.args.now c.args.head.now.mode c.args.kind c.args.head.now.v1 c.args.head.now.v2 c.args.row.now c.args.named.now.members c.requires.row_ascending (named_ascends g c)
+    recorded_query_group g.K.Key.number c.args.timing.now c.args.now c.args.head.now.mode c.args.kind c.args.head.now.v1 c.args.head.now.v2
+    c.args.row.now c.args.named.now.members c.requires.row_ascending (named_ascends g c)
     (state_of c.args.head.now (timers_in g.K.Key.number c.args.row.now)) c.after.result (interval_end g c) refl
     c.asks_group.result c.asks_group.ensures
 
@@ -68,11 +76,15 @@ returns-clause-by_halves g c = λ one kept. c.push_within-turned.ensures.by_halv
 pub returns-clause-held : goal.returns-clause-held
 returns-clause-held g c s is_asked =
     let P : GroupState → Type 0 = λ g. IsSome (timer_at g s) in
-    subst P (sym (returns-clause-group g c)) (asked_is_held c.args.timing.now c.args.now (state_of c.args.head.now (timers_in g.K.Key.number c.args.row.now)) c.args.kind (named_in g.K.Key.number c.args.named.now.members) s (sym (returns-clause-query g c s) ∙ is_asked))
+    subst P (sym (returns-clause-group g c))
+    (asked_is_held c.args.timing.now c.args.now (state_of c.args.head.now (timers_in g.K.Key.number c.args.row.now)) c.args.kind
+    (named_in g.K.Key.number c.args.named.now.members) s (sym (returns-clause-query g c s) ∙ is_asked))
 
 pub returns-clause-changes_filter : goal.returns-clause-changes_filter
 returns-clause-changes_filter g c =
-    sym (recorded_filter g.K.Key.number c.args.timing.now c.args.now c.args.head.now.mode c.args.kind c.args.head.now.v1 c.args.head.now.v2 c.args.row.now c.args.named.now.members c.requires.row_ascending (named_ascends g c)
+    sym (recorded_filter g.K.Key.number c.args.timing.now c.args.now c.args.head.now.mode c.args.kind c.args.head.now.v1 c.args.head.now.v2
+    c.args.row.now c.args.named.now.members c.requires.row_ascending (named_ascends g c)
     (state_of c.args.head.now (timers_in g.K.Key.number c.args.row.now)) c.after.result (interval_end g c) refl
-    c.mode_after-self-inside.result c.push_within-turned.new.sources.items c.push_within-turned.result c.changes_mode.result c.mode_after-self-inside.ensures (made g c)
+    c.mode_after-self-inside.result c.push_within-turned.new.sources.items c.push_within-turned.result c.changes_mode.result
+    c.mode_after-self-inside.ensures (made g c)
     (rw c.as_slice.ensures.members at c.push_within-turned.ensures.turned) c.changes_mode.ensures)

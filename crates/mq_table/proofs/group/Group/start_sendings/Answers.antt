@@ -22,20 +22,25 @@ invariant_of-self g c =
 
 pub returns-clause-state : goal.returns-clause-state
 returns-clause-state g c =
-    let limit : c.after-limit.result ≡ lowered_to c.args.timing.now c.args.now = c.after-limit.ensures.later ∙ ap (λ n. c.args.now + n) c.last_member_time.ensures in
+    let limit : c.after-limit.result ≡ lowered_to c.args.timing.now c.args.now = c.after-limit.ensures.later ∙
+    ap (λ n. c.args.now + n) c.last_member_time.ensures in
     let asked = set_of g.K.Key.number c.args.asked.now in
-    let after = replaced_state g.K.Key.number (λ s timer. cond (asked s) (source_asked c.after-limit.result c.last_member_count.result timer) timer) (source_if_asked g.K.Key.number c.after-limit.result c.last_member_count.result asked) (λ x. refl)
-    c.self.inside.mode c.self.inside.v1 c.self.inside.v2 c.self.inside.sources.items c.ask_among.new.sources.items c.args.self.now.state (ap (λ s. s.state) c.self.view_is) c.ask_among.ensures.items in
+    let after = replaced_state g.K.Key.number (λ s timer. cond (asked s) (source_asked c.after-limit.result c.last_member_count.result timer) timer)
+    (source_if_asked g.K.Key.number c.after-limit.result c.last_member_count.result asked) (λ x. refl)
+    c.self.inside.mode c.self.inside.v1 c.self.inside.v2 c.self.inside.sources.items c.ask_among.new.sources.items c.args.self.now.state
+    (ap (λ s. s.state) c.self.view_is) c.ask_among.ensures.items in
     rw (← limit, ← c.last_member_count.ensures) after
 
 pub returns-clause-some : goal.returns-clause-some
 returns-clause-some g c =
-    let limit : c.after-limit.result ≡ lowered_to c.args.timing.now c.args.now = c.after-limit.ensures.later ∙ ap (λ n. c.args.now + n) c.last_member_time.ensures in
+    let limit : c.after-limit.result ≡ lowered_to c.args.timing.now c.args.now = c.after-limit.ensures.later ∙
+    ap (λ n. c.args.now + n) c.last_member_time.ensures in
     let asked = set_of g.K.Key.number c.args.asked.now in
     rw (← c.self.view_is)
     (c.ask_among.ensures.some
     ∙ ap (λ n. list_any (is_asked_above g.K.Key.number n asked) c.self.inside.sources.items) limit
-    ∙ sym (any_in_row g.K.Key.number (λ s timer. asked s && is_ahead (lowered_to c.args.timing.now c.args.now) (deadline_of timer)) c.self.inside.sources.items c.self.invariant))
+    ∙ sym (any_in_row g.K.Key.number (λ s timer. asked s && is_ahead (lowered_to c.args.timing.now c.args.now) (deadline_of timer))
+    c.self.inside.sources.items c.self.invariant))
 
 pub returns-clause-spent : goal.returns-clause-spent
 returns-clause-spent g c =

@@ -14,7 +14,8 @@ record_end-requires g c = c.loop.invariant.within
 pub returns-in_err-end : goal.returns-in_err-end
 returns-in_err-end g c =
     let p = err_from_is_err_and c.from_residual.result c.from_residual.ensures.1 in
-    rw (p.1, p.2) (record_cut _ _ _ c.loop.counter c.loop.end c.args.bytes.now c.in_err-end.field-0.0 c.loop.invariant.cut c.loop-test.true c.in_err-end.ensures)
+    rw (p.1, p.2) (record_cut _ _ _ c.loop.counter c.loop.end c.args.bytes.now c.in_err-end.field-0.0 c.loop.invariant.cut c.loop-test.true
+    c.in_err-end.ensures)
 
 pub loop-preserved : goal.loop-preserved
 loop-preserved g c =
@@ -24,7 +25,8 @@ loop-preserved g c =
     }
 
 pub invariant_of-result : goal.invariant_of-result
-invariant_of-result g c = all_records g.K.WireKey.WIDTH c.args.count c.args.place c.loop.counter c.loop.end c.args.bytes.now c.loop.invariant.cut c.loop-test.false
+invariant_of-result g c = all_records g.K.WireKey.WIDTH c.args.count c.args.place c.loop.counter c.loop.end c.args.bytes.now c.loop.invariant.cut
+    c.loop-test.false
 
 pub returns : goal.returns
 returns g c = (

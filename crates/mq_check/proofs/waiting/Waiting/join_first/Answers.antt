@@ -1,0 +1,45 @@
+use Rattle.std.proofs.Common.{◌≡◌, ◌<◌, ℕ, List, get_or, subst, length, refl, arith, ap, sym, ◌∙◌}
+use Rattle.std.specs.Prelude.{map as list_map}
+use Rattle.mq_check.specs.declared.entry.Entry.{Entry}
+use Rattle.mq_check.specs.Slots.{AreMarked, AreBounded}
+use Rattle.mq_check.specs.Entries.{terms_in}
+use Rattle.mq_check.specs.Numbered.{numbered_entry}
+use Rattle.mq_check.specs.Waiting.{WaitingValue}
+use Rattle.mq_check.proofs.MarkedEntries.{made_set, marked_joined, bounded_joined}
+use Rattle.mq_check.proofs.Waits.{made_at, made_long, partner_of_none, partner_joined}
+use Rattle.mq_check.proofs.waiting.Waiting.join_first.Goals as goal
+
+pub returns-in_err-place-clause-joined : goal.returns-in_err-place-clause-joined
+returns-in_err-place-clause-joined g c = partner_of_none _ _ _ _ _ c.in_err-place.ensures.none
+
+pub returns-clause-terms : goal.returns-clause-terms
+returns-clause-terms g c =
+    let f = numbered_entry g.F.Address.Key.number in
+    let made = ap (λ (w : WaitingValue). w.entries) c.self.view_is in
+    let found = c.in_ok-place.ensures.some in
+    let here = made_at f _ _ c.in_ok-place.place _ made c.index.ensures in
+    c.terms.ensures ∙ ap terms_in here ∙ sym (found.terms (f c.index.result.now))
+
+pub returns-clause-joined : goal.returns-clause-joined
+returns-clause-joined g c =
+    let f = numbered_entry g.F.Address.Key.number in
+    partner_joined f _ _ _ c.in_ok-place.place c.index.result.now _ _ _ _ _ c.in_ok-place.ensures.some c.self.view_is c.index.ensures c.joined.ensures
+
+pub invariant_of-self : goal.invariant_of-self
+invariant_of-self g c =
+    let f = numbered_entry g.F.Address.Key.number in
+    let are = c.self.invariant in
+    let items = c.self.inside.entries.items in
+    let there : c.in_ok-place.place < length items =
+    omega (arith, c.in_ok-place.ensures.some.within, made_long f _ _ (ap (λ (w : WaitingValue). w.entries) c.self.view_is)) in
+    let there_too : c.in_ok-place.place < length (list_map f items) = omega (arith, there, made_long f items _ refl) in
+    let changed = made_set f items c.in_ok-place.place _ _ c.joined.ensures in
+    let read : f c.index.result.now ≡ get_or (list_map f items) c.in_ok-place.place (f c.index.result.now) =
+    made_at f items (list_map f items) c.in_ok-place.place c.index.result.now refl c.index.ensures in (
+      omega (arith, are.0),
+      subst (λ (es : List (Entry ℕ)). AreMarked g.F.Address.WireKey.WIDTH c.self.inside.horizon es c.pass.new.self) (sym {A = List (Entry ℕ)} changed)
+          (marked_joined _ _ _ _ _ _ _ _ are.1 there_too c.pass.ensures.slots c.pass.ensures.others c.pass.ensures.nears),
+      subst (λ (es : List (Entry ℕ)). AreBounded g.F.Address.WireKey.WIDTH es c.self.inside.latest.items) (sym {A = List (Entry ℕ)} changed)
+          (bounded_joined _ _ _ _ _ _ are.2 there_too read),
+      are.3,
+    )

@@ -1,6 +1,0 @@
-use Rattle.std.proofs.Common.{[]}
-use Rattle.mq_convert.proofs.Sifted.{all_go_out}
-use Rattle.mq_convert.proofs.laws.all_go_out.Goals as goal
-
-pub returns : goal.returns
-returns c = λ choice packets is. all_go_out choice [] packets is

@@ -1,5 +1,0 @@
-use Rattle.mq_convert.proofs.AsItWas.{as_it_was_lem}
-use Rattle.mq_convert.proofs.laws.as_it_was.Goals as goal
-
-pub returns : goal.returns
-returns c = as_it_was_lem

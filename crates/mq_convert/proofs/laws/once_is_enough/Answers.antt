@@ -1,6 +1,0 @@
-use Rattle.std.proofs.Common.{[]}
-use Rattle.mq_convert.proofs.Sifted.{once_enough}
-use Rattle.mq_convert.proofs.laws.once_is_enough.Goals as goal
-
-pub returns : goal.returns
-returns c = λ choice packets. once_enough choice [] packets

@@ -1,5 +1,0 @@
-use Rattle.mq_text.proofs.LongestRun.{is_first_longest}
-use Rattle.mq_text.proofs.laws.the_first_longest_run_is_replaced.Goals as goal
-
-pub returns : goal.returns
-returns c = is_first_longest

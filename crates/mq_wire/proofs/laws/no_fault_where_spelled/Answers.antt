@@ -1,5 +1,0 @@
-use Rattle.mq_wire.proofs.Spelled.{no_fault}
-use Rattle.mq_wire.proofs.laws.no_fault_where_spelled.Goals as goal
-
-pub returns : goal.returns
-returns c = no_fault

@@ -1,5 +1,0 @@
-use Rattle.mq_wire.proofs.Spelled.{spelled}
-use Rattle.mq_wire.proofs.laws.spelled_where_no_fault.Goals as goal
-
-pub returns : goal.returns
-returns c = spelled
