@@ -157,7 +157,8 @@ course_behind found c = record { checked = c.checked; found = found ++ c.found; 
 
 -- the outcome of a packet at a place
 abbrev packet_at : Configuration → (within : ℕ) → LinkType → Place → Captured → Checked → Outcome
-packet_at config within link at packet r = with_packet config link within (moment_of at.first at.before packet.stamp) at.number (goes_back at.first at.before packet.stamp) packet.bytes r
+packet_at config within link at packet r =
+    with_packet config link within (moment_of at.first at.before packet.stamp) at.number (goes_back at.first at.before packet.stamp) packet.bytes r
 
 -- what the packets behind one come to, unless too much waits behind it
 abbrev behind_packet : Configuration → (within : ℕ) → LinkType → Place → Captured → List Captured → Outcome → (is_full : Bool) → Course

@@ -120,8 +120,8 @@ counted_in family other datagram old new is same = is ∙
     ap (λ (f : Family). record old { basis = basis.with_datagram f datagram old.basis }) same
 
 -- a packet, behind the ticks up to its moment
-pub packet_came : {S T E E' : Type 0} (family : Family) (config : Configuration) (link : LinkType) (within within' moment number : ℕ) (back : Bool) (frame : List ℕ)
-    (datagram : Option Datagram) (at : Checked) (a b c : LinkValue) (q noting r : WantingValue) (t u v : ToldState) (x y z : OutputState)
+pub packet_came : {S T E E' : Type 0} (family : Family) (config : Configuration) (link : LinkType) (within within' moment number : ℕ) (back : Bool)
+    (frame : List ℕ) (datagram : Option Datagram) (at : Checked) (a b c : LinkValue) (q noting r : WantingValue) (t u v : ToldState) (x y z : OutputState)
     (s : S) (answer : Result T E) → within' ≡ within → config ≡ a.config → datagram ≡ datagram_of config.family (carried_in link frame)
     → Comes {E = E'} family (ticked_through a.config within moment at) a b q t u x y (Ok s)
     → noting ≡ record q { basis = with_frame config.family link frame (carried_in link frame) datagram (basis.with_packet back q.basis) }
@@ -143,8 +143,8 @@ packet_came {S} {T} {E} family config link within within' moment number back fra
     both_came family before _ a b c q r t u v x y z s answer one
     (record { same_config = as_it_is.same_config; checked = as_it_is.checked; tells = as_it_is.tells })
 
-pub packet_broken : {T E E' : Type 0} (family : Family) (link : LinkType) (within moment number : ℕ) (back : Bool) (frame : List ℕ) (at : Checked) (a b : LinkValue)
-    (q : WantingValue) (t u : ToldState) (x y : OutputState) (e : E) (e' : E')
+pub packet_broken : {T E E' : Type 0} (family : Family) (link : LinkType) (within moment number : ℕ) (back : Bool) (frame : List ℕ) (at : Checked)
+    (a b : LinkValue) (q : WantingValue) (t u : ToldState) (x y : OutputState) (e : E) (e' : E')
     → Comes {T = T} family (ticked_through a.config within moment at) a b q t u x y (Err e)
     → Comes {T = T} family (with_packet a.config link within moment number back frame at) a b q t u x y (Err e')
 unfolding with_packet

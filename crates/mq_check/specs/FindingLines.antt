@@ -172,8 +172,7 @@ abbrev pub unread_text : Basis → List ℕ
 unread_text b =
     count_text (codes " unread ") b.unread ++ (if b.back == 0 then [] else count_text (codes " back ") b.back)
 
--- the numbers of packets, of messages of the family, of malformed, truncated and unread packets, and of those whose
--- stamps go back
+-- the numbers of packets, of messages of the family, and of malformed, truncated and unread packets
 abbrev pub packets_line : Basis → List ℕ
 packets_line b =
     count_text (codes "packets ") b.packets ++ count_text (codes " messages ") b.messages

@@ -37,7 +37,8 @@ gap_is config link within first before number packet packets r is = rw (is, with
 full_is : (config : Configuration) (link : LinkType) (within : ℕ) (first : Option ℕ) (before number : ℕ) (packet : Captured) (packets : List Captured)
     (r : Checked)
     → is_gap before (moment_of first before packet.stamp) ≡ false
-    → (with_packet config link within (moment_of first before packet.stamp) number (goes_back first before packet.stamp) packet.bytes r).checked.checking.waiting.is_full ≡ true
+    → (with_packet config link within (moment_of first before packet.stamp) number (goes_back first before packet.stamp)
+    packet.bytes r).checked.checking.waiting.is_full ≡ true
     → (with_packets config link within first before number (packet ∷ packets) r).fault ≡ Some (Waiting number)
 unfolding with_packets
 full_is config link within first before number packet packets r is full = rw (is, full, with_packets) refl
@@ -45,7 +46,8 @@ full_is config link within first before number packet packets r is full = rw (is
 rest_is : (config : Configuration) (link : LinkType) (within : ℕ) (first : Option ℕ) (before number : ℕ) (packet : Captured) (packets : List Captured)
     (r : Checked)
     → is_gap before (moment_of first before packet.stamp) ≡ false
-    → (with_packet config link within (moment_of first before packet.stamp) number (goes_back first before packet.stamp) packet.bytes r).checked.checking.waiting.is_full ≡ false
+    → (with_packet config link within (moment_of first before packet.stamp) number (goes_back first before packet.stamp)
+    packet.bytes r).checked.checking.waiting.is_full ≡ false
     → (let after = with_packet config link within (moment_of first before packet.stamp) number (goes_back first before packet.stamp) packet.bytes r in
     let rest = with_packets config link within (Some (unwrap_or first packet.stamp)) (moment_of first before packet.stamp) (number + 1) packets after.checked in
     with_packets config link within first before number (packet ∷ packets) r ≡ record rest { found = after.found ++ rest.found })

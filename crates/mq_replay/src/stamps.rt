@@ -29,8 +29,8 @@ impl Stamps {
     pub fn goes_back(&self, stamp: u64) -> bool
         ensures { result ≡ goes_back self.now.first self.now.before stamp }
     {
-        let first = self.first.unwrap_or(stamp);
-        u128::from(stamp) < u128::from(first) + u128::from(self.before)
+        let start = self.first.unwrap_or(stamp);
+        u128::from(stamp) < u128::from(start) + u128::from(self.before)
     }
 
     /// Returns the moment of the next packet.
