@@ -173,6 +173,7 @@ def wrong_bodies(top):
         want(f"wrong-bodies low/{it}: {how}{', with other answers' * (it in MOVED)}" in said, f"the edit of {it}", said)
     want("wrong-bodies low/absent.edit: BAD EDIT" in said, "an edit that can't be applied", said)
     want(tried(top, "low/caller", "low/right")[0] == (1, "1 passed, 2 failed"), "edits that are tried by their names", "")
+    want(tried(top, "--not-passed")[0] == (1, f"0 passed, {len(SAYS) - len(REFUSED) + 1} failed"), "the edits that did not pass", "")
     for words in (["low/none"], ["--not-passed", "low/caller"], ["none"], ["--fit", "low"], ["--drawn", "low"]):
         want(tried(top, *words)[0][0] == 2, "words that are none of the tool's", words)
     found = {line.split()[1] for line in taken(f"{top}/tools/passed").splitlines()}
