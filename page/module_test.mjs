@@ -60,7 +60,7 @@ function packed(settings) {
 }
 
 // Calls an export with memory for so much text and so much work, and behind the text four bytes that have to stay.
-function call(name, capture, { querier = null, room = PAGE + 4 * capture.length, work = 2 ** 26 } = {}) {
+function call(name, capture, { querier = null, room = PAGE + 4 * capture.length, work = 2 ** 27 } = {}) {
   const lent = new Lent();
   const [answer, text] = [lent.lend(24), lent.lend(room + 4)];
   new Uint8Array(lent.memory.buffer, text + room, 4).fill(7);

@@ -9,7 +9,7 @@ import copy
 import dataclasses
 
 from model import BLOCK, DAY, TO_EX, Options, Querier
-from wire import IGMP, CaptureFault, Fault, code_of, moments, opened, read, text_of, unwrap, value_of
+from wire import IGMP, CaptureFault, Fault, code_of, moments, opened, placed, read, text_of, unwrap, value_of
 
 
 @dataclasses.dataclass
@@ -186,11 +186,12 @@ class Basis:
 
     def __init__(self, family, own):
         self.family, self.own = family, own
-        self.packets, self.messages, self.malformed, self.cut, self.unread = 0, 0, 0, 0, 0
+        self.packets, self.messages, self.malformed, self.cut, self.unread, self.back = 0, 0, 0, 0, 0, 0
         self.lost, self.lost_at, self.other, self.again = 0, 0, None, None
 
-    def count(self, kind, frame, packet):
+    def count(self, kind, frame, packet, goes_back):
         self.packets += 1
+        self.back += goes_back
         if isinstance(packet, str):
             self.cut += packet == "cut"
             self.unread += packet == "fragment" or packet == "other" and is_wrapped(kind, frame)
@@ -203,6 +204,7 @@ class Basis:
 
     def lines(self):
         counts = f"packets {self.packets} messages {self.messages} malformed {self.malformed} cut {self.cut} unread {self.unread}"
+        counts += f" back {self.back}" if self.back else ""
         role = f"querier {text_of(self.own)} from 0"
         if self.lost:
             role += f", lost {self.lost}, last at {self.lost_at}, other {text_of(self.other)}"
@@ -213,6 +215,8 @@ class Basis:
         """Why nothing is judged, or None."""
         if 0 < 2 * (self.cut + self.unread) >= self.packets:
             return "every second packet or more is cut or isn't read"
+        if 0 < 2 * self.back >= self.packets:
+            return "every second packet or more has a stamp that goes back"
         if not self.messages and not self.malformed:
             return "there is no message of this family"
         return None if general or specific or findings else "no query from this address was seen, and none is missing"
@@ -582,14 +586,14 @@ def check(data, family, options, within=100, strict=False, packets=False, once=F
     it, last, number = Check(family, options, within, strict, packets, once), 0, 0
     try:
         kind, records = opened(data)
-        for number, moment, frame in moments(records):
+        for number, moment, goes_back, frame in placed(records):
             if moment - last > DAY:
                 return None, f"gap before record {number}"
             last = moment
             it.tick_to(moment)
             it.link.packet = number
             packet = unwrap(kind, frame)
-            it.basis.count(kind, frame, packet)
+            it.basis.count(kind, frame, packet, goes_back)
             if isinstance(packet, str) or packet.family is not family:
                 continue
             it.headers(moment, number, kind, frame, packet)

@@ -371,13 +371,20 @@ def records_of(data, order, unit):
         yield seconds * 1000 + fraction // unit, data[at - length : at]
 
 
-def moments(records):
-    """The records with their number and their moment from the first one's, which never goes back."""
+def placed(records):
+    """The records with their number, their moment from the first one's, which never goes back, and whether their stamp does."""
     first, last = None, 0
     for number, (stamp, frame) in enumerate(records, 1):
         first = stamp if first is None else first
+        goes_back = stamp - first < last
         last = max(last, stamp - first)
-        yield number, last, frame
+        yield number, last, goes_back, frame
+
+
+def moments(records):
+    """The records with their number and their moment."""
+    for number, moment, _, frame in placed(records):
+        yield number, moment, frame
 
 
 def listing(data):

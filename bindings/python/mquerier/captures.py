@@ -62,6 +62,8 @@ class Findings(Lines[Finding]):
             return "the check did not come to its end"
         if 0 < it.packets <= 2 * (it.cut + it.unread):
             return "every second packet or more is cut or isn't read"
+        if 0 < it.packets <= 2 * it.back:
+            return "every second packet or more has a stamp that goes back"
         if it.messages + it.malformed == 0:
             return "there is no message of this family"
         if len(self) + self.general + self.specific == 0:

@@ -102,14 +102,15 @@ class Finding:
 
 @dataclasses.dataclass(frozen=True)
 class Basis:
-    """Counts of the packets of a checked capture: all, messages of the family, malformed messages, cut packets and unread packets.
-    Fragments, second tags, PPPoE and the like are not read."""
+    """Counts of the packets of a checked capture: all, messages of the family, malformed messages, cut packets, unread packets, and
+    packets whose stamps go back. Fragments, second tags, PPPoE and the like are not read."""
 
     packets: int
     messages: int
     malformed: int
     cut: int
     unread: int
+    back: int = 0
 
 
 @dataclasses.dataclass(frozen=True)

@@ -13,7 +13,7 @@ use Rattle.mq_link.specs.Configuration.{Configuration}
 use Rattle.mq_text.specs.Printing.{GrowsByBeginning, OutputState, Passes}
 use Rattle.mq_text.proofs.Passing.{both_passed, broken_behind, nothing_passed}
 use Rattle.mq_replay.specs.declared.walking.Walked.{Walked}
-use Rattle.mq_replay.specs.Listing.{moment_of}
+use Rattle.mq_replay.specs.Listing.{goes_back, moment_of}
 use Rattle.mq_replay.specs.PlacedPackets.{PlacedPacket}
 use Rattle.mq_replay.specs.Replaying.{ReadCapture}
 use Rattle.mq_replay.specs.Report.{is_gap}
@@ -157,7 +157,8 @@ course_behind found c = record { checked = c.checked; found = found ++ c.found; 
 
 -- the outcome of a packet at a place
 abbrev packet_at : Configuration → (within : ℕ) → LinkType → Place → Captured → Checked → Outcome
-packet_at config within link at packet r = with_packet config link within (moment_of at.first at.before packet.stamp) at.number packet.bytes r
+packet_at config within link at packet r =
+    with_packet config link within (moment_of at.first at.before packet.stamp) at.number (goes_back at.first at.before packet.stamp) packet.bytes r
 
 -- what the packets behind one come to, unless too much waits behind it
 abbrev behind_packet : Configuration → (within : ℕ) → LinkType → Place → Captured → List Captured → Outcome → (is_full : Bool) → Course
@@ -253,7 +254,7 @@ module _ {X : Type 0} (family : Family) (state : X → CheckState) where
         let moment = moment_of at.first at.before packet.stamp in
         subst (λ (o : Outcome). Comes {T = Unit} {E = E} family o (state x).link (state x').link (state x').queries (state x).told (state x').told
         (state x).output (state x').output r)
-        (λ i. with_packet (is_config i) link (is_terms i).within moment at.number packet.bytes (here x)) step.comes
+        (λ i. with_packet (is_config i) link (is_terms i).within moment at.number (goes_back at.first at.before packet.stamp) packet.bytes (here x)) step.comes
 
     record IsCheckedOver (link : LinkType) (at to : Place) (packets : List Captured) (x x' : X) : Type 0 where
       found : List (Finding ℕ)

@@ -1,5 +1,5 @@
 -- What a check makes of one datagram, and of one packet.
-use Rattle.std.proofs.Common.{◌≡◌, ℕ, List, ◌++◌, Option, None, Some, Result, Ok, Err, refl, ap, subst, ◌∙◌}
+use Rattle.std.proofs.Common.{◌≡◌, ℕ, Bool, List, ◌++◌, Option, None, Some, Result, Ok, Err, refl, ap, subst, ◌∙◌}
 use Rattle.mq_pcap.specs.declared.link_type.LinkType.{LinkType}
 use Rattle.mq_pcap.specs.Frame.{carried_in}
 use Rattle.mq_wire.specs.declared.query.Query.{Query}
@@ -114,41 +114,41 @@ first_broken family first rest checked a b q t u x y e e' one =
 
 -- a datagram is counted, of a family that is named otherwise
 pub counted_in : (family other : Family) (datagram : Datagram) (old new : WantingValue) →
-    new ≡ record old { basis = basis.with_datagram family datagram (basis.with_packet old.basis) } → family ≡ other
-    → new ≡ record old { basis = basis.with_datagram other datagram (basis.with_packet old.basis) }
+    new ≡ record old { basis = basis.with_datagram family datagram old.basis } → family ≡ other
+    → new ≡ record old { basis = basis.with_datagram other datagram old.basis }
 counted_in family other datagram old new is same = is ∙
-    ap (λ (f : Family). record old { basis = basis.with_datagram f datagram (basis.with_packet old.basis) }) same
+    ap (λ (f : Family). record old { basis = basis.with_datagram f datagram old.basis }) same
 
 -- a packet, behind the ticks up to its moment
-pub packet_came : {S T E E' : Type 0} (family : Family) (config : Configuration) (link : LinkType) (within within' moment number : ℕ) (frame : List ℕ)
-    (datagram : Option Datagram) (at : Checked) (a b c : LinkValue) (q noting r : WantingValue) (t u v : ToldState) (x y z : OutputState)
+pub packet_came : {S T E E' : Type 0} (family : Family) (config : Configuration) (link : LinkType) (within within' moment number : ℕ) (back : Bool)
+    (frame : List ℕ) (datagram : Option Datagram) (at : Checked) (a b c : LinkValue) (q noting r : WantingValue) (t u v : ToldState) (x y z : OutputState)
     (s : S) (answer : Result T E) → within' ≡ within → config ≡ a.config → datagram ≡ datagram_of config.family (carried_in link frame)
     → Comes {E = E'} family (ticked_through a.config within moment at) a b q t u x y (Ok s)
-    → noting ≡ record q { basis = with_frame config.family link frame (carried_in link frame) datagram q.basis }
+    → noting ≡ record q { basis = with_frame config.family link frame (carried_in link frame) datagram (basis.with_packet back q.basis) }
     → Comes family (with_datagram b.config link within' moment number frame datagram (checked_in b noting)) b c r u v y z answer
-    → Comes family (with_packet a.config link within moment number frame at) a c r t v x z answer
+    → Comes family (with_packet a.config link within moment number back frame at) a c r t v x z answer
 unfolding with_packet
-packet_came {S} {T} {E} family config link within within' moment number frame datagram at a b c q noting r t u v x y z s answer is_within is_config
+packet_came {S} {T} {E} family config link within within' moment number back frame datagram at a b c q noting r t u v x y z s answer is_within is_config
     carries one notes other =
     let before = ticked_through a.config within moment at in
-    let counted : WantingValue = record q { basis = with_frame config.family link frame (carried_in link frame) datagram q.basis } in
+    let counted : WantingValue = record q { basis = with_frame config.family link frame (carried_in link frame) datagram (basis.with_packet back q.basis) } in
     let there = carries ∙ ap (λ (k : Configuration). datagram_of k.family (carried_in link frame)) is_config in
     let last = datagram_of a.config.family (carried_in link frame) in
     let same : with_datagram b.config link within' moment number frame datagram (checked_in b counted)
-    ≡ with_datagram a.config link within moment number frame last (noted a.config link frame last before.checked) =
-    λ i. with_datagram (one.same_config i) link (is_within i) moment number frame (there i) (noted (is_config i) link frame (there i) (one.checked i)) in
+    ≡ with_datagram a.config link within moment number frame last (noted a.config link back frame last before.checked) =
+    λ i. with_datagram (one.same_config i) link (is_within i) moment number frame (there i) (noted (is_config i) link back frame (there i) (one.checked i)) in
     let second = subst (λ (w : WantingValue). Comes {T = T} {E = E} family
     (with_datagram b.config link within' moment number frame datagram (checked_in b w)) b c r u v y z answer) notes other in
     let as_it_is = subst (λ (o : Outcome). Comes {T = T} {E = E} family o b c r u v y z answer) same second in
     both_came family before _ a b c q r t u v x y z s answer one
     (record { same_config = as_it_is.same_config; checked = as_it_is.checked; tells = as_it_is.tells })
 
-pub packet_broken : {T E E' : Type 0} (family : Family) (link : LinkType) (within moment number : ℕ) (frame : List ℕ) (at : Checked) (a b : LinkValue)
-    (q : WantingValue) (t u : ToldState) (x y : OutputState) (e : E) (e' : E')
+pub packet_broken : {T E E' : Type 0} (family : Family) (link : LinkType) (within moment number : ℕ) (back : Bool) (frame : List ℕ) (at : Checked)
+    (a b : LinkValue) (q : WantingValue) (t u : ToldState) (x y : OutputState) (e : E) (e' : E')
     → Comes {T = T} family (ticked_through a.config within moment at) a b q t u x y (Err e)
-    → Comes {T = T} family (with_packet a.config link within moment number frame at) a b q t u x y (Err e')
+    → Comes {T = T} family (with_packet a.config link within moment number back frame at) a b q t u x y (Err e')
 unfolding with_packet
-packet_broken family link within moment number frame at a b q t u x y e e' one = first_broken family _ _ _ a b q t u x y e e' one
+packet_broken family link within moment number back frame at a b q t u x y e e' one = first_broken family _ _ _ a b q t u x y e e' one
 
 -- the ticks up to a moment that the code names otherwise
 pub ticks_at : {T E : Type 0} (family : Family) (within m n : ℕ) (at : Checked) (a b : LinkValue) (q : WantingValue) (t u : ToldState)

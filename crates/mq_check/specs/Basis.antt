@@ -19,7 +19,7 @@ use Rattle.mq_check.specs.declared.querier_address.QuerierAddress.{QuerierAddres
 use Rattle.mq_check.specs.declared.querier_address.QuerierAddress.TheVariants.{V4, V6}
 use Rattle.mq_check.specs.declared.totals.Totals.{Totals}
 use Rattle.mq_check.specs.declared.unjudged.Unjudged.{Unjudged}
-use Rattle.mq_check.specs.declared.unjudged.Unjudged.TheVariants.{NotUnderstood, NoMessage, NoQuery}
+use Rattle.mq_check.specs.declared.unjudged.Unjudged.TheVariants.{NotUnderstood, OutOfOrder, NoMessage, NoQuery}
 use Rattle.mq_check.specs.Checking.{counted_up}
 
 -- the address of a router of a family
@@ -35,6 +35,7 @@ basis_at_start own = record {
   malformed = 0;
   cut = 0;
   unread = 0;
+  back = 0;
   own = own;
   is_querier = true;
   lost = 0;
@@ -43,8 +44,13 @@ basis_at_start own = record {
   again_at = 0;
 }
 
-abbrev pub with_packet : Basis → Basis
-with_packet b = record b { packets = counted_up b.packets }
+-- the basis after one more packet, whose stamp goes back or doesn't
+abbrev pub with_packet : (goes_back : Bool) → Basis → Basis
+with_packet goes_back b =
+    record b {
+      packets = counted_up b.packets;
+      back = if goes_back then counted_up b.back else b.back;
+    }
 
 abbrev pub with_message : Basis → Basis
 with_message b = record b { messages = counted_up b.messages }
@@ -97,10 +103,10 @@ with_other link frame carried.Other b = if is_wrapped (type_in link frame) then 
 with_other link frame (carried.Igmp source body) b = b
 with_other link frame (carried.Mld source destination hop_limit alert body) b = b
 
--- the basis after one more packet
+-- the basis after the content of a packet
 abbrev pub with_frame : Family → LinkType → (frame : List ℕ) → Carried → Option Datagram → Basis → Basis
-with_frame family link frame content (Some datagram) b = with_datagram family datagram (with_packet b)
-with_frame family link frame content None b = with_other link frame content (with_packet b)
+with_frame family link frame content (Some datagram) b = with_datagram family datagram b
+with_frame family link frame content None b = with_other link frame content b
 
 -- the basis after a loss or a return of the role
 abbrev pub role_lost : (moment : ℕ) → Basis → Basis
@@ -135,12 +141,18 @@ with_other_named family number (Some querier) b = record b { other = named famil
 abbrev pub is_hardly_understood : Basis → Bool
 is_hardly_understood b = nat_lt 0 (b.cut + b.unread) && nat_le b.packets (2 * (b.cut + b.unread))
 
--- The reason why a check judged nothing, if there is one. Too much of the capture is truncated or unread, or it has no
--- message of the family. Or it has no query of the checked router and no finding.
+-- at least half of the packets have stamps that go back
+abbrev pub is_out_of_order : Basis → Bool
+is_out_of_order b = nat_lt 0 b.back && nat_le b.packets (2 * b.back)
+
+-- The reason why a check judged nothing, if there is one. Too much of the capture is truncated or unread, or has stamps
+-- that go back, or it has no message of the family. Or it has no query of the checked router and no finding.
 abbrev pub unjudged_by : Totals → Option Unjudged
 unjudged_by totals =
     if is_hardly_understood totals.basis
     then Some NotUnderstood
+    else if is_out_of_order totals.basis
+    then Some OutOfOrder
     else if totals.basis.messages + totals.basis.malformed == 0
     then Some NoMessage
     else if totals.general + totals.specific + totals.findings == 0

@@ -17,7 +17,7 @@ use Rattle.mq_link.specs.Run.{answered}
 use Rattle.mq_link.specs.Sent.{outgoing_of}
 use Rattle.mq_link.specs.State.{LinkState, link_at}
 use Rattle.mq_link.specs.Tick.{Step, tick_of, next_of}
-use Rattle.mq_replay.specs.Listing.{moment_of}
+use Rattle.mq_replay.specs.Listing.{goes_back, moment_of}
 use Rattle.mq_replay.specs.Report.{Datagram, datagram_of, all_sent, is_gap}
 use Rattle.mq_check.specs.declared.basis.Basis.{Basis}
 use Rattle.mq_check.specs.declared.check_fault.CheckFault.{CheckFault}
@@ -193,17 +193,17 @@ with_datagram config link within moment number frame (Some datagram) r =
     }
 
 -- the check after a packet was counted
-abbrev pub noted : Configuration → LinkType → (frame : List ℕ) → Option Datagram → Checked → Checked
-noted config link frame datagram r =
-    record r { basis = with_frame config.family link frame (carried_in link frame) datagram r.basis }
+abbrev pub noted : Configuration → LinkType → (goes_back : Bool) → (frame : List ℕ) → Option Datagram → Checked → Checked
+noted config link goes_back frame datagram r =
+    record r { basis = with_frame config.family link frame (carried_in link frame) datagram (basis.with_packet goes_back r.basis) }
 
 -- the outcome of a packet with this number, after the ticks up to its moment
-unfoldable pub with_packet : Configuration → LinkType → (within moment number : ℕ) → (frame : List ℕ) → Checked → Outcome
-with_packet config link within moment number frame r =
+unfoldable pub with_packet : Configuration → LinkType → (within moment number : ℕ) → (goes_back : Bool) → (frame : List ℕ) → Checked → Outcome
+with_packet config link within moment number goes_back frame r =
     let before = ticked_through config within moment r in
     let datagram = datagram_of config.family (carried_in link frame) in
     behind before.found
-    (with_datagram config link within moment number frame datagram (noted config link frame datagram before.checked))
+    (with_datagram config link within moment number frame datagram (noted config link goes_back frame datagram before.checked))
 
 -- The outcome of packets: the check, the findings, the moment of the last packet, and the fault that ended it, if any.
 pub record Course : Type 0 where
@@ -219,7 +219,7 @@ with_packets config link within first before number [] r =
     record { checked = r; found = []; moment = before; fault = None }
 with_packets config link within first before number (packet ∷ packets) r =
     let moment = moment_of first before packet.stamp in
-    let after = with_packet config link within moment number packet.bytes r in
+    let after = with_packet config link within moment number (goes_back first before packet.stamp) packet.bytes r in
     elim (is_gap before moment) [
       | true ↦ record { checked = r; found = []; moment = before; fault = Some (Gap number) }
       | false ↦

@@ -36,7 +36,7 @@ pub record ChecksPacket {E : Type 0} (family : Family) (packet : PlacedPacket) (
   pub no_gap : is_gap packet.before packet.moment ≡ false
   pub same_terms : new.terms ≡ old.terms
   pub comes : Comes family
-      (with_packet old.link.config packet.link old.terms.within packet.moment packet.number packet.frame (checked_in old.link old.queries))
+      (with_packet old.link.config packet.link old.terms.within packet.moment packet.number packet.goes_back packet.frame (checked_in old.link old.queries))
       old.link new.link new.queries old.told new.told old.output new.output r
 
 -- the effect of a packet on a check, which ends with a gap before the packet or with too many pending entries after it

@@ -167,12 +167,17 @@ totals_line totals =
     count_text (codes "checked general ") totals.general ++ count_text (codes " specific ") totals.specific
     ++ count_text (codes ": ") totals.findings ++ codes " findings\n"
 
+-- the number of unread packets, and of packets whose stamps go back, if there are any
+abbrev pub unread_text : Basis → List ℕ
+unread_text b =
+    count_text (codes " unread ") b.unread ++ (if b.back == 0 then [] else count_text (codes " back ") b.back)
+
 -- the numbers of packets, of messages of the family, and of malformed, truncated and unread packets
 abbrev pub packets_line : Basis → List ℕ
 packets_line b =
     count_text (codes "packets ") b.packets ++ count_text (codes " messages ") b.messages
     ++ count_text (codes " malformed ") b.malformed ++ count_text (codes " cut ") b.cut
-    ++ count_text (codes " unread ") b.unread ++ codes "; groups held before 0 are unknown\n"
+    ++ unread_text b ++ codes "; groups held before 0 are unknown\n"
 
 abbrev pub querier_text : QuerierAddress → List ℕ
 querier_text (V4 address) = address_text Igmp address

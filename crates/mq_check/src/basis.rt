@@ -24,6 +24,8 @@ pub struct Basis {
     pub cut: u64,
     /// The number of unread packets: fragments, and frames of a type that may carry IP in a form that isn't parsed.
     pub unread: u64,
+    /// The number of packets whose stamps go back.
+    pub back: u64,
     /// The checked router.
     pub own: QuerierAddress,
     /// True if the checked router is querier.
@@ -83,6 +85,7 @@ impl Basis {
             malformed: 0,
             cut: 0,
             unread: 0,
+            back: 0,
             own,
             is_querier: true,
             lost: 0,
@@ -92,7 +95,17 @@ impl Basis {
         }
     }
 
-    /// Counts a packet with a datagram of the family.
+    /// Counts a packet, whose stamp goes back or doesn't.
+    pub(crate) fn note_packet(&mut self, goes_back: bool)
+        ensures { self.new ≡ spec.with_packet goes_back self.old }
+    {
+        self.packets = self.packets.saturating_add(1);
+        if goes_back {
+            self.back = self.back.saturating_add(1);
+        }
+    }
+
+    /// Counts a datagram of the family.
     pub(crate) fn note_datagram<F: CapturedFamily>(
         &mut self,
         datagram: &CapturedDatagram<'_, F::Envelope>,
@@ -100,9 +113,8 @@ impl Basis {
     where
         F::Address: LineKey,
         ensures { self.new ≡ spec.with_datagram F.FAMILY
-            (record { envelope = F.envelope_of datagram.now.envelope; body = datagram.now.body.now }) (spec.with_packet self.old) }
+            (record { envelope = F.envelope_of datagram.now.envelope; body = datagram.now.body.now }) self.old }
     {
-        self.packets = self.packets.saturating_add(1);
         match F::read(&datagram.envelope, datagram.body) {
             Ok(_) => self.messages = self.messages.saturating_add(1),
             Err(WireFault::UnknownType) => {}
@@ -110,11 +122,10 @@ impl Basis {
         }
     }
 
-    /// Counts a packet without a datagram of the family.
+    /// Counts a frame without a datagram of the family.
     pub(crate) fn note_other(&mut self, link: LinkType, frame: &[u8], inner: &Inner<'_>)
-        ensures { self.new ≡ spec.with_other link frame.now (carried_of inner.now) (spec.with_packet self.old) }
+        ensures { self.new ≡ spec.with_other link frame.now (carried_of inner.now) self.old }
     {
-        self.packets = self.packets.saturating_add(1);
         match inner {
             Inner::Cut => self.cut = self.cut.saturating_add(1),
             Inner::Fragment => self.unread = self.unread.saturating_add(1),
@@ -155,6 +166,13 @@ impl Basis {
     {
         let missed = u128::from(self.cut) + u128::from(self.unread);
         0 < missed && u128::from(self.packets) <= 2 * missed
+    }
+
+    /// Returns whether at least half of the packets have stamps that go back.
+    pub(crate) fn is_out_of_order(&self) -> bool
+        ensures { result ≡ spec.is_out_of_order self.now }
+    {
+        0 < self.back && u128::from(self.packets) <= 2 * u128::from(self.back)
     }
 
     /// Returns whether the capture has a message of the family, well-formed or malformed.

@@ -321,6 +321,18 @@ fn put_count(text: &mut Text, name: &[u8], count: u64)
     put_decimal(text, count);
 }
 
+/// Appends the number of unread packets, and of packets whose stamps go back if there are any.
+fn put_unread(text: &mut Text, basis: &Basis)
+    requires { array_vec_len text.old + 54 ≤ 4096 }
+    ensures text { text.new.items ≡ text.old.items ++ spec.unread_text basis.now }
+    ensures room { array_vec_len text.new ≤ array_vec_len text.old + 54 }
+{
+    put_count(text, b" unread ", basis.unread);
+    if 0 < basis.back {
+        put_count(text, b" back ", basis.back);
+    }
+}
+
 /// Appends the line of the packets.
 pub(crate) fn put_packets(text: &mut Text, basis: &Basis)
     requires { array_vec_len text.old + 200 ≤ 4096 }
@@ -330,7 +342,7 @@ pub(crate) fn put_packets(text: &mut Text, basis: &Basis)
     put_count(text, b" messages ", basis.messages);
     put_count(text, b" malformed ", basis.malformed);
     put_count(text, b" cut ", basis.cut);
-    put_count(text, b" unread ", basis.unread);
+    put_unread(text, basis);
     put(text, b"; groups held before 0 are unknown\n");
 }
 

@@ -151,12 +151,13 @@ where
         writer: &mut Watched<W>,
     ) -> Result<(), LineFault>
         ensures terms { self.new.terms ≡ self.old.terms }
-        ensures comes { Comes F.Address.family (spec.with_packet self.old.link.config packet.now.link self.old.terms.within packet.now.moment packet.now.number packet.now.frame.now (checked_in self.old.link self.old.queries))
+        ensures comes { Comes F.Address.family (spec.with_packet self.old.link.config packet.now.link self.old.terms.within packet.now.moment packet.now.number packet.now.goes_back packet.now.frame.now (checked_in self.old.link self.old.queries))
             self.old.link self.new.link self.new.queries self.old.told self.new.told
             (output_of W.contents writer.old) (output_of W.contents writer.new) result }
     {
         self.link.config().is_faultless();
         self.tick_through(packet.moment.moment(), writer)?;
+        self.queries.note_packet(packet.goes_back);
         let inner = unwrap_frame(packet.link, packet.frame);
         match F::datagram(&inner) {
             Some(datagram) => {

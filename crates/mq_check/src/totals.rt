@@ -27,6 +27,9 @@ impl Totals {
         if self.basis.is_hardly_understood() {
             return Some(Unjudged::NotUnderstood);
         }
+        if self.basis.is_out_of_order() {
+            return Some(Unjudged::OutOfOrder);
+        }
         if !self.basis.has_message() {
             return Some(Unjudged::NoMessage);
         }

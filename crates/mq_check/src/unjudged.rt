@@ -5,6 +5,8 @@
 pub enum Unjudged {
     /// A capture with at least half of its packets truncated or unread.
     NotUnderstood,
+    /// A capture with at least half of its packets at stamps that go back.
+    OutOfOrder,
     /// A capture without a message of the family.
     NoMessage,
     /// A capture without a query of the checked router, and without a finding.

@@ -108,21 +108,28 @@ where
         &self.basis
     }
 
-    /// Counts a packet with a datagram of the family.
+    /// Counts a packet, whose stamp goes back or doesn't.
+    pub(crate) fn note_packet(&mut self, goes_back: bool)
+        ensures { self.new ≡ record self.old { basis = basis.with_packet goes_back self.old.basis } }
+    {
+        self.basis.note_packet(goes_back);
+    }
+
+    /// Counts a datagram of the family.
     pub(crate) fn note_datagram(&mut self, datagram: &CapturedDatagram<'_, F::Envelope>)
         ensures { self.new ≡ record self.old {
           basis =
               basis.with_datagram F.FAMILY
-              (record { envelope = F.envelope_of datagram.now.envelope; body = datagram.now.body.now }) (basis.with_packet self.old.basis);
+              (record { envelope = F.envelope_of datagram.now.envelope; body = datagram.now.body.now }) self.old.basis;
         } }
     {
         self.basis.note_datagram::<F>(datagram);
     }
 
-    /// Counts a packet without a datagram of the family.
+    /// Counts a frame without a datagram of the family.
     pub(crate) fn note_other(&mut self, link: LinkType, frame: &[u8], inner: &Inner<'_>)
         ensures { self.new ≡ record self.old {
-          basis = basis.with_other link frame.now (carried_of inner.now) (basis.with_packet self.old.basis);
+          basis = basis.with_other link frame.now (carried_of inner.now) self.old.basis;
         } }
     {
         self.basis.note_other(link, frame, inner);

@@ -191,9 +191,9 @@ without_packets link frame (carried.Igmp source body) b = refl
 without_packets link frame (carried.Mld source destination hop_limit alert body) b = refl
 
 frame_packets : (family : Family) (link : LinkType) (frame : List ℕ) (content : Carried) (datagram : Option Datagram) (b : Basis)
-    → (basis.with_frame family link frame content datagram b).packets ≡ counted_up b.packets
-frame_packets family link frame content (Some datagram) b = read_packets _ (basis.with_packet b)
-frame_packets family link frame content None b = without_packets link frame content (basis.with_packet b)
+    → (basis.with_frame family link frame content datagram b).packets ≡ b.packets
+frame_packets family link frame content (Some datagram) b = read_packets _ b
+frame_packets family link frame content None b = without_packets link frame content b
 
 -- a tick
 follows-tick : (config : Configuration) (within moment : ℕ) (r : Checked)
@@ -313,18 +313,18 @@ follows-frame config link within moment number frame (Some datagram) r =
     follows-datagram config within moment number (destination_in config.family link frame datagram.envelope) datagram (query_seen config datagram)
     (faults_in config link frame datagram) r
 
-pub follows-packet : (config : Configuration) (link : LinkType) (within moment number : ℕ) (frame : List ℕ) (r : Checked)
+pub follows-packet : (config : Configuration) (link : LinkType) (within moment number : ℕ) (back : Bool) (frame : List ℕ) (r : Checked)
     → Follows within config.timing (packet_passage config link moment number frame r.basis.packets r.link) r
-    (with_packet config link within moment number frame r)
+    (with_packet config link within moment number back frame r)
 unfolding with_packet
-follows-packet config link within moment number frame r =
+follows-packet config link within moment number back frame r =
     let before = ticked_through config within moment r in
     let ticks = follows-ticks (moment + 1) config within (moment + 1) r in
     let datagram = datagram_of config.family (carried_in link frame) in
-    let counted = noted config link frame datagram before.checked in
+    let counted = noted config link back frame datagram before.checked in
     let frame_in = follows-frame config link within moment number frame datagram counted in
     let counts : counted.basis.packets ≡ counted_up (ticks_through config moment r.basis.packets r.link).packets =
-    frame_packets config.family link frame (carried_in link frame) datagram before.checked.basis ∙ ap counted_up ticks.packets in
+    frame_packets config.family link frame (carried_in link frame) datagram (basis.with_packet back before.checked.basis) ∙ ap counted_up ticks.packets in
     follows-behind within config.timing (ticks_through config moment r.basis.packets r.link) _ r before _ ticks
     (subst (λ (n : ℕ). Follows within config.timing
     (frame_passage config link moment number frame datagram n (ticks_through config moment r.basis.packets r.link).link) before.checked

@@ -7,7 +7,7 @@ use Rattle.mq_pcap.specs.Capture.{Captured}
 use Rattle.mq_table.specs.declared.timing.Timing.{Timing}
 use Rattle.mq_link.specs.Configuration.{Configuration}
 use Rattle.mq_link.specs.State.{LinkState, link_at}
-use Rattle.mq_replay.specs.Listing.{moment_of}
+use Rattle.mq_replay.specs.Listing.{goes_back, moment_of}
 use Rattle.mq_replay.specs.Report.{is_gap}
 use Rattle.mq_check.specs.declared.basis.Basis.{Basis}
 use Rattle.mq_check.specs.declared.check_fault.CheckFault.{CheckFault}
@@ -37,7 +37,8 @@ gap_is config link within first before number packet packets r is = rw (is, with
 full_is : (config : Configuration) (link : LinkType) (within : ℕ) (first : Option ℕ) (before number : ℕ) (packet : Captured) (packets : List Captured)
     (r : Checked)
     → is_gap before (moment_of first before packet.stamp) ≡ false
-    → (with_packet config link within (moment_of first before packet.stamp) number packet.bytes r).checked.checking.waiting.is_full ≡ true
+    → (with_packet config link within (moment_of first before packet.stamp) number (goes_back first before packet.stamp)
+    packet.bytes r).checked.checking.waiting.is_full ≡ true
     → (with_packets config link within first before number (packet ∷ packets) r).fault ≡ Some (Waiting number)
 unfolding with_packets
 full_is config link within first before number packet packets r is full = rw (is, full, with_packets) refl
@@ -45,8 +46,9 @@ full_is config link within first before number packet packets r is full = rw (is
 rest_is : (config : Configuration) (link : LinkType) (within : ℕ) (first : Option ℕ) (before number : ℕ) (packet : Captured) (packets : List Captured)
     (r : Checked)
     → is_gap before (moment_of first before packet.stamp) ≡ false
-    → (with_packet config link within (moment_of first before packet.stamp) number packet.bytes r).checked.checking.waiting.is_full ≡ false
-    → (let after = with_packet config link within (moment_of first before packet.stamp) number packet.bytes r in
+    → (with_packet config link within (moment_of first before packet.stamp) number (goes_back first before packet.stamp)
+    packet.bytes r).checked.checking.waiting.is_full ≡ false
+    → (let after = with_packet config link within (moment_of first before packet.stamp) number (goes_back first before packet.stamp) packet.bytes r in
     let rest = with_packets config link within (Some (unwrap_or first packet.stamp)) (moment_of first before packet.stamp) (number + 1) packets after.checked in
     with_packets config link within first before number (packet ∷ packets) r ≡ record rest { found = after.found ++ rest.found })
 unfolding with_packets
@@ -65,7 +67,7 @@ unfolding with_packets packets_passage
 follows-packets config link within first before number [] r whole = record { follows = follows-nothing within config.timing r; moment = refl }
 follows-packets config link within first before number (packet ∷ packets) r whole =
     let moment = moment_of first before packet.stamp in
-    let after = with_packet config link within moment number packet.bytes r in
+    let after = with_packet config link within moment number (goes_back first before packet.stamp) packet.bytes r in
     let rest = with_packets config link within (Some (unwrap_or first packet.stamp)) moment (number + 1) packets after.checked in
     elim (is_gap before moment) as (λ b. is_gap before moment ≡ b
     → FollowsAll within config.timing (packets_passage config link first before number (packet ∷ packets) r.basis.packets r.link)
@@ -79,7 +81,7 @@ follows-packets config link within first before number (packet ∷ packets) r wh
                 (let two : Some (Waiting number) ≡ None = sym (full_is config link within first before number packet packets r near full) ∙ whole in cc)
             | false ↦ λ room.
                 let is = rest_is config link within first before number packet packets r near room in
-                let one = follows-packet config link within moment number packet.bytes r in
+                let one = follows-packet config link within moment number (goes_back first before packet.stamp) packet.bytes r in
                 let more = follows-packets config link within (Some (unwrap_or first packet.stamp)) moment (number + 1) packets after.checked
                 (ap (λ (c : Course). c.fault) (sym is) ∙ whole) in
                 let this = packet_passage config link moment number packet.bytes r.basis.packets r.link in

@@ -17,7 +17,7 @@ use Rattle.mq_pcap.proofs.FileHeader.{header_of-append}
 use Rattle.mq_pcap.proofs.Filled.{Takes-nil, Takes-trans}
 use Rattle.mq_replay.specs.declared.stamps.Stamps.{Stamps}
 use Rattle.mq_replay.specs.declared.walking.Walked.{Walked}
-use Rattle.mq_replay.specs.Listing.{moment_of}
+use Rattle.mq_replay.specs.Listing.{goes_back, moment_of}
 use Rattle.mq_replay.specs.PlacedPackets.{PlacedPacket}
 use Rattle.mq_replay.specs.Replaying.{ReadCapture}
 use Rattle.mq_replay.specs.Walking.{EndsWalk, IsBrokenOff, IsEndedByFault, IsStopped, Place, StepsOver, Walks, WalksBehind, at_first, place_behind, placed}
@@ -89,13 +89,14 @@ module _ {X E : Type 0} (takes : PlacedPacket → X → X → Result Unit E → 
       }
 
   -- a packet as the code hands it on
-  pub placed_as : (link link' : LinkType) (stamps stamps' : Stamps) (last moment number stamp : ℕ) (frame : List ℕ) (x x' : X) (r : Result Unit E)
+  pub placed_as : (link link' : LinkType) (stamps stamps' : Stamps) (last moment number stamp : ℕ) (back : Bool) (frame : List ℕ) (x x' : X) (r : Result Unit E)
       → link ≡ link' → last ≡ stamps.before → moment ≡ moment_of stamps.first stamps.before stamp
-      → takes (record { number = number + 1; before = last; moment = moment; link = link; frame = frame }) x x' r
+      → back ≡ goes_back stamps.first stamps.before stamp
+      → takes (record { number = number + 1; before = last; moment = moment; goes_back = back; link = link; frame = frame }) x x' r
       → takes (placed link' (record { first = stamps.first; before = stamps.before; number = number + 1 }) (record { stamp = stamp; bytes = frame })) x x' r
-  placed_as link link' stamps stamps' last moment number stamp frame x x' r is_link is_last is_moment step =
+  placed_as link link' stamps stamps' last moment number stamp back frame x x' r is_link is_last is_moment is_back step =
       subst (λ (p : PlacedPacket). takes p x x' r)
-      (λ i. record { number = number + 1; before = is_last i; moment = is_moment i; link = is_link i; frame = frame }) step
+      (λ i. record { number = number + 1; before = is_last i; moment = is_moment i; goes_back = is_back i; link = is_link i; frame = frame }) step
 
 -- the moments of a walk are in range
 pub moment_within : (moment : ℕ) (first : Option ℕ) (before stamp : ℕ) → moment ≡ moment_of first before stamp → stamp ≤ 2 ^ 53 → before ≤ 2 ^ 53 →

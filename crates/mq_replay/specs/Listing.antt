@@ -1,5 +1,5 @@
 -- The listing of a capture: a line for each of its packets.
-use Rattle.std.specs.Prelude.{◌≡◌, ◌⊎◌, ℕ, ◌+◌, ◌-◌, max, Bool, false, true, List, [], ◌∷◌, ◌++◌, length, Option, None, Some, Result, Ok, Err, unwrap_or, codes}
+use Rattle.std.specs.Prelude.{◌≡◌, ◌⊎◌, ℕ, ◌+◌, ◌-◌, max, nat_lt, Bool, false, true, List, [], ◌∷◌, ◌++◌, length, Option, None, Some, Result, Ok, Err, unwrap_or, codes}
 use Rattle.std.specs.Fmt.{decimal}
 use Rattle.std.specs.Io.KnownBytes.{Appends, IsAtEnd}
 use Rattle.mq_pcap.specs.declared.fault.PcapFault.{PcapFault}
@@ -44,6 +44,11 @@ IsPacketLine link number moment frame line =
 -- greater, it is that moment. The moment of the first packet is 0.
 abbrev pub moment_of : (first : Option ℕ) (before stamp : ℕ) → ℕ
 moment_of first before stamp = max (stamp - unwrap_or first stamp) before
+
+-- A stamp goes back if it is less than that of the first packet and the moment of the packet before together. The moment
+-- of its packet is then that of the packet before.
+abbrev pub goes_back : (first : Option ℕ) (before stamp : ℕ) → Bool
+goes_back first before stamp = nat_lt stamp (unwrap_or first stamp + before)
 
 -- The lines of packets, one after the other. `number` is that of the next packet, and its moment is counted from
 -- `first` and `before`.

@@ -7,7 +7,7 @@ use Rattle.mq_pcap.specs.declared.link_type.LinkType.{LinkType}
 use Rattle.mq_pcap.specs.Capture.{Captured, Captures, AreRecords, endless, is_read}
 use Rattle.mq_pcap.specs.Filling.{InputState, Takes}
 use Rattle.mq_replay.specs.declared.walking.Walked.{Walked}
-use Rattle.mq_replay.specs.Listing.{IsOfTheFile, moment_of}
+use Rattle.mq_replay.specs.Listing.{IsOfTheFile, goes_back, moment_of}
 use Rattle.mq_replay.specs.PlacedPackets.{PlacedPacket}
 use Rattle.mq_replay.specs.Replaying.{ReadCapture}
 
@@ -27,6 +27,7 @@ placed link at packet = record {
   number = at.number;
   before = at.before;
   moment = moment_of at.first at.before packet.stamp;
+  goes_back = goes_back at.first at.before packet.stamp;
   link = link;
   frame = packet.bytes;
 }

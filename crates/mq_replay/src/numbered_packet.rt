@@ -16,6 +16,8 @@ pub struct NumberedPacket<'a> {
     pub before: Stamp,
     /// The moment of the packet.
     pub moment: Stamp,
+    /// True if its stamp goes back: it is less than the stamp that the moment of the packet before comes from.
+    pub goes_back: bool,
     /// The link type of the capture.
     pub link: LinkType,
     /// The captured bytes.

@@ -1,7 +1,7 @@
 //! The moments of a capture's packets, from their stamps.
 
 ghost use Rattle.std.specs.Prelude.{◌≡◌, unwrap_or, Some};
-ghost use Rattle.mq_replay.specs.Listing.{moment_of};
+ghost use Rattle.mq_replay.specs.Listing.{goes_back, moment_of};
 
 use mq_count::Moment;
 
@@ -23,6 +23,14 @@ impl Stamps {
             first: None,
             before: 0,
         }
+    }
+
+    /// Returns whether the stamp of the next packet goes back: its moment is then not that of its stamp.
+    pub fn goes_back(&self, stamp: u64) -> bool
+        ensures { result ≡ goes_back self.now.first self.now.before stamp }
+    {
+        let start = self.first.unwrap_or(stamp);
+        u128::from(stamp) < u128::from(start) + u128::from(self.before)
     }
 
     /// Returns the moment of the next packet.

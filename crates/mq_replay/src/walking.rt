@@ -40,6 +40,7 @@ pub trait Step<O> {
           number = packet.now.number;
           before = packet.now.before;
           moment = packet.now.moment;
+          goes_back = packet.now.goes_back;
           link = packet.now.link;
           frame = packet.now.frame.now;
         }) (self.old, output.old) (self.new, output.new) result };
@@ -84,11 +85,13 @@ fn walk_packets<O, T: Step<O>, S: Supply, R: Read>(
     let mut last = Stamp::of(0);
     while let Some(read) = capture.next(reader, packet)? {
         packets += 1;
+        let goes_back = stamps.goes_back(read.stamp_ms);
         let moment = Stamp::of(stamps.moment_of_next(read.stamp_ms));
         let next = NumberedPacket {
             number: packets,
             before: last,
             moment,
+            goes_back,
             link: capture.link(),
             frame: &packet[..read.length],
             may_wait: capture.may_wait(supply),

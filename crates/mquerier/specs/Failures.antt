@@ -3,7 +3,7 @@ use Rattle.std.specs.Prelude.{ℕ, zero, suc, ◌-◌, ◌==◌, Bool, true, fal
 use Rattle.std.specs.List.{flat_map}
 use Rattle.std.specs.Fmt.{decimal}
 use Rattle.mq_check.specs.declared.unjudged.Unjudged.{Unjudged}
-use Rattle.mq_check.specs.declared.unjudged.Unjudged.TheVariants.{NotUnderstood, NoMessage, NoQuery}
+use Rattle.mq_check.specs.declared.unjudged.Unjudged.TheVariants.{NotUnderstood, OutOfOrder, NoMessage, NoQuery}
 use Rattle.mq_convert.specs.declared.counts.ConvertCounts.{ConvertCounts}
 use Rattle.mq_convert.specs.declared.fault.BlockFault.{BlockFault}
 use Rattle.mq_convert.specs.declared.fault.BlockFault.TheVariants as block
@@ -104,6 +104,8 @@ counts_lines counts = (repeated_line counts.repeated ++ dropped_line counts.drop
 abbrev pub unjudged_line : Unjudged → List ℕ
 unjudged_line NotUnderstood =
     codes "mquerier: nothing judged: every second packet or more is cut or isn't read\n"
+unjudged_line OutOfOrder =
+    codes "mquerier: nothing judged: every second packet or more has a stamp that goes back\n"
 unjudged_line NoMessage = codes "mquerier: nothing judged: there is no message of this family\n"
 unjudged_line NoQuery =
     codes "mquerier: nothing judged: no query from this address was seen, and none is missing\n"

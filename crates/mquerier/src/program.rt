@@ -333,6 +333,9 @@ fn unjudged_line_of(why: Unjudged) -> &'static [u8]
         Unjudged::NotUnderstood => {
             b"mquerier: nothing judged: every second packet or more is cut or isn't read\n"
         }
+        Unjudged::OutOfOrder => {
+            b"mquerier: nothing judged: every second packet or more has a stamp that goes back\n"
+        }
         Unjudged::NoMessage => b"mquerier: nothing judged: there is no message of this family\n",
         Unjudged::NoQuery => {
             b"mquerier: nothing judged: no query from this address was seen, and none is missing\n"

@@ -40,8 +40,8 @@ loop-read-preserved g c =
     let read = read_as _ _ _ _ _ _ _ _ _ now.form now.next answered (c.in_ok-read.ensures.reads now.reading) in
     let form = c.next.ensures.form ∙ now.form in
     let is_moment = c.of-moment.ensures ∙ c.moment_of_next.ensures.moment in
-    let step = placed_as g.T.Step.takes _ _ c.loop-read.stamps c.moment_of_next.new.self _ _ _ _ _ _ _ _
-    (c.link.ensures ∙ ap (λ (f : Form). f.link) form) now.last is_moment c.in_ok-packet.ensures in
+    let step = placed_as g.T.Step.takes _ _ c.loop-read.stamps c.moment_of_next.new.self _ _ _ _ _ _ _ _ _
+    (c.link.ensures ∙ ap (λ (f : Form). f.link) form) now.last is_moment c.goes_back-goes_back.ensures c.in_ok-packet.ensures in
     let place = place_as c.loop-read.stamps c.moment_of_next.new.self _ (c.loop-read.packets + 1) c.in-Some.read.stamp_ms
     c.moment_of_next.ensures.after c.moment_of_next.ensures.moment in
     record {
@@ -77,8 +77,8 @@ returns-in_err-packet g c =
     let read = read_as _ _ _ _ _ _ _ _ _ now.form now.next answered (c.in_ok-read.ensures.reads now.reading) in
     let form = c.next.ensures.form ∙ now.form in
     let is_moment = c.of-moment.ensures ∙ c.moment_of_next.ensures.moment in
-    let step = placed_as g.T.Step.takes _ _ c.loop-read.stamps c.moment_of_next.new.self _ _ _ _ _ _ _ _
-    (c.link.ensures ∙ ap (λ (f : Form). f.link) form) now.last is_moment c.in_err-packet.ensures in
+    let step = placed_as g.T.Step.takes _ _ c.loop-read.stamps c.moment_of_next.new.self _ _ _ _ _ _ _ _ _
+    (c.link.ensures ∙ ap (λ (f : Form). f.link) form) now.last is_moment c.goes_back-goes_back.ensures c.in_err-packet.ensures in
     rw (p.1, p.2) (walked_in_part _ _ _ _ _ _ _ _ _ _ _ c.in-Some.read _ now.walked now.read read step)
 
 pub returns : goal.returns
