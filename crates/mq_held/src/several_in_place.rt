@@ -1,6 +1,6 @@
 //! The timers of several sources, set where their group's row is stored.
 
-ghost use Rattle.std.specs.Prelude.{◌≡◌, ℕ, ◌+◌, ◌-◌, ◌*◌, ◌<◌, ◌≤◌, [], true, length, map as list_map, min, nat_lt, slice_index_or, slice_set, is_some, if◌then◌else◌, IfSome, MatchOption, Some};
+ghost use Rattle.std.specs.Prelude.{◌≡◌, ℕ, ◌+◌, ◌-◌, ◌*◌, ◌<◌, ◌≤◌, [], true, length, map as list_map, min, nat_lt, slice_index_or, slice_set, if◌then◌else◌, MatchOption, Some};
 ghost use Rattle.std.specs.FinMap as map;
 ghost use Rattle.std.specs.List.{HoldsAt, list_all, list_any};
 ghost use Rattle.mq_count.specs.Spending.{Spends};
@@ -12,7 +12,7 @@ ghost use Rattle.mq_held.specs.Groups.{group_at, running_in, sources_of};
 ghost use Rattle.mq_held.specs.Held.{HasNumber, IsNumber};
 ghost use Rattle.mq_held.specs.Moments.{moments_of};
 ghost use Rattle.mq_held.specs.Restarted as group_then;
-ghost use Rattle.mq_held.specs.Restarted.{StandsFrom, most_looked, most_set};
+ghost use Rattle.mq_held.specs.Restarted.{RestartsEach, StandsFrom, most_looked, most_set};
 ghost use Rattle.mq_held.specs.Stored.{earliest_of, group_of};
 
 use crate::held_groups::HeldGroups;
@@ -151,23 +151,14 @@ impl<K: Key, A: Allocator> HeldGroups<K, A> {
     ) -> Option<bool>
         requires number { IsNumber self.old number }
         requires named { IsAscending K.number named.now }
-        ensures all { (address : ℕ) → HasNumber self.old address number →
-            is_some result ≡ group_then.has_each (list_map K.number named.now) (group_at self.old.groups address) }
-        ensures stopped { (address : ℕ) → HasNumber self.old address number →
-            IfSome result (λ stopped. stopped ≡ group_then.some_stopped (list_map K.number named.now) (group_at self.old.groups address)) }
-        ensures groups { (address : ℕ) → HasNumber self.old address number →
-            let changed = group_then.restarted_each deadline (list_map K.number named.now) (group_at self.old.groups address) in
-            let groups = if is_some result then map.insert self.old.groups address changed else self.old.groups in
-            self.new ≡ record self.old { groups = groups } }
+        ensures effect { (address : ℕ) → HasNumber self.old address number →
+            RestartsEach K.number address deadline named.now result self.old self.new moves.old moves.new }
         ensures spent { (address : ℕ) → HasNumber self.old address number →
             let size = sources_of (group_at self.old.groups address) in
             let others = running_in self.old.groups - 1 in
             let count = length named.now in
             MatchOption result (Spends 0 (most_looked size count) m.old m.new)
             (λ _. Spends count (most_set size count (bitlen others)) m.old m.new) }
-        ensures moved { let others = running_in self.old.groups - 1 in
-            let count = length named.now in
-            MatchOption result (moves.new ≡ moves.old) (λ _. Spends count (count + 1 + bitlen others) moves.old moves.new) }
     {
         if named.is_empty() {
             self.lemma_is_numbered();
@@ -194,23 +185,14 @@ impl<K: Key, A: Allocator> HeldGroups<K, A> {
         requires number { IsNumber self.old number }
         requires named { IsAscending K.number named.now }
         requires some { 0 < length named.now }
-        ensures all { (address : ℕ) → HasNumber self.old address number →
-            is_some result ≡ group_then.has_each (list_map K.number named.now) (group_at self.old.groups address) }
-        ensures stopped { (address : ℕ) → HasNumber self.old address number →
-            IfSome result (λ stopped. stopped ≡ group_then.some_stopped (list_map K.number named.now) (group_at self.old.groups address)) }
-        ensures groups { (address : ℕ) → HasNumber self.old address number →
-            let changed = group_then.restarted_each deadline (list_map K.number named.now) (group_at self.old.groups address) in
-            let groups = if is_some result then map.insert self.old.groups address changed else self.old.groups in
-            self.new ≡ record self.old { groups = groups } }
+        ensures effect { (address : ℕ) → HasNumber self.old address number →
+            RestartsEach K.number address deadline named.now result self.old self.new moves.old moves.new }
         ensures spent { (address : ℕ) → HasNumber self.old address number →
             let size = sources_of (group_at self.old.groups address) in
             let others = running_in self.old.groups - 1 in
             let count = length named.now in
             MatchOption result (Spends 0 (size + bitlen size) m.old m.new)
             (λ _. Spends count (3 * size + bitlen size + count + 4 + bitlen others) m.old m.new) }
-        ensures moved { let others = running_in self.old.groups - 1 in
-            let count = length named.now in
-            MatchOption result (moves.new ≡ moves.old) (λ _. Spends count (count + 1 + bitlen others) moves.old moves.new) }
     {
         let row = self.sources.row(number);
         if !has_each(row, named, m) {

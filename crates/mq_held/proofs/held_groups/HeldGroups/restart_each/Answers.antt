@@ -1,13 +1,12 @@
-use Rattle.std.proofs.Common.{◌+◌, ◌-◌, ◌*◌, cond, List, length, sym, ap, ◌∙◌, arith}
-use Rattle.std.specs.Prelude.{map as list_map}
-use Rattle.std.specs.FinMap as map
+use Rattle.std.proofs.Common.{◌+◌, ◌-◌, ◌*◌, false, Some, cond, List, length, sym, ap, subst, ◌∙◌, arith, rules}
+use Rattle.std.proofs.lemmas.Grind.{common_steps}
 use Rattle.std.proofs.lemmas.Bool.{eq-eqb, eqb-true}
 use Rattle.std.proofs.lemmas.List.{nil_from_length}
 use Rattle.mq_count.proofs.Spent.{Spends-within}
 use Rattle.mq_sets.specs.Search.{bitlen}
 use Rattle.mq_held.specs.Groups.{Groups, group_at, running_in, sources_of}
 use Rattle.mq_held.specs.Held.{HeldState}
-use Rattle.mq_held.specs.Restarted.{restarted_each}
+use Rattle.mq_held.specs.Restarted.{RestartsEach}
 use Rattle.mq_held.proofs.Inside.{group_found}
 use Rattle.mq_held.proofs.RestartedTimers.{insert-same}
 use Rattle.mq_held.proofs.held_groups.HeldGroups.restart_each.Goals as goal
@@ -30,11 +29,14 @@ returns-in-None-clause-spent g c address has =
     Spends-within _ _ spent (omega arith) (omega (arith, most))
 
 -- the timers of no sources: the group is put where it is
-pub returns-then-is_empty-clause-groups : goal.returns-then-is_empty-clause-groups
-returns-then-is_empty-clause-groups g c address has =
+pub returns-then-is_empty-clause-effect : goal.returns-then-is_empty-clause-effect
+returns-then-is_empty-clause-effect g c address has =
     let self = c.args.self.now in
-    let e = group_at self.groups address in
     let none = nil_from_length c.args.named.now (eqb-true (length c.args.named.now) 0 (sym c.is_empty.ensures ∙ c.if-is_empty.true)) in
-    let same = insert-same self.groups address e (group_found self.groups address (c.lemma_is_numbered.ensures.of_one address c.args.number has)) in
-    ap (λ (groups : Groups). let s : HeldState = record self { groups = groups } in s)
-    (sym same ∙ ap (λ (named : List _). map.insert self.groups address (restarted_each c.args.deadline (list_map g.K.Key.number named) e)) (sym none))
+    let same = insert-same self.groups address _ (group_found self.groups address (c.lemma_is_numbered.ensures.of_one address c.args.number has)) in
+    let groups = ap (λ (groups : Groups). let s : HeldState = record self { groups = groups } in s) (sym same) in
+    subst (λ (named : List _). RestartsEach g.K.Key.number address c.args.deadline named (Some false) self self c.args.moves.now c.args.moves.now) (sym none)
+    (record { all = search rules; stopped = search rules; groups = groups; moved = search rules })
+
+pub returns-in-None-clause-effect : goal.returns-in-None-clause-effect
+returns-in-None-clause-effect g c address has = grind (arith, common_steps, c.restart.ensures.before address has, c.restart.ensures.groups address has)

@@ -1,4 +1,4 @@
-use Rattle.std.proofs.Common.{cond, ◌∙◌, length, get_or, min, Some, arith, ap, sym, subst}
+use Rattle.std.proofs.Common.{cond, rules, ◌∙◌, length, get_or, min, Some, arith, ap, sym, subst}
 use Rattle.std.specs.Prelude.{map as list_map}
 use Rattle.std.specs.List.{list_all}
 use Rattle.std.proofs.lemmas.Bool.{lt-ltb}
@@ -36,15 +36,16 @@ pub has_each-requires-clause-ascending : goal.has_each-requires-clause-ascending
 has_each-requires-clause-ascending g c =
     subst (IsAscending (number_in g.K.Key.number)) (sym c.row-row.ensures.cells) (at_so g (goal.at.has_each-requires-clause-ascending g c).After-self).up
 
-pub returns-then-not-has_each-clause-all : goal.returns-then-not-has_each-clause-all
-returns-then-not-has_each-clause-all g c address has =
-    let l = at_so g (goal.at.returns-then-not-has_each-clause-all g c).After-self in
+pub returns-then-not-has_each-clause-effect : goal.returns-then-not-has_each-clause-effect
+returns-then-not-has_each-clause-effect g c address has =
+    let l = at_so g (goal.at.returns-then-not-has_each-clause-effect g c).After-self in
     let names = list_map g.K.Key.number c.args.named.now in
-    sym c.if-not-has_each.true
+    let all = sym c.if-not-has_each.true
     ∙ c.has_each.ensures.all
     ∙ ap (λ xs. list_all (set_of (number_in g.K.Key.number) xs) names) c.row-row.ensures.cells
     ∙ sym (has_each-row g.K.Key.number (get_or c.self.inside.heads.items c.args.number no_head) (row_of c.self.inside c.args.number) names)
-    ∙ ap (has_each names) (sym (l.group has))
+    ∙ ap (has_each names) (sym (l.group has)) in
+    record { all = all; stopped = search rules; groups = search rules; moved = search rules }
 
 pub returns-then-not-has_each-clause-spent : goal.returns-then-not-has_each-clause-spent
 returns-then-not-has_each-clause-spent g c address has =
@@ -97,23 +98,19 @@ invariant_of-self g c =
     let moments = c.change_moment.ensures.moments c.moment-earliest.result c.moment-earliest.ensures in
     row-inside f.at _ set_row.rows f.head set_row.ascending (formed-each f _ c.args.deadline (set_row.group h)) first moments
 
-pub returns-clause-all : goal.returns-clause-all
-returns-clause-all g c address has =
-    let f = named_so g (goal.at.returns-clause-all g c).After-index in
-    sym f.all ∙ ap (has_each (list_map g.K.Key.number c.args.named.now)) (sym (f.at.group has))
-
-pub returns-clause-stopped : goal.returns-clause-stopped
-returns-clause-stopped g c address has =
-    let l = at_so g (goal.at.returns-clause-stopped g c).After-self in
-    c.restart_row-were.ensures.stopped ∙ ap (some_stopped (list_map g.K.Key.number c.args.named.now)) (sym (l.group has))
-
-pub returns-clause-groups : goal.returns-clause-groups
-returns-clause-groups g c address has =
-    let f = named_so g (goal.at.returns-clause-groups g c).After-index in
+pub returns-clause-effect : goal.returns-clause-effect
+returns-clause-effect g c address has =
+    let f = named_so g (goal.at.returns-clause-effect g c).After-index in
     let set_row = c.restart_row-were.ensures in
-    let change = restarted_each c.args.deadline (list_map g.K.Key.number c.args.named.now) in
-    let is = group-each f _ c.args.deadline (set_row.group c.index.result.now) ∙ ap change (sym (f.at.group has)) in
-    row-seen f.at _ set_row.rows f.head (change (group_at c.args.self.now.groups address)) has is
+    let names = list_map g.K.Key.number c.args.named.now in
+    let was = sym (f.at.group has) in
+    let is = group-each f _ c.args.deadline (set_row.group c.index.result.now) ∙ ap (restarted_each c.args.deadline names) was in
+    record {
+      all = sym f.all ∙ ap (has_each names) was;
+      stopped = set_row.stopped ∙ ap (some_stopped names) was;
+      groups = row-seen f.at _ set_row.rows f.head (restarted_each c.args.deadline names (group_at c.args.self.now.groups address)) has is;
+      moved = Spends-join_within _ _ set_row.moved c.change_moment.ensures.moved (omega arith) (omega (arith, f.at.others));
+    }
 
 pub returns-clause-spent : goal.returns-clause-spent
 returns-clause-spent g c address has =
@@ -123,8 +120,3 @@ returns-clause-spent g c address has =
     let size_then = ap length c.row-row-2.ensures.cells ∙ c.restart_row-were.ensures.len in
     let told = Spends-join (Spends-join c.has_each.ensures.spent c.restart_row-were.ensures.spent) c.earliest_then-due.ensures.spent in
     Spends-join_within _ _ told c.change_moment.ensures.spent (omega arith) (omega (arith, size, looked, size_then, ap bitlen (looked ∙ size), l.others))
-
-pub returns-clause-moved : goal.returns-clause-moved
-returns-clause-moved g c =
-    let l = at_so g (goal.at.returns-clause-moved g c).After-self in
-    Spends-join_within _ _ c.restart_row-were.ensures.moved c.change_moment.ensures.moved (omega arith) (omega (arith, l.others))

@@ -65,7 +65,7 @@ after_so g c = let number = g.F.Address.Key.number in restarted_each c.after-dea
 all_so : (g : Over) (c : After-restart_each g) → is_some c.restart_each.result ≡ true →
     (let number = g.F.Address.Key.number in has_each (list_map number c.args.named.now)
     (group_at c.args.storage.now.held.groups (number c.args.sought.address)) ≡ true)
-all_so g c there = sym (c.restart_each.ensures.all (g.F.Address.Key.number c.args.sought.address) (has_so g c)) ∙ there
+all_so g c there = sym (c.restart_each.ensures.effect _ (has_so g c)).all ∙ there
 
 formed_then : (g : Over) (c : After-restart_each g) → is_some c.restart_each.result ≡ true → IsWellFormed (after_so g c).group
 formed_then g c there =
@@ -79,7 +79,7 @@ left_so : (g : Over) (c : After-restart_each g) → is_some c.restart_each.resul
 left_so g c there =
     let a = g.F.Address.Key.number c.args.sought.address in
     let held = c.args.storage.now.held in
-    c.restart_each.ensures.groups a (has_so g c)
+    (c.restart_each.ensures.effect a (has_so g c)).groups
     ∙ ap (λ b. let s : HeldState = record held { groups = cond b (map.insert held.groups a (after_so g c)) held.groups } in s) there
 
 left_groups : (g : Over) (c : After-restart_each g) → is_some c.restart_each.result ≡ true →
@@ -129,7 +129,7 @@ returns-clause-changes g c = if_some _ c.restart_each.result (λ changes_it is.
     let before = group_at groups a in
     let sources = list_map number c.args.named.now in
     let there = ap is_some is in
-    let stopped = rw is at c.restart_each.ensures.stopped a (has_so g c) in
+    let stopped = rw is at (c.restart_each.ensures.effect a (has_so g c)).stopped in
     stopped
     ∙ sym (filter-restarted_each c.after-deadline.result sources before (all_so g c there)
     (no_stopped at a c.in_ok-_kind._kind (named_in number c.args.named.now) groups c.in_ok-_kind.ensures.1 c.requires.sound (held_so g c) (quiet_so g c)))
@@ -138,7 +138,7 @@ returns-clause-changes g c = if_some _ c.restart_each.result (λ changes_it is.
 
 pub returns-clause-kept : goal.returns-clause-kept
 returns-clause-kept g c =
-    let left = c.restart_each.ensures.groups (g.F.Address.Key.number c.args.sought.address) (has_so g c) in
+    let left = (c.restart_each.ensures.effect _ (has_so g c)).groups in
     left ∙ (λ i. let s : HeldState = record c.args.storage.now.held { groups = (sym left i).groups } in s)
 
 -- nothing changes, where it is None
@@ -146,12 +146,12 @@ unchanged_so : (g : Over) (c : After-restart_each g) → c.restart_each.result �
 unchanged_so g c none =
     let a = g.F.Address.Key.number c.args.sought.address in
     let held = c.args.storage.now.held in
-    c.restart_each.ensures.groups a (has_so g c)
+    (c.restart_each.ensures.effect a (has_so g c)).groups
     ∙ ap (λ (o : Option Bool). let s : HeldState = record held { groups = cond (is_some o) (map.insert held.groups a (after_so g c)) held.groups } in s) none
 
 pub returns-clause-none : goal.returns-clause-none
 returns-clause-none g c none =
-    let unmoved = rw none at c.restart_each.ensures.moved in
+    let unmoved = rw none at (c.restart_each.ensures.effect _ (has_so g c)).moved in
     λ i. record { held = unchanged_so g c none i; meter = c.restart_each.new.m; moves = unmoved i }
 
 pub returns-clause-spent : goal.returns-clause-spent
@@ -172,7 +172,7 @@ pub returns-clause-moves : goal.returns-clause-moves
 returns-clause-moves g c = on_some c.restart_each.result (λ there.
     by_option c.restart_each.result
     (λ none. absurd (Rattle.std.proofs.lemmas.Bool.true≢false (sym there ∙ ap is_some none)))
-    (λ x is. let moved = rw is at c.restart_each.ensures.moved in Spends-within _ _ moved (omega arith) (omega (arith, digits_so g c))))
+    (λ x is. let moved = rw is at (c.restart_each.ensures.effect _ (has_so g c)).moved in Spends-within _ _ moved (omega arith) (omega (arith, digits_so g c))))
 
 pub returns-clause-moved : goal.returns-clause-moved
 returns-clause-moved g c =
@@ -184,11 +184,11 @@ returns-clause-moved g c =
     let most = few_groups c.args.self.now.config c.lemma_is_sound.ensures.faultless in
     let sixteen = few_digits (map.len groups) (omega (arith, few, most)) in
     by_option c.restart_each.result
-    (λ none. let unmoved = rw none at c.restart_each.ensures.moved in rw (unchanged_so g c none, unmoved)
+    (λ none. let unmoved = rw none at (c.restart_each.ensures.effect _ (has_so g c)).moved in rw (unchanged_so g c none, unmoved)
     (paid_within (count + moved_by_edit) (paid_none _ _) (omega arith)))
     (λ x is.
     let there = ap is_some is in
-    let moved = rw is at c.restart_each.ensures.moved in
+    let moved = rw is at (c.restart_each.ensures.effect _ (has_so g c)).moved in
     let same = put_by_same c.args.storage.now.held c.restart_each.new.self a (after_so g c) (left_so g c there)
     (size-restarted_each c.after-deadline.result (list_map number c.args.named.now) (group_at groups a) (all_so g c there)) (formed_then g c there)
     (formed_so g c) in
