@@ -15,21 +15,22 @@ use Rattle.mq_text.proofs.Passing.{both_passed, broken_behind, nothing_passed}
 use Rattle.mq_replay.specs.declared.walking.Walked.{Walked}
 use Rattle.mq_replay.specs.Listing.{goes_back, moment_of}
 use Rattle.mq_replay.specs.PlacedPackets.{PlacedPacket}
+use Rattle.mq_replay.specs.Faults.{is_failed_write}
 use Rattle.mq_replay.specs.Replaying.{ReadCapture}
 use Rattle.mq_replay.specs.Report.{is_gap}
 use Rattle.mq_replay.specs.Walking as walking
 use Rattle.mq_replay.specs.Walking.{IsBrokenOff, IsStopped, IsWalked, Place, StepsOver, StepsOverAll, Walks, at_first, place_behind, placed}
 use Rattle.mq_replay.proofs.WalkedOver.{steps_counted}
 use Rattle.mq_check.specs.declared.basis.Basis.{Basis}
-use Rattle.mq_check.specs.declared.check_fault.CheckFault.{CheckFault}
-use Rattle.mq_check.specs.declared.check_fault.CheckFault.TheVariants as answer
+use Rattle.mq_replay.specs.declared.capture_fault.CaptureFault.{CaptureFault}
+use Rattle.mq_replay.specs.declared.capture_fault.CaptureFault.TheVariants as answer
 use Rattle.mq_check.specs.declared.check_terms.Additions.{Additions}
 use Rattle.mq_check.specs.declared.check_terms.CheckTerms.{CheckTerms}
 use Rattle.mq_check.specs.declared.finding.Finding.{Finding}
 use Rattle.mq_check.specs.declared.totals.Totals.{Totals}
 use Rattle.mq_check.specs.Check.{Checked, Course, Outcome, Verdict, at_the_start, broken_off, check_of, concluded, ended_at, looked_ahead}
 use Rattle.mq_check.specs.Check.{settled_through, totals_of, verdict_behind, with_all_packets, with_packet, with_packets}
-use Rattle.mq_check.specs.CheckedCaptures.{IsEndedBy, is_failed_write, packets_text, verdict_of}
+use Rattle.mq_check.specs.CheckedCaptures.{IsEndedBy, packets_text, verdict_of}
 use Rattle.mq_check.specs.Checking.{CheckingValue, counted_up, told_at_end}
 use Rattle.mq_check.specs.Coming.{CheckState, ChecksPacket, Comes, TakesChecked, checked_in}
 use Rattle.mq_check.specs.Ending.{IsRestPut, IsVerdictPut, PutsVerdict, counted_behind, end_text, ended_behind, rest_behind}
@@ -235,7 +236,7 @@ lines_broken config terms family found told told' a b e is_family is_cite is_new
     subst (λ (t : List ℕ). GrowsByBeginning a.held b.held (told.held ++ t)) (told_lines config terms family found told is_family is_cite is_new) tells.text
 
 module _ {X : Type 0} (family : Family) (state : X → CheckState) where
-  abbrev takes : PlacedPacket → X → X → Result Unit CheckFault → Type 0
+  abbrev takes : PlacedPacket → X → X → Result Unit CaptureFault → Type 0
   takes packet x x' r = TakesChecked family packet (state x) (state x') r
 
   abbrev here : X → Checked
@@ -323,7 +324,7 @@ module _ {X : Type 0} (family : Family) (state : X → CheckState) where
           ∙ ap (course_behind all.found) (none_left config terms.within form.link to (here x'))
           ∙ (λ i. record { checked = here x'; found = append-nil all.found i; moment = to.before; fault = None })
 
-      abbrev Verdicts : (old new : InputState) (x' : X) → CheckFault → Type 0
+      abbrev Verdicts : (old new : InputState) (x' : X) → CaptureFault → Type 0
       Verdicts old new x' e = PutsVerdict config terms old new (state x).output.held (state x').output.held (state x).told.held (state x').told.held
           (Err e) × ((state x').output.failed ≡ (state x).output.failed || is_failed_write {T = Walked} (Err e)) × (e ≡ answer.Memory → ⊥)
 
@@ -404,7 +405,7 @@ module _ {X : Type 0} (family : Family) (state : X → CheckState) where
             omega (arith, count, numbered, is)
 
         -- the verdict where the last packet ends it
-        broken : (checked : Checked) (more : List (Finding ℕ)) (moment : ℕ) (e : CheckFault) →
+        broken : (checked : Checked) (more : List (Finding ℕ)) (moment : ℕ) (e : CaptureFault) →
             with_packets config form.link terms.within to.first to.before to.number (last ∷ []) (here between)
             ≡ record { checked = checked; found = more; moment = moment; fault = Some e }
             → verdict_of config terms stopped ≡ broken_off config terms.additions e (all.found ++ more)
@@ -474,14 +475,14 @@ module _ {X : Type 0} (family : Family) (state : X → CheckState) where
             )
 
       -- the walk ended early
-      pub verdict_early : (old new : InputState) (x' : X) (e : CheckFault) → Walks takes (λ f it. it ≡ answer.Pcap f) old new x x' (Err e) →
+      pub verdict_early : (old new : InputState) (x' : X) (e : CaptureFault) → Walks takes (λ f it. it ≡ answer.Pcap f) old new x x' (Err e) →
           Verdicts old new x' e
       verdict_early old new x' e walks = by_end walks.ended
         where
           c : ReadCapture
           c = walks.read
 
-          verdicts : (e : CheckFault) → IsEndedBy config terms c old new (Err e) →
+          verdicts : (e : CaptureFault) → IsEndedBy config terms c old new (Err e) →
               IsVerdictPut config terms c new (state x).output.held (state x').output.held (state x).told.held (state x').told.held (Err e)
               → PutsVerdict config terms old new (state x).output.held (state x').output.held (state x).told.held (state x').told.held (Err e)
           verdicts e ended put = record { read = c; takes = walks.takes_in; capture = walks.capture; ended = ended; put = put }
@@ -489,7 +490,7 @@ module _ {X : Type 0} (family : Family) (state : X → CheckState) where
           same : (it : IsStopped takes c old new x x' e) → record { bytes = c.bytes; header = Ok it.form; packets = it.some ++ it.last ∷ []; end = None } ≡ c
           same it = λ i. record { bytes = c.bytes; header = sym it.header i; packets = sym it.packets i; end = sym it.end i }
 
-          by_step : (it : IsStopped takes c old new x x' e) (e' : CheckFault) → takes (placed it.form.link it.to it.last) it.between x' (Err e') →
+          by_step : (it : IsStopped takes c old new x x' e) (e' : CaptureFault) → takes (placed it.form.link it.to it.last) it.between x' (Err e') →
               Verdicts old new x' e'
           by_step it (answer.Gap number) stops =
               let at = at_gap c old new x' it.form it.some it.last it.to it.between it.steps it.failed number stops in (
@@ -535,7 +536,7 @@ module _ {X : Type 0} (family : Family) (state : X → CheckState) where
           (all.same_terms, all.tells.failed ∙ or-false _)
 
       -- the walk came to the end of the capture, and the end was put
-      pub verdict_well : (old new : InputState) (x' : X) (w : Walked) (after : Option (List ℕ)) (left : List ℕ) (it : Result Totals CheckFault) →
+      pub verdict_well : (old new : InputState) (x' : X) (w : Walked) (after : Option (List ℕ)) (left : List ℕ) (it : Result Totals CaptureFault) →
           (state x).told.count ≡ 0 → Walks takes (λ f it. it ≡ answer.Pcap f) old new x x' (Ok w)
           → IsRestPut (rest_behind (state x').link.config (state x').terms.within (state x').terms.until (state x').told w.last (w.packets + 1)
           (here x')) (state x').output.held after (state x').told.held left it
@@ -606,12 +607,12 @@ module _ {X : Type 0} (family : Family) (state : X → CheckState) where
           answered : (verdict_of config terms c).answer ≡ rest.answer
           answered = ap (λ (v : Verdict). v.answer) verdict
 
-          verdicts : (it : Result Totals CheckFault) → IsEndedBy config terms c old new it →
+          verdicts : (it : Result Totals CaptureFault) → IsEndedBy config terms c old new it →
               IsVerdictPut config terms c new (state x).output.held after (state x).told.held left it →
               PutsVerdict config terms old new (state x).output.held after (state x).told.held left it
           verdicts it ended put = record { read = c; takes = walks.takes_in; capture = walks.capture; ended = ended; put = put }
 
-          by_answer : (it : Result Totals CheckFault) → IsRestPut rest (state x').output.held after (state x').told.held left it →
+          by_answer : (it : Result Totals CaptureFault) → IsRestPut rest (state x').output.held after (state x').told.held left it →
               PutsVerdict config terms old new (state x).output.held after (state x).told.held left it
           by_answer (Ok totals) p = verdicts _ (answered ∙ p.0, walked.at_end, walked.failed) (whole p.1)
           by_answer (Err (answer.Gap n)) p = verdicts _ (answered ∙ p.0, inr walked.at_end, walked.failed) (whole p.1)

@@ -7,8 +7,8 @@ use Rattle.mq_text.specs.Printing.{GrowsByBeginning, OutputState, Passes}
 use Rattle.mq_text.proofs.Passing.{broken_behind, broken_within, both_passed, nothing_passed}
 use Rattle.mq_replay.specs.Report.{is_gap}
 use Rattle.mq_check.specs.declared.basis.Basis.{Basis}
-use Rattle.mq_check.specs.declared.check_fault.CheckFault.{CheckFault}
-use Rattle.mq_check.specs.declared.check_fault.CheckFault.TheVariants as answer
+use Rattle.mq_replay.specs.declared.capture_fault.CaptureFault.{CaptureFault}
+use Rattle.mq_replay.specs.declared.capture_fault.CaptureFault.TheVariants as answer
 use Rattle.mq_check.specs.declared.check_terms.Additions.{Additions}
 use Rattle.mq_check.specs.declared.finding.Finding.{Finding}
 use Rattle.mq_check.specs.declared.totals.Totals.{Totals}
@@ -28,7 +28,7 @@ pub tells_in : {T E : Type 0} (family other : Family) (found : List (Finding ℕ
 tells_in {T} {E} family other found old new a b r same tells = subst (λ (f : Family). Tells {T = T} {E = E} f found old new a b r) same tells
 
 -- the same of a verdict that is named otherwise
-pub rest_as : (v w : Verdict) (before after : Option (List ℕ)) (held left : List ℕ) (r : Result Totals CheckFault) → v ≡ w →
+pub rest_as : (v w : Verdict) (before after : Option (List ℕ)) (held left : List ℕ) (r : Result Totals CaptureFault) → v ≡ w →
     IsRestPut v before after held left r → IsRestPut w before after held left r
 rest_as v w before after held left r same put = subst (λ (x : Verdict). IsRestPut x before after held left r) same put
 

@@ -12,18 +12,19 @@ use Rattle.mq_pcap.proofs.Filled.{Takes-nil}
 use Rattle.mq_link.specs.Configuration.{Configuration}
 use Rattle.mq_text.specs.Printing.{GrowsByBeginning, Passes}
 use Rattle.mq_text.proofs.Passing.{both_passed, broken_behind}
+use Rattle.mq_replay.specs.Faults.{is_failed_write}
 use Rattle.mq_replay.specs.Replaying.{ReadCapture}
 use Rattle.mq_replay.specs.Report.{is_gap}
 use Rattle.mq_replay.proofs.Headers.{cut_header}
-use Rattle.mq_check.specs.declared.check_fault.CheckFault.{CheckFault}
-use Rattle.mq_check.specs.declared.check_fault.CheckFault.TheVariants as answer
+use Rattle.mq_replay.specs.declared.capture_fault.CaptureFault.{CaptureFault}
+use Rattle.mq_replay.specs.declared.capture_fault.CaptureFault.TheVariants as answer
 use Rattle.mq_check.specs.declared.check_terms.Additions.{Additions}
 use Rattle.mq_check.specs.declared.check_terms.CheckTerms.{CheckTerms}
 use Rattle.mq_check.specs.declared.finding.Finding.{Finding}
 use Rattle.mq_check.specs.declared.totals.Totals.{Totals}
 use Rattle.mq_check.specs.Check.{Checked, Course, Outcome, Verdict, broken_off, check_of, concluded, ended_at, last_moment, looked_ahead}
 use Rattle.mq_check.specs.Check.{settled_through, verdict_behind, with_all_packets}
-use Rattle.mq_check.specs.CheckedCaptures.{Checks, IsBrokenOffAt, IsEndedBy, IsEndedByFault, IsWrittenBy, is_failed_write, packets_text, so_far}
+use Rattle.mq_check.specs.CheckedCaptures.{Checks, IsBrokenOffAt, IsEndedBy, IsEndedByFault, IsWrittenBy, packets_text, so_far}
 use Rattle.mq_check.specs.CheckedCaptures.{text_by, verdict_of}
 use Rattle.mq_check.specs.Checking.{told_at_end}
 use Rattle.mq_check.specs.Ending.{IsPutBy, PutsVerdict}
@@ -45,7 +46,7 @@ begun_text before mid after left text passed begun = subst (λ (t : List ℕ). G
 
 -- what was put where no write failed
 put_whole : (config : Configuration) (terms : CheckTerms) (c : ReadCapture) (new : InputState) (before mid : Option (List ℕ)) (held left : List ℕ)
-    (r : Result Totals CheckFault) → held ≡ [] → is_failed_write r ≡ false
+    (r : Result Totals CaptureFault) → held ≡ [] → is_failed_write r ≡ false
     → IsPutBy (is_failed_write r) config terms c new before mid held left r → Passes before mid [] left (text_by config terms c r)
 put_whole config terms c new before mid held left r none unlike put =
     subst (λ (h : List ℕ). Passes before mid h left (text_by config terms c r)) none
@@ -53,7 +54,7 @@ put_whole config terms c new before mid held left r none unlike put =
 
 -- the verdict was put and the rest of it written
 pub flushed : (config : Configuration) (terms : CheckTerms) (old new : InputState) (before mid after : Option (List ℕ)) (held left rest : List ℕ)
-    (r : Result Totals CheckFault) → held ≡ [] → rest ≡ [] → is_failed_write r ≡ false
+    (r : Result Totals CaptureFault) → held ≡ [] → rest ≡ [] → is_failed_write r ≡ false
     → PutsVerdict config terms old new before mid held left r → Passes mid after left rest [] → Checks config terms old new before after r
 flushed config terms old new before mid after held left rest r none empty unlike puts passed =
     record {
@@ -68,7 +69,7 @@ flushed config terms old new before mid after held left rest r none empty unlike
 
 -- a write failed before the end of the verdict
 pub not_put : (config : Configuration) (terms : CheckTerms) (old new : InputState) (before after : Option (List ℕ)) (held left : List ℕ)
-    (r : Result Totals CheckFault) → held ≡ [] → is_failed_write r ≡ true
+    (r : Result Totals CaptureFault) → held ≡ [] → is_failed_write r ≡ true
     → PutsVerdict config terms old new before after held left r → Checks config terms old new before after r
 not_put config terms old new before after held left r none is puts =
     record {
@@ -88,11 +89,11 @@ abbrev one_of : Bool → Verdict → Verdict → Verdict
 one_of b x y = elim b [ true ↦ x | false ↦ y ]
 
 -- A verdict that ends with a fault has the text of its packets alone, or too much waits at the end of the file.
-abbrev IsFaultText : (number : ℕ) → (end : Option PcapFault) → (packets : List ℕ) → Verdict → CheckFault → Type 0
+abbrev IsFaultText : (number : ℕ) → (end : Option PcapFault) → (packets : List ℕ) → Verdict → CaptureFault → Type 0
 IsFaultText number end packets v e = (v.text ≡ packets) ⊎ ((end ≡ None) × (e ≡ answer.Waiting number))
 
 fault_of_end : (config : Configuration) (within : ℕ) (additions : Additions) (moment number : ℕ) (found : List (Finding ℕ)) (r : Checked)
-    (packets : List ℕ) (e : CheckFault) → (ended_at config within additions moment number found r).answer ≡ Err e
+    (packets : List ℕ) (e : CaptureFault) → (ended_at config within additions moment number found r).answer ≡ Err e
     → IsFaultText number None packets (ended_at config within additions moment number found r) e
 unfolding ended_at
 fault_of_end config within additions moment number found r packets e is = by_room ahead.checked.checking.waiting.is_full is
@@ -117,7 +118,7 @@ fault_of_end config within additions moment number found r packets e is = by_roo
     by_room false is = absurd (cc is)
 
 fault_behind : (config : Configuration) (within : ℕ) (until : Option ℕ) (additions : Additions) (number : ℕ) (end : Option PcapFault)
-    (fault : Option CheckFault) (course : Course) (e : CheckFault) → (verdict_behind config within until additions number end fault course).answer ≡ Err e
+    (fault : Option CaptureFault) (course : Course) (e : CaptureFault) → (verdict_behind config within until additions number end fault course).answer ≡ Err e
     → IsFaultText number end (finding_lines config.family additions (all_reported additions course.found))
     (verdict_behind config within until additions number end fault course) e
 fault_behind config within until additions number end (Some f) course e is = inl refl
@@ -136,7 +137,7 @@ fault_behind config within until additions number None None course e is = by_gap
     by_gap false is = fault_of_end config within additions (last_moment until course) number course.found course.checked
         (finding_lines config.family additions (all_reported additions course.found)) e is
 
-fault_text : (config : Configuration) (terms : CheckTerms) (c : ReadCapture) (e : CheckFault) → (verdict_of config terms c).answer ≡ Err e →
+fault_text : (config : Configuration) (terms : CheckTerms) (c : ReadCapture) (e : CaptureFault) → (verdict_of config terms c).answer ≡ Err e →
     IsFaultText (length c.packets + 1) c.end (packets_text config terms c) (verdict_of config terms c) e
 fault_text config terms c e is = by_header c.header is
   where
@@ -150,7 +151,7 @@ fault_text config terms c e is = by_header c.header is
 
 -- one that ends with totals is that of a file without a fault
 whole_behind : (config : Configuration) (within : ℕ) (until : Option ℕ) (additions : Additions) (number : ℕ) (end : Option PcapFault)
-    (fault : Option CheckFault) (course : Course) (totals : Totals) → (verdict_behind config within until additions number end fault course).answer
+    (fault : Option CaptureFault) (course : Course) (totals : Totals) → (verdict_behind config within until additions number end fault course).answer
     ≡ Ok totals → end ≡ None
 whole_behind config within until additions number end (Some f) course totals is = absurd (cc is)
 whole_behind config within until additions number (Some f) None course totals is = absurd (cc is)
@@ -173,7 +174,7 @@ none_begun before after begun = let some = begun.some_left in let parts = ap len
 
 -- the verdict was put, and the rest of it was not written whole
 begun_of : (config : Configuration) (terms : CheckTerms) (c : ReadCapture) (old new : InputState) (before after : Option (List ℕ))
-    (r : Result Totals CheckFault) → is_failed_write r ≡ false
+    (r : Result Totals CaptureFault) → is_failed_write r ≡ false
     → IsEndedBy config terms c old new r → GrowsByBeginning before after (text_by config terms c r) → IsWrittenBy true config terms c new before after r
 begun_of config terms c old new before after (Ok totals) unlike ended begun = inr (whole_end config terms c totals ended.0, ended.1, begun)
 begun_of config terms c old new before after (Err answer.Write) unlike ended begun = absurd (cc unlike)
@@ -205,7 +206,7 @@ begun_of config terms c old new before after (Err (answer.Pcap f)) unlike ended 
         ]
 
 pub not_flushed : (config : Configuration) (terms : CheckTerms) (old new : InputState) (before mid after : Option (List ℕ)) (held left : List ℕ)
-    (r : Result Totals CheckFault) → held ≡ [] → is_failed_write r ≡ false
+    (r : Result Totals CaptureFault) → held ≡ [] → is_failed_write r ≡ false
     → PutsVerdict config terms old new before mid held left r → GrowsByBeginning mid after (left ++ []) →
     Checks config terms old new before after (Err answer.Write)
 not_flushed config terms old new before mid after held left r none unlike puts begun =

@@ -20,8 +20,8 @@ use Rattle.mq_link.specs.Tick.{Step, tick_of, next_of}
 use Rattle.mq_replay.specs.Listing.{goes_back, moment_of}
 use Rattle.mq_replay.specs.Report.{Datagram, datagram_of, all_sent, is_gap}
 use Rattle.mq_check.specs.declared.basis.Basis.{Basis}
-use Rattle.mq_check.specs.declared.check_fault.CheckFault.{CheckFault}
-use Rattle.mq_check.specs.declared.check_fault.CheckFault.TheVariants.{Pcap, Gap, Waiting}
+use Rattle.mq_replay.specs.declared.capture_fault.CaptureFault.{CaptureFault}
+use Rattle.mq_replay.specs.declared.capture_fault.CaptureFault.TheVariants.{Pcap, Gap, Waiting}
 use Rattle.mq_check.specs.declared.check_terms.Additions.{Additions}
 use Rattle.mq_check.specs.declared.finding.Finding.{Finding}
 use Rattle.mq_check.specs.declared.headers.HeaderFault.{HeaderFault}
@@ -210,7 +210,7 @@ pub record Course : Type 0 where
   pub checked : Checked
   pub found : List (Finding ℕ)
   pub moment : ℕ
-  pub fault : Option CheckFault
+  pub fault : Option CaptureFault
 
 -- The outcome of packets in order, up to the first gap or the first packet with too many pending entries. `number` is
 -- that of the next packet, and `first` is the stamp from which its moment is counted.
@@ -239,7 +239,7 @@ with_all_packets config within strict form packets =
 -- The verdict of a check: its text, and its totals or the reason why it ended early.
 pub record Verdict : Type 0 where
   pub text : List ℕ
-  pub answer : Result Totals CheckFault
+  pub answer : Result Totals CaptureFault
 
 -- the totals of a check with these reported findings
 abbrev pub totals_of : CheckingValue → Basis → List (Finding ℕ) → Totals
@@ -250,7 +250,7 @@ totals_of c basis found = record {
   basis = basis;
 }
 
-abbrev pub broken_off : Configuration → (additions : Additions) → CheckFault → List (Finding ℕ) → Verdict
+abbrev pub broken_off : Configuration → (additions : Additions) → CaptureFault → List (Finding ℕ) → Verdict
 broken_off config additions fault found = record {
   text = finding_lines config.family additions (all_reported additions found);
   answer = Err fault;
@@ -283,7 +283,7 @@ last_moment until course = max course.moment (unwrap_or until 0)
 
 -- The verdict after the packets: the end of the capture or its fault, unless the check has ended before. `number` is
 -- that of the next packet.
-abbrev pub verdict_behind : Configuration → (within : ℕ) → (until : Option ℕ) → (additions : Additions) → (number : ℕ) → (end : Option PcapFault) → (fault : Option CheckFault) → Course → Verdict
+abbrev pub verdict_behind : Configuration → (within : ℕ) → (until : Option ℕ) → (additions : Additions) → (number : ℕ) → (end : Option PcapFault) → (fault : Option CaptureFault) → Course → Verdict
 verdict_behind config within until additions number end (Some fault) course = broken_off config additions fault course.found
 verdict_behind config within until additions number (Some fault) None course =
     broken_off config additions (Pcap fault) course.found

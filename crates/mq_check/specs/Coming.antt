@@ -5,8 +5,8 @@ use Rattle.mq_link.specs.Link.{LinkValue}
 use Rattle.mq_text.specs.Printing.{OutputState}
 use Rattle.mq_replay.specs.PlacedPackets.{PlacedPacket}
 use Rattle.mq_replay.specs.Report.{is_gap}
-use Rattle.mq_check.specs.declared.check_fault.CheckFault.{CheckFault}
-use Rattle.mq_check.specs.declared.check_fault.CheckFault.TheVariants as answer
+use Rattle.mq_replay.specs.declared.capture_fault.CaptureFault.{CaptureFault}
+use Rattle.mq_replay.specs.declared.capture_fault.CaptureFault.TheVariants as answer
 use Rattle.mq_check.specs.declared.check_terms.CheckTerms.{CheckTerms}
 use Rattle.mq_check.specs.Check.{Checked, Outcome, with_packet}
 use Rattle.mq_check.specs.Telling.{ToldState, Tells}
@@ -40,7 +40,7 @@ pub record ChecksPacket {E : Type 0} (family : Family) (packet : PlacedPacket) (
       old.link new.link new.queries old.told new.told old.output new.output r
 
 -- the effect of a packet on a check, which ends with a gap before the packet or with too many pending entries after it
-abbrev pub TakesChecked : Family → PlacedPacket → CheckState → CheckState → Result Unit CheckFault → Type 0
+abbrev pub TakesChecked : Family → PlacedPacket → CheckState → CheckState → Result Unit CaptureFault → Type 0
 TakesChecked family packet old new (Ok u) =
     ChecksPacket {E = Unit} family packet old new (Ok u) × (new.queries.checking.waiting.is_full ≡ false)
 TakesChecked family packet old new (Err answer.Write) = ChecksPacket {E = Unit} family packet old new (Err tt)

@@ -6,17 +6,18 @@ use Rattle.mq_pcap.specs.Filling.{InputState, Takes}
 use Rattle.mq_wire.specs.Family.{Family}
 use Rattle.mq_link.specs.Configuration.{Configuration}
 use Rattle.mq_text.specs.Printing.{GrowsByBeginning, Passes}
+use Rattle.mq_replay.specs.Faults.{is_failed_write}
 use Rattle.mq_replay.specs.Replaying.{ReadCapture}
 use Rattle.mq_replay.specs.Report.{is_gap}
 use Rattle.mq_check.specs.declared.basis.Basis.{Basis}
-use Rattle.mq_check.specs.declared.check_fault.CheckFault.{CheckFault}
-use Rattle.mq_check.specs.declared.check_fault.CheckFault.TheVariants as answer
+use Rattle.mq_replay.specs.declared.capture_fault.CaptureFault.{CaptureFault}
+use Rattle.mq_replay.specs.declared.capture_fault.CaptureFault.TheVariants as answer
 use Rattle.mq_check.specs.declared.check_terms.Additions.{Additions}
 use Rattle.mq_check.specs.declared.check_terms.CheckTerms.{CheckTerms}
 use Rattle.mq_check.specs.declared.finding.Finding.{Finding}
 use Rattle.mq_check.specs.declared.totals.Totals.{Totals}
 use Rattle.mq_check.specs.Check.{Checked, Verdict, looked_ahead, settled_through}
-use Rattle.mq_check.specs.CheckedCaptures.{IsEndedBy, is_failed_write, packets_text, text_by, verdict_of}
+use Rattle.mq_check.specs.CheckedCaptures.{IsEndedBy, packets_text, text_by, verdict_of}
 use Rattle.mq_check.specs.Checking.{CheckingValue, told_at_end}
 use Rattle.mq_check.specs.FindingLines.{finding_lines, last_lines}
 use Rattle.mq_check.specs.General.{silence_up_to}
@@ -24,18 +25,18 @@ use Rattle.mq_check.specs.Telling.{ToldState, counted_times, reported_by}
 
 -- The text of the result was put. If a write failed, a prefix of the text of the packets was written, or a prefix of
 -- the verdict's if the file had ended.
-abbrev pub IsPutBy : (is_failed : Bool) → Configuration → CheckTerms → ReadCapture → InputState → (before after : Option (List ℕ)) → (held left : List ℕ) → Result Totals CheckFault → Type 0
+abbrev pub IsPutBy : (is_failed : Bool) → Configuration → CheckTerms → ReadCapture → InputState → (before after : Option (List ℕ)) → (held left : List ℕ) → Result Totals CaptureFault → Type 0
 IsPutBy true config terms c new before after held left r =
     GrowsByBeginning before after (held ++ packets_text config terms c)
     ⊎ ((c.end ≡ None) × IsAtEnd new.ahead × GrowsByBeginning before after (held ++ (verdict_of config terms c).text))
 IsPutBy false config terms c new before after held left r = Passes before after held left (text_by config terms c r)
 
-abbrev pub IsVerdictPut : Configuration → CheckTerms → ReadCapture → InputState → (before after : Option (List ℕ)) → (held left : List ℕ) → Result Totals CheckFault → Type 0
+abbrev pub IsVerdictPut : Configuration → CheckTerms → ReadCapture → InputState → (before after : Option (List ℕ)) → (held left : List ℕ) → Result Totals CaptureFault → Type 0
 IsVerdictPut config terms c new before after held left r = IsPutBy (is_failed_write r) config terms c new before after held left r
 
 -- the verdict of a capture was put
 pub record PutsVerdict (config : Configuration) (terms : CheckTerms) (old new : InputState) (before after : Option (List ℕ)) (held left : List ℕ)
-    (r : Result Totals CheckFault) : Type 0 where
+    (r : Result Totals CaptureFault) : Type 0 where
   pub read : ReadCapture
   pub takes : Takes old new read.bytes
   pub capture : Captures read.bytes read.header read.packets read.end
@@ -85,7 +86,7 @@ rest_behind config within until told last number r =
     ]
 
 -- the verdict was put, or a prefix of it was written
-abbrev pub IsRestPut : Verdict → (before after : Option (List ℕ)) → (held left : List ℕ) → Result Totals CheckFault → Type 0
+abbrev pub IsRestPut : Verdict → (before after : Option (List ℕ)) → (held left : List ℕ) → Result Totals CaptureFault → Type 0
 IsRestPut v before after held left (Ok totals) = (v.answer ≡ Ok totals) × Passes before after held left v.text
 IsRestPut v before after held left (Err (answer.Gap number)) =
     (v.answer ≡ Err (answer.Gap number)) × Passes before after held left v.text

@@ -8,6 +8,7 @@ ghost use Rattle.mq_count.specs.Streams.{inner_of, has_failed};
 ghost use Rattle.mq_link.specs.Sizes.{bytes_of_link, bytes_of_workspace};
 ghost use Rattle.mq_pcap.specs.Capture.{most_bytes};
 ghost use Rattle.mq_pcap.specs.Filling.{input_of};
+ghost use Rattle.mq_replay.specs.Faults as faults;
 ghost use Rattle.mq_check.specs.Check.{at_the_start};
 ghost use Rattle.mq_check.specs.CheckedCaptures as spec;
 ghost use Rattle.mq_check.specs.Coming.{checked_in};
@@ -15,7 +16,6 @@ ghost use Rattle.mq_check.specs.Ending.{PutsVerdict};
 ghost use Rattle.mq_check.specs.Sizes.{bytes_of_checking};
 ghost use Rattle.mq_check.specs.Telling.{nothing_told};
 
-use crate::check_fault::{CheckFault, is_failed_write};
 use crate::check_terms::CheckTerms;
 use crate::checked_family::CheckedFamily;
 use crate::checking::Checking;
@@ -26,7 +26,7 @@ use mq_count::Watched;
 use mq_lines::LineKey;
 use mq_link::{Config, Link};
 use mq_pcap::{GREATEST_PACKET, Supply};
-use mq_replay::{first_moment, walk};
+use mq_replay::{CaptureFault, first_moment, is_failed_write, walk};
 use std::alloc::{AllocError, Allocator};
 use std::io::{Read, Write};
 
@@ -45,7 +45,7 @@ pub fn check<F: CheckedFamily, A: Allocator + Copy, S: Supply, R: Read, W: Write
     supply: &S,
     reader: &mut Watched<R>,
     writer: &mut Watched<W>,
-) -> Result<Totals, CheckFault>
+) -> Result<Totals, CaptureFault>
 where
     F::Address: LineKey,
     requires { IfSome terms.until (λ ms. ms ≤ 2 ^ 53) }
@@ -53,8 +53,8 @@ where
         (input_of R.remaining reader.old) (input_of R.remaining reader.new)
         (W.contents (inner_of writer.old)) (W.contents (inner_of writer.new))
         result }
-    ensures failed { has_failed writer.new ≡ has_failed writer.old || spec.is_failed_write result }
-    ensures memory { result ≡ Err CheckFault.Memory → (reader.new ≡ reader.old) × (writer.new ≡ writer.old) }
+    ensures failed { has_failed writer.new ≡ has_failed writer.old || faults.is_failed_write result }
+    ensures memory { result ≡ Err CaptureFault.Memory → (reader.new ≡ reader.old) × (writer.new ≡ writer.old) }
 {
     check_in(
         &mut OfAllocator(alloc),
@@ -75,7 +75,7 @@ pub fn check_in<F: CheckedFamily, A: Allocator, M: VectorSource<A>, S: Supply, R
     supply: &S,
     reader: &mut Watched<R>,
     writer: &mut Watched<W>,
-) -> Result<Totals, CheckFault>
+) -> Result<Totals, CaptureFault>
 where
     F::Address: LineKey,
     requires { IfSome terms.until (λ ms. ms ≤ 2 ^ 53) }
@@ -83,25 +83,25 @@ where
         (input_of R.remaining reader.old) (input_of R.remaining reader.new)
         (W.contents (inner_of writer.old)) (W.contents (inner_of writer.new))
         result }
-    ensures failed { has_failed writer.new ≡ has_failed writer.old || spec.is_failed_write result }
-    ensures memory { result ≡ Err CheckFault.Memory → (reader.new ≡ reader.old) × (writer.new ≡ writer.old) }
+    ensures failed { has_failed writer.new ≡ has_failed writer.old || faults.is_failed_write result }
+    ensures memory { result ≡ Err CaptureFault.Memory → (reader.new ≡ reader.old) × (writer.new ≡ writer.old) }
     ensures takes { Takes
         (bytes_for 1 most_bytes + (bytes_of_workspace F.Address.row config.limits + bytes_of_link (page.the_row u16 A.row ⟦<A as Allocator>⟧) F.Address.row config.limits) + bytes_of_checking F.Address.row)
-        (M.less_than memory.old) (M.less_than memory.new) (spec.is_granted result) }
+        (M.less_than memory.old) (M.less_than memory.new) (faults.is_granted result) }
 {
     let packet: Result<Vec<u8, A>, AllocError> = filled(memory, 0, GREATEST_PACKET);
     let Ok(mut packet) = packet else {
-        return Err(CheckFault::Memory);
+        return Err(CaptureFault::Memory);
     };
     let timing = config.timing();
     let last_member = config.last_member_interval();
     let Ok(link) = Link::new_in(memory, config, first_moment()) else {
-        return Err(CheckFault::Memory);
+        return Err(CaptureFault::Memory);
     };
     let strict = terms.strict;
     let Ok(checking) = Checking::<F, A>::new(memory, terms.within, timing, last_member, strict)
     else {
-        return Err(CheckFault::Memory);
+        return Err(CaptureFault::Memory);
     };
     let mut check = Check::new(link, checking, terms);
     check_on(&mut check, packet.as_mut_slice(), supply, reader, writer)
@@ -114,7 +114,7 @@ fn check_on<F: CheckedFamily, A: Allocator, S: Supply, R: Read, W: Write>(
     supply: &S,
     reader: &mut Watched<R>,
     writer: &mut Watched<W>,
-) -> Result<Totals, CheckFault>
+) -> Result<Totals, CaptureFault>
 where
     F::Address: LineKey,
     requires room { most_bytes ≤ length packet.old }
@@ -125,8 +125,8 @@ where
         (input_of R.remaining reader.old) (input_of R.remaining reader.new)
         (W.contents (inner_of writer.old)) (W.contents (inner_of writer.new))
         result }
-    ensures failed { has_failed writer.new ≡ has_failed writer.old || spec.is_failed_write result }
-    ensures no_memory { result ≡ Err CheckFault.Memory → ⊥ }
+    ensures failed { has_failed writer.new ≡ has_failed writer.old || faults.is_failed_write result }
+    ensures no_memory { result ≡ Err CaptureFault.Memory → ⊥ }
 {
     let answer = check_file(check, packet, supply, reader, writer);
     if is_failed_write(&answer) {
@@ -143,7 +143,7 @@ fn check_file<F: CheckedFamily, A: Allocator, S: Supply, R: Read, W: Write>(
     supply: &S,
     reader: &mut Watched<R>,
     writer: &mut Watched<W>,
-) -> Result<Totals, CheckFault>
+) -> Result<Totals, CaptureFault>
 where
     F::Address: LineKey,
     requires room { most_bytes ≤ length packet.old }
@@ -154,8 +154,8 @@ where
         (input_of R.remaining reader.old) (input_of R.remaining reader.new)
         (W.contents (inner_of writer.old)) (W.contents (inner_of writer.new))
         check.old.told.held check.new.told.held result }
-    ensures failed { has_failed writer.new ≡ has_failed writer.old || spec.is_failed_write result }
-    ensures no_memory { result ≡ Err CheckFault.Memory → ⊥ }
+    ensures failed { has_failed writer.new ≡ has_failed writer.old || faults.is_failed_write result }
+    ensures no_memory { result ≡ Err CaptureFault.Memory → ⊥ }
 {
     check.link.config().is_faultless();
     let walked = walk(check, packet, supply, reader, writer)?;

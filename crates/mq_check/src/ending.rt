@@ -2,15 +2,14 @@
 
 ghost use Rattle.std.specs.Prelude.{◌≡◌, ◌≤◌, ◌^◌, ◌||◌, IfOk, IfSome, is_err, max, unwrap_or};
 ghost use Rattle.mq_count.specs.Streams.{inner_of, has_failed};
+ghost use Rattle.mq_replay.specs.Faults as spec;
 ghost use Rattle.mq_text.specs.Printing.{Puts, output_of};
-ghost use Rattle.mq_check.specs.CheckedCaptures as spec;
 ghost use Rattle.mq_check.specs.Checking.{silence_found, told_at_end};
 ghost use Rattle.mq_check.specs.Coming.{checked_in};
 ghost use Rattle.mq_check.specs.Ending.{IsRestPut, counted_behind, end_text, ended_behind, rest_behind};
 ghost use Rattle.mq_check.specs.Telling.{Tells, reported_by};
 
 use crate::basis::Basis;
-use crate::check_fault::CheckFault;
 use crate::checked_family::CheckedFamily;
 use crate::finding::Finding;
 use crate::general::query_interval;
@@ -22,7 +21,7 @@ use crate::totals::Totals;
 use mq_count::Watched;
 use mq_lines::LineKey;
 use mq_link::Family;
-use mq_replay::is_gap;
+use mq_replay::{CaptureFault, is_gap};
 use mq_table::Timing;
 use mq_text::LineFault;
 use std::alloc::Allocator;
@@ -50,7 +49,7 @@ where
         last: Stamp,
         number: u64,
         writer: &mut Watched<W>,
-    ) -> Result<Totals, CheckFault>
+    ) -> Result<Totals, CaptureFault>
         requires in_range { IfSome self.old.terms.until (λ ms. ms ≤ 2 ^ 53) }
         ensures rest { IsRestPut
             (rest_behind self.old.link.config self.old.terms.within self.old.terms.until self.old.told last number (checked_in self.old.link self.old.queries))
@@ -62,7 +61,7 @@ where
         let before = last.moment();
         let now = end.moment();
         if is_gap(before, now) {
-            return Err(CheckFault::Gap { number });
+            return Err(CaptureFault::Gap { number });
         }
         self.end(end, number, writer)
     }
@@ -74,7 +73,7 @@ where
         end: Stamp,
         number: u64,
         writer: &mut Watched<W>,
-    ) -> Result<Totals, CheckFault>
+    ) -> Result<Totals, CaptureFault>
         ensures rest { IsRestPut
             (ended_behind self.old.link.config self.old.terms.within self.old.told end number (checked_in self.old.link self.old.queries))
             (W.contents (inner_of writer.old)) (W.contents (inner_of writer.new))
@@ -91,7 +90,7 @@ where
         let rests_on = *self.queries.basis();
         self.look_ahead(end, writer)?;
         if self.queries.checking().is_full() {
-            return Err(CheckFault::Waiting { number });
+            return Err(CaptureFault::Waiting { number });
         }
         let totals = self.tell_end(end, passed, rests_on, writer)?;
         Ok(totals)

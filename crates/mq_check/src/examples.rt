@@ -5,7 +5,7 @@ ghost use Rattle.std.specs.Prelude.{◌≡◌, ℕ, Bool, List, [], ◌∷◌, �
 ghost use Rattle.mq_pcap.specs.declared.fault.PcapFault.{PcapFault};
 ghost use Rattle.mq_pcap.specs.Capture.{Captured};
 ghost use Rattle.mq_link.specs.Configuration.{Configuration};
-ghost use Rattle.mq_check.specs.declared.check_fault.CheckFault.TheVariants.{Pcap};
+ghost use Rattle.mq_replay.specs.declared.capture_fault.CaptureFault.TheVariants.{Pcap};
 ghost use Rattle.mq_check.specs.declared.check_terms.Additions.{Additions};
 ghost use Rattle.mq_check.specs.Check.{check_of};
 ghost use Rattle.mq_check.specs.declared.asked.Asked.TheVariants.{AllGroups, Group};

@@ -14,7 +14,7 @@ use Rattle.mq_examples.specs.{Links.ListedGroup, Links.ListedGroups, Links.Liste
 use Rattle.mq_link.proofs.Known.{Entries, ordered, entries-known, with_values, ordered-with_values}
 use Rattle.mq_examples.proofs.{KnownLinks.KnownStep, KnownLinks.tick_in, KnownLinks.tick-known, KnownReceipts.receipt_known, KnownReceipts.receipt-known}
 use Rattle.mq_lines.specs.Text.{line_of}
-use Rattle.mq_replay.specs.declared.replay_fault.ReplayFault.{ReplayFault, TheVariants.Pcap, TheVariants.Gap}
+use Rattle.mq_replay.specs.declared.capture_fault.CaptureFault.{CaptureFault, TheVariants.Pcap, TheVariants.Gap}
 use Rattle.mq_replay.specs.Listing.{moment_of}
 use Rattle.mq_replay.specs.ReplayLines.{query_lines, receipt_line, skip_line, end_line, counts_line, timer_text, group_start, older_hosts_text}
 use Rattle.mq_replay.specs.ReplayLines.{group_line, group_lines, end_lines}
@@ -238,7 +238,7 @@ ended-known config moment k =
       answer = Ok done.link.counters;
     }) (group_lines-known config.family done.link.groups))
 
-abbrev pub broken_known : ReplayFault → KnownCourse → Report
+abbrev pub broken_known : CaptureFault → KnownCourse → Report
 broken_known fault k = record { text = k.replayed.text; answer = Err fault }
 
 abbrev pub reported_known : Configuration → (until : Option ℕ) → (number : ℕ) → (end : Option PcapFault) → (gap : Option ℕ) → KnownCourse → Report

@@ -10,8 +10,8 @@ use Rattle.mq_link.specs.State.{LinkState, link_at}
 use Rattle.mq_replay.specs.Listing.{goes_back, moment_of}
 use Rattle.mq_replay.specs.Report.{is_gap}
 use Rattle.mq_check.specs.declared.basis.Basis.{Basis}
-use Rattle.mq_check.specs.declared.check_fault.CheckFault.{CheckFault}
-use Rattle.mq_check.specs.declared.check_fault.CheckFault.TheVariants.{Gap, Waiting}
+use Rattle.mq_replay.specs.declared.capture_fault.CaptureFault.{CaptureFault}
+use Rattle.mq_replay.specs.declared.capture_fault.CaptureFault.TheVariants.{Gap, Waiting}
 use Rattle.mq_check.specs.declared.check_terms.Additions.{Additions}
 use Rattle.mq_check.specs.declared.finding.Finding.{Finding}
 use Rattle.mq_check.specs.declared.totals.Totals.{Totals}
@@ -152,7 +152,7 @@ ended_tells config within additions moment number found r totals answered =
     ] refl
 
 -- what stands behind the packets
-behind_packets : (k : CheckedCapture) (course : Course) (fault : Option CheckFault) (end : Option PcapFault) (number : ℕ) → course.fault ≡ fault
+behind_packets : (k : CheckedCapture) (course : Course) (fault : Option CaptureFault) (end : Option PcapFault) (number : ℕ) → course.fault ≡ fault
     → (verdict_behind k.config k.within k.until k.additions number end fault course).answer ≡ Ok k.totals
     → (let moment = last_moment k.until course in
     (course.fault ≡ None)

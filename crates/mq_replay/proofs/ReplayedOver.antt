@@ -18,10 +18,11 @@ use Rattle.mq_sched.specs.Election.{is_querier}
 use Rattle.mq_text.specs.Printing.{GrowsByBeginning, OutputState, Passes}
 use Rattle.mq_text.proofs.Passing.{both_passed, broken_behind, nothing_passed}
 use Rattle.mq_replay.specs.declared.asked.Asked.{Asked}
-use Rattle.mq_replay.specs.declared.replay_fault.ReplayFault.{ReplayFault}
-use Rattle.mq_replay.specs.declared.replay_fault.ReplayFault.TheVariants as answer
+use Rattle.mq_replay.specs.declared.capture_fault.CaptureFault.{CaptureFault}
+use Rattle.mq_replay.specs.declared.capture_fault.CaptureFault.TheVariants as answer
 use Rattle.mq_replay.specs.declared.walking.Walked.{Walked}
-use Rattle.mq_replay.specs.Listing.{is_failed_write, moment_of}
+use Rattle.mq_replay.specs.Faults.{is_failed_write}
+use Rattle.mq_replay.specs.Listing.{moment_of}
 use Rattle.mq_replay.specs.PlacedPackets.{PlacedPacket}
 use Rattle.mq_replay.specs.PuttingReports.{IsReportPut, IsRestPut, PutsReport, rest_of}
 use Rattle.mq_replay.specs.Replaying.{IsEndedBy, ReadCapture, packets_text}
@@ -159,7 +160,7 @@ faulty_report config asked c old new before after held left text f is_text told 
     by_fault fault.Endless told ended = ((ap (λ (x : Report). x.answer) (told ended.0), ended.1, ended.2), whole fault.Endless (told ended.0))
 
 module _ {X : Type 0} (state : X → ReplayState) where
-  abbrev takes : PlacedPacket → X → X → Result Unit ReplayFault → Type 0
+  abbrev takes : PlacedPacket → X → X → Result Unit CaptureFault → Type 0
   takes packet x x' r = TakesReplayed packet (state x) (state x') r
 
   -- the code has come to this replay, whose text was put behind what was held at the start
@@ -303,19 +304,19 @@ module _ {X : Type 0} (state : X → ReplayState) where
           )
 
       -- the walk ended early
-      pub reported_early : (old new : InputState) (x' : X) (e : ReplayFault) → Walks takes (λ f it. it ≡ answer.Pcap f) old new x x' (Err e)
+      pub reported_early : (old new : InputState) (x' : X) (e : CaptureFault) → Walks takes (λ f it. it ≡ answer.Pcap f) old new x x' (Err e)
           → PutsReport config asked old new before.held (state x').output.held held (state x').held (Err e) ×
           ((state x').output.failed ≡ before.failed || is_failed_write {T = Walked} (Err e)) × (e ≡ answer.Memory → ⊥)
       reported_early old new x' e walks = by_end walks.ended
         where
-          Reported : ReplayFault → Type 0
+          Reported : CaptureFault → Type 0
           Reported e = PutsReport config asked old new before.held (state x').output.held held (state x').held (Err e) ×
               ((state x').output.failed ≡ before.failed || is_failed_write {T = Walked} (Err e)) × (e ≡ answer.Memory → ⊥)
 
           c : ReadCapture
           c = walks.read
 
-          stopped : (it : IsStopped takes c old new x x' e) → (e' : ReplayFault) → e ≡ e' →
+          stopped : (it : IsStopped takes c old new x x' e) → (e' : CaptureFault) → e ≡ e' →
               takes (placed it.form.link it.to it.last) it.between x' (Err e') → Reported e'
           stopped it (answer.Gap number) is stops =
               let all = by_gap c old new it.form it.some it.last it.to it.between x' number it.steps it.failed stops in
@@ -347,6 +348,7 @@ module _ {X : Type 0} (state : X → ReplayState) where
                 all.1,
                 λ is. absurd (cc is),
               )
+          stopped it (answer.Waiting number) is stops = absurd stops
           stopped it (answer.Pcap f) is stops = absurd stops
           stopped it answer.Memory is stops = absurd stops
 
@@ -377,7 +379,7 @@ module _ {X : Type 0} (state : X → ReplayState) where
           (over.there.same_asked, over.there.failed)
 
       -- the walk came to the end of the capture, and the end was put
-      pub reported_well : (old new : InputState) (x' : X) (w : Walked) (after : Option (List ℕ)) (left : List ℕ) (it : Result Counters ReplayFault) →
+      pub reported_well : (old new : InputState) (x' : X) (w : Walked) (after : Option (List ℕ)) (left : List ℕ) (it : Result Counters CaptureFault) →
           Walks takes (λ f e. e ≡ answer.Pcap f) old new x x' (Ok w)
           → IsRestPut (rest_of (state x').link.config (state x').asked w.last (w.packets + 1) (state x').link.state)
           (state x').output.held after (state x').held left it
@@ -433,14 +435,15 @@ module _ {X : Type 0} (state : X → ReplayState) where
           answered : (report_of config asked c.header c.packets c.end).answer ≡ rest.answer
           answered = ap (λ (r : Report). r.answer) told
 
-          reports : (it : Result Counters ReplayFault) → IsEndedBy config asked c old new it →
+          reports : (it : Result Counters CaptureFault) → IsEndedBy config asked c old new it →
               IsReportPut config asked c new before.held after held left it → PutsReport config asked old new before.held after held left it
           reports it ended put = record { read = c; takes = walks.takes_in; capture = walks.capture; ended = ended; put = put }
 
-          by_answer : (it : Result Counters ReplayFault) → IsRestPut rest (state x').output.held after (state x').held left it →
+          by_answer : (it : Result Counters CaptureFault) → IsRestPut rest (state x').output.held after (state x').held left it →
               PutsReport config asked old new before.held after held left it
           by_answer (Ok counters) p = reports _ (answered ∙ p.0, walked.at_end, walked.failed) (whole p.1)
           by_answer (Err (answer.Gap n)) p = reports _ (answered ∙ p.0, inr walked.at_end, walked.failed) (whole p.1)
           by_answer (Err answer.Write) p = reports _ tt (inr (walked.end, walked.at_end, begun p))
+          by_answer (Err (answer.Waiting n)) p = absurd p
           by_answer (Err (answer.Pcap f)) p = absurd p
           by_answer (Err answer.Memory) p = absurd p

@@ -14,9 +14,9 @@ use Rattle.mq_link.specs.Counters.{Counters}
 use Rattle.mq_text.specs.Printing.{GrowsByBeginning, Passes}
 use Rattle.mq_text.proofs.Passing.{both_passed, broken_behind}
 use Rattle.mq_replay.specs.declared.asked.Asked.{Asked}
-use Rattle.mq_replay.specs.declared.replay_fault.ReplayFault.{ReplayFault}
-use Rattle.mq_replay.specs.declared.replay_fault.ReplayFault.TheVariants as answer
-use Rattle.mq_replay.specs.Listing.{is_failed_write}
+use Rattle.mq_replay.specs.declared.capture_fault.CaptureFault.{CaptureFault}
+use Rattle.mq_replay.specs.declared.capture_fault.CaptureFault.TheVariants as answer
+use Rattle.mq_replay.specs.Faults.{is_failed_write}
 use Rattle.mq_replay.specs.PuttingReports.{counted, IsReportPut, PutsReport}
 use Rattle.mq_replay.specs.Replaying.{ReadCapture, IsEndedBy, IsWritten, Replays}
 use Rattle.mq_replay.specs.Report.{Course, Report, with_all_packets, is_gap, ended_at, broken_off, last_moment, reported, report_of, so_far}
@@ -26,13 +26,13 @@ abbrev one_of : Bool → Report → Report → Report
 one_of b x y = elim b [ true ↦ x | false ↦ y ]
 
 -- one of two reports, of which the second doesn't end with this fault
-either_text : (b : Bool) (x y : Report) (e : ReplayFault) (text : List ℕ) → (one_of b x y).answer ≡ Err e → x.text ≡ text → (y.answer ≡ Err e → ⊥) →
+either_text : (b : Bool) (x y : Report) (e : CaptureFault) (text : List ℕ) → (one_of b x y).answer ≡ Err e → x.text ≡ text → (y.answer ≡ Err e → ⊥) →
     (one_of b x y).text ≡ text
 either_text true x y e text is same unlike = same
 either_text false x y e text is same unlike = absurd (unlike is)
 
 -- a report that ends with a fault has the text of its packets alone
-reported_err : (config : Configuration) (asked : Asked) (number : ℕ) (end : Option PcapFault) (gap : Option ℕ) (course : Course) (e : ReplayFault)
+reported_err : (config : Configuration) (asked : Asked) (number : ℕ) (end : Option PcapFault) (gap : Option ℕ) (course : Course) (e : CaptureFault)
     → (reported config asked number end gap course).answer ≡ Err e → (reported config asked number end gap course).text ≡ course.replayed.text
 unfolding ended_at
 reported_err config asked number end (Some g) course e is = refl
@@ -41,7 +41,7 @@ reported_err config asked number None None course e is =
     either_text (is_gap course.moment (last_moment asked.until course)) (broken_off (answer.Gap number) course)
     (ended_at config (last_moment asked.until course) course.replayed) e course.replayed.text is refl (λ h. absurd (cc))
 
-err_text : (config : Configuration) (asked : Asked) (header : Result Form PcapFault) (packets : List Captured) (end : Option PcapFault) (e : ReplayFault)
+err_text : (config : Configuration) (asked : Asked) (header : Result Form PcapFault) (packets : List Captured) (end : Option PcapFault) (e : CaptureFault)
     → (report_of config asked header packets end).answer ≡ Err e → (report_of config asked header packets end).text ≡ so_far config asked header packets
 err_text config asked (Err f) packets end e is = refl
 err_text config asked (Ok form) packets end e is =
@@ -70,11 +70,12 @@ all_written before mid after left text first second =
     subst (λ (t : List ℕ). Appends before after t) (sym (sym (append-nil text) ∙ both.parts ∙ append-nil both.written)) both.grows
 
 written : (config : Configuration) (asked : Asked) (c : ReadCapture) (new : InputState) (before mid after : Option (List ℕ)) (left : List ℕ)
-    (r : Result Counters ReplayFault) → is_failed_write r ≡ false
+    (r : Result Counters CaptureFault) → is_failed_write r ≡ false
     → IsReportPut config asked c new before mid [] left r → Passes mid after left [] [] → IsWritten config asked c new before after r
 written config asked c new before mid after left (Ok counters) unlike put passed = all_written before mid after left _ put passed
 written config asked c new before mid after left (Err answer.Write) unlike put passed = absurd (cc)
 written config asked c new before mid after left (Err (answer.Gap number)) unlike put passed = all_written before mid after left _ put passed
+written config asked c new before mid after left (Err (answer.Waiting number)) unlike put passed = absurd put
 written config asked c new before mid after left (Err answer.Memory) unlike put passed = absurd put
 written config asked c new before mid after left (Err (answer.Pcap fault.Read)) unlike put passed = all_written before mid after left _ put passed
 written config asked c new before mid after left (Err (answer.Pcap fault.Magic)) unlike put passed = all_written before mid after left _ put passed
@@ -85,16 +86,17 @@ written config asked c new before mid after left (Err (answer.Pcap (fault.CutDat
 written config asked c new before mid after left (Err (answer.Pcap (fault.TooLong at))) unlike put passed = all_written before mid after left _ put passed
 written config asked c new before mid after left (Err (answer.Pcap fault.Endless)) unlike put passed = all_written before mid after left _ put passed
 
-counted_write : {T : Type 0} (counters : Counters) (it : Result T ReplayFault) → is_failed_write (counted counters it) ≡ is_failed_write it
+counted_write : {T : Type 0} (counters : Counters) (it : Result T CaptureFault) → is_failed_write (counted counters it) ≡ is_failed_write it
 counted_write counters (Ok x) = refl
 counted_write counters (Err (answer.Pcap f)) = refl
 counted_write counters (Err answer.Write) = refl
 counted_write counters (Err (answer.Gap number)) = refl
+counted_write counters (Err (answer.Waiting number)) = refl
 counted_write counters (Err answer.Memory) = refl
 
 -- the report was put and the rest of it written
 pub flushed : {T : Type 0} (config : Configuration) (asked : Asked) (old new : InputState) (before mid after : Option (List ℕ))
-    (held left rest : List ℕ) (counters : Counters) (it : Result T ReplayFault) → held ≡ [] → rest ≡ [] → is_failed_write it ≡ false
+    (held left rest : List ℕ) (counters : Counters) (it : Result T CaptureFault) → held ≡ [] → rest ≡ [] → is_failed_write it ≡ false
     → PutsReport config asked old new before mid held left (counted counters it) → Passes mid after left rest [] →
     Replays config asked old new before after (counted counters it)
 flushed config asked old new before mid after held left rest counters it none empty unlike puts passed =
@@ -110,11 +112,12 @@ flushed config asked old new before mid after held left rest counters it none em
 
 -- a write failed before the end of the report
 pub not_put : {T : Type 0} (config : Configuration) (asked : Asked) (old new : InputState) (before after : Option (List ℕ)) (held left : List ℕ)
-    (counters : Counters) (it : Result T ReplayFault) → held ≡ [] → is_failed_write it ≡ true
+    (counters : Counters) (it : Result T CaptureFault) → held ≡ [] → is_failed_write it ≡ true
     → PutsReport config asked old new before after held left (counted counters it) → Replays config asked old new before after (counted counters it)
 not_put config asked old new before after held left counters (Ok x) none is puts = absurd (cc)
 not_put config asked old new before after held left counters (Err (answer.Pcap f)) none is puts = absurd (cc)
 not_put config asked old new before after held left counters (Err (answer.Gap number)) none is puts = absurd (cc)
+not_put config asked old new before after held left counters (Err (answer.Waiting number)) none is puts = absurd (cc)
 not_put config asked old new before after held left counters (Err answer.Memory) none is puts = absurd (cc)
 not_put config asked old new before after held left counters (Err answer.Write) none is puts =
     record {
@@ -133,7 +136,7 @@ begun_text before mid after left text passed begun = subst (λ (t : List ℕ). G
 
 -- the report was put, and the rest of it was not written whole
 begun_of : (config : Configuration) (asked : Asked) (c : ReadCapture) (old new : InputState) (before mid after : Option (List ℕ)) (left : List ℕ)
-    (r : Result Counters ReplayFault) → is_failed_write r ≡ false
+    (r : Result Counters CaptureFault) → is_failed_write r ≡ false
     → IsEndedBy config asked c old new r → IsReportPut config asked c new before mid [] left r → GrowsByBeginning mid after (left ++ []) →
     IsWritten config asked c new before after (Err answer.Write)
 begun_of config asked c old new before mid after left (Ok counters) unlike ended put begun =
@@ -142,6 +145,7 @@ begun_of config asked c old new before mid after left (Err answer.Write) unlike 
 begun_of config asked c old new before mid after left (Err (answer.Gap number)) unlike ended put begun =
     inl (subst (λ (t : List ℕ). GrowsByBeginning before after t) (err_text config asked c.header c.packets c.end _ ended.0)
     (begun_text before mid after left _ put begun))
+begun_of config asked c old new before mid after left (Err (answer.Waiting number)) unlike ended put begun = absurd put
 begun_of config asked c old new before mid after left (Err answer.Memory) unlike ended put begun = absurd put
 begun_of config asked c old new before mid after left (Err (answer.Pcap fault.Read)) unlike ended put begun = inl (begun_text before mid after left _ put begun)
 begun_of config asked c old new before mid after left (Err (answer.Pcap fault.Magic)) unlike ended put begun =
@@ -167,7 +171,7 @@ begun_of config asked c old new before mid after left (Err (answer.Pcap fault.En
     (begun_text before mid after left _ put begun))
 
 pub not_flushed : {T : Type 0} (config : Configuration) (asked : Asked) (old new : InputState) (before mid after : Option (List ℕ))
-    (held left : List ℕ) (counters : Counters) (it : Result T ReplayFault) → held ≡ [] → is_failed_write it ≡ false
+    (held left : List ℕ) (counters : Counters) (it : Result T CaptureFault) → held ≡ [] → is_failed_write it ≡ false
     → PutsReport config asked old new before mid held left (counted counters it) → GrowsByBeginning mid after (left ++ []) →
     Replays config asked old new before after (Err answer.Write)
 not_flushed config asked old new before mid after held left counters it none unlike puts begun =

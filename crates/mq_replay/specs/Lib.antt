@@ -1,5 +1,6 @@
 pub mod ChangeLines
 pub mod Datagrams
+pub mod Faults
 pub mod Listing
 pub mod NamedSources
 pub mod PlacedPackets

@@ -23,8 +23,8 @@ use Rattle.mq_link.specs.Sent.{Outgoing, outgoing_of}
 use Rattle.mq_link.specs.State.{LinkState, link_at}
 use Rattle.mq_link.specs.Tick.{Step, tick_of, next_of}
 use Rattle.mq_replay.specs.declared.asked.Asked.{Asked}
-use Rattle.mq_replay.specs.declared.replay_fault.ReplayFault.{ReplayFault}
-use Rattle.mq_replay.specs.declared.replay_fault.ReplayFault.TheVariants.{Pcap, Gap}
+use Rattle.mq_replay.specs.declared.capture_fault.CaptureFault.{CaptureFault}
+use Rattle.mq_replay.specs.declared.capture_fault.CaptureFault.TheVariants.{Pcap, Gap}
 use Rattle.mq_replay.specs.ChangeLines.{change_lines, lines_asked}
 use Rattle.mq_replay.specs.Listing.{moment_of}
 use Rattle.mq_replay.specs.ReplayLines.{query_lines, receipt_line, skip_line, end_lines}
@@ -164,7 +164,7 @@ with_all_packets config changes form packets = with_packets config form.link Non
 -- A report: its text, and the counters at the end of the run, or the reason why it ends before.
 pub record Report : Type 0 where
   pub text : List ℕ
-  pub answer : Result Counters ReplayFault
+  pub answer : Result Counters CaptureFault
 
 -- the report at a moment: all ticks up to it and at it, and then the state of the link
 unfoldable pub ended_at : Configuration → (moment : ℕ) → Replayed → Report
@@ -178,7 +178,7 @@ ended_at config moment r =
     }
 
 -- the report that a fault or a gap ends: nothing more is written
-abbrev pub broken_off : ReplayFault → Course → Report
+abbrev pub broken_off : CaptureFault → Course → Report
 broken_off fault course = record { text = course.replayed.text; answer = Err fault }
 
 -- the moment of the end of a replay: that of the last packet, or the requested one if it is later

@@ -5,8 +5,8 @@ use Rattle.mq_link.specs.Link.{LinkValue}
 use Rattle.mq_link.specs.State.{LinkState}
 use Rattle.mq_text.specs.Printing.{OutputState, Puts}
 use Rattle.mq_replay.specs.declared.asked.Asked.{Asked}
-use Rattle.mq_replay.specs.declared.replay_fault.ReplayFault.{ReplayFault}
-use Rattle.mq_replay.specs.declared.replay_fault.ReplayFault.TheVariants as answer
+use Rattle.mq_replay.specs.declared.capture_fault.CaptureFault.{CaptureFault}
+use Rattle.mq_replay.specs.declared.capture_fault.CaptureFault.TheVariants as answer
 use Rattle.mq_replay.specs.PlacedPackets.{PlacedPacket}
 use Rattle.mq_replay.specs.Report.{Replayed, is_gap, with_packet}
 
@@ -38,10 +38,11 @@ pub record ReplaysPacket {E : Type 0} (packet : PlacedPacket) (old new : ReplayS
   pub failed : new.output.failed ≡ old.output.failed || is_err r
 
 -- the effect of a packet on a replay, which a gap before the packet ends
-abbrev pub TakesReplayed : PlacedPacket → ReplayState → ReplayState → Result Unit ReplayFault → Type 0
+abbrev pub TakesReplayed : PlacedPacket → ReplayState → ReplayState → Result Unit CaptureFault → Type 0
 TakesReplayed packet old new (Ok u) = ReplaysPacket {E = Unit} packet old new (Ok u)
 TakesReplayed packet old new (Err answer.Write) = ReplaysPacket {E = Unit} packet old new (Err tt)
 TakesReplayed packet old new (Err (answer.Gap number)) =
     (is_gap packet.before packet.moment ≡ true) × (number ≡ packet.number) × (new ≡ old)
+TakesReplayed packet old new (Err (answer.Waiting number)) = ⊥
 TakesReplayed packet old new (Err (answer.Pcap f)) = ⊥
 TakesReplayed packet old new (Err answer.Memory) = ⊥

@@ -9,14 +9,14 @@ ghost use Rattle.mq_link.specs.Sizes.{bytes_of_link, bytes_of_workspace};
 ghost use Rattle.mq_link.specs.State.{link_at};
 ghost use Rattle.mq_pcap.specs.Capture.{endless, most_bytes};
 ghost use Rattle.mq_pcap.specs.Filling.{input_of};
-ghost use Rattle.mq_replay.specs.Listing as spec;
+ghost use Rattle.mq_replay.specs.Faults as spec;
 ghost use Rattle.mq_replay.specs.PuttingReports.{IsRestPut, PutsReport, counted, rest_of};
 ghost use Rattle.mq_replay.specs.Replaying.{Replays};
 
 use crate::asked::Asked;
+use crate::capture_fault::{CaptureFault, is_failed_write};
 use crate::captured_family::CapturedFamily;
 use crate::ending::{is_gap, last_moment, put_ending};
-use crate::replay_fault::{ReplayFault, is_failed_write};
 use crate::running_replay::Replay;
 use crate::stamps::first_moment;
 use crate::walking::{Walked, walk};
@@ -46,7 +46,7 @@ pub fn replay<F: CapturedFamily, A: Allocator + Copy, S: Supply, R: Read, W: Wri
     supply: &S,
     reader: &mut Watched<R>,
     writer: &mut Watched<W>,
-) -> Result<Counts, ReplayFault>
+) -> Result<Counts, CaptureFault>
 where
     F::Address: LineKey,
     requires { IfSome asked.until (λ moment. moment ≤ 2 ^ 53) }
@@ -55,7 +55,7 @@ where
         (W.contents (inner_of writer.old)) (W.contents (inner_of writer.new))
         result }
     ensures failed { has_failed writer.new ≡ has_failed writer.old || spec.is_failed_write result }
-    ensures memory { result ≡ Err ReplayFault.Memory → (reader.new ≡ reader.old) × (writer.new ≡ writer.old) }
+    ensures memory { result ≡ Err CaptureFault.Memory → (reader.new ≡ reader.old) × (writer.new ≡ writer.old) }
 {
     replay_in(
         &mut OfAllocator(alloc),
@@ -76,7 +76,7 @@ pub fn replay_in<F: CapturedFamily, A: Allocator, M: VectorSource<A>, S: Supply,
     supply: &S,
     reader: &mut Watched<R>,
     writer: &mut Watched<W>,
-) -> Result<Counts, ReplayFault>
+) -> Result<Counts, CaptureFault>
 where
     F::Address: LineKey,
     requires { IfSome asked.until (λ moment. moment ≤ 2 ^ 53) }
@@ -85,17 +85,17 @@ where
         (W.contents (inner_of writer.old)) (W.contents (inner_of writer.new))
         result }
     ensures failed { has_failed writer.new ≡ has_failed writer.old || spec.is_failed_write result }
-    ensures memory { result ≡ Err ReplayFault.Memory → (reader.new ≡ reader.old) × (writer.new ≡ writer.old) }
+    ensures memory { result ≡ Err CaptureFault.Memory → (reader.new ≡ reader.old) × (writer.new ≡ writer.old) }
     ensures takes { Takes
         (bytes_for 1 most_bytes + (bytes_of_workspace F.Address.row config.limits + bytes_of_link (page.the_row u16 A.row ⟦<A as Allocator>⟧) F.Address.row config.limits))
         (M.less_than memory.old) (M.less_than memory.new) (spec.is_granted result) }
 {
     let packet: Result<Vec<u8, A>, AllocError> = filled(memory, 0, GREATEST_PACKET);
     let Ok(mut packet) = packet else {
-        return Err(ReplayFault::Memory);
+        return Err(CaptureFault::Memory);
     };
     let Ok(link) = Link::new_in(memory, config, first_moment()) else {
-        return Err(ReplayFault::Memory);
+        return Err(CaptureFault::Memory);
     };
     let mut replay = Replay::new(link, asked);
     replay_on(&mut replay, packet.as_mut_slice(), supply, reader, writer)?;
@@ -109,7 +109,7 @@ fn replay_on<F: CapturedFamily, A: Allocator, S: Supply, R: Read, W: Write>(
     supply: &S,
     reader: &mut Watched<R>,
     writer: &mut Watched<W>,
-) -> Result<(), ReplayFault>
+) -> Result<(), CaptureFault>
 where
     F::Address: LineKey,
     requires room { most_bytes ≤ length packet.old }
@@ -121,7 +121,7 @@ where
         (W.contents (inner_of writer.old)) (W.contents (inner_of writer.new))
         (counted replay.new.link.state.counters result) }
     ensures failed { has_failed writer.new ≡ has_failed writer.old || spec.is_failed_write result }
-    ensures no_memory { result ≡ Err ReplayFault.Memory → ⊥ }
+    ensures no_memory { result ≡ Err CaptureFault.Memory → ⊥ }
 {
     let answer = put_replay(replay, packet, supply, reader, writer);
     if is_failed_write(&answer) {
@@ -138,7 +138,7 @@ fn put_replay<F: CapturedFamily, A: Allocator, S: Supply, R: Read, W: Write>(
     supply: &S,
     reader: &mut Watched<R>,
     writer: &mut Watched<W>,
-) -> Result<(), ReplayFault>
+) -> Result<(), CaptureFault>
 where
     F::Address: LineKey,
     requires room { most_bytes ≤ length packet.old }
@@ -149,7 +149,7 @@ where
         (W.contents (inner_of writer.old)) (W.contents (inner_of writer.new))
         replay.old.buffer.items replay.new.buffer.items (counted replay.new.link.state.counters result) }
     ensures failed { has_failed writer.new ≡ has_failed writer.old || spec.is_failed_write result }
-    ensures no_memory { result ≡ Err ReplayFault.Memory → ⊥ }
+    ensures no_memory { result ≡ Err CaptureFault.Memory → ⊥ }
 {
     let walked = walk(replay, packet, supply, reader, writer)?;
     put_rest(replay, walked, writer)
@@ -161,7 +161,7 @@ fn put_rest<F: CapturedFamily, A: Allocator, W: Write>(
     replay: &mut Replay<F, A>,
     walked: Walked,
     writer: &mut Watched<W>,
-) -> Result<(), ReplayFault>
+) -> Result<(), CaptureFault>
 where
     F::Address: LineKey,
     requires few { walked.packets < endless }
@@ -170,12 +170,12 @@ where
         (W.contents (inner_of writer.old)) (W.contents (inner_of writer.new))
         replay.old.buffer.items replay.new.buffer.items (counted replay.new.link.state.counters result) }
     ensures failed { has_failed writer.new ≡ has_failed writer.old || spec.is_failed_write result }
-    ensures no_memory { result ≡ Err ReplayFault.Memory → ⊥ }
+    ensures no_memory { result ≡ Err CaptureFault.Memory → ⊥ }
 {
     let last = walked.last.moment();
     let end = last_moment(replay.asked.until, last);
     if is_gap(last, end) {
-        return Err(ReplayFault::Gap {
+        return Err(CaptureFault::Gap {
             number: walked.packets + 1,
         });
     }

@@ -3,10 +3,10 @@
 ghost use Rattle.std.specs.Prelude.{◌≡◌, []};
 
 use crate::asked::Asked;
+use crate::capture_fault::CaptureFault;
 use crate::captured_family::CapturedFamily;
 use crate::numbered_packet::NumberedPacket;
 use crate::one_packet::replay_packet;
-use crate::replay_fault::ReplayFault;
 use crate::waiting::write_before_wait;
 use crate::walking::Step;
 use mq_count::Watched;
@@ -53,7 +53,7 @@ where
     ghost use Rattle.mq_text.specs.Printing.{output_of};
     ghost use Rattle.mq_replay.specs.Steps.{TakesReplayed};
 
-    type Fault = ReplayFault;
+    type Fault = CaptureFault;
 
     ghost takes = { λ packet old new r. TakesReplayed packet
         (record { link = old.0.link; asked = old.0.asked; held = old.0.buffer.items; output = output_of W.contents old.1 })
@@ -63,9 +63,9 @@ where
         &mut self,
         packet: &NumberedPacket<'_>,
         output: &mut Watched<W>,
-    ) -> Result<(), ReplayFault> {
+    ) -> Result<(), CaptureFault> {
         if packet.follows_gap() {
-            return Err(ReplayFault::Gap {
+            return Err(CaptureFault::Gap {
                 number: packet.number,
             });
         }

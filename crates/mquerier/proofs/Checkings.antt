@@ -5,7 +5,7 @@ use Rattle.std.proofs.lemmas.Bool.{ltb-false}
 use Rattle.std.specs.Prelude.{IfSome}
 use Rattle.std.specs.Io.KnownBytes.{Keeps}
 use Rattle.std.proofs.KnownBytes.{Appends-kept}
-use Rattle.mq_check.specs.declared.check_fault.CheckFault.{CheckFault}
+use Rattle.mq_replay.specs.declared.capture_fault.CaptureFault.{CaptureFault}
 use Rattle.mq_check.specs.declared.check_terms.CheckTerms.{CheckTerms}
 use Rattle.mq_check.specs.declared.totals.Totals.{Totals}
 use Rattle.mq_check.specs.CheckedCaptures.{Checks, IsWrittenBy, is_failed_write, text_by}
@@ -33,7 +33,7 @@ until_in_range (Some ms) is = ltb-false (2 ^ 53) ms is
 
 -- a check of the configuration that is asked for, behind a flush
 pub flushed_check : (family : Family) (querier : ℕ) (settings : Settings) (terms : CheckTerms) (config : Configuration) (input : Input)
-    (old : OutputState) (mid : Option (List ℕ)) (new : OutputState) (r : Result Totals CheckFault)
+    (old : OutputState) (mid : Option (List ℕ)) (new : OutputState) (r : Result Totals CaptureFault)
     → IsConfigured (asked_configuration family querier settings) (Ok config) → Checks config terms input.old input.new old.held mid r →
     is_failed_write r ≡ false → Keeps mid new.held
     → IsCheckedAt family querier settings terms input (record { old = old; new = new }) r

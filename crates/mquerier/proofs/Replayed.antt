@@ -10,8 +10,8 @@ use Rattle.mq_pcap.specs.declared.fault.PcapFault.TheVariants as fault
 use Rattle.mq_pcap.specs.Filling.{InputState}
 use Rattle.mq_text.specs.Printing.{OutputState}
 use Rattle.mq_replay.specs.declared.asked.Asked.{Asked}
-use Rattle.mq_replay.specs.declared.replay_fault.ReplayFault.{ReplayFault}
-use Rattle.mq_replay.specs.declared.replay_fault.ReplayFault.TheVariants as answer
+use Rattle.mq_replay.specs.declared.capture_fault.CaptureFault.{CaptureFault}
+use Rattle.mq_replay.specs.declared.capture_fault.CaptureFault.TheVariants as answer
 use Rattle.mq_replay.specs.Replaying.{Replays, ReadCapture, IsWritten, text_of, packets_text}
 use Rattle.mq_wire.specs.Family.{Family}
 use Rattle.mquerier.specs.declared.failure.Failure.{Failure}
@@ -23,11 +23,13 @@ use Rattle.mquerier.specs.Working.{IsConfigured, WorksAt, WorksOnReplay}
 
 -- what was written stays so
 written_kept : (config : Configuration) (asked : Asked) (c : ReadCapture) (ahead : InputState) (before mid after : Option (List ℕ))
-    (r : Result Counters ReplayFault) → (r ≡ Err answer.Write → ⊥)
+    (r : Result Counters CaptureFault) → (r ≡ Err answer.Write → ⊥)
     → IsWritten config asked c ahead before mid r → Keeps mid after → IsWritten config asked c ahead before after r
 written_kept config asked c ahead before mid after (Ok counters) unlike written kept = Appends-kept before mid after (text_of config asked c) written kept
 written_kept config asked c ahead before mid after (Err answer.Write) unlike written kept = absurd (unlike refl)
 written_kept config asked c ahead before mid after (Err (answer.Gap number)) unlike written kept =
+    Appends-kept before mid after (text_of config asked c) written kept
+written_kept config asked c ahead before mid after (Err (answer.Waiting number)) unlike written kept =
     Appends-kept before mid after (text_of config asked c) written kept
 written_kept config asked c ahead before mid after (Err answer.Memory) unlike written kept = Appends-kept before mid after [] written kept
 written_kept config asked c ahead before mid after (Err (answer.Pcap fault.Read)) unlike written kept =
@@ -53,7 +55,7 @@ up_to until changes = record { until = until; changes = changes }
 
 -- a replay of the configuration and up to the moment that are asked for
 replayed_at : (family : Family) (own : ℕ) (settings : Settings) (until end : Option ℕ) (changes : Bool) (config : Configuration) (input : Input)
-    (before after : Option (List ℕ)) (r : Result Counters ReplayFault)
+    (before after : Option (List ℕ)) (r : Result Counters CaptureFault)
     → end ≡ until → config ≡ asked_configuration family own settings → Replays config (up_to end changes) input.old input.new before after r
     → Replays (asked_configuration family own settings) (up_to until changes) input.old input.new before after r
 replayed_at family own settings until end changes config input before after r same_end same_config replays =
@@ -62,7 +64,7 @@ replayed_at family own settings until end changes config input before after r sa
 
 -- the same behind a flush
 pub flushed_at : (family : Family) (own : ℕ) (settings : Settings) (until end : Option ℕ) (changes : Bool) (config : Configuration) (input : Input)
-    (old : OutputState) (mid : Option (List ℕ)) (new : OutputState) (r : Result Counters ReplayFault)
+    (old : OutputState) (mid : Option (List ℕ)) (new : OutputState) (r : Result Counters CaptureFault)
     → (end ≡ until) × (is_too_large until ≡ false) → IsConfigured (asked_configuration family own settings) (Ok config) →
     Replays config (up_to end changes) input.old input.new old.held mid r
     → (r ≡ Err answer.Write → ⊥) → Keeps mid new.held → IsReplayedAt family own settings (up_to until changes) input (record { old = old; new = new }) r

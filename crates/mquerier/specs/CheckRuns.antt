@@ -1,7 +1,7 @@
 -- The requested check, and the program's runs of it.
 use Rattle.std.specs.Prelude.{◌≡◌, ℕ, true, Bool, List, Option, Result, Ok, Err, unwrap_or}
-use Rattle.mq_check.specs.declared.check_fault.CheckFault.{CheckFault}
-use Rattle.mq_check.specs.declared.check_fault.CheckFault.TheVariants as answer
+use Rattle.mq_replay.specs.declared.capture_fault.CaptureFault.{CaptureFault}
+use Rattle.mq_replay.specs.declared.capture_fault.CaptureFault.TheVariants as answer
 use Rattle.mq_check.specs.declared.check_terms.CheckTerms.{CheckTerms}
 use Rattle.mq_check.specs.declared.totals.Totals.{Totals}
 use Rattle.mq_check.specs.CheckedCaptures.{Checks}
@@ -29,7 +29,7 @@ asked_options protocol settings within until cite packets once strict =
     record { protocol = protocol; settings = settings; terms = asked_terms within until cite packets once strict }
 
 -- the capture was checked as requested, with this result
-abbrev pub IsCheckedAt : Family → (querier : ℕ) → Settings → CheckTerms → Input → Output → Result Totals CheckFault → Type 0
+abbrev pub IsCheckedAt : Family → (querier : ℕ) → Settings → CheckTerms → Input → Output → Result Totals CaptureFault → Type 0
 IsCheckedAt family querier settings terms input output answer =
     Checks (asked_configuration family querier settings) terms input.old input.new output.old.held output.new.held answer
 
@@ -41,13 +41,13 @@ IsCheckDoneAt family querier settings terms input output totals =
 
 -- The check ended early, by its result. With a fault of the capture, a gap or too many pending entries, all earlier
 -- findings were written. With an allocation failure nothing was read or written. Or the output failed.
-abbrev pub IsCheckBroken : (Does : Result Totals CheckFault → Type 0) → Input → Output → Failure → Type 0
+abbrev pub IsCheckBroken : (Does : Result Totals CaptureFault → Type 0) → Input → Output → Failure → Type 0
 IsCheckBroken Does input output (Capture f) = (output.new.failed ≡ output.old.failed) × Does (Err (answer.Pcap f))
 IsCheckBroken Does input output (Gap number) = (output.new.failed ≡ output.old.failed) × Does (Err (answer.Gap number))
 IsCheckBroken Does input output (Waiting number) = (output.new.failed ≡ output.old.failed) × Does (Err (answer.Waiting number))
 IsCheckBroken Does input output Memory = (input.new ≡ input.old) × (output.new ≡ output.old)
 IsCheckBroken Does input output Write =
-    (output.new.failed ≡ true) × (r : Result Totals CheckFault) × (r ≡ Err answer.Memory → ⊥) × Does r
+    (output.new.failed ≡ true) × (r : Result Totals CaptureFault) × (r ≡ Err answer.Memory → ⊥) × Does r
 IsCheckBroken Does input output failure = ⊥
 
 -- the request was accepted, and the check ended early

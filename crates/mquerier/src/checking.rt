@@ -7,12 +7,13 @@ ghost use Rattle.mquerier.specs.Working.{ChecksAt, IsUnwritten, WorksOnCheck};
 use crate::failure::Failure;
 use crate::replaying::{configured, moment_asked};
 use crate::work::flush;
-use mq_check::{CheckFault, CheckTerms, CheckedFamily, Totals, check};
+use mq_check::{CheckTerms, CheckedFamily, Totals, check};
 use mq_command::{Protocol, Settings};
 use mq_count::Watched;
 use mq_lines::LineKey;
 use mq_link::{Igmp, Mld};
 use mq_pcap::Supply;
+use mq_replay::CaptureFault;
 use mq_text::{read_v4, read_v6};
 use std::alloc::Global;
 use std::io::{Read, Write};
@@ -86,19 +87,19 @@ where
             flush(output)?;
             Ok(totals)
         }
-        Err(CheckFault::Pcap(fault)) => {
+        Err(CaptureFault::Pcap(fault)) => {
             flush(output)?;
             Err(Failure::Capture(fault))
         }
-        Err(CheckFault::Gap { number }) => {
+        Err(CaptureFault::Gap { number }) => {
             flush(output)?;
             Err(Failure::Gap { number })
         }
-        Err(CheckFault::Waiting { number }) => {
+        Err(CaptureFault::Waiting { number }) => {
             flush(output)?;
             Err(Failure::Waiting { number })
         }
-        Err(CheckFault::Write) => Err(Failure::Write),
-        Err(CheckFault::Memory) => Err(Failure::Memory),
+        Err(CaptureFault::Write) => Err(Failure::Write),
+        Err(CaptureFault::Memory) => Err(Failure::Memory),
     }
 }

@@ -12,7 +12,7 @@ use mq_count::{Moment, Watched};
 use mq_lines::LineKey;
 use mq_link::{Config, Igmp, Limits, Mld};
 use mq_pcap::Supply;
-use mq_replay::{Asked, CapturedFamily, ReplayFault, replay};
+use mq_replay::{Asked, CaptureFault, CapturedFamily, replay};
 use mq_text::{read_v4, read_v6};
 use std::alloc::Global;
 use std::io::{Read, Write};
@@ -92,16 +92,18 @@ where
             flush(output)?;
             Ok(true)
         }
-        Err(ReplayFault::Pcap(fault)) => {
+        Err(CaptureFault::Pcap(fault)) => {
             flush(output)?;
             Err(Failure::Capture(fault))
         }
-        Err(ReplayFault::Gap { number }) => {
+        Err(CaptureFault::Gap { number }) => {
             flush(output)?;
             Err(Failure::Gap { number })
         }
-        Err(ReplayFault::Write) => Err(Failure::Write),
-        Err(ReplayFault::Memory) => Err(Failure::Memory),
+        // Only checks have pending entries.
+        Err(CaptureFault::Waiting { .. }) => unreachable!(),
+        Err(CaptureFault::Write) => Err(Failure::Write),
+        Err(CaptureFault::Memory) => Err(Failure::Memory),
     }
 }
 

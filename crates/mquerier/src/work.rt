@@ -17,7 +17,7 @@ use mq_command::{Protocol, Request};
 use mq_count::Watched;
 use mq_lines::{igmp_line, mld_line};
 use mq_pcap::Supply;
-use mq_replay::{ReplayFault, show};
+use mq_replay::{CaptureFault, show};
 use mq_text::{read_v4, read_v6};
 use std::alloc::Global;
 use std::io::{Read, Write};
@@ -189,14 +189,14 @@ fn listing<S: Supply, R: Read, W: Write>(
             flush(output)?;
             Ok(true)
         }
-        Err(ReplayFault::Pcap(fault)) => {
+        Err(CaptureFault::Pcap(fault)) => {
             flush(output)?;
             Err(Failure::Capture(fault))
         }
-        Err(ReplayFault::Write) => Err(Failure::Write),
-        // Only a replay looks for gaps.
-        Err(ReplayFault::Gap { .. }) => unreachable!(),
-        Err(ReplayFault::Memory) => Err(Failure::Memory),
+        Err(CaptureFault::Write) => Err(Failure::Write),
+        // Only replays and checks look for gaps, and only checks have pending entries.
+        Err(CaptureFault::Gap { .. } | CaptureFault::Waiting { .. }) => unreachable!(),
+        Err(CaptureFault::Memory) => Err(Failure::Memory),
     }
 }
 

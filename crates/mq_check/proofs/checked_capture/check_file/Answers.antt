@@ -5,7 +5,7 @@ use Rattle.mq_link.specs.Configuration.{Configuration}
 use Rattle.mq_text.specs.Printing.{output_of}
 use Rattle.mq_replay.proofs.WalkedOver.{fault_or}
 use Rattle.mq_check.specs.declared.check_terms.CheckTerms.{CheckTerms}
-use Rattle.mq_check.specs.CheckedCaptures.{is_failed_write}
+use Rattle.mq_replay.specs.Faults.{is_failed_write}
 use Rattle.mq_check.specs.Telling.{ToldState}
 use Rattle.mq_check.proofs.CheckedOver.{kept_to_the_end, verdict_early, verdict_well}
 use Rattle.mq_check.proofs.checked_capture.check_file.Goals as goal

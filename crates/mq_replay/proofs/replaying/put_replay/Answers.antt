@@ -3,7 +3,7 @@ use Rattle.std.specs.Prelude.{IfSome}
 use Rattle.std.proofs.lemmas.Result.{err_from_is_err_and}
 use Rattle.mq_text.specs.Printing.{output_of}
 use Rattle.mq_replay.specs.declared.asked.Asked.{Asked}
-use Rattle.mq_replay.specs.Listing.{is_failed_write}
+use Rattle.mq_replay.specs.Faults.{is_failed_write}
 use Rattle.mq_replay.proofs.ReplayedOver.{kept_to_the_end, replays_from, reported_early, reported_well}
 use Rattle.mq_replay.proofs.WalkedOver.{fault_or}
 use Rattle.mq_replay.proofs.replaying.put_replay.Goals as goal

@@ -6,7 +6,7 @@ use Rattle.mq_link.specs.declared.counts.Counts.{Counts}
 use Rattle.mq_link.specs.Link.{LinkValue}
 use Rattle.mq_link.specs.State.{link_at}
 use Rattle.mq_pcap.specs.Capture.{most_bytes}
-use Rattle.mq_replay.specs.declared.replay_fault.ReplayFault.{ReplayFault}
+use Rattle.mq_replay.specs.declared.capture_fault.CaptureFault.{CaptureFault}
 use Rattle.mq_replay.proofs.Rooms.{room_of_filled, taken_at_fault}
 use Rattle.mq_replay.proofs.WrittenReplays.{nothing_replayed}
 use Rattle.mq_replay.proofs.replaying.replay_in.Goals as goal
@@ -58,7 +58,7 @@ pub returns-in_err-replay_on-clause-takes : goal.returns-in_err-replay_on-clause
 returns-in_err-replay_on-clause-takes g c =
     let p = err_from_is_err_and c.from_residual.result c.from_residual.ensures.1 in
     let taken = both c.in-Ok.ensures.memory c.in-Ok-new_in.ensures.memory in
-    rw (p.1, p.2) (taken_at_fault Counts c.in_err-replay_on.field-0.0 (λ is. c.in_err-replay_on.ensures.no_memory (ap (λ (f : ReplayFault). Err f) is)) taken)
+    rw (p.1, p.2) (taken_at_fault Counts c.in_err-replay_on.field-0.0 (λ is. c.in_err-replay_on.ensures.no_memory (ap (λ (f : CaptureFault). Err f) is)) taken)
 
 pub returns-clause-takes : goal.returns-clause-takes
 returns-clause-takes g c = both c.in-Ok.ensures.memory c.in-Ok-new_in.ensures.memory

@@ -1,8 +1,8 @@
 use Rattle.std.proofs.Common.{arith, refl, rules, subst, Ok, Err, ◌∙◌}
 use Rattle.std.proofs.Math.Bool.{or-true}
 use Rattle.std.proofs.lemmas.Result.{err_from_is_err_and}
-use Rattle.mq_check.specs.declared.check_fault.CheckFault.{CheckFault}
-use Rattle.mq_check.specs.declared.check_fault.CheckFault.TheVariants as answer
+use Rattle.mq_replay.specs.declared.capture_fault.CaptureFault.{CaptureFault}
+use Rattle.mq_replay.specs.declared.capture_fault.CaptureFault.TheVariants as answer
 use Rattle.mq_check.specs.CheckedCaptures.{Checks}
 use Rattle.mq_count.specs.Streams.{inner_of}
 use Rattle.mq_text.specs.Printing.{output_of}
@@ -38,7 +38,7 @@ returns-in_err-flush-in-Err-Pcap-clause-works g c =
     let r = Err (answer.Pcap c.in-Err-Pcap.fault) in
     let flushed = flushed_check g.F.Family.FAMILY (g.F.Address.Key.number c.args.querier) c.args.options.now.settings c.args.options.now.terms _ input
     old mid new r c.in_ok-config.ensures
-    (subst (λ (f : CheckFault). Checks c.in_ok-config.config c.args.options.now.terms input.old input.new old.held mid (Err f))
+    (subst (λ (f : CaptureFault). Checks c.in_ok-config.config c.args.options.now.terms input.old input.new old.held mid (Err f))
     c.in-Err-Pcap.field-0-is c.in-Err-Pcap.ensures.checks) refl c.in_err-flush-in-Err-Pcap.ensures.bytes in
     rw (p.1, p.2, c.in_err-flush-in-Err-Pcap.ensures.write) (
       λ e. absurd (omega (arith, e)),
@@ -55,7 +55,7 @@ returns-in_err-flush-in-Err-Gap-clause-works g c =
     let r = Err (answer.Gap c.in-Err-Gap.number) in
     let flushed = flushed_check g.F.Family.FAMILY (g.F.Address.Key.number c.args.querier) c.args.options.now.settings c.args.options.now.terms _ input
     old mid new r c.in_ok-config.ensures
-    (subst (λ (f : CheckFault). Checks c.in_ok-config.config c.args.options.now.terms input.old input.new old.held mid (Err f))
+    (subst (λ (f : CaptureFault). Checks c.in_ok-config.config c.args.options.now.terms input.old input.new old.held mid (Err f))
     c.in-Err-Gap.field-0-is c.in-Err-Gap.ensures.checks) refl c.in_err-flush-in-Err-Gap.ensures.bytes in
     rw (p.1, p.2, c.in_err-flush-in-Err-Gap.ensures.write) (
       λ e. absurd (omega (arith, e)),
@@ -72,7 +72,7 @@ returns-in_err-flush-in-Err-Waiting-clause-works g c =
     let r = Err (answer.Waiting c.in-Err-Waiting.number) in
     let flushed = flushed_check g.F.Family.FAMILY (g.F.Address.Key.number c.args.querier) c.args.options.now.settings c.args.options.now.terms _ input
     old mid new r c.in_ok-config.ensures
-    (subst (λ (f : CheckFault). Checks c.in_ok-config.config c.args.options.now.terms input.old input.new old.held mid (Err f))
+    (subst (λ (f : CaptureFault). Checks c.in_ok-config.config c.args.options.now.terms input.old input.new old.held mid (Err f))
     c.in-Err-Waiting.field-0-is c.in-Err-Waiting.ensures.checks) refl c.in_err-flush-in-Err-Waiting.ensures.bytes in
     rw (p.1, p.2, c.in_err-flush-in-Err-Waiting.ensures.write) (
       λ e. absurd (omega (arith, e)),
@@ -99,7 +99,7 @@ returns-in_ok-flush-in-Err-Pcap-clause-works g c =
     let r = Err (answer.Pcap c.in-Err-Pcap.fault) in
     let flushed = flushed_check g.F.Family.FAMILY (g.F.Address.Key.number c.args.querier) c.args.options.now.settings c.args.options.now.terms _ input
     old mid new r c.in_ok-config.ensures
-    (subst (λ (f : CheckFault). Checks c.in_ok-config.config c.args.options.now.terms input.old input.new old.held mid (Err f))
+    (subst (λ (f : CaptureFault). Checks c.in_ok-config.config c.args.options.now.terms input.old input.new old.held mid (Err f))
     c.in-Err-Pcap.field-0-is c.in-Err-Pcap.ensures.checks) refl c.in_ok-flush-in-Err-Pcap.ensures.bytes in
     (λ e. absurd (omega (arith, e)), λ e. ((c.in_ok-_end.ensures.1, c.in_ok-config.ensures.0), (search rules, flushed)))
 
@@ -112,7 +112,7 @@ returns-in_ok-flush-in-Err-Gap-clause-works g c =
     let r = Err (answer.Gap c.in-Err-Gap.number) in
     let flushed = flushed_check g.F.Family.FAMILY (g.F.Address.Key.number c.args.querier) c.args.options.now.settings c.args.options.now.terms _ input
     old mid new r c.in_ok-config.ensures
-    (subst (λ (f : CheckFault). Checks c.in_ok-config.config c.args.options.now.terms input.old input.new old.held mid (Err f))
+    (subst (λ (f : CaptureFault). Checks c.in_ok-config.config c.args.options.now.terms input.old input.new old.held mid (Err f))
     c.in-Err-Gap.field-0-is c.in-Err-Gap.ensures.checks) refl c.in_ok-flush-in-Err-Gap.ensures.bytes in
     (λ e. absurd (omega (arith, e)), λ e. ((c.in_ok-_end.ensures.1, c.in_ok-config.ensures.0), (search rules, flushed)))
 
@@ -125,6 +125,6 @@ returns-in_ok-flush-in-Err-Waiting-clause-works g c =
     let r = Err (answer.Waiting c.in-Err-Waiting.number) in
     let flushed = flushed_check g.F.Family.FAMILY (g.F.Address.Key.number c.args.querier) c.args.options.now.settings c.args.options.now.terms _ input
     old mid new r c.in_ok-config.ensures
-    (subst (λ (f : CheckFault). Checks c.in_ok-config.config c.args.options.now.terms input.old input.new old.held mid (Err f))
+    (subst (λ (f : CaptureFault). Checks c.in_ok-config.config c.args.options.now.terms input.old input.new old.held mid (Err f))
     c.in-Err-Waiting.field-0-is c.in-Err-Waiting.ensures.checks) refl c.in_ok-flush-in-Err-Waiting.ensures.bytes in
     (λ e. absurd (omega (arith, e)), λ e. ((c.in_ok-_end.ensures.1, c.in_ok-config.ensures.0), (search rules, flushed)))

@@ -3,8 +3,8 @@ use Rattle.std.proofs.Math.Bool.{or-true}
 use Rattle.std.proofs.lemmas.Result.{err_from_is_err_and}
 use Rattle.mq_count.specs.Streams.{inner_of}
 use Rattle.mq_text.specs.Printing.{output_of}
-use Rattle.mq_replay.specs.declared.replay_fault.ReplayFault.{ReplayFault}
-use Rattle.mq_replay.specs.declared.replay_fault.ReplayFault.TheVariants as answer
+use Rattle.mq_replay.specs.declared.capture_fault.CaptureFault.{CaptureFault}
+use Rattle.mq_replay.specs.declared.capture_fault.CaptureFault.TheVariants as answer
 use Rattle.mq_replay.specs.Replaying.{Replays}
 use Rattle.mquerier.specs.Changes.{input_by}
 use Rattle.mquerier.proofs.Replayed.{flushed_at}
@@ -36,7 +36,7 @@ returns-in_err-flush-in-Err-Pcap-clause-works g c =
     let r = Err (answer.Pcap c.in-Err-Pcap.fault) in
     let flushed = flushed_at g.F.Family.FAMILY (g.F.Address.Key.number c.args.own) c.args.options.now.settings c.args.options.now.until _
     c.args.options.now.changes _ input old mid new r c.in_ok-end.ensures c.in_ok-config.ensures
-    (subst (λ (f : ReplayFault). Replays c.in_ok-config.config (record { until = c.in_ok-end.end; changes = c.args.options.now.changes }) input.old
+    (subst (λ (f : CaptureFault). Replays c.in_ok-config.config (record { until = c.in_ok-end.end; changes = c.args.options.now.changes }) input.old
     input.new old.held mid (Err f)) c.in-Err-Pcap.field-0-is c.in-Err-Pcap.ensures.replays) (λ e. absurd (cc e)) c.in_err-flush-in-Err-Pcap.ensures.bytes in
     rw (p.1, p.2, c.in_err-flush-in-Err-Pcap.ensures.write) (
       λ e. absurd (omega (arith, e)),
@@ -53,7 +53,7 @@ returns-in_err-flush-in-Err-Gap-clause-works g c =
     let r = Err (answer.Gap c.in-Err-Gap.number) in
     let flushed = flushed_at g.F.Family.FAMILY (g.F.Address.Key.number c.args.own) c.args.options.now.settings c.args.options.now.until _
     c.args.options.now.changes _ input old mid new r c.in_ok-end.ensures c.in_ok-config.ensures
-    (subst (λ (f : ReplayFault). Replays c.in_ok-config.config (record { until = c.in_ok-end.end; changes = c.args.options.now.changes }) input.old
+    (subst (λ (f : CaptureFault). Replays c.in_ok-config.config (record { until = c.in_ok-end.end; changes = c.args.options.now.changes }) input.old
     input.new old.held mid (Err f)) c.in-Err-Gap.field-0-is c.in-Err-Gap.ensures.replays) (λ e. absurd (cc e)) c.in_err-flush-in-Err-Gap.ensures.bytes in
     rw (p.1, p.2, c.in_err-flush-in-Err-Gap.ensures.write) (
       λ e. absurd (omega (arith, e)),
@@ -81,6 +81,6 @@ returns-in_ok-flush-in-Err-Pcap-clause-works g c =
     let r = Err (answer.Pcap c.in-Err-Pcap.fault) in
     let flushed = flushed_at g.F.Family.FAMILY (g.F.Address.Key.number c.args.own) c.args.options.now.settings c.args.options.now.until _
     c.args.options.now.changes _ input old mid new r c.in_ok-end.ensures c.in_ok-config.ensures
-    (subst (λ (f : ReplayFault). Replays c.in_ok-config.config (record { until = c.in_ok-end.end; changes = c.args.options.now.changes }) input.old
+    (subst (λ (f : CaptureFault). Replays c.in_ok-config.config (record { until = c.in_ok-end.end; changes = c.args.options.now.changes }) input.old
     input.new old.held mid (Err f)) c.in-Err-Pcap.field-0-is c.in-Err-Pcap.ensures.replays) (λ e. absurd (cc e)) c.in_ok-flush-in-Err-Pcap.ensures.bytes in
     (λ e. absurd (omega (arith, e)), λ e. ((c.in_ok-end.ensures.1, c.in_ok-config.ensures.0), (search rules, flushed)))
