@@ -12,10 +12,9 @@ use Rattle.mq_pcap.specs.Frame.{carried_in}
 use Rattle.mq_wire.specs.declared.query.Query.{Query}
 use Rattle.mq_wire.specs.Family.{Family}
 use Rattle.mq_replay.specs.declared.walking.Walked.{Walked}
-use Rattle.mq_replay.specs.PlacedPackets.{PlacedPacket}
-use Rattle.mq_replay.specs.Replaying.{ReadCapture}
+use Rattle.mq_replay.specs.PlacedPackets.{Place, PlacedPacket, at_first, place_behind}
 use Rattle.mq_replay.specs.Report.{Datagram, datagram_of}
-use Rattle.mq_replay.specs.Walking.{IsBrokenOff, IsEndedByFault, IsStopped, Place, StepsOver, StepsOverAll, Walks, at_first, place_behind}
+use Rattle.mq_replay.specs.Walking.{IsBrokenOff, IsEndedByFault, IsStopped, ReadCapture, StepsOver, StepsOverAll, Walks}
 use Rattle.mq_check.specs.declared.announced.Announced.{Announced}
 use Rattle.mq_replay.specs.declared.capture_fault.CaptureFault.{CaptureFault}
 use Rattle.mq_replay.specs.declared.capture_fault.CaptureFault.TheVariants as answer

@@ -9,10 +9,10 @@ ghost use Rattle.mq_link.specs.Sizes.{bytes_of_link, bytes_of_workspace};
 ghost use Rattle.mq_pcap.specs.Capture.{most_bytes};
 ghost use Rattle.mq_pcap.specs.Filling.{input_of};
 ghost use Rattle.mq_replay.specs.Faults as faults;
-ghost use Rattle.mq_check.specs.Check.{at_the_start};
+ghost use Rattle.mq_replay.specs.PuttingReports.{PutsReport};
+ghost use Rattle.mq_check.specs.Check.{at_the_start, check_of};
 ghost use Rattle.mq_check.specs.CheckedCaptures as spec;
 ghost use Rattle.mq_check.specs.Coming.{checked_in};
-ghost use Rattle.mq_check.specs.Ending.{PutsVerdict};
 ghost use Rattle.mq_check.specs.Sizes.{bytes_of_checking};
 ghost use Rattle.mq_check.specs.Telling.{nothing_told};
 
@@ -26,7 +26,7 @@ use mq_count::Watched;
 use mq_lines::LineKey;
 use mq_link::{Config, Link};
 use mq_pcap::{GREATEST_PACKET, Supply};
-use mq_replay::{CaptureFault, first_moment, is_failed_write, walk};
+use mq_replay::{CaptureFault, UpToGap, first_moment, is_failed_write, walk};
 use std::alloc::{AllocError, Allocator};
 use std::io::{Read, Write};
 
@@ -103,13 +103,15 @@ where
     else {
         return Err(CaptureFault::Memory);
     };
-    let mut check = Check::new(link, checking, terms);
+    let mut check = UpToGap {
+        steps: Check::new(link, checking, terms),
+    };
     check_on(&mut check, packet.as_mut_slice(), supply, reader, writer)
 }
 
 /// Checks a capture, with caller-provided memory for a packet.
 fn check_on<F: CheckedFamily, A: Allocator, S: Supply, R: Read, W: Write>(
-    check: &mut Check<F, A>,
+    check: &mut UpToGap<Check<F, A>>,
     packet: &mut [u8],
     supply: &S,
     reader: &mut Watched<R>,
@@ -118,10 +120,10 @@ fn check_on<F: CheckedFamily, A: Allocator, S: Supply, R: Read, W: Write>(
 where
     F::Address: LineKey,
     requires room { most_bytes ≤ length packet.old }
-    requires in_range { IfSome check.old.terms.until (λ ms. ms ≤ 2 ^ 53) }
-    requires starts { checked_in check.old.link check.old.queries ≡ at_the_start check.old.link.config check.old.terms.within check.old.terms.strict }
-    requires told { check.old.told ≡ nothing_told check.old.terms.additions }
-    ensures checks { spec.Checks check.old.link.config check.old.terms
+    requires in_range { IfSome check.old.steps.terms.until (λ ms. ms ≤ 2 ^ 53) }
+    requires starts { checked_in check.old.steps.link check.old.steps.queries ≡ at_the_start check.old.steps.link.config check.old.steps.terms.within check.old.steps.terms.strict }
+    requires told { check.old.steps.told ≡ nothing_told check.old.steps.terms.additions }
+    ensures checks { spec.Checks check.old.steps.link.config check.old.steps.terms
         (input_of R.remaining reader.old) (input_of R.remaining reader.new)
         (W.contents (inner_of writer.old)) (W.contents (inner_of writer.new))
         result }
@@ -132,13 +134,13 @@ where
     if is_failed_write(&answer) {
         return answer;
     }
-    check.told.finish(writer)?;
+    check.steps.told.finish(writer)?;
     answer
 }
 
 /// Checks a capture, from its header to its end.
 fn check_file<F: CheckedFamily, A: Allocator, S: Supply, R: Read, W: Write>(
-    check: &mut Check<F, A>,
+    check: &mut UpToGap<Check<F, A>>,
     packet: &mut [u8],
     supply: &S,
     reader: &mut Watched<R>,
@@ -147,17 +149,17 @@ fn check_file<F: CheckedFamily, A: Allocator, S: Supply, R: Read, W: Write>(
 where
     F::Address: LineKey,
     requires room { most_bytes ≤ length packet.old }
-    requires in_range { IfSome check.old.terms.until (λ ms. ms ≤ 2 ^ 53) }
-    requires starts { checked_in check.old.link check.old.queries ≡ at_the_start check.old.link.config check.old.terms.within check.old.terms.strict }
-    requires told { check.old.told ≡ nothing_told check.old.terms.additions }
-    ensures puts { PutsVerdict check.old.link.config check.old.terms
+    requires in_range { IfSome check.old.steps.terms.until (λ ms. ms ≤ 2 ^ 53) }
+    requires starts { checked_in check.old.steps.link check.old.steps.queries ≡ at_the_start check.old.steps.link.config check.old.steps.terms.within check.old.steps.terms.strict }
+    requires told { check.old.steps.told ≡ nothing_told check.old.steps.terms.additions }
+    ensures puts { PutsReport (check_of check.old.steps.link.config check.old.steps.terms)
         (input_of R.remaining reader.old) (input_of R.remaining reader.new)
         (W.contents (inner_of writer.old)) (W.contents (inner_of writer.new))
-        check.old.told.held check.new.told.held result }
+        check.old.steps.told.held check.new.steps.told.held result }
     ensures failed { has_failed writer.new ≡ has_failed writer.old || faults.is_failed_write result }
     ensures no_memory { result ≡ Err CaptureFault.Memory → ⊥ }
 {
-    check.link.config().is_faultless();
+    check.steps.link.config().is_faultless();
     let walked = walk(check, packet, supply, reader, writer)?;
-    check.rest(walked.last, walked.packets + 1, writer)
+    check.steps.rest(walked, writer)
 }

@@ -15,7 +15,7 @@ use crate::wanted_queries::WantedQueries;
 use mq_count::Watched;
 use mq_lines::LineKey;
 use mq_link::Link;
-use mq_replay::{CaptureFault, NumberedPacket, Step, first_moment};
+use mq_replay::{CaptureFault, GaplessStep, NumberedPacket, first_moment};
 use std::alloc::Allocator;
 use std::io::Write;
 
@@ -58,14 +58,12 @@ where
     }
 }
 
-impl<F: CheckedFamily, A: Allocator, W: Write> Step<Watched<W>> for Check<F, A>
+impl<F: CheckedFamily, A: Allocator, W: Write> GaplessStep<Watched<W>> for Check<F, A>
 where
     F::Address: LineKey,
 {
     ghost use Rattle.mq_text.specs.Printing.{output_of};
     ghost use Rattle.mq_check.specs.Coming.{TakesChecked};
-
-    type Fault = CaptureFault;
 
     ghost takes = { λ packet old new r. TakesChecked F.Address.family packet
         (record { link = old.0.link; queries = old.0.queries; terms = old.0.terms; told = old.0.told; output = output_of W.contents old.1 })
@@ -76,13 +74,11 @@ where
         packet: &NumberedPacket<'_>,
         output: &mut Watched<W>,
     ) -> Result<(), CaptureFault> {
-        let number = packet.number;
-        if packet.follows_gap() {
-            return Err(CaptureFault::Gap { number });
-        }
         self.check_packet(packet, output)?;
         if self.queries.checking().is_full() {
-            return Err(CaptureFault::Waiting { number });
+            return Err(CaptureFault::Waiting {
+                number: packet.number,
+            });
         }
         self.told.write_before_wait(packet.may_wait, output)?;
         Ok(())

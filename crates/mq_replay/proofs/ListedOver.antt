@@ -15,10 +15,9 @@ use Rattle.mq_replay.specs.declared.capture_fault.CaptureFault.TheVariants as an
 use Rattle.mq_replay.specs.declared.walking.Walked.{Walked}
 use Rattle.mq_replay.specs.Faults.{is_failed_write}
 use Rattle.mq_replay.specs.Listing.{AreLines, IsEndedBy, IsListing, place_text}
-use Rattle.mq_replay.specs.PlacedPackets.{PlacedPacket}
+use Rattle.mq_replay.specs.PlacedPackets.{Place, PlacedPacket, at_first, place_behind, placed}
 use Rattle.mq_replay.specs.Putting.{ListingState, PutsListing, TakesListed}
-use Rattle.mq_replay.specs.Replaying.{ReadCapture}
-use Rattle.mq_replay.specs.Walking.{IsBrokenOff, IsEndedByFault, IsStopped, IsWalked, Place, StepsOver, StepsOverAll, Walks, at_first, place_behind, placed}
+use Rattle.mq_replay.specs.Walking.{IsBrokenOff, IsEndedByFault, IsStopped, ReadCapture, StepsOver, StepsOverAll, Walks}
 use Rattle.mq_replay.proofs.WalkedOver.{steps_counted}
 
 -- a failed read and a fault of the capture, in the terms of a listing

@@ -1,4 +1,5 @@
 pub mod ChangeLines
+pub mod Courses
 pub mod Datagrams
 pub mod Faults
 pub mod Listing
@@ -10,5 +11,6 @@ pub mod QueryLines
 pub mod ReplayLines
 pub mod Replaying
 pub mod Report
+pub mod Reports
 pub mod Steps
 pub mod Walking

@@ -8,7 +8,7 @@ use crate::captured_family::CapturedFamily;
 use crate::numbered_packet::NumberedPacket;
 use crate::one_packet::replay_packet;
 use crate::waiting::write_before_wait;
-use crate::walking::Step;
+use crate::walking::GaplessStep;
 use mq_count::Watched;
 use mq_lines::LineKey;
 use mq_link::Link;
@@ -46,14 +46,12 @@ where
     }
 }
 
-impl<F: CapturedFamily, A: Allocator, W: Write> Step<Watched<W>> for Replay<F, A>
+impl<F: CapturedFamily, A: Allocator, W: Write> GaplessStep<Watched<W>> for Replay<F, A>
 where
     F::Address: LineKey,
 {
     ghost use Rattle.mq_text.specs.Printing.{output_of};
     ghost use Rattle.mq_replay.specs.Steps.{TakesReplayed};
-
-    type Fault = CaptureFault;
 
     ghost takes = { λ packet old new r. TakesReplayed packet
         (record { link = old.0.link; asked = old.0.asked; held = old.0.buffer.items; output = output_of W.contents old.1 })
@@ -64,11 +62,6 @@ where
         packet: &NumberedPacket<'_>,
         output: &mut Watched<W>,
     ) -> Result<(), CaptureFault> {
-        if packet.follows_gap() {
-            return Err(CaptureFault::Gap {
-                number: packet.number,
-            });
-        }
         let inner = unwrap_frame(packet.link, packet.frame);
         replay_packet(
             &mut self.link,

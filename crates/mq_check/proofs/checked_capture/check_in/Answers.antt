@@ -6,16 +6,16 @@ use Rattle.mq_link.specs.Link.{LinkValue}
 use Rattle.mq_link.specs.State.{link_at}
 use Rattle.mq_pcap.specs.Capture.{most_bytes}
 use Rattle.mq_replay.proofs.Rooms.{room_of_filled}
+use Rattle.mq_replay.proofs.WrittenReports.{nothing_reported}
 use Rattle.mq_check.specs.Checking.{checking_at_start}
 use Rattle.mq_check.proofs.Rooms.{taken_at}
-use Rattle.mq_check.proofs.WrittenVerdicts.{nothing_checked}
 use Rattle.mq_check.proofs.checked_capture.check_in.Goals as goal
 
 pub returns-in_default-clause-checks : goal.returns-in_default-clause-checks
-returns-in_default-clause-checks g c = nothing_checked _ _ _ _
+returns-in_default-clause-checks g c = nothing_reported _ _ _
 
 pub returns-in_default-new_in-clause-checks : goal.returns-in_default-new_in-clause-checks
-returns-in_default-new_in-clause-checks g c = nothing_checked _ _ _ _
+returns-in_default-new_in-clause-checks g c = nothing_reported _ _ _
 
 pub returns-in_default-clause-failed : goal.returns-in_default-clause-failed
 returns-in_default-clause-failed g c = sym (or-false _)
@@ -24,7 +24,7 @@ pub returns-in_default-new_in-clause-failed : goal.returns-in_default-new_in-cla
 returns-in_default-new_in-clause-failed g c = sym (or-false _)
 
 pub returns-in_default-new-clause-checks : goal.returns-in_default-new-clause-checks
-returns-in_default-new-clause-checks g c = nothing_checked _ _ _ _
+returns-in_default-new-clause-checks g c = nothing_reported _ _ _
 
 pub returns-in_default-new-clause-failed : goal.returns-in_default-new-clause-failed
 returns-in_default-new-clause-failed g c = sym (or-false _)
