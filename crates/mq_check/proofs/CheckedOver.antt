@@ -12,8 +12,7 @@ use Rattle.mq_replay.specs.declared.walking.Walked.{Walked}
 use Rattle.mq_replay.specs.Courses.{Report}
 use Rattle.mq_replay.specs.PlacedPackets.{PlacedPacket}
 use Rattle.mq_replay.specs.PuttingReports.{IsRestPut, PutsReport, end_of, rest_at}
-use Rattle.mq_replay.specs.Walking.{TakesUpToGap, Walks}
-use Rattle.mq_replay.proofs.ReportedOver.{IsPassed, IsStepped, Puts, come_to_the_end, report_behind, reported_early, reported_well, rest_joined}
+use Rattle.mq_replay.proofs.ReportedOver.{IsPassed, IsStepped, Puts, WalksUpToGap, come_to_the_end, report_behind, reported_early, reported_well, rest_joined}
 use Rattle.mq_check.specs.declared.basis.Basis.{Basis}
 use Rattle.mq_check.specs.declared.check_terms.CheckTerms.{CheckTerms}
 use Rattle.mq_check.specs.declared.finding.Finding.{Finding}
@@ -187,11 +186,11 @@ module _ {X : Type 0} (family : Family) (state : X → CheckState) where
   held x = (state x).told.held
 
   -- the code has come to this outcome, whose findings were told after the start
-  record IsCheckedAt (config : Configuration) (terms : CheckTerms) (start : ToldState) (before : OutputState) (o : Outcome) (x : X) : Type 0 where
-    checked : checked_in (state x).link (state x).queries ≡ o.checked
-    same_config : (state x).link.config ≡ config
-    same_terms : (state x).terms ≡ terms
-    tells : Tells {T = Unit} {E = Unit} family o.found start (state x).told before (out x) (Ok tt)
+  pub record IsCheckedAt (config : Configuration) (terms : CheckTerms) (start : ToldState) (before : OutputState) (o : Outcome) (x : X) : Type 0 where
+    pub checked : checked_in (state x).link (state x).queries ≡ o.checked
+    pub same_config : (state x).link.config ≡ config
+    pub same_terms : (state x).terms ≡ terms
+    pub tells : Tells {T = Unit} {E = Unit} family o.found start (state x).told before (out x) (Ok tt)
 
   module _ (config : Configuration) (terms : CheckTerms) (start : ToldState) (before : OutputState)
       (is_family : family ≡ config.family) (is_new : start ≡ nothing_told terms.additions) where
@@ -268,15 +267,13 @@ module _ {X : Type 0} (family : Family) (state : X → CheckState) where
     here : Is (quiet (at_the_start config terms.within terms.strict)) (inner y)
     here = record { checked = starts; same_config = refl; same_terms = refl; tells = none_told family start before tt }
 
-    pub verdict_early : (e : CaptureFault)
-        → Walks (λ packet y y' r. TakesUpToGap takes packet (inner y) (inner y') r) (λ f it. it ≡ answer.Pcap f) old new y y' (Err e)
+    pub verdict_early : (e : CaptureFault) → WalksUpToGap inner takes old new y y' (Err e)
         → Puts (check_of config terms) Is out held before start.held inner takes old new y' e
     verdict_early e walks =
         reported_early (check_of config terms) Is out held before start.held inner takes (passed_at config terms start before is_family is_new)
         (stepped_at config terms start before is_family is_new) y here old new y' e walks
 
-    module _ (w : Walked)
-        (walks : Walks (λ packet y y' r. TakesUpToGap takes packet (inner y) (inner y') r) (λ f it. it ≡ answer.Pcap f) old new y y' (Ok w)) where
+    module _ (w : Walked) (walks : WalksUpToGap inner takes old new y y' (Ok w)) where
       -- what stays
       pub kept : ((state (inner y')).terms ≡ terms) × ((out (inner y')).failed ≡ before.failed)
       kept =

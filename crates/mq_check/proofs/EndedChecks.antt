@@ -91,7 +91,8 @@ begins family told number c rests found last =
     let totals = counted_behind told.count c rests all in
     let full : Report Totals = record { text = finding_lines family told.additions first; answer = Err (answer.Waiting number) } in
     let whole : Report Totals = record { text = end_text family told.additions all totals; answer = Ok totals } in
-    elim c.waiting.is_full as (λ b. (more : List ℕ) × ((if◌then◌else◌ {A = Report Totals} b full whole).text ≡ finding_lines family told.additions first ++ more)) [
+    elim c.waiting.is_full as (λ b.
+    (more : List ℕ) × ((if◌then◌else◌ {A = Report Totals} b full whole).text ≡ finding_lines family told.additions first ++ more)) [
       | true ↦ ([], sym (append-nil (finding_lines family told.additions first)))
       | false ↦ (
         end_text family told.additions more totals,

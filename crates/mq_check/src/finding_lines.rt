@@ -335,7 +335,7 @@ fn put_unread(text: &mut Text, basis: &Basis)
 
 /// Appends the line of the packets.
 pub(crate) fn put_packets(text: &mut Text, basis: &Basis)
-    requires { array_vec_len text.old + 200 ≤ 4096 }
+    requires { array_vec_len text.old + 203 ≤ 4096 }
     ensures { text.new.items ≡ text.old.items ++ spec.packets_line basis.now }
 {
     put_count(text, b"packets ", basis.packets);

@@ -8,7 +8,8 @@ use Rattle.mq_link.specs.Counters.{Counters}
 use Rattle.mq_examples.specs.Links.{octets}
 use Rattle.mq_replay.specs.declared.asked.Asked.{Asked}
 use Rattle.mq_replay.specs.declared.capture_fault.CaptureFault.{CaptureFault}
-use Rattle.mq_replay.specs.Report.{report_of}
+use Rattle.mq_replay.specs.Courses.{report_of}
+use Rattle.mq_replay.specs.Report.{replay_of}
 
 -- a file's header: least significant byte first, microseconds, Ethernet
 abbrev pub file_header : List ℕ
@@ -64,5 +65,5 @@ pub record Reports (config : Configuration) (until : Option ℕ) (bytes text : L
   pub packets : List Captured
   pub end : Option PcapFault
   pub capture : Captures bytes header packets end
-  pub text_is : (report_of config (up_to until) header packets end).text ≡ text
-  pub answer_is : totals_of (report_of config (up_to until) header packets end).answer ≡ answer
+  pub text_is : (report_of (replay_of config (up_to until)) header packets end).text ≡ text
+  pub answer_is : totals_of (report_of (replay_of config (up_to until)) header packets end).answer ≡ answer

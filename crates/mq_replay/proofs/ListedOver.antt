@@ -87,7 +87,8 @@ module _ {X : Type 0} (state : X → ListingState) where
       (over.text, lines_of form to c.packets x x' over, over.passed, over.failed)
 
   -- the walk ended early
-  pub listed_early : (old new : InputState) (x x' : X) (e : CaptureFault) → Walks takes (λ f it. it ≡ answer.Pcap f) old new x x' (Err e) → Listed old new x x' e
+  pub listed_early : (old new : InputState) (x x' : X) (e : CaptureFault) → Walks takes (λ f it. it ≡ answer.Pcap f) old new x x' (Err e) →
+      Listed old new x x' e
   listed_early old new x x' e walks = by_end walks.ended
     where
       c : ReadCapture

@@ -20,9 +20,8 @@ use Rattle.mq_replay.specs.PuttingReports.{IsRestPut, PutsReport, end_of, rest_a
 use Rattle.mq_replay.specs.Report.{Replayed, at_the_start, ended_at, replay_of, ticked_before, with_packet}
 use Rattle.mq_replay.specs.ReplayLines.{end_lines}
 use Rattle.mq_replay.specs.Steps.{PutsReplayed, ReplayState, TakesReplayed, begun_with}
-use Rattle.mq_replay.specs.Walking.{TakesUpToGap, Walks}
 use Rattle.mq_replay.proofs.Growing.{behind, as_behind, before_behind, next_packet, packet_changes}
-use Rattle.mq_replay.proofs.ReportedOver.{IsPassed, IsStepped, Puts, come_to_the_end, report_behind, reported_early, reported_well, rest_joined}
+use Rattle.mq_replay.proofs.ReportedOver.{IsPassed, IsStepped, Puts, WalksUpToGap, come_to_the_end, report_behind, reported_early, reported_well, rest_joined}
 
 -- the end of a replay behind a text
 abbrev with_end : Configuration → (moment : ℕ) → Replayed → Report Counters
@@ -42,10 +41,10 @@ end_behind config moment r =
     ∙ (λ i. record { text = append_assoc r.text done.text lines i; answer = Ok done.link.counters })
 
 -- the end of a replay doesn't fail
-pub only_waits : (config : Configuration) (asked : Asked) (moment number : ℕ) (r : Replayed) (e : CaptureFault)
-    → ((replay_of config asked).ended moment number r).answer ≡ Err e → e ≡ answer.Waiting number
+pub only_waits : (config : Configuration) (moment number : ℕ) (r : Replayed) (e : CaptureFault) → (ended_at config moment r).answer ≡ Err e →
+    e ≡ answer.Waiting number
 unfolding ended_at
-only_waits config asked moment number r e is = absurd (cc is)
+only_waits config moment number r e is = absurd (cc is)
 
 -- a packet behind what was replayed, of a link that has come there
 packet_of : {changes : Bool} (config : Configuration) (moment number : ℕ) (link : LinkValue) (frame : Carried) (r : Replayed) → link.config ≡ config →
@@ -87,13 +86,13 @@ module _ {X : Type 0} (state : X → ReplayState) where
   held x = (state x).held
 
   -- the code has come to this replay, whose text was put behind what was held at the start
-  record IsReplayedAt (config : Configuration) (asked : Asked) (before : OutputState) (first : List ℕ) (r : Replayed) (x : X) : Type 0 where
-    link_is : r.link ≡ (state x).link.state
-    changes_are : r.changes ≡ asked.changes
-    same_asked : (state x).asked ≡ asked
-    same_config : (state x).link.config ≡ config
-    passed : Passes before.held (out x).held first (held x) r.text
-    failed : (out x).failed ≡ before.failed
+  pub record IsReplayedAt (config : Configuration) (asked : Asked) (before : OutputState) (first : List ℕ) (r : Replayed) (x : X) : Type 0 where
+    pub link_is : r.link ≡ (state x).link.state
+    pub changes_are : r.changes ≡ asked.changes
+    pub same_asked : (state x).asked ≡ asked
+    pub same_config : (state x).link.config ≡ config
+    pub passed : Passes before.held (out x).held first (held x) r.text
+    pub failed : (out x).failed ≡ before.failed
 
   module _ (config : Configuration) (asked : Asked) (before : OutputState) (first : List ℕ) where
     passed_at : (r : Replayed) (x : X) → IsReplayedAt config asked before first r x →
@@ -129,7 +128,8 @@ module _ {X : Type 0} (state : X → ReplayState) where
     stepped_at packet r x x' (Err answer.Memory) at step = absurd step
 
   -- a replay from the start of its link
-  module _ {Y : Type 0} (inner : Y → X) (old new : InputState) (y y' : Y) (starts : (state (inner y)).link.state ≡ link_at (state (inner y)).link.config 0) where
+  module _ {Y : Type 0} (inner : Y → X) (old new : InputState) (y y' : Y)
+      (starts : (state (inner y)).link.state ≡ link_at (state (inner y)).link.config 0) where
     abbrev config : Configuration
     config = (state (inner y)).link.config
 
@@ -155,13 +155,13 @@ module _ {X : Type 0} (state : X → ReplayState) where
       failed = refl;
     }
 
-    pub replayed_early : (e : CaptureFault) → Walks (λ packet y y' r. TakesUpToGap takes packet (inner y) (inner y') r) (λ f it. it ≡ answer.Pcap f) old new y y' (Err e)
-        → Puts (replay_of config asked) Is out held before first inner takes old new y' e
+    pub replayed_early : (e : CaptureFault) → WalksUpToGap inner takes old new y y' (Err e) →
+        Puts (replay_of config asked) Is out held before first inner takes old new y' e
     replayed_early e walks =
         reported_early (replay_of config asked) Is out held before first inner takes (passed_at config asked before first)
         (stepped_at config asked before first) y here old new y' e walks
 
-    module _ (w : Walked) (walks : Walks (λ packet y y' r. TakesUpToGap takes packet (inner y) (inner y') r) (λ f it. it ≡ answer.Pcap f) old new y y' (Ok w)) where
+    module _ (w : Walked) (walks : WalksUpToGap inner takes old new y y' (Ok w)) where
       -- what stays
       pub kept : ((state (inner y')).asked ≡ asked) × ((out (inner y')).failed ≡ before.failed)
       kept =

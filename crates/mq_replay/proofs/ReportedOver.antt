@@ -8,7 +8,7 @@ use Rattle.mq_pcap.specs.declared.link_type.LinkType.{LinkType}
 use Rattle.mq_pcap.specs.Capture.{Captured, Captures, is_read}
 use Rattle.mq_pcap.specs.Filling.{InputState}
 use Rattle.mq_text.specs.Printing.{GrowsByBeginning, OutputState, Passes}
-use Rattle.mq_text.proofs.Passing.{both_passed, broken_behind}
+use Rattle.mq_text.proofs.Passing.{both_passed, broken_behind, nothing_passed}
 use Rattle.mq_replay.specs.declared.capture_fault.CaptureFault.{CaptureFault}
 use Rattle.mq_replay.specs.declared.capture_fault.CaptureFault.TheVariants as answer
 use Rattle.mq_replay.specs.declared.walking.Walked.{Walked}
@@ -23,6 +23,25 @@ use Rattle.mq_replay.proofs.WalkedOver.{fault_or, steps_counted}
 -- a report behind a text
 abbrev pub report_behind : {T : Type 0} → List ℕ → Report T → Report T
 report_behind text report = record { text = text ++ report.text; answer = report.answer }
+
+-- a gap before the end
+pub gap_put : {T : Type 0} (ended : ℕ → Report T) (until : Option ℕ) (last number : ℕ) (e : CaptureFault) (before : Option (List ℕ)) (left : List ℕ)
+    → Err e ≡ end_of until last number → IsRestPut (rest_at ended (end_of until last number)) before before left left (Err e)
+gap_put ended until last number e before left is = by_kind (is_gap last (last_moment until last)) is
+  where
+    end : Bool → Result ℕ CaptureFault
+    end b = elim b [ true ↦ Err (answer.Gap number) | false ↦ Ok (last_moment until last) ]
+
+    by_kind : (b : Bool) → Err e ≡ end b → IsRestPut (rest_at ended (end b)) before before left left (Err e)
+    by_kind true is =
+        subst (λ (f : CaptureFault). IsRestPut (rest_at ended (end true)) before before left left (Err f)) (sym (ap (fault_or e) is))
+        (refl, nothing_passed before left)
+    by_kind false is = absurd (cc is)
+
+-- a walk up to a gap, by what the code does with a packet before it
+abbrev pub WalksUpToGap : {X Y : Type 0} → (inner : Y → X) → (takes : PlacedPacket → X → X → Result Unit CaptureFault → Type 0) → (old new : InputState)
+    → (y y' : Y) → Result Walked CaptureFault → Type 0
+WalksUpToGap inner takes old new y y' r = Walks (λ packet y y' r. TakesUpToGap takes packet (inner y) (inner y') r) (λ f e. e ≡ answer.Pcap f) old new y y' r
 
 module _ {S T : Type 0} (work : Work S T) where
   none_left : (link : LinkType) (at : Place) (s : S) → with_packets work link at [] s ≡ record { state = s; moment = at.before; fault = None }
@@ -70,7 +89,7 @@ module _ {S T : Type 0} (work : Work S T) where
       by_kind false = ap (λ (c : Course S). c.state) (none_left link (place_behind at packet.stamp) after)
 
   -- the report after the packets of a file that has ended, behind the text of the packets
-  rest_joined : (last number : ℕ) (s : S) (ended : ℕ → Report T)
+  pub rest_joined : (last number : ℕ) (s : S) (ended : ℕ → Report T)
       → ((moment : ℕ) → work.ended moment number s ≡ report_behind (work.text s) (ended moment))
       → reported work number None None (record { state = s; moment = last; fault = None })
       ≡ report_behind (work.text s) (rest_at ended (end_of work.until last number))
@@ -123,8 +142,8 @@ module _ {S T X : Type 0} (work : Work S T) (Is : S → X → Type 0) (out : X �
 
     module _ (passed : (s : S) (x : X) → Is s x → IsPassed s x)
         (stepped : (packet : PlacedPacket) (s : S) (x x' : X) (r : Result Unit CaptureFault) → Is s x → takes packet x x' r → IsStepped packet s x' r) where
-      come_over : (link : LinkType) (at to : Place) (packets : List Captured) (s : S) (y y' : Y) → Is s (inner y) → StepsOver takes_all link at packets y to y' →
-          IsComeOver link at to packets s y'
+      come_over : (link : LinkType) (at to : Place) (packets : List Captured) (s : S) (y y' : Y) → Is s (inner y)
+          → StepsOver takes_all link at packets y to y' → IsComeOver link at to packets s y'
       come_over link at to [] s y y' here steps = record {
         end = s;
         course = λ more. ap (λ (p : Place). with_packets work link p more s) (sym steps.0);
@@ -220,8 +239,7 @@ module _ {S T X : Type 0} (work : Work S T) (Is : S → X → Type 0) (out : X �
               )
 
         -- the walk ended early
-        pub reported_early : (old new : InputState) (y' : Y) (e : CaptureFault) → Walks takes_all (λ f it. it ≡ answer.Pcap f) old new y y' (Err e) →
-            Puts old new y' e
+        pub reported_early : (old new : InputState) (y' : Y) (e : CaptureFault) → WalksUpToGap inner takes old new y y' (Err e) → Puts old new y' e
         reported_early old new y' e walks = by_end walks.ended
           where
             c : ReadCapture
@@ -280,7 +298,7 @@ module _ {S T X : Type 0} (work : Work S T) (Is : S → X → Type 0) (out : X �
             by_end (inr it) = by_stop it it.stops
 
         -- the walk came to the end of the capture
-        module _ (old new : InputState) (y' : Y) (w : Walked) (walks : Walks takes_all (λ f it. it ≡ answer.Pcap f) old new y y' (Ok w)) where
+        module _ (old new : InputState) (y' : Y) (w : Walked) (walks : WalksUpToGap inner takes old new y y' (Ok w)) where
           abbrev the_end : Place
           the_end = record { first = walks.ended.first; before = w.last; number = w.packets + 1 }
 

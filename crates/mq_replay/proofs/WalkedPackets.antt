@@ -17,7 +17,8 @@ puts_as packet old new moment frame r is_moment is_frame puts =
     subst (λ (m : ℕ). Puts packet m (carried_in packet.link packet.frame) old new r) is_moment
     (subst (λ (f : Carried). Puts packet moment f old new r) is_frame puts)
 
-pub replays_well : {E : Type 0} (packet : PlacedPacket) (old new : ReplayState) (moment : ℕ) (frame : Carried) → new.asked ≡ old.asked → moment ≡ packet.moment → frame ≡ carried_in packet.link packet.frame
+pub replays_well : {E : Type 0} (packet : PlacedPacket) (old new : ReplayState) (moment : ℕ) (frame : Carried) → new.asked ≡ old.asked
+    → moment ≡ packet.moment → frame ≡ carried_in packet.link packet.frame
     → Puts {T = Unit} {E = E} packet moment frame old new (Ok tt) → new.output.failed ≡ old.output.failed || false →
     ReplaysPacket {E = Unit} packet old new (Ok tt)
 replays_well {E} packet old new moment frame asked is_moment is_frame puts failed =

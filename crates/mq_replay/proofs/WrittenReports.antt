@@ -37,6 +37,9 @@ none_begun : (before after : Option (List ℕ)) → GrowsByBeginning before afte
 none_begun before after begun = let some = begun.some_left in let parts = ap length begun.parts ∙ length-append begun.written begun.left in
     omega (arith, some, parts)
 
+abbrev one_of : {T : Type 0} → Bool → Report T → Report T → Report T
+one_of b x y = elim b [ true ↦ x | false ↦ y ]
+
 pub counted_write : {S T : Type 0} (value : T) (r : Result S CaptureFault) → is_failed_write (counted value r) ≡ is_failed_write r
 counted_write value (Ok x) = refl
 counted_write value (Err (answer.Pcap f)) = refl
@@ -104,11 +107,13 @@ module _ {S T : Type 0} (work : Work S T) where
     fault_behind number (Some f) None course e is = inl refl
     fault_behind number None None course e is = by_gap (is_gap course.moment (last_moment work.until course.moment)) is
       where
+        broken : Report T
+        broken = broken_off work (answer.Gap number) course.state
+
         whole : Report T
         whole = work.ended (last_moment work.until course.moment) number course.state
 
-        by_gap : (b : Bool) → (elim b [ true ↦ broken_off work (answer.Gap number) course.state | false ↦ whole ]).answer ≡ Err e →
-            IsFaultText number None (work.text course.state) (elim b [ true ↦ broken_off work (answer.Gap number) course.state | false ↦ whole ]) e
+        by_gap : (b : Bool) → (one_of b broken whole).answer ≡ Err e → IsFaultText number None (work.text course.state) (one_of b broken whole) e
         by_gap true is = inl refl
         by_gap false is = inr (refl, only_waits (last_moment work.until course.moment) number course.state e is)
 

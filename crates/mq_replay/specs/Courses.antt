@@ -14,9 +14,9 @@ pub record Report (T : Type 0) : Type 0 where
   pub text : List ℕ
   pub answer : Result T CaptureFault
 
--- Work over packets: its state at the start and after a packet, whether too many entries are pending in a state, the
--- text of a state, the requested moment of the end, and the report of the end. The end has a moment, and the number of
--- the packet that would follow the last.
+-- Work over packets: its state at the start and after a packet, whether too many entries are pending in a state, and the
+-- text of a state. Its end is at least at the requested moment, and has a report. `number` is that of the packet that
+-- would follow the last.
 pub record Work (X T : Type 0) : Type 0 where
   pub start : X
   pub step : PlacedPacket → X → X

@@ -3,7 +3,7 @@
 //! - The listing of a capture: `show`. Its replay on a link: `replay`, with a request `Asked`.
 //! - The reason why work on a capture ended early: `CaptureFault`, `is_failed_write`.
 //! - The families whose datagrams captures carry: `CapturedFamily`, `CapturedDatagram`.
-//! - A walk over a capture: `walk`, with a `Step` for each packet. One that a gap ends: `UpToGap`, with a `GaplessStep`.
+//! - A walk over a capture: `walk`, with a `Step` for each packet. A walk that a gap ends: `UpToGap`, with a `GaplessStep`.
 //! - The packets of a capture: `NumberedPacket`. Their moments: `Stamp`, `Stamps` and `first_moment`.
 #![tactic(auto)]
 

@@ -4,6 +4,7 @@ ghost use Rattle.std.specs.Prelude.{◌≡◌};
 ghost use Rattle.mquerier.specs.Changes.{input_by, output_by};
 ghost use Rattle.mquerier.specs.Working.{ChecksAt, IsUnwritten, WorksOnCheck};
 
+use crate::breaking::broken_off;
 use crate::failure::Failure;
 use crate::replaying::{configured, moment_asked};
 use crate::work::flush;
@@ -13,7 +14,6 @@ use mq_count::Watched;
 use mq_lines::LineKey;
 use mq_link::{Igmp, Mld};
 use mq_pcap::Supply;
-use mq_replay::CaptureFault;
 use mq_text::{read_v4, read_v6};
 use std::alloc::Global;
 use std::io::{Read, Write};
@@ -87,19 +87,6 @@ where
             flush(output)?;
             Ok(totals)
         }
-        Err(CaptureFault::Pcap(fault)) => {
-            flush(output)?;
-            Err(Failure::Capture(fault))
-        }
-        Err(CaptureFault::Gap { number }) => {
-            flush(output)?;
-            Err(Failure::Gap { number })
-        }
-        Err(CaptureFault::Waiting { number }) => {
-            flush(output)?;
-            Err(Failure::Waiting { number })
-        }
-        Err(CaptureFault::Write) => Err(Failure::Write),
-        Err(CaptureFault::Memory) => Err(Failure::Memory),
+        Err(fault) => Err(broken_off(fault, output)),
     }
 }

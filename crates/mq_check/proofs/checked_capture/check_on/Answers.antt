@@ -14,7 +14,8 @@ pub returns-in_err-finish-clause-checks : goal.returns-in_err-finish-clause-chec
 returns-in_err-finish-clause-checks g c =
     let p = err_from_is_err_and c.from_residual.result c.from_residual.ensures.1 in
     let none = ap (λ (t : ToldState). t.held) c.requires.told in
-    rw (p.1, p.2) (not_flushed _ (only_waits _ _) _ _ _ _ _ _ _ _ none (sym c.is_failed_write.ensures ∙ c.if-is_failed_write.false) c.check_file-answer.ensures.puts
+    rw (p.1, p.2) (not_flushed _ (only_waits _ c.args.check.now.steps.terms) _ _ _ _ _ _ _ _ none
+    (sym c.is_failed_write.ensures ∙ c.if-is_failed_write.false) c.check_file-answer.ensures.puts
     c.in_err-finish.ensures.text)
 
 pub returns-clause-checks : goal.returns-clause-checks

@@ -13,7 +13,7 @@ returns-then-is_failed_write-clause-replays g c =
 pub returns-in_err-flush-clause-replays : goal.returns-in_err-flush-clause-replays
 returns-in_err-flush-clause-replays g c =
     let p = err_from_is_err_and c.from_residual.result c.from_residual.ensures.1 in
-    rw (p.1, p.2) (not_flushed _ (only_waits _ _) _ _ _ _ _ _ _ _ c.requires.empty
+    rw (p.1, p.2) (not_flushed _ (only_waits _) _ _ _ _ _ _ _ _ c.requires.empty
     (counted_write _ _ ∙ sym c.is_failed_write.ensures ∙ c.if-is_failed_write.false) c.put_replay-answer.ensures.puts c.in_err-flush.ensures.text)
 
 pub returns-clause-replays : goal.returns-clause-replays

@@ -17,7 +17,7 @@ pub returns-then-is_full : goal.returns-then-is_full
 returns-then-is_full g c =
     let state = c.is_full.ensures ∙ ap (λ (s : CheckingValue). s.waiting.is_full) c.checking.ensures in (
       record {
-          same_terms = c.in_ok-check_packet.ensures.terms;
+        same_terms = c.in_ok-check_packet.ensures.terms;
         comes = comes_well _ _ _ _ _ _ _ _ _ c.in_ok-check_packet.ensures.comes;
       },
       sym state ∙ c.if-is_full.true,
@@ -40,7 +40,7 @@ returns g c =
     let state = c.is_full.ensures ∙ ap (λ (s : CheckingValue). s.waiting.is_full) c.checking.ensures in
     let written = c.in_ok-write_before_wait.ensures in (
       record {
-          same_terms = c.in_ok-check_packet.ensures.terms;
+        same_terms = c.in_ok-check_packet.ensures.terms;
         comes = comes_well _ _ _ _ _ _ _ _ _
             (comes_then (Unit {0}) LineFault _ _ _ _ _ _ _ c.write_before_wait.new.self _ _ _ _
             (Ok c.in_ok-write_before_wait.field-0) c.in_ok-check_packet.ensures.comes written.text written.additions written.last written.count written.failed);
