@@ -12,13 +12,12 @@ use Rattle.mq_pcap.specs.Frame.{carried_in}
 use Rattle.mq_wire.specs.declared.query.Query.{Query}
 use Rattle.mq_wire.specs.Family.{Family}
 use Rattle.mq_replay.specs.declared.walking.Walked.{Walked}
-use Rattle.mq_replay.specs.PlacedPackets.{PlacedPacket}
-use Rattle.mq_replay.specs.Replaying.{ReadCapture}
+use Rattle.mq_replay.specs.PlacedPackets.{Place, PlacedPacket, at_first, place_behind}
 use Rattle.mq_replay.specs.Report.{Datagram, datagram_of}
-use Rattle.mq_replay.specs.Walking.{IsBrokenOff, IsEndedByFault, IsStopped, Place, StepsOver, StepsOverAll, Walks, at_first, place_behind}
+use Rattle.mq_replay.specs.Walking.{IsBrokenOff, IsEndedByFault, IsStopped, ReadCapture, StepsOver, StepsOverAll, Walks}
 use Rattle.mq_check.specs.declared.announced.Announced.{Announced}
-use Rattle.mq_check.specs.declared.check_fault.CheckFault.{CheckFault}
-use Rattle.mq_check.specs.declared.check_fault.CheckFault.TheVariants as answer
+use Rattle.mq_replay.specs.declared.capture_fault.CaptureFault.{CaptureFault}
+use Rattle.mq_replay.specs.declared.capture_fault.CaptureFault.TheVariants as answer
 use Rattle.mq_check.specs.Announced.{Announces, IsRead, IsReadBy, LooksIn, TakesLooked, announced_by, announced_first, announced_in, announced_of}
 use Rattle.mq_check.specs.Announced.{by_fault, concluded, first_specific, general_in, specific_in, with_datagram, with_query}
 use Rattle.mq_check.specs.Numbered.{numbered_announced_if, numbered_answer}
@@ -155,18 +154,18 @@ module _ {X : Type 0} (family : Family) (state : X → Option (Announced ℕ)) w
       by_end (inr it) = absurd it.stops
 
 -- a fault of the result is one of the capture
-abbrev pub IsOfCapture : CheckFault → Type 0
+abbrev pub IsOfCapture : CaptureFault → Type 0
 IsOfCapture (answer.Pcap f) = Unit {0}
 IsOfCapture answer.Write = ⊥
 IsOfCapture (answer.Gap at) = ⊥
 IsOfCapture (answer.Waiting at) = ⊥
 IsOfCapture answer.Memory = ⊥
 
-abbrev fault_in : {X : Type 0} → Result X CheckFault → CheckFault
+abbrev fault_in : {X : Type 0} → Result X CaptureFault → CaptureFault
 fault_in (Ok x) = answer.Memory
 fault_in (Err e) = e
 
-pub of_capture : {X : Type 0} (found : Option X) (read : Result (Unit {0}) PcapFault) (e : CheckFault) → concluded found read ≡ Err e → IsOfCapture e
+pub of_capture : {X : Type 0} (found : Option X) (read : Result (Unit {0}) PcapFault) (e : CaptureFault) → concluded found read ≡ Err e → IsOfCapture e
 of_capture found (Ok done) e is = absurd (cc is)
 of_capture {X} found (Err f) e is = by_kind (is_read f) found is
   where
@@ -187,12 +186,12 @@ numbered_concluded {K} number found (Err f) = by_kind (is_read f) found
     by_kind false (Some x) = refl
 
 pub announces : {K : Type 0} (family : Family) (number : K → ℕ) (old new : InputState) (found : Option (Announced K))
-    (read : Result (Unit {0}) PcapFault) (r : Result (Option (Announced K)) CheckFault)
+    (read : Result (Unit {0}) PcapFault) (r : Result (Option (Announced K)) CaptureFault)
     → LooksIn family old new (numbered_announced_if number found) read → r ≡ concluded found read → Announces family old new (numbered_answer number r)
 announces {K} family number old new found read r looks is = by_answer (numbered_answer number r)
     (ap (numbered_answer number) is ∙ numbered_concluded number found read)
   where
-    by_answer : (a : Result (Option (Announced ℕ)) CheckFault) → a ≡ concluded (numbered_announced_if number found) read → Announces family old new a
+    by_answer : (a : Result (Option (Announced ℕ)) CaptureFault) → a ≡ concluded (numbered_announced_if number found) read → Announces family old new a
     by_answer (Ok x) is = (numbered_announced_if number found, read, looks, is)
     by_answer (Err (answer.Pcap f)) is = (numbered_announced_if number found, read, looks, is)
     by_answer (Err answer.Write) is = absurd (of_capture (numbered_announced_if number found) read _ (sym is))

@@ -1,20 +1,21 @@
 -- The end of a check: what is put then.
-use Rattle.std.proofs.Common.{◌≡◌, ℕ, true, false, if◌then◌else◌, List, [], ◌++◌, length, Option, Result, Ok, Err, max, unwrap_or, append_assoc}
+use Rattle.std.proofs.Common.{◌≡◌, ℕ, true, false, if◌then◌else◌, List, [], ◌++◌, length, Option, Result, Ok, Err, append_assoc}
 use Rattle.std.proofs.Common.{append-nil, length-append, refl, ap, sym, subst, ◌∙◌}
 use Rattle.mq_wire.specs.Family.{Family}
 use Rattle.mq_link.specs.Configuration.{Configuration}
 use Rattle.mq_text.specs.Printing.{GrowsByBeginning, OutputState, Passes}
-use Rattle.mq_text.proofs.Passing.{broken_behind, broken_within, both_passed, nothing_passed}
-use Rattle.mq_replay.specs.Report.{is_gap}
+use Rattle.mq_text.proofs.Passing.{broken_behind, broken_within, both_passed}
+use Rattle.mq_replay.specs.Courses.{Report}
+use Rattle.mq_replay.specs.PuttingReports.{IsRestPut}
 use Rattle.mq_check.specs.declared.basis.Basis.{Basis}
-use Rattle.mq_check.specs.declared.check_fault.CheckFault.{CheckFault}
-use Rattle.mq_check.specs.declared.check_fault.CheckFault.TheVariants as answer
+use Rattle.mq_replay.specs.declared.capture_fault.CaptureFault.{CaptureFault}
+use Rattle.mq_replay.specs.declared.capture_fault.CaptureFault.TheVariants as answer
 use Rattle.mq_check.specs.declared.check_terms.Additions.{Additions}
 use Rattle.mq_check.specs.declared.finding.Finding.{Finding}
 use Rattle.mq_check.specs.declared.totals.Totals.{Totals}
-use Rattle.mq_check.specs.Check.{Checked, Outcome, Verdict, looked_ahead, settled_through}
+use Rattle.mq_check.specs.Check.{Checked, Outcome, looked_ahead, settled_through}
 use Rattle.mq_check.specs.Checking.{CheckingValue, told_at_end}
-use Rattle.mq_check.specs.Ending.{IsRestPut, counted_behind, end_behind, end_text, ended_behind, rest_behind}
+use Rattle.mq_check.specs.Ending.{counted_behind, end_behind, end_text, ended_behind}
 use Rattle.mq_check.specs.FindingLines.{finding_lines, last_lines}
 use Rattle.mq_check.specs.General.{silence_up_to}
 use Rattle.mq_check.specs.Repeated.{reported, with_findings}
@@ -28,9 +29,9 @@ pub tells_in : {T E : Type 0} (family other : Family) (found : List (Finding ℕ
 tells_in {T} {E} family other found old new a b r same tells = subst (λ (f : Family). Tells {T = T} {E = E} f found old new a b r) same tells
 
 -- the same of a verdict that is named otherwise
-pub rest_as : (v w : Verdict) (before after : Option (List ℕ)) (held left : List ℕ) (r : Result Totals CheckFault) → v ≡ w →
+pub rest_as : (v w : Report Totals) (before after : Option (List ℕ)) (held left : List ℕ) (r : Result Totals CaptureFault) → v ≡ w →
     IsRestPut v before after held left r → IsRestPut w before after held left r
-rest_as v w before after held left r same put = subst (λ (x : Verdict). IsRestPut x before after held left r) same put
+rest_as v w before after held left r same put = subst (λ (x : Report Totals). IsRestPut x before after held left r) same put
 
 -- the totals were put behind the findings, or not whole
 pub end_passed : {S E : Type 0} (family : Family) (found : List (Finding ℕ)) (old mid : ToldState) (a b : OutputState) (c : Option (List ℕ))
@@ -88,9 +89,10 @@ begins family told number c rests found last =
     let all = reported_by told (found ++ last) in
     let both : all ≡ first ++ more = reported_of_both told.additions.once found last told.last in
     let totals = counted_behind told.count c rests all in
-    let full : Verdict = record { text = finding_lines family told.additions first; answer = Err (answer.Waiting number) } in
-    let whole : Verdict = record { text = end_text family told.additions all totals; answer = Ok totals } in
-    elim c.waiting.is_full as (λ b. (more : List ℕ) × ((if◌then◌else◌ {A = Verdict} b full whole).text ≡ finding_lines family told.additions first ++ more)) [
+    let full : Report Totals = record { text = finding_lines family told.additions first; answer = Err (answer.Waiting number) } in
+    let whole : Report Totals = record { text = end_text family told.additions all totals; answer = Ok totals } in
+    elim c.waiting.is_full as (λ b.
+    (more : List ℕ) × ((if◌then◌else◌ {A = Report Totals} b full whole).text ≡ finding_lines family told.additions first ++ more)) [
       | true ↦ ([], sym (append-nil (finding_lines family told.additions first)))
       | false ↦ (
         end_text family told.additions more totals,
@@ -150,8 +152,8 @@ ended_put family number c rests found last old mid new x y z totals is tells cou
     let same = ended_open family old mid number c rests found last is tells.additions tells.last tells.count in
     let cited = subst (λ (additions : Additions). Passes y.held z.held mid.held new.held
     (end_text family additions more (counted_behind mid.count c rests more))) tells.additions passed in (
-      ap (λ (v : Verdict). v.answer) same ∙ ap Ok (sym counts),
-      subst (λ (v : Verdict). Passes x.held z.held old.held new.held v.text) (sym same)
+      ap (λ (v : Report Totals). v.answer) same ∙ ap Ok (sym counts),
+      subst (λ (v : Report Totals). Passes x.held z.held old.held new.held v.text) (sym same)
           (both_passed x.held y.held z.held old.held mid.held new.held _ _ tells.text cited),
     )
 
@@ -166,11 +168,11 @@ ended_unput family number c rests found last old mid x y z is tells begun =
     let same = ended_open family old mid number c rests found last is tells.additions tells.last tells.count in
     let cited = subst (λ (additions : Additions). GrowsByBeginning y.held z.held
     (mid.held ++ end_text family additions more (counted_behind mid.count c rests more))) tells.additions begun in
-    subst (λ (v : Verdict). GrowsByBeginning x.held z.held (old.held ++ v.text)) (sym same)
+    subst (λ (v : Report Totals). GrowsByBeginning x.held z.held (old.held ++ v.text)) (sym same)
     (broken_behind x.held y.held z.held old.held mid.held _ _ tells.text cited)
 
 -- the end, from a check at the end and one that has looked ahead
-abbrev end_from : Configuration → (within : ℕ) → ToldState → (moment number : ℕ) → (found : List (Finding ℕ)) → (at left : Checked) → Verdict
+abbrev end_from : Configuration → (within : ℕ) → ToldState → (moment number : ℕ) → (found : List (Finding ℕ)) → (at left : Checked) → Report Totals
 end_from config within told moment number found at left =
     end_behind config.family told number left.checking at.basis (found ++ (looked_ahead config within moment at).found)
     (told_at_end within config.timing moment (silence_up_to within config.timing moment at.checking.phase) left.checking)
@@ -204,7 +206,7 @@ broken_to_end {T} {E} config within end number r family old new x y e is_family 
     let ahead = looked_ahead config within end done.checked in
     let here : Tells {T = T} {E = E} config.family done.found old new x y (Err e) =
     tells_in {T = T} family config.family _ old new x y (Err e) is_family tells in
-    subst (λ (v : Verdict). GrowsByBeginning x.held y.held (old.held ++ v.text))
+    subst (λ (v : Report Totals). GrowsByBeginning x.held y.held (old.held ++ v.text))
     (sym (ended_as config within old end number r done.checked ahead.checked refl refl))
     (ended_broken {T = T} config.family number ahead.checked.checking done.checked.basis (done.found ++ ahead.found) _ old new x y e
     (told_broken {T = T} config.family done.found ahead.found old new x y e here))
@@ -217,7 +219,7 @@ pub broken_ahead : {S T E E' : Type 0} (config : Configuration) (within end numb
     → GrowsByBeginning x.held z.held (old.held ++ (ended_behind config within old end number r).text)
 broken_ahead {T = T} config within end number r at o family old mid new x y z s e is_family is same first second =
     let left = (looked_ahead config within end at).checked in
-    subst (λ (v : Verdict). GrowsByBeginning x.held z.held (old.held ++ v.text)) (sym (ended_as config within old end number r at left is refl))
+    subst (λ (v : Report Totals). GrowsByBeginning x.held z.held (old.held ++ v.text)) (sym (ended_as config within old end number r at left is refl))
     (ended_broken {T = T} config.family number left.checking at.basis _ _ old new x z e
     (told_ahead {T = T} config within end r at o family old mid new x y z s (Err e) is_family same first second))
 
@@ -274,36 +276,8 @@ unput_at_end {E} config within end number r at left o rests last family old mid 
     let text : end_text family near.additions (reported_by near last) (counted_behind near.count left.checking rests (reported_by near last))
     ≡ end_text config.family near.additions (reported_by near final) (counted_behind near.count left.checking at.basis (reported_by near final)) =
     λ i. end_text (is_family i) near.additions (reported_by near (finds i)) (counted_behind near.count left.checking (basis i) (reported_by near (finds i))) in
-    subst (λ (v : Verdict). GrowsByBeginning x.held w.held (old.held ++ v.text))
+    subst (λ (v : Report Totals). GrowsByBeginning x.held w.held (old.held ++ v.text))
     (sym (ended_as config within old end number r at left is (ahead ∙ ap (λ (p : Outcome). p.checked) same)))
     (ended_unput {E = E} config.family number left.checking at.basis _ _ old near x z w free
     (told_ahead config within end r at o family old mid near x y z tt (Ok tt) is_family same first second)
     (subst (λ (t : List ℕ). GrowsByBeginning z.held w.held (near.held ++ t)) text begun))
-
--- a gap before the end, or none
-pub rest_at_gap : (config : Configuration) (within : ℕ) (until : Option ℕ) (told : ToldState) (last number : ℕ) (r : Checked) →
-    is_gap last (max last (unwrap_or until 0)) ≡ true
-    → rest_behind config within until told last number r ≡ record { text = []; answer = Err (answer.Gap number) }
-rest_at_gap config within until told last number r gap =
-    ap (λ b. elim b [
-      | true ↦ record { text = []; answer = Err (answer.Gap number) }
-      | false ↦ ended_behind config within told
-          (max last (unwrap_or until 0)) number r
-    ]) gap
-
-pub gap_at_rest : (config : Configuration) (within : ℕ) (until : Option ℕ) (told : ToldState) (last number : ℕ) (r : Checked)
-    (before : Option (List ℕ)) (held : List ℕ) → is_gap last (max last (unwrap_or until 0)) ≡ true
-    → IsRestPut (rest_behind config within until told last number r) before before held held (Err (answer.Gap number))
-gap_at_rest config within until told last number r before held gap =
-    rest_as _ _ before before held held (Err (answer.Gap number)) (sym (rest_at_gap config within until told last number r gap))
-    (refl, nothing_passed before held)
-
-pub rest_at_end : (config : Configuration) (within : ℕ) (until : Option ℕ) (told : ToldState) (last number : ℕ) (r : Checked) →
-    is_gap last (max last (unwrap_or until 0)) ≡ false
-    → rest_behind config within until told last number r ≡ ended_behind config within told (max last (unwrap_or until 0)) number r
-rest_at_end config within until told last number r none =
-    ap (λ b. elim b [
-      | true ↦ record { text = []; answer = Err (answer.Gap number) }
-      | false ↦ ended_behind config within told
-          (max last (unwrap_or until 0)) number r
-    ]) none

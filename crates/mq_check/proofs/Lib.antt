@@ -19,4 +19,3 @@ pub mod Waits
 pub mod WalkedChecks
 pub mod WantedMessages
 pub mod WrittenEarly
-pub mod WrittenVerdicts

@@ -19,8 +19,8 @@ use Rattle.mq_replay.specs.Listing.{IsOfTheFile}
 use Rattle.mq_replay.specs.PlacedPackets.{PlacedPacket}
 use Rattle.mq_replay.specs.Report.{Datagram, datagram_of}
 use Rattle.mq_check.specs.declared.announced.Announced.{Announced}
-use Rattle.mq_check.specs.declared.check_fault.CheckFault.{CheckFault}
-use Rattle.mq_check.specs.declared.check_fault.CheckFault.TheVariants as answer
+use Rattle.mq_replay.specs.declared.capture_fault.CaptureFault.{CaptureFault}
+use Rattle.mq_replay.specs.declared.capture_fault.CaptureFault.TheVariants as answer
 use Rattle.mq_check.specs.Queries.{if_acted_on, is_general, query_spelled}
 
 -- a value, unless it is 0
@@ -142,21 +142,21 @@ pub record LooksIn (family : Family) (old new : InputState) (found : Option (Ann
   pub ended : IsRead header end bytes old new r
 
 -- the result by what was found and by how the reading ended
-abbrev pub by_found : {X : Type 0} → Option X → PcapFault → Result (Option X) CheckFault
+abbrev pub by_found : {X : Type 0} → Option X → PcapFault → Result (Option X) CaptureFault
 by_found None f = Err (answer.Pcap f)
 by_found (Some x) f = Ok (Some x)
 
-abbrev pub by_fault : {X : Type 0} → (is_read : Bool) → Option X → PcapFault → Result (Option X) CheckFault
+abbrev pub by_fault : {X : Type 0} → (is_read : Bool) → Option X → PcapFault → Result (Option X) CaptureFault
 by_fault true found f = Err (answer.Pcap f)
 by_fault false found f = by_found found f
 
-abbrev pub concluded : {X : Type 0} → Option X → Result (Unit {0}) PcapFault → Result (Option X) CheckFault
+abbrev pub concluded : {X : Type 0} → Option X → Result (Unit {0}) PcapFault → Result (Option X) CaptureFault
 concluded found (Ok done) = Ok found
 concluded found (Err f) = by_fault (is_read f) found f
 
 -- Memory was refused. Or a capture was looked at, and what was found in it, or the reason why nothing can be said, is
 -- the result.
-abbrev pub Announces : Family → (old new : InputState) → Result (Option (Announced ℕ)) CheckFault → Type 0
+abbrev pub Announces : Family → (old new : InputState) → Result (Option (Announced ℕ)) CaptureFault → Type 0
 Announces family old new (Err answer.Memory) = Unit {0}
 Announces family old new (Err answer.Write) = ⊥
 Announces family old new (Err (answer.Gap number)) = ⊥

@@ -1,12 +1,9 @@
 -- The check of a capture: a run of a link that has the checked querier's address. Each query that the link sends is
 -- wanted, and compared with the queries from this address.
-use Rattle.std.specs.Prelude.{ℕ, ◌+◌, ◌-◌, ◌^◌, ◌==◌, max, min, nat_lt, zero, suc, not, Bool, true, false, if◌then◌else◌, length, List, [], ◌∷◌, ◌++◌, Option, None, Some, Result, Ok, Err, drop, unwrap_or}
+use Rattle.std.specs.Prelude.{ℕ, ◌+◌, ◌-◌, ◌^◌, ◌==◌, min, nat_lt, zero, suc, not, Bool, true, false, if◌then◌else◌, length, List, [], ◌++◌, Option, None, Some, Ok, Err, drop}
 use Rattle.byteorder.specs.Endian.{big_number}
-use Rattle.mq_pcap.specs.declared.fault.PcapFault.{PcapFault}
-use Rattle.mq_pcap.specs.declared.form.Form.{Form}
 use Rattle.mq_pcap.specs.declared.link_type.LinkType.{LinkType}
 use Rattle.mq_pcap.specs.declared.link_type.LinkType.TheVariants.{Ethernet, RawIp}
-use Rattle.mq_pcap.specs.Capture.{Captured}
 use Rattle.mq_pcap.specs.Frame.{carried_in, word_at}
 use Rattle.mq_wire.specs.declared.query.Query.{Query}
 use Rattle.mq_wire.specs.Family.{Family, Igmp, Mld}
@@ -17,12 +14,12 @@ use Rattle.mq_link.specs.Run.{answered}
 use Rattle.mq_link.specs.Sent.{outgoing_of}
 use Rattle.mq_link.specs.State.{LinkState, link_at}
 use Rattle.mq_link.specs.Tick.{Step, tick_of, next_of}
-use Rattle.mq_replay.specs.Listing.{goes_back, moment_of}
-use Rattle.mq_replay.specs.Report.{Datagram, datagram_of, all_sent, is_gap}
+use Rattle.mq_replay.specs.declared.capture_fault.CaptureFault.TheVariants.{Waiting}
+use Rattle.mq_replay.specs.Courses.{Report, Work}
+use Rattle.mq_replay.specs.Report.{Datagram, datagram_of, all_sent}
 use Rattle.mq_check.specs.declared.basis.Basis.{Basis}
-use Rattle.mq_check.specs.declared.check_fault.CheckFault.{CheckFault}
-use Rattle.mq_check.specs.declared.check_fault.CheckFault.TheVariants.{Pcap, Gap, Waiting}
 use Rattle.mq_check.specs.declared.check_terms.Additions.{Additions}
+use Rattle.mq_check.specs.declared.check_terms.CheckTerms.{CheckTerms}
 use Rattle.mq_check.specs.declared.finding.Finding.{Finding}
 use Rattle.mq_check.specs.declared.headers.HeaderFault.{HeaderFault}
 use Rattle.mq_check.specs.declared.headers.Headers.{Headers}
@@ -205,42 +202,6 @@ with_packet config link within moment number goes_back frame r =
     behind before.found
     (with_datagram config link within moment number frame datagram (noted config link goes_back frame datagram before.checked))
 
--- The outcome of packets: the check, the findings, the moment of the last packet, and the fault that ended it, if any.
-pub record Course : Type 0 where
-  pub checked : Checked
-  pub found : List (Finding ℕ)
-  pub moment : ℕ
-  pub fault : Option CheckFault
-
--- The outcome of packets in order, up to the first gap or the first packet with too many pending entries. `number` is
--- that of the next packet, and `first` is the stamp from which its moment is counted.
-unfoldable pub with_packets : Configuration → LinkType → (within : ℕ) → (first : Option ℕ) → (before number : ℕ) → List Captured → Checked → Course
-with_packets config link within first before number [] r =
-    record { checked = r; found = []; moment = before; fault = None }
-with_packets config link within first before number (packet ∷ packets) r =
-    let moment = moment_of first before packet.stamp in
-    let after = with_packet config link within moment number (goes_back first before packet.stamp) packet.bytes r in
-    elim (is_gap before moment) [
-      | true ↦ record { checked = r; found = []; moment = before; fault = Some (Gap number) }
-      | false ↦
-          elim (after.checked.checking.waiting.is_full) [
-            | true ↦ record { checked = after.checked; found = after.found; moment = moment; fault = Some (Waiting number) }
-            | false ↦
-                let rest = with_packets config link within (Some (unwrap_or first packet.stamp)) moment (number + 1) packets after.checked in
-                record rest { found = after.found ++ rest.found }
-          ]
-    ]
-
--- the outcome of the packets of a capture, numbered from 1
-abbrev pub with_all_packets : Configuration → (within : ℕ) → (strict : Bool) → Form → List Captured → Course
-with_all_packets config within strict form packets =
-    with_packets config form.link within None 0 1 packets (at_the_start config within strict)
-
--- The verdict of a check: its text, and its totals or the reason why it ended early.
-pub record Verdict : Type 0 where
-  pub text : List ℕ
-  pub answer : Result Totals CheckFault
-
 -- the totals of a check with these reported findings
 abbrev pub totals_of : CheckingValue → Basis → List (Finding ℕ) → Totals
 totals_of c basis found = record {
@@ -250,14 +211,12 @@ totals_of c basis found = record {
   basis = basis;
 }
 
-abbrev pub broken_off : Configuration → (additions : Additions) → CheckFault → List (Finding ℕ) → Verdict
-broken_off config additions fault found = record {
-  text = finding_lines config.family additions (all_reported additions found);
-  answer = Err fault;
-}
+-- the text of findings
+abbrev pub found_text : Configuration → (additions : Additions) → List (Finding ℕ) → List ℕ
+found_text config additions found = finding_lines config.family additions (all_reported additions found)
 
 -- the verdict at the end of a capture
-abbrev pub concluded : Configuration → (additions : Additions) → CheckingValue → Basis → List (Finding ℕ) → Verdict
+abbrev pub concluded : Configuration → (additions : Additions) → CheckingValue → Basis → List (Finding ℕ) → Report Totals
 concluded config additions c basis found =
     let told = all_reported additions found in
     record {
@@ -267,35 +226,25 @@ concluded config additions c basis found =
 
 -- The verdict after a check up to and including a moment, with the earlier findings first. The link is ticked further,
 -- so that each seen query can find its partner. The basis and the silence are those of the moment.
-unfoldable pub ended_at : Configuration → (within : ℕ) → (additions : Additions) → (moment number : ℕ) → (found : List (Finding ℕ)) → Checked → Verdict
+unfoldable pub ended_at : Configuration → (within : ℕ) → (additions : Additions) → (moment number : ℕ) → (found : List (Finding ℕ)) → Checked → Report Totals
 ended_at config within additions moment number found r =
     let done = settled_through config within moment r in
     let ahead = looked_ahead config within moment done.checked in
     let silence = silence_up_to within config.timing moment done.checked.checking.phase in
     if ahead.checked.checking.waiting.is_full
-    then broken_off config additions (Waiting number) (found ++ done.found ++ ahead.found)
+    then record { text = found_text config additions (found ++ done.found ++ ahead.found); answer = Err (Waiting number) }
     else concluded config additions ahead.checked.checking done.checked.basis
     (found ++ done.found ++ ahead.found ++ told_at_end within config.timing moment silence ahead.checked.checking)
 
--- the moment at which a check ends: that of the last packet, or the requested one if that is later
-abbrev pub last_moment : (until : Option ℕ) → Course → ℕ
-last_moment until course = max course.moment (unwrap_or until 0)
-
--- The verdict after the packets: the end of the capture or its fault, unless the check has ended before. `number` is
--- that of the next packet.
-abbrev pub verdict_behind : Configuration → (within : ℕ) → (until : Option ℕ) → (additions : Additions) → (number : ℕ) → (end : Option PcapFault) → (fault : Option CheckFault) → Course → Verdict
-verdict_behind config within until additions number end (Some fault) course = broken_off config additions fault course.found
-verdict_behind config within until additions number (Some fault) None course =
-    broken_off config additions (Pcap fault) course.found
-verdict_behind config within until additions number None None course =
-    elim (is_gap course.moment (last_moment until course)) [
-      | true ↦ broken_off config additions (Gap number) course.found
-      | false ↦ ended_at config within additions (last_moment until course) number course.found course.checked
-    ]
-
--- The check of a capture: its header, its packets, and its end.
-abbrev pub check_of : Configuration → (within : ℕ) → (until : Option ℕ) → (additions : Additions) → (strict : Bool) → Result Form PcapFault → List Captured → (end : Option PcapFault) → Verdict
-check_of config within until additions strict (Err fault) packets end = record { text = []; answer = Err (Pcap fault) }
-check_of config within until additions strict (Ok form) packets end =
-    let course = with_all_packets config within strict form packets in
-    verdict_behind config within until additions (length packets + 1) end course.fault course
+-- the check of a capture, as work over its packets
+abbrev pub check_of : Configuration → CheckTerms → Work Outcome Totals
+check_of config terms = record {
+  start = quiet (at_the_start config terms.within terms.strict);
+  step = λ packet o.
+      behind o.found
+      (with_packet config packet.link terms.within packet.moment packet.number packet.goes_back packet.frame o.checked);
+  is_full = λ o. o.checked.checking.waiting.is_full;
+  text = λ o. found_text config terms.additions o.found;
+  until = terms.until;
+  ended = λ moment number o. ended_at config terms.within terms.additions moment number o.found o.checked;
+}

@@ -4,9 +4,8 @@ use Rattle.mq_wire.specs.Family.{Family}
 use Rattle.mq_link.specs.Link.{LinkValue}
 use Rattle.mq_text.specs.Printing.{OutputState}
 use Rattle.mq_replay.specs.PlacedPackets.{PlacedPacket}
-use Rattle.mq_replay.specs.Report.{is_gap}
-use Rattle.mq_check.specs.declared.check_fault.CheckFault.{CheckFault}
-use Rattle.mq_check.specs.declared.check_fault.CheckFault.TheVariants as answer
+use Rattle.mq_replay.specs.declared.capture_fault.CaptureFault.{CaptureFault}
+use Rattle.mq_replay.specs.declared.capture_fault.CaptureFault.TheVariants as answer
 use Rattle.mq_check.specs.declared.check_terms.CheckTerms.{CheckTerms}
 use Rattle.mq_check.specs.Check.{Checked, Outcome, with_packet}
 use Rattle.mq_check.specs.Telling.{ToldState, Tells}
@@ -33,20 +32,18 @@ pub record CheckState : Type 0 where
 
 -- a packet was checked and its findings were reported, unless a write failed
 pub record ChecksPacket {E : Type 0} (family : Family) (packet : PlacedPacket) (old new : CheckState) (r : Result Unit E) : Type 0 where
-  pub no_gap : is_gap packet.before packet.moment ≡ false
   pub same_terms : new.terms ≡ old.terms
   pub comes : Comes family
       (with_packet old.link.config packet.link old.terms.within packet.moment packet.number packet.goes_back packet.frame (checked_in old.link old.queries))
       old.link new.link new.queries old.told new.told old.output new.output r
 
--- the effect of a packet on a check, which ends with a gap before the packet or with too many pending entries after it
-abbrev pub TakesChecked : Family → PlacedPacket → CheckState → CheckState → Result Unit CheckFault → Type 0
+-- the effect of a packet without a gap before it on a check, which ends with too many pending entries
+abbrev pub TakesChecked : Family → PlacedPacket → CheckState → CheckState → Result Unit CaptureFault → Type 0
 TakesChecked family packet old new (Ok u) =
     ChecksPacket {E = Unit} family packet old new (Ok u) × (new.queries.checking.waiting.is_full ≡ false)
 TakesChecked family packet old new (Err answer.Write) = ChecksPacket {E = Unit} family packet old new (Err tt)
-TakesChecked family packet old new (Err (answer.Gap number)) =
-    (is_gap packet.before packet.moment ≡ true) × (number ≡ packet.number) × (new ≡ old)
 TakesChecked family packet old new (Err (answer.Waiting number)) =
     ChecksPacket {E = Unit} family packet old new (Ok tt) × (new.queries.checking.waiting.is_full ≡ true) × (number ≡ packet.number)
+TakesChecked family packet old new (Err (answer.Gap number)) = ⊥
 TakesChecked family packet old new (Err (answer.Pcap f)) = ⊥
 TakesChecked family packet old new (Err answer.Memory) = ⊥

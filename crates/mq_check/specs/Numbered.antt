@@ -3,7 +3,7 @@ use Rattle.std.specs.Prelude.{ℕ, List, [], ◌∷◌, Option, None, Some, Resu
 use Rattle.mq_check.specs.declared.announced.Announced.{Announced}
 use Rattle.mq_check.specs.declared.asked.Asked.{Asked}
 use Rattle.mq_check.specs.declared.asked.Asked.TheVariants.{AllGroups, Group, Source}
-use Rattle.mq_check.specs.declared.check_fault.CheckFault.{CheckFault}
+use Rattle.mq_replay.specs.declared.capture_fault.CaptureFault.{CaptureFault}
 use Rattle.mq_check.specs.declared.entry.Entry.{Entry}
 use Rattle.mq_check.specs.declared.entry.Entry.TheVariants.{Wanted, Seen, Interval, Silence, Packet}
 use Rattle.mq_check.specs.declared.entry.Unpaired.{Unpaired}
@@ -42,7 +42,7 @@ abbrev pub numbered_announced_if : {K : Type 0} → (K → ℕ) → Option (Anno
 numbered_announced_if number None = None
 numbered_announced_if number (Some a) = Some (numbered_announced number a)
 
-abbrev pub numbered_answer : {K : Type 0} → (K → ℕ) → Result (Option (Announced K)) CheckFault → Result (Option (Announced ℕ)) CheckFault
+abbrev pub numbered_answer : {K : Type 0} → (K → ℕ) → Result (Option (Announced K)) CaptureFault → Result (Option (Announced ℕ)) CaptureFault
 numbered_answer number (Ok found) = Ok (numbered_announced_if number found)
 numbered_answer number (Err fault) = Err fault
 

@@ -5,13 +5,12 @@ ghost use Rattle.mq_arena.specs.Vectors.{Takes, bytes_for};
 ghost use Rattle.mq_pcap.specs.Capture.{most_bytes};
 ghost use Rattle.mq_pcap.specs.Filling.{input_of};
 ghost use Rattle.mq_pcap.specs.Frame.{carried_in};
+ghost use Rattle.mq_replay.specs.Faults.{is_granted};
 ghost use Rattle.mq_replay.specs.Report.{datagram_of};
 ghost use Rattle.mq_wire.specs.Numbered.{numbered_query};
 ghost use Rattle.mq_check.specs.Announced as spec;
-ghost use Rattle.mq_check.specs.CheckedCaptures.{is_granted};
 ghost use Rattle.mq_check.specs.Numbered.{numbered_announced, numbered_announced_if, numbered_answer, numbered_query_if};
 
-use crate::check_fault::CheckFault;
 use crate::seen_queries::query_spelled;
 use crate::wanting::is_general;
 use mq_arena::{OfAllocator, VectorSource, filled};
@@ -19,7 +18,7 @@ use mq_count::Watched;
 use mq_lines::LineKey;
 use mq_link::Family;
 use mq_pcap::{GREATEST_PACKET, LinkType, PcapFault, Ready, unwrap_frame};
-use mq_replay::{CapturedDatagram, CapturedFamily, NumberedPacket, Step, walk};
+use mq_replay::{CaptureFault, CapturedDatagram, CapturedFamily, NumberedPacket, Step, walk};
 use mq_wire::{Query, QueryVersion, WireKey};
 use std::alloc::{AllocError, Allocator};
 use std::io::Read;
@@ -48,11 +47,11 @@ pub struct Announced<K: WireKey> {
 pub fn announced_variables<F: CapturedFamily, A: Allocator + Copy, R: Read>(
     alloc: A,
     reader: &mut Watched<R>,
-) -> Result<Option<Announced<F::Address>>, CheckFault>
+) -> Result<Option<Announced<F::Address>>, CaptureFault>
 where
     F::Address: LineKey,
     ensures announces { spec.Announces F.FAMILY (input_of R.remaining reader.old) (input_of R.remaining reader.new) (numbered_answer F.Address.number result) }
-    ensures memory { result ≡ Err CheckFault.Memory → reader.new ≡ reader.old }
+    ensures memory { result ≡ Err CaptureFault.Memory → reader.new ≡ reader.old }
 {
     announced_variables_in::<F, A, OfAllocator<A>, R>(&mut OfAllocator(alloc), reader)
 }
@@ -61,16 +60,16 @@ where
 pub fn announced_variables_in<F: CapturedFamily, A: Allocator, M: VectorSource<A>, R: Read>(
     memory: &mut M,
     reader: &mut Watched<R>,
-) -> Result<Option<Announced<F::Address>>, CheckFault>
+) -> Result<Option<Announced<F::Address>>, CaptureFault>
 where
     F::Address: LineKey,
     ensures announces { spec.Announces F.FAMILY (input_of R.remaining reader.old) (input_of R.remaining reader.new) (numbered_answer F.Address.number result) }
-    ensures memory { result ≡ Err CheckFault.Memory → reader.new ≡ reader.old }
+    ensures memory { result ≡ Err CaptureFault.Memory → reader.new ≡ reader.old }
     ensures takes { Takes (bytes_for 1 most_bytes) (M.less_than memory.old) (M.less_than memory.new) (is_granted result) }
 {
     let packet: Result<Vec<u8, A>, AllocError> = filled(memory, 0, GREATEST_PACKET);
     let Ok(mut packet) = packet else {
-        return Err(CheckFault::Memory);
+        return Err(CaptureFault::Memory);
     };
     let mut looking = Looking::<F> { found: None };
     let read = look_in_file(&mut looking, packet.as_mut_slice(), reader);
@@ -82,12 +81,12 @@ where
 fn concluded<K: WireKey>(
     found: Option<Announced<K>>,
     read: Result<(), PcapFault>,
-) -> Result<Option<Announced<K>>, CheckFault>
+) -> Result<Option<Announced<K>>, CaptureFault>
     ensures { result ≡ spec.concluded found read }
 {
     match (read, found) {
-        (Err(PcapFault::Read), _) => Err(CheckFault::Pcap(PcapFault::Read)),
-        (Err(fault), None) => Err(CheckFault::Pcap(fault)),
+        (Err(PcapFault::Read), _) => Err(CaptureFault::Pcap(PcapFault::Read)),
+        (Err(fault), None) => Err(CaptureFault::Pcap(fault)),
         _ => Ok(found),
     }
 }

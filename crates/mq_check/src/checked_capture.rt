@@ -8,14 +8,14 @@ ghost use Rattle.mq_count.specs.Streams.{inner_of, has_failed};
 ghost use Rattle.mq_link.specs.Sizes.{bytes_of_link, bytes_of_workspace};
 ghost use Rattle.mq_pcap.specs.Capture.{most_bytes};
 ghost use Rattle.mq_pcap.specs.Filling.{input_of};
-ghost use Rattle.mq_check.specs.Check.{at_the_start};
+ghost use Rattle.mq_replay.specs.Faults as faults;
+ghost use Rattle.mq_replay.specs.PuttingReports.{PutsReport};
+ghost use Rattle.mq_check.specs.Check.{at_the_start, check_of};
 ghost use Rattle.mq_check.specs.CheckedCaptures as spec;
 ghost use Rattle.mq_check.specs.Coming.{checked_in};
-ghost use Rattle.mq_check.specs.Ending.{PutsVerdict};
 ghost use Rattle.mq_check.specs.Sizes.{bytes_of_checking};
 ghost use Rattle.mq_check.specs.Telling.{nothing_told};
 
-use crate::check_fault::{CheckFault, is_failed_write};
 use crate::check_terms::CheckTerms;
 use crate::checked_family::CheckedFamily;
 use crate::checking::Checking;
@@ -26,7 +26,7 @@ use mq_count::Watched;
 use mq_lines::LineKey;
 use mq_link::{Config, Link};
 use mq_pcap::{GREATEST_PACKET, Supply};
-use mq_replay::{first_moment, walk};
+use mq_replay::{CaptureFault, UpToGap, first_moment, is_failed_write, walk};
 use std::alloc::{AllocError, Allocator};
 use std::io::{Read, Write};
 
@@ -45,7 +45,7 @@ pub fn check<F: CheckedFamily, A: Allocator + Copy, S: Supply, R: Read, W: Write
     supply: &S,
     reader: &mut Watched<R>,
     writer: &mut Watched<W>,
-) -> Result<Totals, CheckFault>
+) -> Result<Totals, CaptureFault>
 where
     F::Address: LineKey,
     requires { IfSome terms.until (λ ms. ms ≤ 2 ^ 53) }
@@ -53,8 +53,8 @@ where
         (input_of R.remaining reader.old) (input_of R.remaining reader.new)
         (W.contents (inner_of writer.old)) (W.contents (inner_of writer.new))
         result }
-    ensures failed { has_failed writer.new ≡ has_failed writer.old || spec.is_failed_write result }
-    ensures memory { result ≡ Err CheckFault.Memory → (reader.new ≡ reader.old) × (writer.new ≡ writer.old) }
+    ensures failed { has_failed writer.new ≡ has_failed writer.old || faults.is_failed_write result }
+    ensures memory { result ≡ Err CaptureFault.Memory → (reader.new ≡ reader.old) × (writer.new ≡ writer.old) }
 {
     check_in(
         &mut OfAllocator(alloc),
@@ -75,7 +75,7 @@ pub fn check_in<F: CheckedFamily, A: Allocator, M: VectorSource<A>, S: Supply, R
     supply: &S,
     reader: &mut Watched<R>,
     writer: &mut Watched<W>,
-) -> Result<Totals, CheckFault>
+) -> Result<Totals, CaptureFault>
 where
     F::Address: LineKey,
     requires { IfSome terms.until (λ ms. ms ≤ 2 ^ 53) }
@@ -83,81 +83,83 @@ where
         (input_of R.remaining reader.old) (input_of R.remaining reader.new)
         (W.contents (inner_of writer.old)) (W.contents (inner_of writer.new))
         result }
-    ensures failed { has_failed writer.new ≡ has_failed writer.old || spec.is_failed_write result }
-    ensures memory { result ≡ Err CheckFault.Memory → (reader.new ≡ reader.old) × (writer.new ≡ writer.old) }
+    ensures failed { has_failed writer.new ≡ has_failed writer.old || faults.is_failed_write result }
+    ensures memory { result ≡ Err CaptureFault.Memory → (reader.new ≡ reader.old) × (writer.new ≡ writer.old) }
     ensures takes { Takes
         (bytes_for 1 most_bytes + (bytes_of_workspace F.Address.row config.limits + bytes_of_link (page.the_row u16 A.row ⟦<A as Allocator>⟧) F.Address.row config.limits) + bytes_of_checking F.Address.row)
-        (M.less_than memory.old) (M.less_than memory.new) (spec.is_granted result) }
+        (M.less_than memory.old) (M.less_than memory.new) (faults.is_granted result) }
 {
     let packet: Result<Vec<u8, A>, AllocError> = filled(memory, 0, GREATEST_PACKET);
     let Ok(mut packet) = packet else {
-        return Err(CheckFault::Memory);
+        return Err(CaptureFault::Memory);
     };
     let timing = config.timing();
     let last_member = config.last_member_interval();
     let Ok(link) = Link::new_in(memory, config, first_moment()) else {
-        return Err(CheckFault::Memory);
+        return Err(CaptureFault::Memory);
     };
     let strict = terms.strict;
     let Ok(checking) = Checking::<F, A>::new(memory, terms.within, timing, last_member, strict)
     else {
-        return Err(CheckFault::Memory);
+        return Err(CaptureFault::Memory);
     };
-    let mut check = Check::new(link, checking, terms);
+    let mut check = UpToGap {
+        steps: Check::new(link, checking, terms),
+    };
     check_on(&mut check, packet.as_mut_slice(), supply, reader, writer)
 }
 
 /// Checks a capture, with caller-provided memory for a packet.
 fn check_on<F: CheckedFamily, A: Allocator, S: Supply, R: Read, W: Write>(
-    check: &mut Check<F, A>,
+    check: &mut UpToGap<Check<F, A>>,
     packet: &mut [u8],
     supply: &S,
     reader: &mut Watched<R>,
     writer: &mut Watched<W>,
-) -> Result<Totals, CheckFault>
+) -> Result<Totals, CaptureFault>
 where
     F::Address: LineKey,
     requires room { most_bytes ≤ length packet.old }
-    requires in_range { IfSome check.old.terms.until (λ ms. ms ≤ 2 ^ 53) }
-    requires starts { checked_in check.old.link check.old.queries ≡ at_the_start check.old.link.config check.old.terms.within check.old.terms.strict }
-    requires told { check.old.told ≡ nothing_told check.old.terms.additions }
-    ensures checks { spec.Checks check.old.link.config check.old.terms
+    requires in_range { IfSome check.old.steps.terms.until (λ ms. ms ≤ 2 ^ 53) }
+    requires starts { checked_in check.old.steps.link check.old.steps.queries ≡ at_the_start check.old.steps.link.config check.old.steps.terms.within check.old.steps.terms.strict }
+    requires told { check.old.steps.told ≡ nothing_told check.old.steps.terms.additions }
+    ensures checks { spec.Checks check.old.steps.link.config check.old.steps.terms
         (input_of R.remaining reader.old) (input_of R.remaining reader.new)
         (W.contents (inner_of writer.old)) (W.contents (inner_of writer.new))
         result }
-    ensures failed { has_failed writer.new ≡ has_failed writer.old || spec.is_failed_write result }
-    ensures no_memory { result ≡ Err CheckFault.Memory → ⊥ }
+    ensures failed { has_failed writer.new ≡ has_failed writer.old || faults.is_failed_write result }
+    ensures no_memory { result ≡ Err CaptureFault.Memory → ⊥ }
 {
     let answer = check_file(check, packet, supply, reader, writer);
     if is_failed_write(&answer) {
         return answer;
     }
-    check.told.finish(writer)?;
+    check.steps.told.finish(writer)?;
     answer
 }
 
 /// Checks a capture, from its header to its end.
 fn check_file<F: CheckedFamily, A: Allocator, S: Supply, R: Read, W: Write>(
-    check: &mut Check<F, A>,
+    check: &mut UpToGap<Check<F, A>>,
     packet: &mut [u8],
     supply: &S,
     reader: &mut Watched<R>,
     writer: &mut Watched<W>,
-) -> Result<Totals, CheckFault>
+) -> Result<Totals, CaptureFault>
 where
     F::Address: LineKey,
     requires room { most_bytes ≤ length packet.old }
-    requires in_range { IfSome check.old.terms.until (λ ms. ms ≤ 2 ^ 53) }
-    requires starts { checked_in check.old.link check.old.queries ≡ at_the_start check.old.link.config check.old.terms.within check.old.terms.strict }
-    requires told { check.old.told ≡ nothing_told check.old.terms.additions }
-    ensures puts { PutsVerdict check.old.link.config check.old.terms
+    requires in_range { IfSome check.old.steps.terms.until (λ ms. ms ≤ 2 ^ 53) }
+    requires starts { checked_in check.old.steps.link check.old.steps.queries ≡ at_the_start check.old.steps.link.config check.old.steps.terms.within check.old.steps.terms.strict }
+    requires told { check.old.steps.told ≡ nothing_told check.old.steps.terms.additions }
+    ensures puts { PutsReport (check_of check.old.steps.link.config check.old.steps.terms)
         (input_of R.remaining reader.old) (input_of R.remaining reader.new)
         (W.contents (inner_of writer.old)) (W.contents (inner_of writer.new))
-        check.old.told.held check.new.told.held result }
-    ensures failed { has_failed writer.new ≡ has_failed writer.old || spec.is_failed_write result }
-    ensures no_memory { result ≡ Err CheckFault.Memory → ⊥ }
+        check.old.steps.told.held check.new.steps.told.held result }
+    ensures failed { has_failed writer.new ≡ has_failed writer.old || faults.is_failed_write result }
+    ensures no_memory { result ≡ Err CaptureFault.Memory → ⊥ }
 {
-    check.link.config().is_faultless();
+    check.steps.link.config().is_faultless();
     let walked = walk(check, packet, supply, reader, writer)?;
-    check.rest(walked.last, walked.packets + 1, writer)
+    check.steps.rest(walked, writer)
 }

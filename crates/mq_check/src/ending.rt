@@ -1,16 +1,17 @@
 //! The end of a check.
 
-ghost use Rattle.std.specs.Prelude.{◌≡◌, ◌≤◌, ◌^◌, ◌||◌, IfOk, IfSome, is_err, max, unwrap_or};
+ghost use Rattle.std.specs.Prelude.{◌≡◌, ◌<◌, ◌≤◌, ◌+◌, ◌^◌, ◌||◌, IfOk, IfSome, is_err};
 ghost use Rattle.mq_count.specs.Streams.{inner_of, has_failed};
+ghost use Rattle.mq_pcap.specs.Capture.{endless};
+ghost use Rattle.mq_replay.specs.Faults as spec;
+ghost use Rattle.mq_replay.specs.PuttingReports.{IsRestPut, end_of, rest_at};
 ghost use Rattle.mq_text.specs.Printing.{Puts, output_of};
-ghost use Rattle.mq_check.specs.CheckedCaptures as spec;
 ghost use Rattle.mq_check.specs.Checking.{silence_found, told_at_end};
 ghost use Rattle.mq_check.specs.Coming.{checked_in};
-ghost use Rattle.mq_check.specs.Ending.{IsRestPut, counted_behind, end_text, ended_behind, rest_behind};
+ghost use Rattle.mq_check.specs.Ending.{counted_behind, end_text, ended_behind};
 ghost use Rattle.mq_check.specs.Telling.{Tells, reported_by};
 
 use crate::basis::Basis;
-use crate::check_fault::CheckFault;
 use crate::checked_family::CheckedFamily;
 use crate::finding::Finding;
 use crate::general::query_interval;
@@ -22,49 +23,33 @@ use crate::totals::Totals;
 use mq_count::Watched;
 use mq_lines::LineKey;
 use mq_link::Family;
-use mq_replay::is_gap;
+use mq_replay::{CaptureFault, Walked};
 use mq_table::Timing;
 use mq_text::LineFault;
 use std::alloc::Allocator;
 use std::io::Write;
 
-/// Returns the end of a check: the moment of the last packet, or the requested one if that is later.
-fn last_moment(until: Option<u64>, last: Stamp) -> Stamp
-    requires { IfSome until (λ ms. ms ≤ 2 ^ 53) }
-    ensures { result ≡ max last (unwrap_or until 0) }
-{
-    match until {
-        Some(until) if last.ms() < until => Stamp::of(until),
-        _ => last,
-    }
-}
-
 impl<F: CheckedFamily, A: Allocator> Check<F, A>
 where
     F::Address: LineKey,
 {
-    /// Checks the time after the last packet. Fails if there is a gap before the end of the check. `number` is the packet
-    /// count plus 1.
+    /// Checks the time after the last packet. Fails if there is a gap before the end of the check.
     pub(crate) fn rest<W: Write>(
         &mut self,
-        last: Stamp,
-        number: u64,
+        walked: Walked,
         writer: &mut Watched<W>,
-    ) -> Result<Totals, CheckFault>
+    ) -> Result<Totals, CaptureFault>
+        requires few { walked.packets < endless }
         requires in_range { IfSome self.old.terms.until (λ ms. ms ≤ 2 ^ 53) }
         ensures rest { IsRestPut
-            (rest_behind self.old.link.config self.old.terms.within self.old.terms.until self.old.told last number (checked_in self.old.link self.old.queries))
+            (rest_at (λ end. ended_behind self.old.link.config self.old.terms.within self.old.told end (walked.packets + 1) (checked_in self.old.link self.old.queries))
+            (end_of self.old.terms.until walked.last (walked.packets + 1)))
             (W.contents (inner_of writer.old)) (W.contents (inner_of writer.new))
             self.old.told.held self.new.told.held result }
         ensures failed { has_failed writer.new ≡ has_failed writer.old || spec.is_failed_write result }
     {
-        let end = last_moment(self.terms.until, last);
-        let before = last.moment();
-        let now = end.moment();
-        if is_gap(before, now) {
-            return Err(CheckFault::Gap { number });
-        }
-        self.end(end, number, writer)
+        let end = walked.end(self.terms.until)?;
+        self.end(end, walked.packets + 1, writer)
     }
 
     /// Checks up to and including the end, and reports the totals. The silence and the basis are those of the end, and not
@@ -74,7 +59,7 @@ where
         end: Stamp,
         number: u64,
         writer: &mut Watched<W>,
-    ) -> Result<Totals, CheckFault>
+    ) -> Result<Totals, CaptureFault>
         ensures rest { IsRestPut
             (ended_behind self.old.link.config self.old.terms.within self.old.told end number (checked_in self.old.link self.old.queries))
             (W.contents (inner_of writer.old)) (W.contents (inner_of writer.new))
@@ -91,7 +76,7 @@ where
         let rests_on = *self.queries.basis();
         self.look_ahead(end, writer)?;
         if self.queries.checking().is_full() {
-            return Err(CheckFault::Waiting { number });
+            return Err(CaptureFault::Waiting { number });
         }
         let totals = self.tell_end(end, passed, rests_on, writer)?;
         Ok(totals)

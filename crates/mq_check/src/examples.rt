@@ -1,12 +1,13 @@
 //! Worked examples of the definitions, each computed by the check. No function here has an effect: its contract is the
 //! example. The tolerance is 100 ms.
 
-ghost use Rattle.std.specs.Prelude.{◌≡◌, ℕ, Bool, List, [], ◌∷◌, ◌++◌, true, false, Err, Option};
+ghost use Rattle.std.specs.Prelude.{◌≡◌, List, [], ◌∷◌, ◌++◌, true, false, Err, Option};
 ghost use Rattle.mq_pcap.specs.declared.fault.PcapFault.{PcapFault};
 ghost use Rattle.mq_pcap.specs.Capture.{Captured};
 ghost use Rattle.mq_link.specs.Configuration.{Configuration};
-ghost use Rattle.mq_check.specs.declared.check_fault.CheckFault.TheVariants.{Pcap};
-ghost use Rattle.mq_check.specs.declared.check_terms.Additions.{Additions};
+ghost use Rattle.mq_replay.specs.declared.capture_fault.CaptureFault.TheVariants.{Pcap};
+ghost use Rattle.mq_replay.specs.Courses.{report_of};
+ghost use Rattle.mq_check.specs.declared.check_terms.CheckTerms.{CheckTerms};
 ghost use Rattle.mq_check.specs.Check.{check_of};
 ghost use Rattle.mq_check.specs.declared.asked.Asked.TheVariants.{AllGroups, Group};
 ghost use Rattle.mq_check.specs.declared.finding.Finding.TheVariants.{Missing, Extra, Interval};
@@ -85,6 +86,6 @@ pub fn each_change_once()
 
 /// Shows that a file whose header has a fault has no text.
 pub fn a_faulty_header()
-    ensures { (config : Configuration) (within : ℕ) (until : Option ℕ) (additions : Additions) (strict : Bool) (fault : PcapFault) (packets : List Captured) (end : Option PcapFault)
-        → check_of config within until additions strict (Err fault) packets end ≡ record { text = []; answer = Err (Pcap fault) } }
+    ensures { (config : Configuration) (terms : CheckTerms) (fault : PcapFault) (packets : List Captured) (end : Option PcapFault)
+        → report_of (check_of config terms) (Err fault) packets end ≡ record { text = []; answer = Err (Pcap fault) } }
 {}

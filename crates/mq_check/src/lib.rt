@@ -7,7 +7,7 @@
 //! check(alloc, config, terms, &supply, &mut input, &mut output)     // Ok(totals); or why it ended early
 //! ```
 //!
-//! - The check: `check`, or `check_in` with memory from a source, with `CheckTerms`. It returns `Totals` with the `Basis` of the verdict, or a `CheckFault` if
+//! - The check: `check`, or `check_in` with memory from a source, with `CheckTerms`. It returns `Totals` with the `Basis` of the verdict, or a `CaptureFault` if
 //!   it ends early.
 //! - Findings: `Finding`, on a subject `Asked`. `specs/Check` defines them.
 //! - Worked examples of the definitions: `examples`.
@@ -17,7 +17,6 @@ mod announced;
 mod asked;
 mod basis;
 mod blocked;
-mod check_fault;
 mod check_terms;
 mod checked_capture;
 mod checked_family;
@@ -55,7 +54,6 @@ mod wanting;
 pub use announced::{Announced, announced_variables, announced_variables_in};
 pub use asked::Asked;
 pub use basis::Basis;
-pub use check_fault::CheckFault;
 pub use check_terms::{Additions, CheckTerms};
 pub use checked_capture::{check, check_in};
 pub use checked_family::CheckedFamily;

@@ -7,7 +7,6 @@ ghost use Rattle.mq_check.specs.Checking.{checking_at_start};
 ghost use Rattle.mq_check.specs.Coming.{checked_in};
 ghost use Rattle.mq_check.specs.Telling.{nothing_told};
 
-use crate::check_fault::CheckFault;
 use crate::check_terms::CheckTerms;
 use crate::checked_family::CheckedFamily;
 use crate::checking::Checking;
@@ -16,7 +15,7 @@ use crate::wanted_queries::WantedQueries;
 use mq_count::Watched;
 use mq_lines::LineKey;
 use mq_link::Link;
-use mq_replay::{NumberedPacket, Step, first_moment};
+use mq_replay::{CaptureFault, GaplessStep, NumberedPacket, first_moment};
 use std::alloc::Allocator;
 use std::io::Write;
 
@@ -59,14 +58,12 @@ where
     }
 }
 
-impl<F: CheckedFamily, A: Allocator, W: Write> Step<Watched<W>> for Check<F, A>
+impl<F: CheckedFamily, A: Allocator, W: Write> GaplessStep<Watched<W>> for Check<F, A>
 where
     F::Address: LineKey,
 {
     ghost use Rattle.mq_text.specs.Printing.{output_of};
     ghost use Rattle.mq_check.specs.Coming.{TakesChecked};
-
-    type Fault = CheckFault;
 
     ghost takes = { λ packet old new r. TakesChecked F.Address.family packet
         (record { link = old.0.link; queries = old.0.queries; terms = old.0.terms; told = old.0.told; output = output_of W.contents old.1 })
@@ -76,14 +73,12 @@ where
         &mut self,
         packet: &NumberedPacket<'_>,
         output: &mut Watched<W>,
-    ) -> Result<(), CheckFault> {
-        let number = packet.number;
-        if packet.follows_gap() {
-            return Err(CheckFault::Gap { number });
-        }
+    ) -> Result<(), CaptureFault> {
         self.check_packet(packet, output)?;
         if self.queries.checking().is_full() {
-            return Err(CheckFault::Waiting { number });
+            return Err(CaptureFault::Waiting {
+                number: packet.number,
+            });
         }
         self.told.write_before_wait(packet.may_wait, output)?;
         Ok(())

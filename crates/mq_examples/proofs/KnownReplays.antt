@@ -1,7 +1,7 @@
 -- What a replay comes to where the groups of its link are known one by one, for the worked examples.
-use Rattle.std.proofs.Common.{◌≡◌, ℕ, zero, suc, ◌+◌, true, false, refl, List, [], ◌∷◌, ◌++◌, length, Option, None, Some, Ok, Err, unwrap_or}
+use Rattle.std.proofs.Common.{◌≡◌, ℕ, zero, suc, ◌+◌, true, false, refl, List, [], ◌∷◌, ◌++◌, length, Option, None, Some, Ok}
 use Rattle.std.proofs.Common.{append-nil, ap, ◌∙◌}
-use Rattle.std.specs.{Prelude.max, Prelude.nat_lt, Prelude.map as list_map, List.flat_map, Option.option_to_list}
+use Rattle.std.specs.{Prelude.nat_lt, Prelude.map as list_map, List.flat_map, Option.option_to_list}
 use Rattle.mq_pcap.specs.declared.{fault.PcapFault.PcapFault, form.Form.Form, link_type.LinkType.LinkType}
 use Rattle.mq_pcap.specs.{Capture.Captured, Frame.Carried, Frame.carried_in}
 use Rattle.mq_wire.specs.Family.{Family}
@@ -9,18 +9,18 @@ use Rattle.mq_table.specs.{declared.timers.SourceTimer.SourceTimer, Group.group_
 use Rattle.mq_sched.specs.{Schedule.ScheduledGroup, Sending.group_due, Election.next_moment, Election.is_querier, Election.election_at}
 use Rattle.mq_held.specs.Moments.{those_of, moments_of, moments_in, least}
 use Rattle.mq_link.specs.{Configuration.Configuration, Sent.outgoing, State.LinkState, Forwarding.changed_by_tick, Tick.next_of, Tick.tick_of}
-use Rattle.mq_link.specs.{Counters.count_answers, Counters.no_counts, Receive.read_of, Receive.pseudo_of}
+use Rattle.mq_link.specs.{Counters.Counters, Counters.count_answers, Counters.no_counts, Receive.read_of, Receive.pseudo_of}
 use Rattle.mq_examples.specs.{Links.ListedGroup, Links.ListedGroups, Links.ListedLink, Links.as_groups, Links.as_held, Links.as_link, Replays.up_to}
 use Rattle.mq_link.proofs.Known.{Entries, ordered, entries-known, with_values, ordered-with_values}
 use Rattle.mq_examples.proofs.{KnownLinks.KnownStep, KnownLinks.tick_in, KnownLinks.tick-known, KnownReceipts.receipt_known, KnownReceipts.receipt-known}
 use Rattle.mq_lines.specs.Text.{line_of}
-use Rattle.mq_replay.specs.declared.replay_fault.ReplayFault.{ReplayFault, TheVariants.Pcap, TheVariants.Gap}
-use Rattle.mq_replay.specs.Listing.{moment_of}
+use Rattle.mq_replay.specs.declared.capture_fault.CaptureFault.{CaptureFault, TheVariants.Gap}
+use Rattle.mq_replay.specs.Courses.{Course, Report, Work, broken_off, last_moment, report_of, reported, with_packets}
+use Rattle.mq_replay.specs.PlacedPackets.{Place, at_first, is_gap, place_behind, placed}
 use Rattle.mq_replay.specs.ReplayLines.{query_lines, receipt_line, skip_line, end_line, counts_line, timer_text, group_start, older_hosts_text}
 use Rattle.mq_replay.specs.ReplayLines.{group_line, group_lines, end_lines}
 use Rattle.mq_replay.specs.Report.{Replayed, all_sent, after_step, changed_at, those_among, with_changes, ticked_at, ticked_within, Datagram}
-use Rattle.mq_replay.specs.Report.{datagram_of, received_at, taken_or_skipped, with_packet, is_gap, Course, with_packets, Report, ended_at}
-use Rattle.mq_replay.specs.Report.{broken_off, reported, report_of}
+use Rattle.mq_replay.specs.Report.{datagram_of, received_at, replay_of, taken_or_skipped, with_packet, ended_at}
 use Rattle.std.specs.FinMap as map
 
 -- the next moment
@@ -146,50 +146,6 @@ packet-known config moment number carried k =
     ap (taken_or_skipped config moment number carried (datagram_of config.family carried)) (within-known moment config moment k)
     ∙ taken-known config moment number carried (datagram_of config.family carried) (within_known moment config moment k)
 
--- packets
-pub record KnownCourse : Type 0 where
-  pub replayed : KnownReplayed
-  pub moment : ℕ
-  pub gap : Option ℕ
-
-abbrev pub as_course : KnownCourse → Course
-as_course k = record { replayed = as_replayed k.replayed; moment = k.moment; gap = k.gap }
-
-unfoldable pub packets_known : Configuration → LinkType → (first : Option ℕ) → (before number : ℕ) → List Captured → KnownReplayed → KnownCourse
-packets_known config link first before number [] k = record { replayed = k; moment = before; gap = None }
-packets_known config link first before number (packet ∷ packets) k =
-    let moment = moment_of first before packet.stamp in
-    elim (is_gap before moment) [
-      | true ↦ record { replayed = k; moment = before; gap = Some number }
-      | false ↦
-          packets_known config link (Some (unwrap_or first packet.stamp)) moment (number + 1) packets
-          (packet_known config moment number (carried_in link packet.bytes) k)
-    ]
-
-packets-known : (config : Configuration) (link : LinkType) (first : Option ℕ) (before number : ℕ) (packets : List Captured) (k : KnownReplayed) →
-    with_packets config link first before number packets (as_replayed k) ≡ as_course (packets_known config link first before number packets k)
-unfolding with_packets packets_known
-packets-known config link first before number [] k = refl
-packets-known config link first before number (packet ∷ packets) k =
-    elim (is_gap before (moment_of first before packet.stamp)) as (λ b.
-    elim b [
-      | true ↦ record { replayed = as_replayed k; moment = before; gap = Some number }
-      | false ↦ with_packets config link (Some (unwrap_or first packet.stamp)) (moment_of first before packet.stamp)
-          (number + 1) packets (with_packet config (moment_of first before packet.stamp) number (carried_in link packet.bytes) (as_replayed k))
-    ]
-    ≡ as_course (elim b [
-      | true ↦ record { replayed = k; moment = before; gap = Some number }
-      | false ↦ packets_known config link (Some (unwrap_or first packet.stamp)) (moment_of first before packet.stamp)
-          (number + 1) packets (packet_known config (moment_of first before packet.stamp) number (carried_in link packet.bytes) k)
-    ])) [
-      | true ↦ refl
-      | false ↦
-          ap (with_packets config link (Some (unwrap_or first packet.stamp)) (moment_of first before packet.stamp) (number + 1) packets)
-          (packet-known config (moment_of first before packet.stamp) number (carried_in link packet.bytes) k)
-          ∙ packets-known config link (Some (unwrap_or first packet.stamp)) (moment_of first before packet.stamp)
-          (number + 1) packets (packet_known config (moment_of first before packet.stamp) number (carried_in link packet.bytes) k)
-    ]
-
 -- the end
 abbrev pub group_line_known : Family → (group : ℕ) → ListedGroup → List ℕ
 group_line_known family group k =
@@ -215,7 +171,7 @@ group_lines-known family gs =
     each [] = refl
     each (e ∷ es) = λ i. group_line-known family e.0 e.1 i ++ each es i
 
-abbrev pub ended_known : Configuration → (moment : ℕ) → KnownReplayed → Report
+abbrev pub ended_known : Configuration → (moment : ℕ) → KnownReplayed → Report Counters
 ended_known config moment k =
     let done = within_known (moment + 1) config (moment + 1) k in
     record {
@@ -238,43 +194,64 @@ ended-known config moment k =
       answer = Ok done.link.counters;
     }) (group_lines-known config.family done.link.groups))
 
-abbrev pub broken_known : ReplayFault → KnownCourse → Report
-broken_known fault k = record { text = k.replayed.text; answer = Err fault }
-
-abbrev pub reported_known : Configuration → (until : Option ℕ) → (number : ℕ) → (end : Option PcapFault) → (gap : Option ℕ) → KnownCourse → Report
-reported_known config until number end (Some gap) k = broken_known (Gap gap) k
-reported_known config until number (Some fault) None k = broken_known (Pcap fault) k
-reported_known config until number None None k =
-    elim (is_gap k.moment (max k.moment (unwrap_or until 0))) [
-      | true ↦ broken_known (Gap number) k
-      | false ↦ ended_known config (max k.moment (unwrap_or until 0)) k.replayed
-    ]
-
-reported-known : (config : Configuration) (until : Option ℕ) (number : ℕ) (end : Option PcapFault) (gap : Option ℕ) (k : KnownCourse) →
-    reported config (up_to until) number end gap (as_course k) ≡ reported_known config until number end gap k
-reported-known config until number end (Some gap) k = refl
-reported-known config until number (Some fault) None k = refl
-reported-known config until number None None k =
-    elim (is_gap k.moment (max k.moment (unwrap_or until 0))) as (λ b.
-    elim b [ true ↦ broken_off (Gap number) (as_course k) | false ↦ ended_at config (max k.moment (unwrap_or until 0)) (as_replayed k.replayed) ]
-    ≡ elim b [ true ↦ broken_known (Gap number) k | false ↦ ended_known config (max k.moment (unwrap_or until 0)) k.replayed ]) [
-      | true ↦ refl
-      | false ↦ ended-known config (max k.moment (unwrap_or until 0)) k.replayed
-    ]
-
 -- the link at its start
 abbrev pub start_known : Configuration → KnownReplayed
 start_known config =
     record { link = record { groups = []; election = election_at config.timing 0; last = 0; counters = no_counts }; text = [] }
 
-abbrev pub report_known : Configuration → (until : Option ℕ) → Form → List Captured → (end : Option PcapFault) → Report
-report_known config until form packets end =
-    let k = packets_known config form.link None 0 1 packets (start_known config) in
-    reported_known config until (length packets + 1) end k.gap k
+-- this replay of a capture, as work over its packets
+abbrev pub known : Configuration → (until : Option ℕ) → Work KnownReplayed Counters
+known config until = record {
+  start = start_known config;
+  step = λ packet k. packet_known config packet.moment packet.number (carried_in packet.link packet.frame) k;
+  is_full = λ k. false;
+  text = λ k. k.text;
+  until = until;
+  ended = λ moment number k. ended_known config moment k;
+}
+
+abbrev as_course : Course KnownReplayed → Course Replayed
+as_course k = record { state = as_replayed k.state; moment = k.moment; fault = k.fault }
+
+packets-known : (config : Configuration) (until : Option ℕ) (link : LinkType) (at : Place) (packets : List Captured) (k : KnownReplayed) →
+    with_packets (replay_of config (up_to until)) link at packets (as_replayed k) ≡ as_course (with_packets (known config until) link at packets k)
+unfolding with_packets
+packets-known config until link at [] k = refl
+packets-known config until link at (packet ∷ packets) k =
+    let next = placed link at packet in
+    let frame = carried_in link packet.bytes in
+    let behind = place_behind at packet.stamp in
+    elim (is_gap at.before next.moment) as (λ b.
+    elim b [
+      | true ↦ record { state = as_replayed k; moment = at.before; fault = Some (Gap at.number) }
+      | false ↦ with_packets (replay_of config (up_to until)) link behind packets (with_packet config next.moment at.number frame (as_replayed k))
+    ]
+    ≡ as_course (elim b [
+      | true ↦ record { state = k; moment = at.before; fault = Some (Gap at.number) }
+      | false ↦ with_packets (known config until) link behind packets (packet_known config next.moment at.number frame k)
+    ])) [
+      | true ↦ refl
+      | false ↦
+          ap (with_packets (replay_of config (up_to until)) link behind packets) (packet-known config next.moment at.number frame k)
+          ∙ packets-known config until link behind packets (packet_known config next.moment at.number frame k)
+    ]
+
+reported-known : (config : Configuration) (until : Option ℕ) (number : ℕ) (end : Option PcapFault) (fault : Option CaptureFault) (k : Course KnownReplayed) →
+    reported (replay_of config (up_to until)) number end fault (as_course k) ≡ reported (known config until) number end fault k
+reported-known config until number end (Some fault) k = refl
+reported-known config until number (Some fault) None k = refl
+reported-known config until number None None k =
+    let last = last_moment until k.moment in
+    elim (is_gap k.moment last) as (λ b.
+    elim b [ true ↦ broken_off (replay_of config (up_to until)) (Gap number) (as_replayed k.state) | false ↦ ended_at config last (as_replayed k.state) ]
+    ≡ elim b [ true ↦ broken_off (known config until) (Gap number) k.state | false ↦ ended_known config last k.state ]) [
+      | true ↦ refl
+      | false ↦ ended-known config last k.state
+    ]
 
 pub report-known : (config : Configuration) (until : Option ℕ) (form : Form) (packets : List Captured) (end : Option PcapFault) →
-    report_of config (up_to until) (Ok form) packets end ≡ report_known config until form packets end
+    report_of (replay_of config (up_to until)) (Ok form) packets end ≡ report_of (known config until) (Ok form) packets end
 report-known config until form packets end =
-    ap (λ (course : Course). reported config (up_to until) (length packets + 1) end course.gap course)
-    (packets-known config form.link None 0 1 packets (start_known config))
-    ∙ (let k = packets_known config form.link None 0 1 packets (start_known config) in reported-known config until (length packets + 1) end k.gap k)
+    let k = with_packets (known config until) form.link at_first packets (start_known config) in
+    ap (λ (course : Course Replayed). reported (replay_of config (up_to until)) (length packets + 1) end course.fault course)
+    (packets-known config until form.link at_first packets (start_known config)) ∙ reported-known config until (length packets + 1) end k.fault k

@@ -7,8 +7,9 @@ use Rattle.mq_link.specs.Configuration.{Configuration}
 use Rattle.mq_link.specs.Counters.{Counters}
 use Rattle.mq_examples.specs.Links.{octets}
 use Rattle.mq_replay.specs.declared.asked.Asked.{Asked}
-use Rattle.mq_replay.specs.declared.replay_fault.ReplayFault.{ReplayFault}
-use Rattle.mq_replay.specs.Report.{report_of}
+use Rattle.mq_replay.specs.declared.capture_fault.CaptureFault.{CaptureFault}
+use Rattle.mq_replay.specs.Courses.{report_of}
+use Rattle.mq_replay.specs.Report.{replay_of}
 
 -- a file's header: least significant byte first, microseconds, Ethernet
 abbrev pub file_header : List ℕ
@@ -41,7 +42,7 @@ pub record Totals : Type 0 where
   pub sent : ℕ
   pub unsent : ℕ
 
-abbrev pub totals_of : Result Counters ReplayFault → Result Totals ReplayFault
+abbrev pub totals_of : Result Counters CaptureFault → Result Totals CaptureFault
 totals_of (Ok c) = Ok (record {
   received = c.received;
   dropped = c.dropped;
@@ -58,11 +59,11 @@ abbrev pub up_to : (until : Option ℕ) → Asked
 up_to until = record { until = until; changes = false }
 
 -- the bytes are a capture, and its report has this text and this result
-pub record Reports (config : Configuration) (until : Option ℕ) (bytes text : List ℕ) (answer : Result Totals ReplayFault)
+pub record Reports (config : Configuration) (until : Option ℕ) (bytes text : List ℕ) (answer : Result Totals CaptureFault)
     : Type 0 where
   pub header : Result Form PcapFault
   pub packets : List Captured
   pub end : Option PcapFault
   pub capture : Captures bytes header packets end
-  pub text_is : (report_of config (up_to until) header packets end).text ≡ text
-  pub answer_is : totals_of (report_of config (up_to until) header packets end).answer ≡ answer
+  pub text_is : (report_of (replay_of config (up_to until)) header packets end).text ≡ text
+  pub answer_is : totals_of (report_of (replay_of config (up_to until)) header packets end).answer ≡ answer

@@ -1,99 +1,88 @@
 -- A check of a capture that comes to its end tells what is found by what happens in it.
-use Rattle.std.proofs.Common.{◌≡◌, ℕ, ◌+◌, ◌-◌, ◌^◌, true, false, List, [], ◌∷◌, ◌++◌, length, refl, ap, sym, ◌∙◌, subst, max, min, append_assoc}
-use Rattle.std.specs.Prelude.{Option, None, Some, Ok, unwrap_or}
+use Rattle.std.proofs.Common.{◌≡◌, ℕ, ◌+◌, ◌-◌, ◌^◌, true, false, List, [], ◌∷◌, ◌++◌, length, refl, ap, sym, ◌∙◌, subst, max, min, append_assoc, append-nil}
+use Rattle.std.specs.Prelude.{Option, None, Some, Ok, Err, unwrap_or}
 use Rattle.mq_pcap.specs.declared.fault.PcapFault.{PcapFault}
 use Rattle.mq_pcap.specs.declared.link_type.LinkType.{LinkType}
 use Rattle.mq_pcap.specs.Capture.{Captured}
 use Rattle.mq_table.specs.declared.timing.Timing.{Timing}
 use Rattle.mq_link.specs.Configuration.{Configuration}
 use Rattle.mq_link.specs.State.{LinkState, link_at}
-use Rattle.mq_replay.specs.Listing.{goes_back, moment_of}
-use Rattle.mq_replay.specs.Report.{is_gap}
+use Rattle.mq_replay.specs.declared.capture_fault.CaptureFault.{CaptureFault}
+use Rattle.mq_replay.specs.declared.capture_fault.CaptureFault.TheVariants.{Gap, Waiting}
+use Rattle.mq_replay.specs.Courses.{Course, Report, broken_off, course_of, last_moment, reported, with_packets}
+use Rattle.mq_replay.specs.PlacedPackets.{Place, at_first, is_gap, place_behind, placed}
+use Rattle.mq_replay.proofs.ReportedOver.{by_gap, by_room}
 use Rattle.mq_check.specs.declared.basis.Basis.{Basis}
-use Rattle.mq_check.specs.declared.check_fault.CheckFault.{CheckFault}
-use Rattle.mq_check.specs.declared.check_fault.CheckFault.TheVariants.{Gap, Waiting}
 use Rattle.mq_check.specs.declared.check_terms.Additions.{Additions}
+use Rattle.mq_check.specs.declared.check_terms.CheckTerms.{CheckTerms}
 use Rattle.mq_check.specs.declared.finding.Finding.{Finding}
 use Rattle.mq_check.specs.declared.totals.Totals.{Totals}
-use Rattle.mq_check.specs.Check.{Checked, Course, Outcome, Verdict, at_the_start, with_packet, with_packets, with_all_packets, ticked_through}
-use Rattle.mq_check.specs.Check.{settled_through, looked_ahead, last_moment, ended_at, concluded, broken_off, totals_of, verdict_behind}
+use Rattle.mq_check.specs.Check.{Checked, Outcome, at_the_start, check_of, concluded, ended_at, found_text, looked_ahead, settled_through, ticked_through}
+use Rattle.mq_check.specs.Check.{totals_of, with_packet}
 use Rattle.mq_check.specs.Checking.{CheckingValue, told, told_at_end}
 use Rattle.mq_check.specs.FindingLines.{finding_lines, last_lines}
 use Rattle.mq_check.specs.General.{silence_up_to}
 use Rattle.mq_check.specs.Repeated.{all_reported}
 use Rattle.mq_laws.specs.Captures.{Passage, packet_passage, packets_passage, ticks_through, last_of, end_of, events_ahead, events_of}
 use Rattle.mq_laws.specs.Events.{CheckEvent, at_the_end, checked_ahead, checked_by, found_by, found_from}
-use Rattle.mq_laws.specs.Verdicts.{CheckedCapture, CameToItsEnd, TellsWhatHappened}
+use Rattle.mq_laws.specs.Verdicts.{CheckedCapture, CameToItsEnd, TellsWhatHappened, terms_in}
 use Rattle.mq_laws.proofs.Followed.{Follows, follows-nothing, follows-behind, follows-ticks, follows-packet}
 
--- what packets come to, where there is a gap, where too much waits, and else
-gap_is : (config : Configuration) (link : LinkType) (within : ℕ) (first : Option ℕ) (before number : ℕ) (packet : Captured) (packets : List Captured)
-    (r : Checked)
-    → is_gap before (moment_of first before packet.stamp) ≡ true
-    → (with_packets config link within first before number (packet ∷ packets) r).fault ≡ Some (Gap number)
-unfolding with_packets
-gap_is config link within first before number packet packets r is = rw (is, with_packets) refl
-
-full_is : (config : Configuration) (link : LinkType) (within : ℕ) (first : Option ℕ) (before number : ℕ) (packet : Captured) (packets : List Captured)
-    (r : Checked)
-    → is_gap before (moment_of first before packet.stamp) ≡ false
-    → (with_packet config link within (moment_of first before packet.stamp) number (goes_back first before packet.stamp)
-    packet.bytes r).checked.checking.waiting.is_full ≡ true
-    → (with_packets config link within first before number (packet ∷ packets) r).fault ≡ Some (Waiting number)
-unfolding with_packets
-full_is config link within first before number packet packets r is full = rw (is, full, with_packets) refl
-
-rest_is : (config : Configuration) (link : LinkType) (within : ℕ) (first : Option ℕ) (before number : ℕ) (packet : Captured) (packets : List Captured)
-    (r : Checked)
-    → is_gap before (moment_of first before packet.stamp) ≡ false
-    → (with_packet config link within (moment_of first before packet.stamp) number (goes_back first before packet.stamp)
-    packet.bytes r).checked.checking.waiting.is_full ≡ false
-    → (let after = with_packet config link within (moment_of first before packet.stamp) number (goes_back first before packet.stamp) packet.bytes r in
-    let rest = with_packets config link within (Some (unwrap_or first packet.stamp)) (moment_of first before packet.stamp) (number + 1) packets after.checked in
-    with_packets config link within first before number (packet ∷ packets) r ≡ record rest { found = after.found ++ rest.found })
-unfolding with_packets
-rest_is config link within first before number packet packets r is room = rw (is, room, with_packets) refl
-
--- Packets come to what happens by them.
-record FollowsAll (within : ℕ) (timing : Timing) (p : Passage) (last : ℕ) (r : Checked) (course : Course) : Type 0 where
-  follows : Follows within timing p r (record { checked = course.checked; found = course.found })
+-- Packets come to what happens by them. There may be findings before theirs.
+record FollowsAll (within : ℕ) (timing : Timing) (p : Passage) (last : ℕ) (r : Checked) (before : List (Finding ℕ)) (course : Course Outcome) : Type 0 where
+  found : List (Finding ℕ)
+  all : course.state.found ≡ before ++ found
+  follows : Follows within timing p r (record { checked = course.state.checked; found = found })
   moment : course.moment ≡ last
 
-follows-packets : (config : Configuration) (link : LinkType) (within : ℕ) (first : Option ℕ) (before number : ℕ) (packets : List Captured) (r : Checked)
-    → (with_packets config link within first before number packets r).fault ≡ None
-    → FollowsAll within config.timing (packets_passage config link first before number packets r.basis.packets r.link)
-    (last_of first before packets) r (with_packets config link within first before number packets r)
+follows-packets : (config : Configuration) (terms : CheckTerms) (link : LinkType) (at : Place) (packets : List Captured) (r : Checked)
+    (before : List (Finding ℕ))
+    → (with_packets (check_of config terms) link at packets (record { checked = r; found = before })).fault ≡ None
+    → FollowsAll terms.within config.timing (packets_passage config link at.first at.before at.number packets r.basis.packets r.link)
+    (last_of at.first at.before packets) r before (with_packets (check_of config terms) link at packets (record { checked = r; found = before }))
 unfolding with_packets packets_passage
-follows-packets config link within first before number [] r whole = record { follows = follows-nothing within config.timing r; moment = refl }
-follows-packets config link within first before number (packet ∷ packets) r whole =
-    let moment = moment_of first before packet.stamp in
-    let after = with_packet config link within moment number (goes_back first before packet.stamp) packet.bytes r in
-    let rest = with_packets config link within (Some (unwrap_or first packet.stamp)) moment (number + 1) packets after.checked in
-    elim (is_gap before moment) as (λ b. is_gap before moment ≡ b
-    → FollowsAll within config.timing (packets_passage config link first before number (packet ∷ packets) r.basis.packets r.link)
-    (last_of first before (packet ∷ packets)) r (with_packets config link within first before number (packet ∷ packets) r)) [
-      | true ↦ λ gap. absurd (let two : Some (Gap number) ≡ None = sym (gap_is config link within first before number packet packets r gap) ∙ whole in cc)
+follows-packets config terms link at [] r before whole =
+    record { found = []; all = sym (append-nil before); follows = follows-nothing terms.within config.timing r; moment = refl }
+follows-packets config terms link at (packet ∷ packets) r before whole =
+    let work = check_of config terms in
+    let next = placed link at packet in
+    let to = place_behind at packet.stamp in
+    let here : Outcome = record { checked = r; found = before } in
+    let after = with_packet config link terms.within next.moment at.number next.goes_back packet.bytes r in
+    let passage = packets_passage config link at.first at.before at.number (packet ∷ packets) r.basis.packets r.link in
+    elim (is_gap at.before next.moment) as (λ b. is_gap at.before next.moment ≡ b
+    → FollowsAll terms.within config.timing passage (last_of at.first at.before (packet ∷ packets)) r before
+    (with_packets work link at (packet ∷ packets) here)) [
+      | true ↦ λ gap. absurd (let two : Some (Gap at.number) ≡ None =
+          sym (ap (λ (c : Course Outcome). c.fault) (by_gap work link at packet packets here true gap)) ∙ whole in cc)
       | false ↦ λ near.
           elim (after.checked.checking.waiting.is_full) as (λ b. after.checked.checking.waiting.is_full ≡ b
-          → FollowsAll within config.timing (packets_passage config link first before number (packet ∷ packets) r.basis.packets r.link)
-          (last_of first before (packet ∷ packets)) r (with_packets config link within first before number (packet ∷ packets) r)) [
-            | true ↦ λ full. absurd
-                (let two : Some (Waiting number) ≡ None = sym (full_is config link within first before number packet packets r near full) ∙ whole in cc)
+          → FollowsAll terms.within config.timing passage (last_of at.first at.before (packet ∷ packets)) r before
+          (with_packets work link at (packet ∷ packets) here)) [
+            | true ↦ λ full. absurd (let two : Some (Waiting at.number) ≡ None =
+                sym (ap (λ (c : Course Outcome). c.fault) (by_room work link at packet packets here true near full)) ∙ whole in cc)
             | false ↦ λ room.
-                let is = rest_is config link within first before number packet packets r near room in
-                let one = follows-packet config link within moment number (goes_back first before packet.stamp) packet.bytes r in
-                let more = follows-packets config link within (Some (unwrap_or first packet.stamp)) moment (number + 1) packets after.checked
-                (ap (λ (c : Course). c.fault) (sym is) ∙ whole) in
-                let this = packet_passage config link moment number packet.bytes r.basis.packets r.link in
+                let is : with_packets work link at (packet ∷ packets) here
+                ≡ with_packets work link to packets (record { checked = after.checked; found = before ++ after.found }) =
+                by_room work link at packet packets here false near room in
+                let one = follows-packet config link terms.within next.moment at.number next.goes_back packet.bytes r in
+                let more = follows-packets config terms link to packets after.checked (before ++ after.found)
+                (ap (λ (c : Course Outcome). c.fault) (sym is) ∙ whole) in
+                let this = packet_passage config link next.moment at.number packet.bytes r.basis.packets r.link in
+                let rest : Outcome = record {
+                  checked = (with_packets work link to packets (record { checked = after.checked; found = before ++ after.found })).state.checked;
+                  found = more.found;
+                } in
                 let more_there =
-                subst (λ (n : ℕ). Follows within config.timing
-                (packets_passage config link (Some (unwrap_or first packet.stamp)) moment (number + 1) packets n this.link) after.checked
-                (record { checked = rest.checked; found = rest.found })) one.packets
-                (subst (λ (l : LinkState). Follows within config.timing
-                (packets_passage config link (Some (unwrap_or first packet.stamp)) moment (number + 1) packets after.checked.basis.packets l)
-                after.checked (record { checked = rest.checked; found = rest.found })) one.link more.follows) in
-                rw is (record {
-                  follows = follows-behind within config.timing this _ r after (record { checked = rest.checked; found = rest.found }) one more_there;
+                subst (λ (n : ℕ). Follows terms.within config.timing
+                (packets_passage config link to.first to.before to.number packets n this.link) after.checked rest) one.packets
+                (subst (λ (l : LinkState). Follows terms.within config.timing
+                (packets_passage config link to.first to.before to.number packets after.checked.basis.packets l) after.checked rest) one.link more.follows) in
+                subst (λ (c : Course Outcome). FollowsAll terms.within config.timing passage (last_of at.first at.before (packet ∷ packets)) r before c)
+                (sym is) (record {
+                  found = after.found ++ more.found;
+                  all = more.all ∙ append_assoc before after.found more.found;
+                  follows = follows-behind terms.within config.timing this _ r after rest one more_there;
                   moment = more.moment;
                 })
           ] refl
@@ -143,38 +132,39 @@ ended_tells config within additions moment number found r totals answered =
     elim (c.waiting.is_full) as (λ b. c.waiting.is_full ≡ b → EndTells config additions totals c (all_reported additions all)
     (ended_at config within additions moment number found r).text) [
       | true ↦ λ full.
-          let broken : ended_at config within additions moment number found r ≡ broken_off config additions (Waiting number)
-          (found ++ done.found ++ ahead.found) = rw full refl in
-          absurd (let two = ap (λ (v : Verdict). v.answer) (sym broken) ∙ answered in cc)
+          let broken : ended_at config within additions moment number found r
+          ≡ record { text = found_text config additions (found ++ done.found ++ ahead.found); answer = Err (Waiting number) } = rw full refl in
+          absurd (let two = ap (λ (v : Report Totals). v.answer) (sym broken) ∙ answered in cc)
       | false ↦ λ room.
           let ended : ended_at config within additions moment number found r ≡ concluded config additions c done.checked.basis all = rw room refl in
-          rw ended (concluded_tells config additions totals c done.checked.basis all room (ap (λ (v : Verdict). v.answer) (sym ended) ∙ answered))
+          rw ended (concluded_tells config additions totals c done.checked.basis all room (ap (λ (v : Report Totals). v.answer) (sym ended) ∙ answered))
     ] refl
 
 -- what stands behind the packets
-behind_packets : (k : CheckedCapture) (course : Course) (fault : Option CheckFault) (end : Option PcapFault) (number : ℕ) → course.fault ≡ fault
-    → (verdict_behind k.config k.within k.until k.additions number end fault course).answer ≡ Ok k.totals
-    → (let moment = last_moment k.until course in
+behind_packets : (k : CheckedCapture) (course : Course Outcome) (fault : Option CaptureFault) (end : Option PcapFault) (number : ℕ) → course.fault ≡ fault
+    → (reported (check_of k.config (terms_in k)) number end fault course).answer ≡ Ok k.totals
+    → (let moment = last_moment k.until course.moment in
     (course.fault ≡ None)
-    × EndTells k.config k.additions k.totals (at_last k.config k.within moment course.checked)
-    (all_reported k.additions (all_found k.config k.within moment course.found course.checked))
-    (verdict_behind k.config k.within k.until k.additions number end fault course).text)
+    × EndTells k.config k.additions k.totals (at_last k.config k.within moment course.state.checked)
+    (all_reported k.additions (all_found k.config k.within moment course.state.found course.state.checked))
+    (reported (check_of k.config (terms_in k)) number end fault course).text)
 behind_packets k course (Some fault) end number is answered = absurd (cc)
 behind_packets k course None (Some fault) number is answered = absurd (cc)
 behind_packets k course None None number is answered =
-    let moment = last_moment k.until course in
-    let verdict = verdict_behind k.config k.within k.until k.additions number None None course in
+    let work = check_of k.config (terms_in k) in
+    let moment = last_moment k.until course.moment in
+    let verdict = reported work number None None course in
     elim (is_gap course.moment moment) as (λ b. is_gap course.moment moment ≡ b
-    → (course.fault ≡ None) × EndTells k.config k.additions k.totals (at_last k.config k.within moment course.checked)
-    (all_reported k.additions (all_found k.config k.within moment course.found course.checked)) verdict.text) [
+    → (course.fault ≡ None) × EndTells k.config k.additions k.totals (at_last k.config k.within moment course.state.checked)
+    (all_reported k.additions (all_found k.config k.within moment course.state.found course.state.checked)) verdict.text) [
       | true ↦ λ gap.
-          let broken : verdict ≡ broken_off k.config k.additions (Gap number) course.found = rw (gap, verdict_behind) refl in
-          absurd (let two = ap (λ (v : Verdict). v.answer) (sym broken) ∙ answered in cc)
+          let broken : verdict ≡ broken_off work (Gap number) course.state = rw gap refl in
+          absurd (let two = ap (λ (v : Report Totals). v.answer) (sym broken) ∙ answered in cc)
       | false ↦ λ near.
-          let ended : verdict ≡ ended_at k.config k.within k.additions moment number course.found course.checked = rw (near, verdict_behind) refl in (
+          let ended : verdict ≡ ended_at k.config k.within k.additions moment number course.state.found course.state.checked = rw near refl in (
             is,
-            rw ended (ended_tells k.config k.within k.additions moment number course.found course.checked k.totals
-                (ap (λ (v : Verdict). v.answer) (sym ended) ∙ answered)),
+            rw ended (ended_tells k.config k.within k.additions moment number course.state.found course.state.checked k.totals
+                (ap (λ (v : Report Totals). v.answer) (sym ended) ∙ answered)),
           )
     ] refl
 
@@ -216,27 +206,31 @@ tells_what_happened k answered =
     let config = k.config in
     let link = k.form.link in
     let start = at_the_start config k.within k.strict in
-    let course = with_all_packets config k.within k.strict k.form k.packets in
+    let course = course_of (check_of config (terms_in k)) (Ok k.form) k.packets in
+    let at_packets = course.state.checked in
     let told = behind_packets k course course.fault k.end (length k.packets + 1) refl answered in
-    let all = follows-packets config link k.within None 0 1 k.packets start told.0 in
+    let all = follows-packets config (terms_in k) link at_first k.packets start [] told.0 in
     let p = packets_passage config link None 0 1 k.packets 0 (link_at config 0) in
-    let moment = last_moment k.until course in
+    let moment = last_moment k.until course.moment in
     let end = end_of k.until k.packets in
     let at : moment ≡ end = ap (λ (m : ℕ). max m (unwrap_or k.until 0)) all.moment in
     let t = ticks_through config end p.packets p.link in
-    let done = ticked_through config k.within moment course.checked in
-    let ticks : Follows k.within config.timing t course.checked done =
-    subst (λ (n : ℕ). Follows k.within config.timing (ticks_through config end n p.link) course.checked done) all.follows.packets
-    (subst (λ (l : LinkState). Follows k.within config.timing (ticks_through config end course.checked.basis.packets l) course.checked done) all.follows.link
-    (subst (λ (m : ℕ). Follows k.within config.timing (ticks_through config m course.checked.basis.packets course.checked.link) course.checked done)
-    at (follows-ticks (moment + 1) config k.within (moment + 1) course.checked))) in
-    let both = follows-behind k.within config.timing p t start (record { checked = course.checked; found = course.found }) done all.follows ticks in
-    let looks = looks_ahead config k.within moment course.found course.checked in
+    let done = ticked_through config k.within moment at_packets in
+    let ticks : Follows k.within config.timing t at_packets done =
+    subst (λ (n : ℕ). Follows k.within config.timing (ticks_through config end n p.link) at_packets done) all.follows.packets
+    (subst (λ (l : LinkState). Follows k.within config.timing (ticks_through config end at_packets.basis.packets l) at_packets done) all.follows.link
+    (subst (λ (m : ℕ). Follows k.within config.timing (ticks_through config m at_packets.basis.packets at_packets.link) at_packets done)
+    at (follows-ticks (moment + 1) config k.within (moment + 1) at_packets))) in
+    let before = subst (λ (f : List (Finding ℕ)). Follows k.within config.timing p start (record { checked = at_packets; found = f })) (sym all.all)
+    all.follows in
+    let both = follows-behind k.within config.timing p t start course.state done before ticks in
+    let looks = looks_ahead config k.within moment course.state.found at_packets in
     let events = events_of config k.until k.form k.packets in
     let ahead = events_ahead config k.within k.until k.form k.packets in
-    let c : at_last config k.within moment course.checked ≡ checked_ahead k.within config.timing end ahead (checked_by k.within config.timing k.strict events) =
+    let c : at_last config k.within moment at_packets
+    ≡ checked_ahead k.within config.timing end ahead (checked_by k.within config.timing k.strict events) =
     looks.last ∙ (λ i. checked_ahead k.within config.timing (at i) (ahead_at config k.within (at i) (both.packets i) (both.link i)) (both.checking 0 i)) in
-    let found : all_found config k.within moment course.found course.checked ≡ found_by k.within config.timing k.strict end events ahead =
+    let found : all_found config k.within moment course.state.found at_packets ≡ found_by k.within config.timing k.strict end events ahead =
     looks.found ∙ (λ i. both.found 0 i ++ found_from k.within config.timing (at i) (ahead_at config k.within (at i) (both.packets i) (both.link i))
     (both.checking 0 i)) in
     record {

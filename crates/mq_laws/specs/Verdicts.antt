@@ -4,10 +4,12 @@ use Rattle.mq_pcap.specs.declared.fault.PcapFault.{PcapFault}
 use Rattle.mq_pcap.specs.declared.form.Form.{Form}
 use Rattle.mq_pcap.specs.Capture.{Captured}
 use Rattle.mq_link.specs.Configuration.{Configuration}
+use Rattle.mq_replay.specs.Courses.{Report, report_of}
 use Rattle.mq_check.specs.declared.check_terms.Additions.{Additions}
+use Rattle.mq_check.specs.declared.check_terms.CheckTerms.{CheckTerms}
 use Rattle.mq_check.specs.declared.finding.Finding.{Finding}
 use Rattle.mq_check.specs.declared.totals.Totals.{Totals}
-use Rattle.mq_check.specs.Check.{Verdict, check_of}
+use Rattle.mq_check.specs.Check.{check_of}
 use Rattle.mq_check.specs.FindingLines.{finding_lines, last_lines}
 use Rattle.mq_check.specs.Repeated.{all_reported}
 use Rattle.mq_laws.specs.Captures.{end_of, events_ahead, events_of}
@@ -35,8 +37,11 @@ ahead_in c = events_ahead c.config c.within c.until c.form c.packets
 abbrev pub end_in : CheckedCapture → ℕ
 end_in c = end_of c.until c.packets
 
-abbrev pub verdict_of : CheckedCapture → Verdict
-verdict_of c = check_of c.config c.within c.until c.additions c.strict (Ok c.form) c.packets c.end
+abbrev pub terms_in : CheckedCapture → CheckTerms
+terms_in c = record { within = c.within; until = c.until; additions = c.additions; strict = c.strict }
+
+abbrev pub verdict_of : CheckedCapture → Report Totals
+verdict_of c = report_of (check_of c.config (terms_in c)) (Ok c.form) c.packets c.end
 
 -- Its result is the totals. No fault and no gap ended it before, and there was room for all pending entries.
 abbrev pub CameToItsEnd : CheckedCapture → Type 0

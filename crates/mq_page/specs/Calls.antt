@@ -14,7 +14,7 @@ use Rattle.mq_page.specs.declared.answer.Answer.{Answer}
 use Rattle.mq_page.specs.declared.page_fault.PageFault.{PageFault}
 use Rattle.mq_page.specs.declared.page_fault.PageFault.TheVariants.{Memory}
 use Rattle.mq_page.specs.Asked.{IsAccepted, IsRefused}
-use Rattle.mq_page.specs.Faults.{of_check, of_conversion, of_replay, outcome_of}
+use Rattle.mq_page.specs.Faults.{of_capture, of_conversion, outcome_of}
 use Rattle.mq_page.specs.Telling.{IsTold}
 
 -- a capture before anything was read
@@ -35,7 +35,7 @@ pub record ListsInto (capture old new : List ℕ) (answer : Answer) : Type 0 whe
   pub text : List ℕ
   pub outcome : Result ℕ PageFault
   pub told : IsTold outcome text old new answer
-  pub lists : IsMade Shows (λ count. count) of_replay capture text outcome
+  pub lists : IsMade Shows (λ count. count) of_capture capture text outcome
 
 -- all packets of a capture were written as one classic capture
 pub record ConvertsInto (choice : Choice) (capture old new : List ℕ) (answer : Answer) : Type 0 where
@@ -55,7 +55,7 @@ pub record ReplaysInto (config : Configuration) (asked : Asked) (capture old new
   pub outcome : Result ℕ PageFault
   pub told : IsTold outcome text old new answer
   pub replays : IsRefusal config asked.until text outcome
-      ⊎ (IsAccepted config asked.until × IsMade (Replays config asked) (λ (counters : Counters). 0) of_replay capture text outcome)
+      ⊎ (IsAccepted config asked.until × IsMade (Replays config asked) (λ (counters : Counters). 0) of_capture capture text outcome)
 
 -- a capture was checked
 pub record ChecksInto (config : Configuration) (terms : CheckTerms) (capture old new : List ℕ) (answer : Answer) : Type 0 where
@@ -63,4 +63,4 @@ pub record ChecksInto (config : Configuration) (terms : CheckTerms) (capture old
   pub outcome : Result ℕ PageFault
   pub told : IsTold outcome text old new answer
   pub checks : IsRefusal config terms.until text outcome
-      ⊎ (IsAccepted config terms.until × IsMade (Checks config terms) (λ totals. totals.findings) of_check capture text outcome)
+      ⊎ (IsAccepted config terms.until × IsMade (Checks config terms) (λ totals. totals.findings) of_capture capture text outcome)

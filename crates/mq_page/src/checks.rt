@@ -4,7 +4,7 @@ ghost use Rattle.mq_page.specs.Asked.{check_asked, configuration_asked};
 ghost use Rattle.mq_page.specs.Calls.{ChecksInto};
 
 use crate::answer::Answer;
-use crate::page_fault::{PageFault, of_check};
+use crate::page_fault::{PageFault, of_capture};
 use crate::settings::{Settings, querier_of};
 use crate::telling::told;
 use crate::work_room::WorkRoom;
@@ -57,7 +57,7 @@ where
         &mut writer,
     ) {
         Ok(totals) => Ok(totals.findings),
-        Err(fault) => Err(of_check(fault)),
+        Err(fault) => Err(of_capture(fault)),
     };
     told(outcome, writer.into_inner().written(), text)
 }

@@ -3,7 +3,7 @@
 ghost use Rattle.mq_page.specs.Calls.{ListsInto};
 
 use crate::answer::Answer;
-use crate::page_fault::{PageFault, of_replay};
+use crate::page_fault::{PageFault, of_capture};
 use crate::telling::told;
 use crate::work_room::WorkRoom;
 use mq_count::Watched;
@@ -25,7 +25,7 @@ pub(crate) fn list(capture: &[u8], memory: &'static mut [u128], text: &mut [u8])
     let mut writer = Watched::new(written);
     let outcome = match show(&rest, &Ready, &mut reader, &mut writer) {
         Ok(count) => Ok(count),
-        Err(fault) => Err(of_replay(fault)),
+        Err(fault) => Err(of_capture(fault)),
     };
     told(outcome, writer.into_inner().written(), text)
 }

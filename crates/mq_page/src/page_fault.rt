@@ -3,11 +3,10 @@
 ghost use Rattle.std.specs.Prelude.{◌≡◌};
 ghost use Rattle.mq_page.specs.Faults as spec;
 
-use mq_check::CheckFault;
 use mq_convert::{BlockFault, ConvertFault};
 use mq_link::ConfigFault;
 use mq_pcap::PcapFault;
-use mq_replay::ReplayFault;
+use mq_replay::CaptureFault;
 
 /// The reason why a call did not do all of its request.
 #[derive(Clone, Copy, Debug, PartialEq, Eq)]
@@ -43,15 +42,16 @@ pub enum PageFault {
     Configuration(ConfigFault),
 }
 
-/// Returns the fault of a listing or of a replay. A failed write found no room.
-pub(crate) fn of_replay(fault: ReplayFault) -> PageFault
-    ensures { result ≡ spec.of_replay fault }
+/// Returns the fault of a listing, a replay or a check. A failed write found no room.
+pub(crate) fn of_capture(fault: CaptureFault) -> PageFault
+    ensures { result ≡ spec.of_capture fault }
 {
     match fault {
-        ReplayFault::Pcap(fault) => PageFault::Capture(fault),
-        ReplayFault::Write => PageFault::Full,
-        ReplayFault::Gap { number } => PageFault::Gap { number },
-        ReplayFault::Memory => PageFault::Memory,
+        CaptureFault::Pcap(fault) => PageFault::Capture(fault),
+        CaptureFault::Write => PageFault::Full,
+        CaptureFault::Gap { number } => PageFault::Gap { number },
+        CaptureFault::Waiting { number } => PageFault::Waiting { number },
+        CaptureFault::Memory => PageFault::Memory,
     }
 }
 
@@ -64,18 +64,5 @@ pub(crate) fn of_conversion(fault: ConvertFault) -> PageFault
         ConvertFault::Write => PageFault::Full,
         ConvertFault::Memory => PageFault::Memory,
         ConvertFault::Block { number, fault } => PageFault::Conversion { number, fault },
-    }
-}
-
-/// Returns the fault of a check.
-pub(crate) fn of_check(fault: CheckFault) -> PageFault
-    ensures { result ≡ spec.of_check fault }
-{
-    match fault {
-        CheckFault::Pcap(fault) => PageFault::Capture(fault),
-        CheckFault::Write => PageFault::Full,
-        CheckFault::Gap { number } => PageFault::Gap { number },
-        CheckFault::Waiting { number } => PageFault::Waiting { number },
-        CheckFault::Memory => PageFault::Memory,
     }
 }

@@ -4,7 +4,7 @@ ghost use Rattle.mq_page.specs.Asked.{configuration_asked, replay_asked};
 ghost use Rattle.mq_page.specs.Calls.{ReplaysInto};
 
 use crate::answer::Answer;
-use crate::page_fault::{PageFault, of_replay};
+use crate::page_fault::{PageFault, of_capture};
 use crate::settings::{Settings, querier_of};
 use crate::telling::told;
 use crate::work_room::WorkRoom;
@@ -51,7 +51,7 @@ where
         &mut writer,
     ) {
         Ok(_counts) => Ok(0),
-        Err(fault) => Err(of_replay(fault)),
+        Err(fault) => Err(of_capture(fault)),
     };
     told(outcome, writer.into_inner().written(), text)
 }

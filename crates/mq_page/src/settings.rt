@@ -95,8 +95,8 @@ fn config_of<F: Family>(own: F::Address, settings: &Settings) -> Result<Config<F
 pub(crate) struct Querier<F: Family> {
     /// Its configuration.
     pub(crate) config: Config<F>,
-    /// The moment until which a replay or a check of it runs at least, if one is requested.
-    pub(crate) until: Option<Moment>,
+    /// The moment until which a replay of it runs at least, in milliseconds, if one is requested.
+    pub(crate) until: Option<u64>,
 }
 
 /// Returns the querier with this address, or the reason to refuse it.
@@ -110,10 +110,11 @@ pub(crate) fn querier_of<F: Family>(
         (λ a. IsAccepted asked until × (a.config ≡ asked) × (a.until ≡ until))
         (λ fault. IsRefused asked until fault) }
 {
-    let until = match moment_of(settings.end()) {
-        Ok(until) => until,
+    let until = settings.end();
+    match moment_of(until) {
+        Ok(_) => {}
         Err(fault) => return Err(fault),
-    };
+    }
     match config_of::<F>(own, settings) {
         Ok(config) => Ok(Querier { config, until }),
         Err(fault) => Err(fault),

@@ -11,10 +11,11 @@ pub mod PrintedQueries
 pub mod ReadSoFar
 pub mod ReplayTexts
 pub mod ReplayedOver
+pub mod ReportedOver
 pub mod Rooms
 pub mod Shown
 pub mod Ticking
 pub mod WalkedOver
 pub mod WalkedPackets
 pub mod WrittenEarly
-pub mod WrittenReplays
+pub mod WrittenReports

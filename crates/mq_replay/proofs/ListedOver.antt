@@ -10,14 +10,14 @@ use Rattle.mq_pcap.specs.Capture.{Captured, Captures, is_read}
 use Rattle.mq_pcap.specs.Filling.{InputState}
 use Rattle.mq_text.specs.Printing.{Passes}
 use Rattle.mq_text.proofs.Passing.{both_passed, broken_behind, nothing_passed}
-use Rattle.mq_replay.specs.declared.replay_fault.ReplayFault.{ReplayFault}
-use Rattle.mq_replay.specs.declared.replay_fault.ReplayFault.TheVariants as answer
+use Rattle.mq_replay.specs.declared.capture_fault.CaptureFault.{CaptureFault}
+use Rattle.mq_replay.specs.declared.capture_fault.CaptureFault.TheVariants as answer
 use Rattle.mq_replay.specs.declared.walking.Walked.{Walked}
-use Rattle.mq_replay.specs.Listing.{AreLines, IsEndedBy, IsListing, is_failed_write, place_text}
-use Rattle.mq_replay.specs.PlacedPackets.{PlacedPacket}
+use Rattle.mq_replay.specs.Faults.{is_failed_write}
+use Rattle.mq_replay.specs.Listing.{AreLines, IsEndedBy, IsListing, place_text}
+use Rattle.mq_replay.specs.PlacedPackets.{Place, PlacedPacket, at_first, place_behind, placed}
 use Rattle.mq_replay.specs.Putting.{ListingState, PutsListing, TakesListed}
-use Rattle.mq_replay.specs.Replaying.{ReadCapture}
-use Rattle.mq_replay.specs.Walking.{IsBrokenOff, IsEndedByFault, IsStopped, IsWalked, Place, StepsOver, StepsOverAll, Walks, at_first, place_behind, placed}
+use Rattle.mq_replay.specs.Walking.{IsBrokenOff, IsEndedByFault, IsStopped, ReadCapture, StepsOver, StepsOverAll, Walks}
 use Rattle.mq_replay.proofs.WalkedOver.{steps_counted}
 
 -- a failed read and a fault of the capture, in the terms of a listing
@@ -33,7 +33,7 @@ ended_by c old new (fault.TooLong at) ended = ended
 ended_by c old new fault.Endless ended = ended
 
 module _ {X : Type 0} (state : X → ListingState) where
-  abbrev takes : PlacedPacket → X → X → Result Unit ReplayFault → Type 0
+  abbrev takes : PlacedPacket → X → X → Result Unit CaptureFault → Type 0
   takes packet x x' r = TakesListed packet (state x) (state x') r
 
   record IsListedOver (link : LinkType) (at to : Place) (packets : List Captured) (x x' : X) : Type 0 where
@@ -67,7 +67,7 @@ module _ {X : Type 0} (state : X → ListingState) where
       IsListing (Ok form) packets over.text
   lines_of form to packets x x' over = rw (← append-nil packets, ← append-nil over.text) (over.lines [] [] refl)
 
-  abbrev Listed : (old new : InputState) (x x' : X) → ReplayFault → Type 0
+  abbrev Listed : (old new : InputState) (x x' : X) → CaptureFault → Type 0
   Listed old new x x' e = PutsListing old new (state x).output.held (state x').output.held (state x).held (state x').held (Err e) ×
       ((state x').output.failed ≡ (state x).output.failed || is_failed_write {T = Walked} (Err e)) × (e ≡ answer.Memory → ⊥)
 
@@ -87,13 +87,14 @@ module _ {X : Type 0} (state : X → ListingState) where
       (over.text, lines_of form to c.packets x x' over, over.passed, over.failed)
 
   -- the walk ended early
-  pub listed_early : (old new : InputState) (x x' : X) (e : ReplayFault) → Walks takes (λ f it. it ≡ answer.Pcap f) old new x x' (Err e) → Listed old new x x' e
+  pub listed_early : (old new : InputState) (x x' : X) (e : CaptureFault) → Walks takes (λ f it. it ≡ answer.Pcap f) old new x x' (Err e) →
+      Listed old new x x' e
   listed_early old new x x' e walks = by_end walks.ended
     where
       c : ReadCapture
       c = walks.read
 
-      stopped : (it : IsStopped takes c old new x x' e) → (e' : ReplayFault) → takes (placed it.form.link it.to it.last) it.between x' (Err e') →
+      stopped : (it : IsStopped takes c old new x x' e) → (e' : CaptureFault) → takes (placed it.form.link it.to it.last) it.between x' (Err e') →
           Listed old new x x' e'
       stopped it answer.Write stops =
           let over = listed_over it.form.link at_first it.to it.some x it.between it.steps in
@@ -120,6 +121,7 @@ module _ {X : Type 0} (state : X → ListingState) where
           )
       stopped it (answer.Pcap f) stops = absurd stops
       stopped it (answer.Gap number) stops = absurd stops
+      stopped it (answer.Waiting number) stops = absurd stops
       stopped it answer.Memory stops = absurd stops
 
       by_end : IsBrokenOff takes (λ f it. it ≡ answer.Pcap f) c old new x x' e ⊎ IsStopped takes c old new x x' e → Listed old new x x' e

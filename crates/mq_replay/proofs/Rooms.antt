@@ -3,9 +3,9 @@ use Rattle.std.proofs.Common.{◌≡◌, ℕ, ◌≤◌, List, length, true, Err
 use Rattle.std.specs.Prelude.{replicate}
 use Rattle.std.proofs.lemmas.List.{length-replicate}
 use Rattle.mq_arena.specs.Vectors.{Takes}
-use Rattle.mq_replay.specs.declared.replay_fault.ReplayFault.{ReplayFault}
-use Rattle.mq_replay.specs.declared.replay_fault.ReplayFault.TheVariants as answer
-use Rattle.mq_replay.specs.Listing.{is_granted}
+use Rattle.mq_replay.specs.declared.capture_fault.CaptureFault.{CaptureFault}
+use Rattle.mq_replay.specs.declared.capture_fault.CaptureFault.TheVariants as answer
+use Rattle.mq_replay.specs.Faults.{is_granted}
 
 -- a slice of a vector of `size` zeros has that many items
 pub room_of_filled : (size : ℕ) (slice items : List ℕ) → slice ≡ items → items ≡ replicate size 0 → size ≤ length slice
@@ -14,9 +14,10 @@ room_of_filled size slice items same filled =
     omega (arith, whole)
 
 -- what was taken stays taken with a fault that isn't refused memory
-pub taken_at_fault : (T : Type 0) {bytes old new : ℕ} (f : ReplayFault) → (f ≡ answer.Memory → ⊥) → Takes bytes old new true →
+pub taken_at_fault : (T : Type 0) {bytes old new : ℕ} (f : CaptureFault) → (f ≡ answer.Memory → ⊥) → Takes bytes old new true →
     Takes bytes old new (is_granted {T = T} (Err f))
 taken_at_fault T (answer.Pcap f) other takes = takes
 taken_at_fault T answer.Write other takes = takes
 taken_at_fault T (answer.Gap number) other takes = takes
+taken_at_fault T (answer.Waiting number) other takes = takes
 taken_at_fault T answer.Memory other takes = absurd (other refl)

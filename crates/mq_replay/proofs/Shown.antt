@@ -6,22 +6,24 @@ use Rattle.mq_pcap.specs.Filling.{InputState}
 use Rattle.mq_pcap.proofs.Filled.{Takes-nil}
 use Rattle.mq_text.specs.Printing.{GrowsByBeginning, Passes}
 use Rattle.mq_text.proofs.Passing.{broken_behind}
-use Rattle.mq_replay.specs.declared.replay_fault.ReplayFault.{ReplayFault}
-use Rattle.mq_replay.specs.declared.replay_fault.ReplayFault.TheVariants as answer
-use Rattle.mq_replay.specs.Listing.{Shows, is_failed_write}
+use Rattle.mq_replay.specs.declared.capture_fault.CaptureFault.{CaptureFault}
+use Rattle.mq_replay.specs.declared.capture_fault.CaptureFault.TheVariants as answer
+use Rattle.mq_replay.specs.Faults.{is_failed_write}
+use Rattle.mq_replay.specs.Listing.{Shows}
 use Rattle.mq_replay.specs.Putting.{IsPut, PutsListing}
 use Rattle.mq_replay.proofs.Headers.{cut_header}
 
 -- the listing was put, and the rest of it was not written whole
-put_passed : (before after : Option (List ℕ)) (held left text : List ℕ) (r : Result ℕ ReplayFault) → is_failed_write r ≡ false →
+put_passed : (before after : Option (List ℕ)) (held left text : List ℕ) (r : Result ℕ CaptureFault) → is_failed_write r ≡ false →
     IsPut before after held left text r → Passes before after held left text
 put_passed before after held left text (Ok count) unlike put = put
 put_passed before after held left text (Err (answer.Pcap f)) unlike put = put
 put_passed before after held left text (Err answer.Write) unlike put = absurd (cc)
 put_passed before after held left text (Err (answer.Gap number)) unlike put = put
+put_passed before after held left text (Err (answer.Waiting number)) unlike put = put
 put_passed before after held left text (Err answer.Memory) unlike put = put
 
-pub not_flushed : (old new : InputState) (before mid after : Option (List ℕ)) (held left : List ℕ) (r : Result ℕ ReplayFault) → held ≡ [] →
+pub not_flushed : (old new : InputState) (before mid after : Option (List ℕ)) (held left : List ℕ) (r : Result ℕ CaptureFault) → held ≡ [] →
     is_failed_write r ≡ false
     → PutsListing old new before mid held left r → GrowsByBeginning mid after (left ++ []) → Shows old new before after (Err answer.Write)
 not_flushed old new before mid after held left r none unlike puts begun =

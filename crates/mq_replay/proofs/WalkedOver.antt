@@ -18,9 +18,8 @@ use Rattle.mq_pcap.proofs.Filled.{Takes-nil, Takes-trans}
 use Rattle.mq_replay.specs.declared.stamps.Stamps.{Stamps}
 use Rattle.mq_replay.specs.declared.walking.Walked.{Walked}
 use Rattle.mq_replay.specs.Listing.{goes_back, moment_of}
-use Rattle.mq_replay.specs.PlacedPackets.{PlacedPacket}
-use Rattle.mq_replay.specs.Replaying.{ReadCapture}
-use Rattle.mq_replay.specs.Walking.{EndsWalk, IsBrokenOff, IsEndedByFault, IsStopped, Place, StepsOver, Walks, WalksBehind, at_first, place_behind, placed}
+use Rattle.mq_replay.specs.PlacedPackets.{Place, PlacedPacket, at_first, place_behind, placed}
+use Rattle.mq_replay.specs.Walking.{EndsWalk, IsBrokenOff, IsEndedByFault, IsStopped, ReadCapture, StepsOver, Walks, WalksBehind}
 use Rattle.mq_replay.proofs.Headers.{cut_header}
 use Rattle.mq_replay.proofs.ReadSoFar.{AreRecords-assoc, begun_answer, begun_ends, faulty_answer}
 

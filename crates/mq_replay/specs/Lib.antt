@@ -1,5 +1,7 @@
 pub mod ChangeLines
+pub mod Courses
 pub mod Datagrams
+pub mod Faults
 pub mod Listing
 pub mod NamedSources
 pub mod PlacedPackets
@@ -9,5 +11,6 @@ pub mod QueryLines
 pub mod ReplayLines
 pub mod Replaying
 pub mod Report
+pub mod Reports
 pub mod Steps
 pub mod Walking

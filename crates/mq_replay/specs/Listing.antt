@@ -15,8 +15,8 @@ use Rattle.mq_wire.specs.PseudoHeader.{pseudo_header}
 use Rattle.mq_text.specs.Printing.{GrowsByBeginning}
 use Rattle.mq_lines.specs.Line.{IsLineOf}
 use Rattle.mq_lines.specs.Text.{address_text}
-use Rattle.mq_replay.specs.declared.replay_fault.ReplayFault.{ReplayFault}
-use Rattle.mq_replay.specs.declared.replay_fault.ReplayFault.TheVariants as answer
+use Rattle.mq_replay.specs.declared.capture_fault.CaptureFault.{CaptureFault}
+use Rattle.mq_replay.specs.declared.capture_fault.CaptureFault.TheVariants as answer
 
 -- the text of the message of a packet, or of the reason why there is none; it ends the line
 abbrev pub IsSaid : Carried → List ℕ → Type 0
@@ -71,7 +71,7 @@ IsOfTheFile (Ok form) f bytes new = IsKnownThere f new
 IsOfTheFile (Err f') f bytes new = (length bytes ≡ 24) ⊎ IsAtEnd new.ahead
 
 -- the end of the input, by the result
-abbrev pub IsEndedBy : Result Form PcapFault → (packets : List Captured) → (end : Option PcapFault) → (bytes : List ℕ) → (old new : InputState) → Result ℕ ReplayFault → Type 0
+abbrev pub IsEndedBy : Result Form PcapFault → (packets : List Captured) → (end : Option PcapFault) → (bytes : List ℕ) → (old new : InputState) → Result ℕ CaptureFault → Type 0
 IsEndedBy header packets end bytes old new (Ok count) =
     (end ≡ None) × IsAtEnd new.ahead × (count ≡ length packets) × (new.failed ≡ old.failed)
 IsEndedBy header packets end bytes old new (Err (answer.Pcap fault.Read)) = new.failed ≡ true
@@ -79,17 +79,18 @@ IsEndedBy header packets end bytes old new (Err (answer.Pcap f)) =
     (end ≡ Some f) × IsOfTheFile header f bytes new × (new.failed ≡ old.failed)
 IsEndedBy header packets end bytes old new (Err answer.Write) = Unit {0}
 IsEndedBy header packets end bytes old new (Err (answer.Gap number)) = ⊥
+IsEndedBy header packets end bytes old new (Err (answer.Waiting number)) = ⊥
 IsEndedBy header packets end bytes old new (Err answer.Memory) = bytes ≡ []
 
 -- the written part of the listing: all of it, or a prefix if a write failed
-abbrev pub IsWritten : (old new : Option (List ℕ)) → List ℕ → Result ℕ ReplayFault → Type 0
+abbrev pub IsWritten : (old new : Option (List ℕ)) → List ℕ → Result ℕ CaptureFault → Type 0
 IsWritten old new text (Err answer.Write) = GrowsByBeginning old new text
 IsWritten old new text r = Appends old new text
 
 -- A capture was shown. Some bytes were read from the input. As a whole file they are a capture, and its listing was
 -- written. They are the whole file, or its prefix up to a fault that later bytes don't change, unless a read or a write
 -- failed.
-pub record Shows (old new : InputState) (before after : Option (List ℕ)) (r : Result ℕ ReplayFault) : Type 0 where
+pub record Shows (old new : InputState) (before after : Option (List ℕ)) (r : Result ℕ CaptureFault) : Type 0 where
   pub bytes : List ℕ
   pub header : Result Form PcapFault
   pub packets : List Captured
@@ -100,19 +101,3 @@ pub record Shows (old new : InputState) (before after : Option (List ℕ)) (r : 
   pub listing : IsListing header packets text
   pub ended : IsEndedBy header packets end bytes old new r
   pub written : IsWritten before after text r
-
--- the result, of a listing or of a replay, is a failed write
-abbrev pub is_failed_write : {T : Type 0} → Result T ReplayFault → Bool
-is_failed_write (Ok x) = false
-is_failed_write (Err (answer.Pcap f)) = false
-is_failed_write (Err answer.Write) = true
-is_failed_write (Err (answer.Gap number)) = false
-is_failed_write (Err answer.Memory) = false
-
--- the result, of a listing or of a replay, isn't that memory was refused
-abbrev pub is_granted : {T : Type 0} → Result T ReplayFault → Bool
-is_granted (Ok x) = true
-is_granted (Err (answer.Pcap f)) = true
-is_granted (Err answer.Write) = true
-is_granted (Err (answer.Gap number)) = true
-is_granted (Err answer.Memory) = false

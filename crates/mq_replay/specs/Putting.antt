@@ -6,8 +6,8 @@ use Rattle.mq_pcap.specs.Capture.{Captured, Captures}
 use Rattle.mq_pcap.specs.Filling.{InputState, Takes}
 use Rattle.mq_pcap.specs.Frame.{Carried, carried_in}
 use Rattle.mq_text.specs.Printing.{GrowsByBeginning, OutputState, Passes, Puts}
-use Rattle.mq_replay.specs.declared.replay_fault.ReplayFault.{ReplayFault}
-use Rattle.mq_replay.specs.declared.replay_fault.ReplayFault.TheVariants as answer
+use Rattle.mq_replay.specs.declared.capture_fault.CaptureFault.{CaptureFault}
+use Rattle.mq_replay.specs.declared.capture_fault.CaptureFault.TheVariants as answer
 use Rattle.mq_replay.specs.Listing.{IsSaid, place_text, IsListing, IsEndedBy}
 use Rattle.mq_replay.specs.PlacedPackets.{PlacedPacket}
 
@@ -24,7 +24,7 @@ pub record PutsPacket {T E : Type 0} (old new : Option (List ℕ)) (held left : 
   pub put : Puts old new held left (place_text number moment ++ said) r
 
 -- a listing was put, or a prefix of it was written if a write failed
-abbrev pub IsPut : (old new : Option (List ℕ)) → (held left text : List ℕ) → Result ℕ ReplayFault → Type 0
+abbrev pub IsPut : (old new : Option (List ℕ)) → (held left text : List ℕ) → Result ℕ CaptureFault → Type 0
 IsPut old new held left text (Err answer.Write) = GrowsByBeginning old new (held ++ text)
 IsPut old new held left text r = Passes old new held left text
 
@@ -39,15 +39,16 @@ pub record ListsPacket {E : Type 0} (packet : PlacedPacket) (old new : ListingSt
   pub failed : new.output.failed ≡ old.output.failed || is_err r
 
 -- the effect of a packet on a listing
-abbrev pub TakesListed : PlacedPacket → ListingState → ListingState → Result Unit ReplayFault → Type 0
+abbrev pub TakesListed : PlacedPacket → ListingState → ListingState → Result Unit CaptureFault → Type 0
 TakesListed packet old new (Ok u) = ListsPacket {E = Unit} packet old new (Ok u)
 TakesListed packet old new (Err answer.Write) = ListsPacket {E = Unit} packet old new (Err tt)
 TakesListed packet old new (Err (answer.Pcap f)) = ⊥
 TakesListed packet old new (Err (answer.Gap number)) = ⊥
+TakesListed packet old new (Err (answer.Waiting number)) = ⊥
 TakesListed packet old new (Err answer.Memory) = ⊥
 
 -- the lines of a capture were put
-pub record PutsListing (old new : InputState) (before after : Option (List ℕ)) (held left : List ℕ) (r : Result ℕ ReplayFault) : Type 0 where
+pub record PutsListing (old new : InputState) (before after : Option (List ℕ)) (held left : List ℕ) (r : Result ℕ CaptureFault) : Type 0 where
   pub bytes : List ℕ
   pub header : Result Form PcapFault
   pub packets : List Captured

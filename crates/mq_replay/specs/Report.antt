@@ -1,12 +1,8 @@
 -- The text of a replay: a line for each query that the link sends and for each packet. If they are requested, there are
 -- lines for the groups that each event changes. At the end are lines for the state of the link.
-use Rattle.std.specs.Prelude.{ℕ, zero, suc, ◌+◌, max, nat_lt, Bool, true, false, List, [], ◌∷◌, ◌++◌, length, filter, map as list_map, Option, None, Some, Result, Ok, Err, unwrap_or}
+use Rattle.std.specs.Prelude.{ℕ, zero, suc, ◌+◌, nat_lt, Bool, true, false, List, [], ◌∷◌, ◌++◌, filter, map as list_map, Option, None, Some, Result, Ok, Err}
 use Rattle.std.specs.Ordering.{nat_cmp}
 use Rattle.std.specs.FinMap as map
-use Rattle.mq_pcap.specs.declared.fault.PcapFault.{PcapFault}
-use Rattle.mq_pcap.specs.declared.form.Form.{Form}
-use Rattle.mq_pcap.specs.declared.link_type.LinkType.{LinkType}
-use Rattle.mq_pcap.specs.Capture.{Captured}
 use Rattle.mq_pcap.specs.Frame.{Carried, Igmp, Mld, carried_in}
 use Rattle.mq_wire.specs.declared.message.Message.{Message}
 use Rattle.mq_wire.specs.declared.message.Message.TheVariants.{Query as AQuery, OldReport, Leave, Report as AReport}
@@ -23,10 +19,8 @@ use Rattle.mq_link.specs.Sent.{Outgoing, outgoing_of}
 use Rattle.mq_link.specs.State.{LinkState, link_at}
 use Rattle.mq_link.specs.Tick.{Step, tick_of, next_of}
 use Rattle.mq_replay.specs.declared.asked.Asked.{Asked}
-use Rattle.mq_replay.specs.declared.replay_fault.ReplayFault.{ReplayFault}
-use Rattle.mq_replay.specs.declared.replay_fault.ReplayFault.TheVariants.{Pcap, Gap}
 use Rattle.mq_replay.specs.ChangeLines.{change_lines, lines_asked}
-use Rattle.mq_replay.specs.Listing.{moment_of}
+use Rattle.mq_replay.specs.Courses.{Report, Work}
 use Rattle.mq_replay.specs.ReplayLines.{query_lines, receipt_line, skip_line, end_lines}
 
 -- A replay under way: the link, the text so far, and whether the lines of changed groups are requested.
@@ -133,41 +127,8 @@ unfoldable pub with_packet : Configuration → (moment number : ℕ) → Carried
 with_packet config moment number carried r =
     taken_or_skipped config moment number carried (datagram_of config.family carried) (ticked_before config moment r)
 
--- a moment is more than a day after the moment before it
-abbrev pub is_gap : (before moment : ℕ) → Bool
-is_gap before moment = nat_lt (before + 86400000) moment
-
--- The course of packets: the replay, and the moment of the last one. If a gap ended it, `gap` is the number of the
--- packet after that gap.
-pub record Course : Type 0 where
-  pub replayed : Replayed
-  pub moment : ℕ
-  pub gap : Option ℕ
-
--- The course of packets up to the first gap. `number` is that of the next packet, and its moment is counted from
--- `first` and `before`.
-unfoldable pub with_packets : Configuration → LinkType → (first : Option ℕ) → (before number : ℕ) → List Captured → Replayed → Course
-with_packets config link first before number [] r = record { replayed = r; moment = before; gap = None }
-with_packets config link first before number (packet ∷ packets) r =
-    let moment = moment_of first before packet.stamp in
-    elim (is_gap before moment) [
-      | true ↦ record { replayed = r; moment = before; gap = Some number }
-      | false ↦
-          with_packets config link (Some (unwrap_or first packet.stamp)) moment (number + 1) packets
-          (with_packet config moment number (carried_in link packet.bytes) r)
-    ]
-
--- the course of a capture's packets, numbered from 1
-abbrev pub with_all_packets : Configuration → (changes : Bool) → Form → List Captured → Course
-with_all_packets config changes form packets = with_packets config form.link None 0 1 packets (at_the_start config changes)
-
--- A report: its text, and the counters at the end of the run, or the reason why it ends before.
-pub record Report : Type 0 where
-  pub text : List ℕ
-  pub answer : Result Counters ReplayFault
-
 -- the report at a moment: all ticks up to it and at it, and then the state of the link
-unfoldable pub ended_at : Configuration → (moment : ℕ) → Replayed → Report
+unfoldable pub ended_at : Configuration → (moment : ℕ) → Replayed → Report Counters
 ended_at config moment r =
     let done = ticked_before config (moment + 1) r in
     record {
@@ -177,33 +138,13 @@ ended_at config moment r =
       answer = Ok done.link.counters;
     }
 
--- the report that a fault or a gap ends: nothing more is written
-abbrev pub broken_off : ReplayFault → Course → Report
-broken_off fault course = record { text = course.replayed.text; answer = Err fault }
-
--- the moment of the end of a replay: that of the last packet, or the requested one if it is later
-abbrev pub last_moment : (until : Option ℕ) → Course → ℕ
-last_moment until course = max course.moment (unwrap_or until 0)
-
--- The report after the packets. There is the capture's end or its fault, unless a gap comes first. `number` is that of
--- the next packet.
-abbrev pub reported : Configuration → Asked → (number : ℕ) → (end : Option PcapFault) → (gap : Option ℕ) → Course → Report
-reported config asked number end (Some gap) course = broken_off (Gap gap) course
-reported config asked number (Some fault) None course = broken_off (Pcap fault) course
-reported config asked number None None course =
-    elim (is_gap course.moment (last_moment asked.until course)) [
-      | true ↦ broken_off (Gap number) course
-      | false ↦ ended_at config (last_moment asked.until course) course.replayed
-    ]
-
--- The report of a capture, by its header, its packets, and its end.
-abbrev pub report_of : Configuration → Asked → Result Form PcapFault → List Captured → (end : Option PcapFault) → Report
-report_of config asked (Err fault) packets end = record { text = []; answer = Err (Pcap fault) }
-report_of config asked (Ok form) packets end =
-    let course = with_all_packets config asked.changes form packets in
-    reported config asked (length packets + 1) end course.gap course
-
--- the text of the packets alone, whatever follows them
-abbrev pub so_far : Configuration → Asked → Result Form PcapFault → List Captured → List ℕ
-so_far config asked (Err fault) packets = []
-so_far config asked (Ok form) packets = (with_all_packets config asked.changes form packets).replayed.text
+-- the replay of a capture, as work over its packets
+abbrev pub replay_of : Configuration → Asked → Work Replayed Counters
+replay_of config asked = record {
+  start = at_the_start config asked.changes;
+  step = λ packet r. with_packet config packet.moment packet.number (carried_in packet.link packet.frame) r;
+  is_full = λ r. false;
+  text = λ r. r.text;
+  until = asked.until;
+  ended = λ moment number r. ended_at config moment r;
+}

@@ -1,14 +1,14 @@
 -- The effects of the parts of a replay on a link and on the text.
-use Rattle.std.specs.Prelude.{◌≡◌, ℕ, Bool, true, false, ◌||◌, List, [], Option, Result, Ok, Err, IfOk, is_err}
+use Rattle.std.specs.Prelude.{◌≡◌, ℕ, Bool, ◌||◌, List, [], Option, Result, Ok, Err, IfOk, is_err}
 use Rattle.mq_pcap.specs.Frame.{carried_in}
 use Rattle.mq_link.specs.Link.{LinkValue}
 use Rattle.mq_link.specs.State.{LinkState}
 use Rattle.mq_text.specs.Printing.{OutputState, Puts}
 use Rattle.mq_replay.specs.declared.asked.Asked.{Asked}
-use Rattle.mq_replay.specs.declared.replay_fault.ReplayFault.{ReplayFault}
-use Rattle.mq_replay.specs.declared.replay_fault.ReplayFault.TheVariants as answer
+use Rattle.mq_replay.specs.declared.capture_fault.CaptureFault.{CaptureFault}
+use Rattle.mq_replay.specs.declared.capture_fault.CaptureFault.TheVariants as answer
 use Rattle.mq_replay.specs.PlacedPackets.{PlacedPacket}
-use Rattle.mq_replay.specs.Report.{Replayed, is_gap, with_packet}
+use Rattle.mq_replay.specs.Report.{Replayed, with_packet}
 
 -- a replay of a link in this state, with nothing written
 abbrev pub begun_with : (changes : Bool) → LinkState → Replayed
@@ -30,18 +30,17 @@ pub record ReplayState : Type 0 where
 
 -- a packet was replayed and its lines were put, unless a write failed
 pub record ReplaysPacket {E : Type 0} (packet : PlacedPacket) (old new : ReplayState) (r : Result Unit E) : Type 0 where
-  pub no_gap : is_gap packet.before packet.moment ≡ false
   pub same_asked : new.asked ≡ old.asked
   pub puts : PutsReplayed old.link new.link
       (with_packet old.link.config packet.moment packet.number (carried_in packet.link packet.frame) (begun_with old.asked.changes old.link.state))
       old.output.held new.output.held old.held new.held r
   pub failed : new.output.failed ≡ old.output.failed || is_err r
 
--- the effect of a packet on a replay, which a gap before the packet ends
-abbrev pub TakesReplayed : PlacedPacket → ReplayState → ReplayState → Result Unit ReplayFault → Type 0
+-- the effect of a packet without a gap before it on a replay
+abbrev pub TakesReplayed : PlacedPacket → ReplayState → ReplayState → Result Unit CaptureFault → Type 0
 TakesReplayed packet old new (Ok u) = ReplaysPacket {E = Unit} packet old new (Ok u)
 TakesReplayed packet old new (Err answer.Write) = ReplaysPacket {E = Unit} packet old new (Err tt)
-TakesReplayed packet old new (Err (answer.Gap number)) =
-    (is_gap packet.before packet.moment ≡ true) × (number ≡ packet.number) × (new ≡ old)
+TakesReplayed packet old new (Err (answer.Gap number)) = ⊥
+TakesReplayed packet old new (Err (answer.Waiting number)) = ⊥
 TakesReplayed packet old new (Err (answer.Pcap f)) = ⊥
 TakesReplayed packet old new (Err answer.Memory) = ⊥

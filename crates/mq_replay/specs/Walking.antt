@@ -1,5 +1,5 @@
 -- Walks over captures: a step receives each packet, in order, with its number and its moment.
-use Rattle.std.specs.Prelude.{◌≡◌, ◌⊎◌, ℕ, ◌+◌, ◌<◌, Bool, true, false, List, [], ◌∷◌, ◌++◌, length, Option, None, Some, Result, Ok, Err, unwrap_or}
+use Rattle.std.specs.Prelude.{◌≡◌, ◌⊎◌, ℕ, ◌+◌, ◌<◌, Bool, true, false, List, [], ◌∷◌, ◌++◌, Option, None, Some, Result, Ok, Err}
 use Rattle.std.specs.Io.KnownBytes.{IsAtEnd}
 use Rattle.mq_pcap.specs.declared.fault.PcapFault.{PcapFault}
 use Rattle.mq_pcap.specs.declared.form.Form.{Form}
@@ -7,38 +7,17 @@ use Rattle.mq_pcap.specs.declared.link_type.LinkType.{LinkType}
 use Rattle.mq_pcap.specs.Capture.{Captured, Captures, AreRecords, endless, is_read}
 use Rattle.mq_pcap.specs.Filling.{InputState, Takes}
 use Rattle.mq_replay.specs.declared.walking.Walked.{Walked}
-use Rattle.mq_replay.specs.Listing.{IsOfTheFile, goes_back, moment_of}
-use Rattle.mq_replay.specs.PlacedPackets.{PlacedPacket}
-use Rattle.mq_replay.specs.Replaying.{ReadCapture}
+use Rattle.mq_replay.specs.declared.capture_fault.CaptureFault.{CaptureFault}
+use Rattle.mq_replay.specs.declared.capture_fault.CaptureFault.TheVariants.{Gap}
+use Rattle.mq_replay.specs.Listing.{IsOfTheFile}
+use Rattle.mq_replay.specs.PlacedPackets.{Place, PlacedPacket, at_first, is_gap, place_behind, placed}
 
--- The place of a walk: the stamp of the first packet, the moment of the last one, and the number of the next.
-pub record Place : Type 0 where
-  pub first : Option ℕ
-  pub before : ℕ
-  pub number : ℕ
-
--- the place before the first packet
-abbrev pub at_first : Place
-at_first = record { first = None; before = 0; number = 1 }
-
--- the next packet as a step receives it
-abbrev pub placed : LinkType → Place → Captured → PlacedPacket
-placed link at packet = record {
-  number = at.number;
-  before = at.before;
-  moment = moment_of at.first at.before packet.stamp;
-  goes_back = goes_back at.first at.before packet.stamp;
-  link = link;
-  frame = packet.bytes;
-}
-
--- the place after a packet
-abbrev pub place_behind : Place → (stamp : ℕ) → Place
-place_behind at stamp = record {
-  first = Some (unwrap_or at.first stamp);
-  before = moment_of at.first at.before stamp;
-  number = at.number + 1;
-}
+-- The read part of a capture: its bytes, taken as a whole file.
+pub record ReadCapture : Type 0 where
+  pub bytes : List ℕ
+  pub header : Result Form PcapFault
+  pub packets : List Captured
+  pub end : Option PcapFault
 
 -- A step received these packets, in order. `takes` states the effect of one packet on the states of the step and of its
 -- output.
@@ -108,3 +87,9 @@ pub record WalksBehind {X E : Type 0} (takes : PlacedPacket → X → X → Resu
   pub takes_in : Takes old new bytes
   pub records : AreRecords form 1 bytes packets end
   pub ended : EndsWalk takes gives (record { bytes = bytes; header = Ok form; packets = packets; end = end }) old new x x' r
+
+-- The effect of a packet on work that a gap ends. `takes` states that of a packet without a gap before it.
+abbrev pub TakesUpToGap : {X : Type 0} → (takes : PlacedPacket → X → X → Result Unit CaptureFault → Type 0) → PlacedPacket → X → X → Result Unit CaptureFault → Type 0
+TakesUpToGap takes packet old new r =
+    ((is_gap packet.before packet.moment ≡ true) × (r ≡ Err (Gap packet.number)) × (new ≡ old))
+    ⊎ ((is_gap packet.before packet.moment ≡ false) × takes packet old new r)

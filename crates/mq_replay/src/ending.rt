@@ -1,15 +1,18 @@
 //! The end of a replay.
 
-ghost use Rattle.std.specs.Prelude.{◌≡◌, ◌≤◌, ◌^◌, ◌||◌, Ok, IfOk, is_err, max, unwrap_or};
+ghost use Rattle.std.specs.Prelude.{◌≡◌, ◌≤◌, ◌^◌, ◌||◌, Ok, IfOk, IfSome, is_err};
 ghost use Rattle.mq_count.specs.Streams.{inner_of, has_failed};
 ghost use Rattle.mq_text.specs.Printing.{Puts};
+ghost use Rattle.mq_replay.specs.Courses.{last_moment};
+ghost use Rattle.mq_replay.specs.PlacedPackets.{is_gap};
 ghost use Rattle.mq_replay.specs.ReplayLines.{group_lines};
-ghost use Rattle.mq_replay.specs.Report as spec;
+ghost use Rattle.mq_replay.specs.Report.{ended_at};
 ghost use Rattle.mq_replay.specs.Steps.{begun_with};
 
 use crate::captured_family::CapturedFamily;
 use crate::group_line::put_group;
 use crate::replay_lines::{put_counts, put_role};
+use crate::stamp::Stamp;
 use crate::ticks::tick_before;
 use mq_count::{Meter, Moment, Span, Watched};
 use mq_lines::LineKey;
@@ -18,24 +21,25 @@ use mq_text::{LineFault, Text};
 use std::alloc::Allocator;
 use std::io::Write;
 
-/// The greatest distance between two moments of a replay, in milliseconds.
+/// The greatest distance between two moments of a replay or a check, in milliseconds.
 const A_DAY: u32 = 86_400_000;
 
 /// Returns whether a moment is more than a day after the one before it.
-pub fn is_gap(before: Moment, moment: Moment) -> bool
+pub(crate) fn is_gap(before: Moment, moment: Moment) -> bool
     requires { before ≤ 2 ^ 53 }
-    ensures { result ≡ spec.is_gap before moment }
+    ensures { result ≡ is_gap before moment }
 {
     let latest = before.after(Span::from_ms(A_DAY));
     !Meter::new().reached(moment, latest)
 }
 
-/// Returns the moment of the end of a replay: that of the last packet, or the requested one if it is later.
-pub(crate) fn last_moment(until: Option<Moment>, last: Moment) -> Moment
-    ensures { result ≡ max last (unwrap_or until 0) }
+/// Returns the moment of the end: that of the last packet, or the requested one if it is later.
+pub(crate) fn last_moment(until: Option<u64>, last: Stamp) -> Stamp
+    requires { IfSome until (λ ms. ms ≤ 2 ^ 53) }
+    ensures { result ≡ last_moment until last }
 {
     match until {
-        Some(until) if !Meter::new().reached(until, last) => until,
+        Some(until) if last.ms() < until => Stamp::of(until),
         _ => last,
     }
 }
@@ -53,9 +57,9 @@ where
     requires { end ≤ 2 ^ 53 }
     ensures text { Puts
         (W.contents (inner_of writer.old)) (W.contents (inner_of writer.new))
-        buffer.old.items buffer.new.items (spec.ended_at link.old.config end (begun_with changes link.old.state)).text result }
+        buffer.old.items buffer.new.items (ended_at link.old.config end (begun_with changes link.old.state)).text result }
     ensures answer { IfOk result (λ _.
-        (spec.ended_at link.old.config end (begun_with changes link.old.state)).answer ≡ Ok link.new.state.counters) }
+        (ended_at link.old.config end (begun_with changes link.old.state)).answer ≡ Ok link.new.state.counters) }
     ensures failed { has_failed writer.new ≡ has_failed writer.old || is_err result }
 {
     link.config().is_faultless();

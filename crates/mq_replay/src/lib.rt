@@ -1,14 +1,14 @@
 //! The printed text of captures: their listings, and their replays on a link.
 //!
-//! - The listing of a capture: `show`. Its replay on a link: `replay`, with a request `Asked`. The reason why one ended
-//!   early: `ReplayFault`.
+//! - The listing of a capture: `show`. Its replay on a link: `replay`, with a request `Asked`.
+//! - The reason why work on a capture ended early: `CaptureFault`, `is_failed_write`.
 //! - The families whose datagrams captures carry: `CapturedFamily`, `CapturedDatagram`.
-//! - A walk over a capture: `walk`, with a `Step` for each packet.
-//! - The packets of a capture: `NumberedPacket`. Their moments: `Stamp`, `Stamps` and `first_moment`, and `is_gap` for two
-//!   that are too far apart.
+//! - A walk over a capture: `walk`, with a `Step` for each packet. A walk that a gap ends: `UpToGap`, with a `GaplessStep`.
+//! - The packets of a capture: `NumberedPacket`. Their moments: `Stamp`, `Stamps` and `first_moment`.
 #![tactic(auto)]
 
 mod asked;
+mod capture_fault;
 mod captured_family;
 mod change_lines;
 mod change_pieces;
@@ -20,7 +20,6 @@ mod listing;
 mod numbered_packet;
 mod one_packet;
 mod query_outlet;
-mod replay_fault;
 mod replay_lines;
 mod replay_pieces;
 mod replaying;
@@ -33,12 +32,11 @@ mod waiting;
 mod walking;
 
 pub use asked::Asked;
+pub use capture_fault::{CaptureFault, is_failed_write};
 pub use captured_family::{CapturedDatagram, CapturedFamily};
-pub use ending::is_gap;
 pub use listing::{show, show_in};
 pub use numbered_packet::NumberedPacket;
-pub use replay_fault::ReplayFault;
 pub use replaying::{replay, replay_in};
 pub use stamp::Stamp;
 pub use stamps::{Stamps, first_moment};
-pub use walking::{Step, Walked, walk};
+pub use walking::{GaplessStep, Step, UpToGap, Walked, walk};

@@ -8,12 +8,12 @@ ghost use Rattle.mq_pcap.specs.Capture.{most_bytes};
 ghost use Rattle.mq_pcap.specs.Filling.{input_of};
 ghost use Rattle.mq_pcap.specs.Frame.{carried_in, carried_of};
 ghost use Rattle.mq_lines.specs.Text.{address_text};
-ghost use Rattle.mq_replay.specs.Listing as spec;
+ghost use Rattle.mq_replay.specs.Faults as spec;
 ghost use Rattle.mq_replay.specs.Listing.{Shows, place_text};
 ghost use Rattle.mq_replay.specs.Putting.{PutsListing, PutsPacket, PutsSaid};
 
+use crate::capture_fault::{CaptureFault, is_failed_write};
 use crate::numbered_packet::NumberedPacket;
-use crate::replay_fault::{ReplayFault, is_failed_write};
 use crate::waiting::write_before_wait;
 use crate::walking::{Step, walk};
 use mq_arena::{OfAllocator, VectorSource, filled};
@@ -32,13 +32,13 @@ pub fn show<A: Allocator + Copy, S: Supply, R: Read, W: Write>(
     supply: &S,
     reader: &mut Watched<R>,
     writer: &mut Watched<W>,
-) -> Result<u64, ReplayFault>
+) -> Result<u64, CaptureFault>
     ensures shows { Shows
         (input_of R.remaining reader.old) (input_of R.remaining reader.new)
         (W.contents (inner_of writer.old)) (W.contents (inner_of writer.new))
         result }
     ensures failed { has_failed writer.new ≡ has_failed writer.old || spec.is_failed_write result }
-    ensures memory { result ≡ Err ReplayFault.Memory → (reader.new ≡ reader.old) × (writer.new ≡ writer.old) }
+    ensures memory { result ≡ Err CaptureFault.Memory → (reader.new ≡ reader.old) × (writer.new ≡ writer.old) }
 {
     show_in(&mut OfAllocator(alloc), supply, reader, writer)
 }
@@ -49,18 +49,18 @@ pub fn show_in<A: Allocator, M: VectorSource<A>, S: Supply, R: Read, W: Write>(
     supply: &S,
     reader: &mut Watched<R>,
     writer: &mut Watched<W>,
-) -> Result<u64, ReplayFault>
+) -> Result<u64, CaptureFault>
     ensures shows { Shows
         (input_of R.remaining reader.old) (input_of R.remaining reader.new)
         (W.contents (inner_of writer.old)) (W.contents (inner_of writer.new))
         result }
     ensures failed { has_failed writer.new ≡ has_failed writer.old || spec.is_failed_write result }
-    ensures memory { result ≡ Err ReplayFault.Memory → (reader.new ≡ reader.old) × (writer.new ≡ writer.old) }
+    ensures memory { result ≡ Err CaptureFault.Memory → (reader.new ≡ reader.old) × (writer.new ≡ writer.old) }
     ensures takes { Takes (bytes_for 1 most_bytes) (M.less_than memory.old) (M.less_than memory.new) (spec.is_granted result) }
 {
     let packet: Result<Vec<u8, A>, AllocError> = filled(memory, 0, GREATEST_PACKET);
     let Ok(mut packet) = packet else {
-        return Err(ReplayFault::Memory);
+        return Err(CaptureFault::Memory);
     };
     show_by(packet.as_mut_slice(), supply, reader, writer)
 }
@@ -71,14 +71,14 @@ fn show_by<S: Supply, R: Read, W: Write>(
     supply: &S,
     reader: &mut Watched<R>,
     writer: &mut Watched<W>,
-) -> Result<u64, ReplayFault>
+) -> Result<u64, CaptureFault>
     requires { most_bytes ≤ length packet.old }
     ensures shows { Shows
         (input_of R.remaining reader.old) (input_of R.remaining reader.new)
         (W.contents (inner_of writer.old)) (W.contents (inner_of writer.new))
         result }
     ensures failed { has_failed writer.new ≡ has_failed writer.old || spec.is_failed_write result }
-    ensures no_memory { result ≡ Err ReplayFault.Memory → ⊥ }
+    ensures no_memory { result ≡ Err CaptureFault.Memory → ⊥ }
 {
     let mut listing = Listing {
         buffer: Text::new(),
@@ -101,7 +101,7 @@ impl<W: Write> Step<Watched<W>> for Listing {
     ghost use Rattle.mq_text.specs.Printing.{output_of};
     ghost use Rattle.mq_replay.specs.Putting.{TakesListed};
 
-    type Fault = ReplayFault;
+    type Fault = CaptureFault;
 
     ghost takes = { λ packet old new r. TakesListed packet
         (record { held = old.0.buffer.items; output = output_of W.contents old.1 })
@@ -111,7 +111,7 @@ impl<W: Write> Step<Watched<W>> for Listing {
         &mut self,
         packet: &NumberedPacket<'_>,
         output: &mut Watched<W>,
-    ) -> Result<(), ReplayFault> {
+    ) -> Result<(), CaptureFault> {
         put_packet(packet, &mut self.buffer, output)?;
         write_before_wait(packet.may_wait, &mut self.buffer, output)?;
         Ok(())
@@ -125,14 +125,14 @@ fn put_listing<S: Supply, R: Read, W: Write>(
     supply: &S,
     reader: &mut Watched<R>,
     writer: &mut Watched<W>,
-) -> Result<u64, ReplayFault>
+) -> Result<u64, CaptureFault>
     requires { most_bytes ≤ length packet.old }
     ensures puts { PutsListing
         (input_of R.remaining reader.old) (input_of R.remaining reader.new)
         (W.contents (inner_of writer.old)) (W.contents (inner_of writer.new))
         listing.old.buffer.items listing.new.buffer.items result }
     ensures failed { has_failed writer.new ≡ has_failed writer.old || spec.is_failed_write result }
-    ensures no_memory { result ≡ Err ReplayFault.Memory → ⊥ }
+    ensures no_memory { result ≡ Err CaptureFault.Memory → ⊥ }
 {
     let walked = walk(listing, packet, supply, reader, writer)?;
     Ok(walked.packets)

@@ -1,7 +1,7 @@
 //! Packets of a capture with their places in it.
 
 ghost use Rattle.std.specs.Prelude.{◌≡◌};
-ghost use Rattle.mq_replay.specs.Report as spec;
+ghost use Rattle.mq_replay.specs.PlacedPackets as spec;
 
 use crate::ending::is_gap;
 use crate::stamp::Stamp;
@@ -28,7 +28,7 @@ pub struct NumberedPacket<'a> {
 
 impl NumberedPacket<'_> {
     /// Returns whether more than a day lies between this packet and the one before it.
-    pub fn follows_gap(&self) -> bool
+    pub(crate) fn follows_gap(&self) -> bool
         ensures { result ≡ spec.is_gap self.now.before self.now.moment }
     {
         let before = self.before.moment();

@@ -9,17 +9,19 @@ ghost use Rattle.mq_link.specs.Sizes.{bytes_of_link, bytes_of_workspace};
 ghost use Rattle.mq_link.specs.State.{link_at};
 ghost use Rattle.mq_pcap.specs.Capture.{endless, most_bytes};
 ghost use Rattle.mq_pcap.specs.Filling.{input_of};
-ghost use Rattle.mq_replay.specs.Listing as spec;
-ghost use Rattle.mq_replay.specs.PuttingReports.{IsRestPut, PutsReport, counted, rest_of};
+ghost use Rattle.mq_replay.specs.Faults as spec;
+ghost use Rattle.mq_replay.specs.PuttingReports.{IsRestPut, PutsReport, counted, end_of, rest_at};
 ghost use Rattle.mq_replay.specs.Replaying.{Replays};
+ghost use Rattle.mq_replay.specs.Report.{ended_at, replay_of};
+ghost use Rattle.mq_replay.specs.Steps.{begun_with};
 
 use crate::asked::Asked;
+use crate::capture_fault::{CaptureFault, is_failed_write};
 use crate::captured_family::CapturedFamily;
-use crate::ending::{is_gap, last_moment, put_ending};
-use crate::replay_fault::{ReplayFault, is_failed_write};
+use crate::ending::put_ending;
 use crate::running_replay::Replay;
 use crate::stamps::first_moment;
-use crate::walking::{Walked, walk};
+use crate::walking::{UpToGap, Walked, walk};
 use mq_arena::{OfAllocator, VectorSource, filled};
 use mq_count::Watched;
 use mq_lines::LineKey;
@@ -46,7 +48,7 @@ pub fn replay<F: CapturedFamily, A: Allocator + Copy, S: Supply, R: Read, W: Wri
     supply: &S,
     reader: &mut Watched<R>,
     writer: &mut Watched<W>,
-) -> Result<Counts, ReplayFault>
+) -> Result<Counts, CaptureFault>
 where
     F::Address: LineKey,
     requires { IfSome asked.until (λ moment. moment ≤ 2 ^ 53) }
@@ -55,7 +57,7 @@ where
         (W.contents (inner_of writer.old)) (W.contents (inner_of writer.new))
         result }
     ensures failed { has_failed writer.new ≡ has_failed writer.old || spec.is_failed_write result }
-    ensures memory { result ≡ Err ReplayFault.Memory → (reader.new ≡ reader.old) × (writer.new ≡ writer.old) }
+    ensures memory { result ≡ Err CaptureFault.Memory → (reader.new ≡ reader.old) × (writer.new ≡ writer.old) }
 {
     replay_in(
         &mut OfAllocator(alloc),
@@ -76,7 +78,7 @@ pub fn replay_in<F: CapturedFamily, A: Allocator, M: VectorSource<A>, S: Supply,
     supply: &S,
     reader: &mut Watched<R>,
     writer: &mut Watched<W>,
-) -> Result<Counts, ReplayFault>
+) -> Result<Counts, CaptureFault>
 where
     F::Address: LineKey,
     requires { IfSome asked.until (λ moment. moment ≤ 2 ^ 53) }
@@ -85,74 +87,76 @@ where
         (W.contents (inner_of writer.old)) (W.contents (inner_of writer.new))
         result }
     ensures failed { has_failed writer.new ≡ has_failed writer.old || spec.is_failed_write result }
-    ensures memory { result ≡ Err ReplayFault.Memory → (reader.new ≡ reader.old) × (writer.new ≡ writer.old) }
+    ensures memory { result ≡ Err CaptureFault.Memory → (reader.new ≡ reader.old) × (writer.new ≡ writer.old) }
     ensures takes { Takes
         (bytes_for 1 most_bytes + (bytes_of_workspace F.Address.row config.limits + bytes_of_link (page.the_row u16 A.row ⟦<A as Allocator>⟧) F.Address.row config.limits))
         (M.less_than memory.old) (M.less_than memory.new) (spec.is_granted result) }
 {
     let packet: Result<Vec<u8, A>, AllocError> = filled(memory, 0, GREATEST_PACKET);
     let Ok(mut packet) = packet else {
-        return Err(ReplayFault::Memory);
+        return Err(CaptureFault::Memory);
     };
     let Ok(link) = Link::new_in(memory, config, first_moment()) else {
-        return Err(ReplayFault::Memory);
+        return Err(CaptureFault::Memory);
     };
-    let mut replay = Replay::new(link, asked);
+    let mut replay = UpToGap {
+        steps: Replay::new(link, asked),
+    };
     replay_on(&mut replay, packet.as_mut_slice(), supply, reader, writer)?;
-    Ok(replay.link.into_counts())
+    Ok(replay.steps.link.into_counts())
 }
 
 /// Replays a capture on a link at its start, with memory of the caller for a packet.
 fn replay_on<F: CapturedFamily, A: Allocator, S: Supply, R: Read, W: Write>(
-    replay: &mut Replay<F, A>,
+    replay: &mut UpToGap<Replay<F, A>>,
     packet: &mut [u8],
     supply: &S,
     reader: &mut Watched<R>,
     writer: &mut Watched<W>,
-) -> Result<(), ReplayFault>
+) -> Result<(), CaptureFault>
 where
     F::Address: LineKey,
     requires room { most_bytes ≤ length packet.old }
-    requires in_range { IfSome replay.old.asked.until (λ moment. moment ≤ 2 ^ 53) }
-    requires starts { replay.old.link.state ≡ link_at replay.old.link.config 0 }
-    requires empty { replay.old.buffer.items ≡ [] }
-    ensures replays { Replays replay.old.link.config replay.old.asked
+    requires in_range { IfSome replay.old.steps.asked.until (λ moment. moment ≤ 2 ^ 53) }
+    requires starts { replay.old.steps.link.state ≡ link_at replay.old.steps.link.config 0 }
+    requires empty { replay.old.steps.buffer.items ≡ [] }
+    ensures replays { Replays replay.old.steps.link.config replay.old.steps.asked
         (input_of R.remaining reader.old) (input_of R.remaining reader.new)
         (W.contents (inner_of writer.old)) (W.contents (inner_of writer.new))
-        (counted replay.new.link.state.counters result) }
+        (counted replay.new.steps.link.state.counters result) }
     ensures failed { has_failed writer.new ≡ has_failed writer.old || spec.is_failed_write result }
-    ensures no_memory { result ≡ Err ReplayFault.Memory → ⊥ }
+    ensures no_memory { result ≡ Err CaptureFault.Memory → ⊥ }
 {
     let answer = put_replay(replay, packet, supply, reader, writer);
     if is_failed_write(&answer) {
         return answer;
     }
-    flush(&mut replay.buffer, writer)?;
+    flush(&mut replay.steps.buffer, writer)?;
     answer
 }
 
 /// Puts the lines of a capture.
 fn put_replay<F: CapturedFamily, A: Allocator, S: Supply, R: Read, W: Write>(
-    replay: &mut Replay<F, A>,
+    replay: &mut UpToGap<Replay<F, A>>,
     packet: &mut [u8],
     supply: &S,
     reader: &mut Watched<R>,
     writer: &mut Watched<W>,
-) -> Result<(), ReplayFault>
+) -> Result<(), CaptureFault>
 where
     F::Address: LineKey,
     requires room { most_bytes ≤ length packet.old }
-    requires in_range { IfSome replay.old.asked.until (λ moment. moment ≤ 2 ^ 53) }
-    requires starts { replay.old.link.state ≡ link_at replay.old.link.config 0 }
-    ensures puts { PutsReport replay.old.link.config replay.old.asked
+    requires in_range { IfSome replay.old.steps.asked.until (λ moment. moment ≤ 2 ^ 53) }
+    requires starts { replay.old.steps.link.state ≡ link_at replay.old.steps.link.config 0 }
+    ensures puts { PutsReport (replay_of replay.old.steps.link.config replay.old.steps.asked)
         (input_of R.remaining reader.old) (input_of R.remaining reader.new)
         (W.contents (inner_of writer.old)) (W.contents (inner_of writer.new))
-        replay.old.buffer.items replay.new.buffer.items (counted replay.new.link.state.counters result) }
+        replay.old.steps.buffer.items replay.new.steps.buffer.items (counted replay.new.steps.link.state.counters result) }
     ensures failed { has_failed writer.new ≡ has_failed writer.old || spec.is_failed_write result }
-    ensures no_memory { result ≡ Err ReplayFault.Memory → ⊥ }
+    ensures no_memory { result ≡ Err CaptureFault.Memory → ⊥ }
 {
     let walked = walk(replay, packet, supply, reader, writer)?;
-    put_rest(replay, walked, writer)
+    put_rest(&mut replay.steps, walked, writer)
 }
 
 /// Puts the text after the packets of a capture that has ended. It is the state of the link at the end of the replay,
@@ -161,27 +165,23 @@ fn put_rest<F: CapturedFamily, A: Allocator, W: Write>(
     replay: &mut Replay<F, A>,
     walked: Walked,
     writer: &mut Watched<W>,
-) -> Result<(), ReplayFault>
+) -> Result<(), CaptureFault>
 where
     F::Address: LineKey,
     requires few { walked.packets < endless }
     requires in_range { IfSome replay.old.asked.until (λ moment. moment ≤ 2 ^ 53) }
-    ensures rest { IsRestPut (rest_of replay.old.link.config replay.old.asked walked.last (walked.packets + 1) replay.old.link.state)
+    ensures rest { IsRestPut
+        (rest_at (λ end. ended_at replay.old.link.config end (begun_with replay.old.asked.changes replay.old.link.state))
+        (end_of replay.old.asked.until walked.last (walked.packets + 1)))
         (W.contents (inner_of writer.old)) (W.contents (inner_of writer.new))
         replay.old.buffer.items replay.new.buffer.items (counted replay.new.link.state.counters result) }
     ensures failed { has_failed writer.new ≡ has_failed writer.old || spec.is_failed_write result }
-    ensures no_memory { result ≡ Err ReplayFault.Memory → ⊥ }
+    ensures no_memory { result ≡ Err CaptureFault.Memory → ⊥ }
 {
-    let last = walked.last.moment();
-    let end = last_moment(replay.asked.until, last);
-    if is_gap(last, end) {
-        return Err(ReplayFault::Gap {
-            number: walked.packets + 1,
-        });
-    }
+    let end = walked.end(replay.asked.until)?;
     put_ending(
         &mut replay.link,
-        end,
+        end.moment(),
         replay.asked.changes,
         &mut replay.buffer,
         writer,

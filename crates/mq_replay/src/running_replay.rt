@@ -3,12 +3,12 @@
 ghost use Rattle.std.specs.Prelude.{◌≡◌, []};
 
 use crate::asked::Asked;
+use crate::capture_fault::CaptureFault;
 use crate::captured_family::CapturedFamily;
 use crate::numbered_packet::NumberedPacket;
 use crate::one_packet::replay_packet;
-use crate::replay_fault::ReplayFault;
 use crate::waiting::write_before_wait;
-use crate::walking::Step;
+use crate::walking::GaplessStep;
 use mq_count::Watched;
 use mq_lines::LineKey;
 use mq_link::Link;
@@ -46,14 +46,12 @@ where
     }
 }
 
-impl<F: CapturedFamily, A: Allocator, W: Write> Step<Watched<W>> for Replay<F, A>
+impl<F: CapturedFamily, A: Allocator, W: Write> GaplessStep<Watched<W>> for Replay<F, A>
 where
     F::Address: LineKey,
 {
     ghost use Rattle.mq_text.specs.Printing.{output_of};
     ghost use Rattle.mq_replay.specs.Steps.{TakesReplayed};
-
-    type Fault = ReplayFault;
 
     ghost takes = { λ packet old new r. TakesReplayed packet
         (record { link = old.0.link; asked = old.0.asked; held = old.0.buffer.items; output = output_of W.contents old.1 })
@@ -63,12 +61,7 @@ where
         &mut self,
         packet: &NumberedPacket<'_>,
         output: &mut Watched<W>,
-    ) -> Result<(), ReplayFault> {
-        if packet.follows_gap() {
-            return Err(ReplayFault::Gap {
-                number: packet.number,
-            });
-        }
+    ) -> Result<(), CaptureFault> {
         let inner = unwrap_frame(packet.link, packet.frame);
         replay_packet(
             &mut self.link,

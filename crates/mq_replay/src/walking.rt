@@ -1,12 +1,15 @@
 //! Walks over captures.
 
-ghost use Rattle.std.specs.Prelude.{◌≡◌, ◌≤◌, length};
+ghost use Rattle.std.specs.Prelude.{◌≡◌, ◌<◌, ◌≤◌, ◌+◌, ◌^◌, IfSome, length};
 ghost use Rattle.mq_pcap.specs.declared.reader_state.Progress.TheVariants.{Reading};
-ghost use Rattle.mq_pcap.specs.Capture.{most_bytes};
+ghost use Rattle.mq_pcap.specs.Capture.{endless, most_bytes};
 ghost use Rattle.mq_pcap.specs.Filling.{input_of};
 ghost use Rattle.mq_pcap.specs.Reading.{form_of, number_of, progress_of};
+ghost use Rattle.mq_replay.specs.PuttingReports.{end_of};
 ghost use Rattle.mq_replay.specs.Walking.{Walks, WalksBehind};
 
+use crate::capture_fault::CaptureFault;
+use crate::ending::{is_gap, last_moment};
 use crate::numbered_packet::NumberedPacket;
 use crate::stamp::Stamp;
 use crate::stamps::Stamps;
@@ -21,6 +24,25 @@ pub struct Walked {
     pub packets: u64,
     /// The moment of the last packet, or 0.
     pub last: Stamp,
+}
+
+impl Walked {
+    /// Returns the moment of the end of the work: that of the last packet, or the requested one if it is later. Fails if
+    /// a gap is before it.
+    pub fn end(&self, until: Option<u64>) -> Result<Stamp, CaptureFault>
+        requires few { self.now.packets < endless }
+        requires in_range { IfSome until (λ ms. ms ≤ 2 ^ 53) }
+        ensures { result ≡ end_of until self.now.last (self.now.packets + 1) }
+    {
+        let end = last_moment(until, self.last);
+        let last = self.last.moment();
+        if is_gap(last, end.moment()) {
+            return Err(CaptureFault::Gap {
+                number: self.packets + 1,
+            });
+        }
+        Ok(end)
+    }
 }
 
 /// A receiver of the packets of a capture, in order, with an output.
@@ -44,6 +66,51 @@ pub trait Step<O> {
           link = packet.now.link;
           frame = packet.now.frame.now;
         }) (self.old, output.old) (self.new, output.new) result };
+}
+
+/// A receiver of the packets of a capture up to its first gap, with an output.
+pub trait GaplessStep<O> {
+    ghost use Rattle.std.specs.Prelude.{Result};
+    ghost use Rattle.mq_replay.specs.PlacedPackets.{PlacedPacket};
+    ghost use Rattle.mq_replay.specs.declared.capture_fault.CaptureFault.{CaptureFault};
+
+    // The effect of one packet, as for a `Step`.
+    ghost takes: { PlacedPacket → Self × O → Self × O → Result Unit CaptureFault → Type 0 };
+
+    /// Takes a packet without a gap before it. The walk ends if this fails.
+    fn packet(&mut self, packet: &NumberedPacket<'_>, output: &mut O) -> Result<(), CaptureFault>
+        ensures { takes (record {
+          number = packet.now.number;
+          before = packet.now.before;
+          moment = packet.now.moment;
+          goes_back = packet.now.goes_back;
+          link = packet.now.link;
+          frame = packet.now.frame.now;
+        }) (self.old, output.old) (self.new, output.new) result };
+}
+
+/// A step that a gap ends, before the packet after the gap.
+#[derive(Drop)]
+pub struct UpToGap<T> {
+    /// The receiver of the packets before the gap.
+    pub steps: T,
+}
+
+impl<O, T: GaplessStep<O>> Step<O> for UpToGap<T> {
+    ghost use Rattle.mq_replay.specs.Walking.{TakesUpToGap};
+
+    type Fault = CaptureFault;
+
+    ghost takes = { λ packet old new r. TakesUpToGap T.takes packet (old.0.steps, old.1) (new.0.steps, new.1) r };
+
+    fn packet(&mut self, packet: &NumberedPacket<'_>, output: &mut O) -> Result<(), CaptureFault> {
+        if packet.follows_gap() {
+            return Err(CaptureFault::Gap {
+                number: packet.number,
+            });
+        }
+        self.steps.packet(packet, output)
+    }
 }
 
 /// Hands each packet of a capture to a step, in order, with caller-provided memory for a packet. `supply` says whether a

@@ -4,11 +4,12 @@ use Rattle.std.proofs.Common.{inr, ⊎_elim}
 use Rattle.std.proofs.lemmas.Bool.{ltb-false}
 use Rattle.std.specs.Prelude.{IfSome}
 use Rattle.std.specs.Io.KnownBytes.{Keeps}
-use Rattle.std.proofs.KnownBytes.{Appends-kept}
-use Rattle.mq_check.specs.declared.check_fault.CheckFault.{CheckFault}
+use Rattle.mq_replay.specs.declared.capture_fault.CaptureFault.{CaptureFault}
 use Rattle.mq_check.specs.declared.check_terms.CheckTerms.{CheckTerms}
 use Rattle.mq_check.specs.declared.totals.Totals.{Totals}
-use Rattle.mq_check.specs.CheckedCaptures.{Checks, IsWrittenBy, is_failed_write, text_by}
+use Rattle.mq_check.specs.Check.{check_of}
+use Rattle.mq_check.specs.CheckedCaptures.{Checks}
+use Rattle.mq_replay.specs.Faults.{is_failed_write}
 use Rattle.mq_command.specs.declared.Protocol.{Protocol}
 use Rattle.mq_command.specs.declared.Request.TheVariants.{Check}
 use Rattle.mq_command.specs.declared.replay.Settings.{Settings}
@@ -25,6 +26,7 @@ use Rattle.mquerier.specs.Replays.{SpellsAddress, asked_configuration, family_of
 use Rattle.mquerier.specs.Failures.{status_of}
 use Rattle.mquerier.specs.Status.{Concludes, Performs, PerformsCheck, Told}
 use Rattle.mquerier.specs.Working.{ChecksAt, IsConfigured, IsUnwritten, WorksOnCheck}
+use Rattle.mquerier.proofs.Breakings.{reports_kept}
 
 -- the moment of the end, where it isn't too large
 pub until_in_range : (until : Option ℕ) → is_too_large until ≡ false → IfSome until (λ ms. ms ≤ 2 ^ 53)
@@ -33,21 +35,13 @@ until_in_range (Some ms) is = ltb-false (2 ^ 53) ms is
 
 -- a check of the configuration that is asked for, behind a flush
 pub flushed_check : (family : Family) (querier : ℕ) (settings : Settings) (terms : CheckTerms) (config : Configuration) (input : Input)
-    (old : OutputState) (mid : Option (List ℕ)) (new : OutputState) (r : Result Totals CheckFault)
+    (old : OutputState) (mid : Option (List ℕ)) (new : OutputState) (r : Result Totals CaptureFault)
     → IsConfigured (asked_configuration family querier settings) (Ok config) → Checks config terms input.old input.new old.held mid r →
     is_failed_write r ≡ false → Keeps mid new.held
     → IsCheckedAt family querier settings terms input (record { old = old; new = new }) r
 flushed_check family querier settings terms config input old mid new r made checks unlike kept =
-    let whole = subst (λ (b : Bool). IsWrittenBy b config terms checks.read input.new old.held mid r) unlike checks.written in
-    let still : Checks config terms input.old input.new old.held new.held r = record {
-      read = checks.read;
-      takes = checks.takes;
-      capture = checks.capture;
-      ended = checks.ended;
-      written = subst (λ (b : Bool). IsWrittenBy b config terms checks.read input.new old.held new.held r) (sym unlike)
-          (Appends-kept old.held mid new.held (text_by config terms checks.read r) whole kept);
-    } in
-    subst (λ (c : Configuration). Checks c terms input.old input.new old.held new.held r) made.1 still
+    subst (λ (c : Configuration). Checks c terms input.old input.new old.held new.held r) made.1
+    (reports_kept (check_of config terms) input.old input.new old.held mid new.held r unlike checks kept)
 
 -- a check at the address that a text spells
 pub checked_for : (protocol : Protocol) (querier : List ℕ) (address : ℕ) (settings : Settings) (terms : CheckTerms) (input : Input) (output : Output)

@@ -1,3 +1,4 @@
+pub mod Breakings
 pub mod Checkings
 pub mod Conversions
 pub mod Lines

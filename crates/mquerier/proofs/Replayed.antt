@@ -1,80 +1,33 @@
 -- What a replay comes to once it is flushed.
-use Rattle.std.proofs.Common.{◌≡◌, subst, refl, false, ℕ, List, [], Bool, Option, Result, Ok, Err}
+use Rattle.std.proofs.Common.{◌≡◌, subst, false, ℕ, List, Bool, Option, Result, Ok, Err}
 use Rattle.std.specs.Io.KnownBytes.{Keeps}
-use Rattle.std.proofs.KnownBytes.{Appends-kept}
 use Rattle.mq_command.specs.declared.Protocol.{Protocol}
 use Rattle.mq_command.specs.declared.replay.Settings.{Settings}
 use Rattle.mq_link.specs.Configuration.{Configuration}
 use Rattle.mq_link.specs.Counters.{Counters}
-use Rattle.mq_pcap.specs.declared.fault.PcapFault.TheVariants as fault
-use Rattle.mq_pcap.specs.Filling.{InputState}
 use Rattle.mq_text.specs.Printing.{OutputState}
 use Rattle.mq_replay.specs.declared.asked.Asked.{Asked}
-use Rattle.mq_replay.specs.declared.replay_fault.ReplayFault.{ReplayFault}
-use Rattle.mq_replay.specs.declared.replay_fault.ReplayFault.TheVariants as answer
-use Rattle.mq_replay.specs.Replaying.{Replays, ReadCapture, IsWritten, text_of, packets_text}
+use Rattle.mq_replay.specs.declared.capture_fault.CaptureFault.{CaptureFault}
+use Rattle.mq_replay.specs.Faults.{is_failed_write}
+use Rattle.mq_replay.specs.Replaying.{Replays}
+use Rattle.mq_replay.specs.Report.{replay_of}
 use Rattle.mq_wire.specs.Family.{Family}
 use Rattle.mquerier.specs.declared.failure.Failure.{Failure}
 use Rattle.mquerier.specs.declared.failure.Failure.TheVariants.{NoAddresses, NotAnAddress, NotHex, UntilTooLarge, Configuration as Unconfigured}
 use Rattle.mquerier.specs.declared.failure.Failure.TheVariants.{Capture, Gap, Waiting, Conversion, ConversionRead, Memory, Write}
 use Rattle.mquerier.specs.Changes.{Input, Output}
-use Rattle.mquerier.specs.Replays.{IsReplayedAt, SpellsAddress, asked_configuration, family_of, is_too_large}
+use Rattle.mquerier.specs.Replays.{IsReplayedAt, SpellsAddress, asked_configuration, family_of}
 use Rattle.mquerier.specs.Working.{IsConfigured, WorksAt, WorksOnReplay}
+use Rattle.mquerier.proofs.Breakings.{reports_kept}
 
--- what was written stays so
-written_kept : (config : Configuration) (asked : Asked) (c : ReadCapture) (ahead : InputState) (before mid after : Option (List ℕ))
-    (r : Result Counters ReplayFault) → (r ≡ Err answer.Write → ⊥)
-    → IsWritten config asked c ahead before mid r → Keeps mid after → IsWritten config asked c ahead before after r
-written_kept config asked c ahead before mid after (Ok counters) unlike written kept = Appends-kept before mid after (text_of config asked c) written kept
-written_kept config asked c ahead before mid after (Err answer.Write) unlike written kept = absurd (unlike refl)
-written_kept config asked c ahead before mid after (Err (answer.Gap number)) unlike written kept =
-    Appends-kept before mid after (text_of config asked c) written kept
-written_kept config asked c ahead before mid after (Err answer.Memory) unlike written kept = Appends-kept before mid after [] written kept
-written_kept config asked c ahead before mid after (Err (answer.Pcap fault.Read)) unlike written kept =
-    Appends-kept before mid after (packets_text config asked c) written kept
-written_kept config asked c ahead before mid after (Err (answer.Pcap fault.Magic)) unlike written kept =
-    Appends-kept before mid after (text_of config asked c) written kept
-written_kept config asked c ahead before mid after (Err (answer.Pcap fault.Version)) unlike written kept =
-    Appends-kept before mid after (text_of config asked c) written kept
-written_kept config asked c ahead before mid after (Err (answer.Pcap fault.LinkType)) unlike written kept =
-    Appends-kept before mid after (text_of config asked c) written kept
-written_kept config asked c ahead before mid after (Err (answer.Pcap (fault.CutHeader number))) unlike written kept =
-    Appends-kept before mid after (text_of config asked c) written kept
-written_kept config asked c ahead before mid after (Err (answer.Pcap (fault.CutData number))) unlike written kept =
-    Appends-kept before mid after (text_of config asked c) written kept
-written_kept config asked c ahead before mid after (Err (answer.Pcap (fault.TooLong number))) unlike written kept =
-    Appends-kept before mid after (text_of config asked c) written kept
-written_kept config asked c ahead before mid after (Err (answer.Pcap fault.Endless)) unlike written kept =
-    Appends-kept before mid after (text_of config asked c) written kept
-
--- what is asked of a replay, with a moment
-abbrev up_to : Option ℕ → (changes : Bool) → Asked
-up_to until changes = record { until = until; changes = changes }
-
--- a replay of the configuration and up to the moment that are asked for
-replayed_at : (family : Family) (own : ℕ) (settings : Settings) (until end : Option ℕ) (changes : Bool) (config : Configuration) (input : Input)
-    (before after : Option (List ℕ)) (r : Result Counters ReplayFault)
-    → end ≡ until → config ≡ asked_configuration family own settings → Replays config (up_to end changes) input.old input.new before after r
-    → Replays (asked_configuration family own settings) (up_to until changes) input.old input.new before after r
-replayed_at family own settings until end changes config input before after r same_end same_config replays =
-    subst (λ (c : Configuration). Replays c (up_to until changes) input.old input.new before after r) same_config
-    (subst (λ (e : Option ℕ). Replays config (up_to e changes) input.old input.new before after r) same_end replays)
-
--- the same behind a flush
-pub flushed_at : (family : Family) (own : ℕ) (settings : Settings) (until end : Option ℕ) (changes : Bool) (config : Configuration) (input : Input)
-    (old : OutputState) (mid : Option (List ℕ)) (new : OutputState) (r : Result Counters ReplayFault)
-    → (end ≡ until) × (is_too_large until ≡ false) → IsConfigured (asked_configuration family own settings) (Ok config) →
-    Replays config (up_to end changes) input.old input.new old.held mid r
-    → (r ≡ Err answer.Write → ⊥) → Keeps mid new.held → IsReplayedAt family own settings (up_to until changes) input (record { old = old; new = new }) r
-flushed_at family own settings until end changes config input old mid new r asked made replays unlike kept =
-    replayed_at family own settings until end changes config input old.held new.held r asked.0 made.1
-    (record {
-      read = replays.read;
-      takes = replays.takes;
-      capture = replays.capture;
-      ended = replays.ended;
-      written = written_kept config (up_to end changes) replays.read input.new old.held mid new.held r unlike replays.written kept;
-    })
+-- a replay as it was asked for, behind a flush
+pub flushed_at : (family : Family) (own : ℕ) (settings : Settings) (asked : Asked) (config : Configuration) (input : Input) (old : OutputState)
+    (mid : Option (List ℕ)) (new : OutputState) (r : Result Counters CaptureFault) → IsConfigured (asked_configuration family own settings) (Ok config)
+    → Replays config asked input.old input.new old.held mid r → is_failed_write r ≡ false → Keeps mid new.held
+    → IsReplayedAt family own settings asked input (record { old = old; new = new }) r
+flushed_at family own settings asked config input old mid new r made replays unlike kept =
+    subst (λ (c : Configuration). Replays c asked input.old input.new old.held new.held r) made.1
+    (reports_kept (replay_of config asked) input.old input.new old.held mid new.held r unlike replays kept)
 
 -- a replay at the address that a text spells
 pub replayed_for : (protocol : Protocol) (own : List ℕ) (address : ℕ) (settings : Settings) (asked : Asked) (input : Input) (output : Output)

@@ -1,8 +1,8 @@
 -- What a check of the querier that the capture names comes to.
 use Rattle.std.proofs.Common.{◌≡◌, ◌⊎◌, ◌∙◌, ap, subst, sym, refl, arith, ℕ, Bool, List, Option, None, Some, Result, Ok, Err, inl, inr, ⊎_elim}
 use Rattle.mq_check.specs.declared.announced.Announced.{Announced}
-use Rattle.mq_check.specs.declared.check_fault.CheckFault.{CheckFault}
-use Rattle.mq_check.specs.declared.check_fault.CheckFault.TheVariants as answer
+use Rattle.mq_replay.specs.declared.capture_fault.CaptureFault.{CaptureFault}
+use Rattle.mq_replay.specs.declared.capture_fault.CaptureFault.TheVariants as answer
 use Rattle.mq_check.specs.declared.totals.Totals.{Totals}
 use Rattle.mq_check.specs.Announced.{Announces}
 use Rattle.mq_check.specs.Numbered.{numbered_announced_if}
@@ -69,7 +69,7 @@ failed_by family options found in_words input output errors failure status check
 }
 
 -- the status of a failure of the first reading is 1
-is_one : (fault : CheckFault) → status_of (first_failure fault) ≡ 1
+is_one : (fault : CaptureFault) → status_of (first_failure fault) ≡ 1
 is_one (answer.Pcap f) = refl
 is_one answer.Write = refl
 is_one (answer.Gap at) = refl
@@ -86,7 +86,7 @@ pub taking_failed : (options : CheckOptions) (in_words : Bool) (first input : In
 taking_failed options in_words first input output errors failure status checks is told =
     record { found = checks.found; announces = checks.announces; performs = by_found checks.found checks.checks }
   where
-    by_found : (found : Result (Option (Announced ℕ)) CheckFault) → ChecksBy (family_of options.protocol) options input output found (Err failure)
+    by_found : (found : Result (Option (Announced ℕ)) CaptureFault) → ChecksBy (family_of options.protocol) options input output found (Err failure)
         → PerformsBy (family_of options.protocol) options in_words input output errors status found
     by_found (Ok (Some found)) checks = failed_by (family_of options.protocol) options found in_words input output errors failure status checks is told
     by_found (Ok None) checks = absurd (cc checks.0)
@@ -118,7 +118,7 @@ pub taking_done : (options : CheckOptions) (in_words : Bool) (first input : Inpu
 taking_done options in_words first input output errors totals status checks concludes =
     record { found = checks.found; announces = checks.announces; performs = by_found checks.found checks.checks }
   where
-    by_found : (found : Result (Option (Announced ℕ)) CheckFault) → ChecksBy (family_of options.protocol) options input output found (Ok (Some totals))
+    by_found : (found : Result (Option (Announced ℕ)) CaptureFault) → ChecksBy (family_of options.protocol) options input output found (Ok (Some totals))
         → PerformsBy (family_of options.protocol) options in_words input output errors status found
     by_found (Ok (Some found)) checks = done_by (family_of options.protocol) options found in_words input output errors totals status checks concludes
     by_found (Ok None) checks = absurd (cc checks.0)
@@ -130,7 +130,7 @@ pub taking_nothing : (options : CheckOptions) (in_words : Bool) (first input : I
 taking_nothing options in_words first input output errors checks told =
     record { found = checks.found; announces = checks.announces; performs = by_found checks.found checks.checks }
   where
-    by_found : (found : Result (Option (Announced ℕ)) CheckFault) → ChecksBy (family_of options.protocol) options input output found (Ok None)
+    by_found : (found : Result (Option (Announced ℕ)) CaptureFault) → ChecksBy (family_of options.protocol) options input output found (Ok None)
         → PerformsBy (family_of options.protocol) options in_words input output errors 4 found
     by_found (Ok (Some found)) checks = absurd checks
     by_found (Ok None) checks = (refl, checks.1, told)

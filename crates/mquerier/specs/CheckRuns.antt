@@ -1,7 +1,6 @@
 -- The requested check, and the program's runs of it.
-use Rattle.std.specs.Prelude.{◌≡◌, ℕ, true, Bool, List, Option, Result, Ok, Err, unwrap_or}
-use Rattle.mq_check.specs.declared.check_fault.CheckFault.{CheckFault}
-use Rattle.mq_check.specs.declared.check_fault.CheckFault.TheVariants as answer
+use Rattle.std.specs.Prelude.{◌≡◌, ℕ, Bool, List, Option, Result, Ok, unwrap_or}
+use Rattle.mq_replay.specs.declared.capture_fault.CaptureFault.{CaptureFault}
 use Rattle.mq_check.specs.declared.check_terms.CheckTerms.{CheckTerms}
 use Rattle.mq_check.specs.declared.totals.Totals.{Totals}
 use Rattle.mq_check.specs.CheckedCaptures.{Checks}
@@ -10,7 +9,7 @@ use Rattle.mq_command.specs.declared.replay.Settings.{Settings}
 use Rattle.mq_wire.specs.Family.{Family}
 use Rattle.mquerier.specs.declared.checking.CheckOptions.{CheckOptions}
 use Rattle.mquerier.specs.declared.failure.Failure.{Failure}
-use Rattle.mquerier.specs.declared.failure.Failure.TheVariants.{Capture, Gap, Waiting, Memory, Write}
+use Rattle.mquerier.specs.Breaking.{IsBrokenOff}
 use Rattle.mquerier.specs.Changes.{Input, Output}
 use Rattle.mquerier.specs.Replays.{SpellsAddress, IsAcceptedAt, asked_configuration, family_of}
 
@@ -29,7 +28,7 @@ asked_options protocol settings within until cite packets once strict =
     record { protocol = protocol; settings = settings; terms = asked_terms within until cite packets once strict }
 
 -- the capture was checked as requested, with this result
-abbrev pub IsCheckedAt : Family → (querier : ℕ) → Settings → CheckTerms → Input → Output → Result Totals CheckFault → Type 0
+abbrev pub IsCheckedAt : Family → (querier : ℕ) → Settings → CheckTerms → Input → Output → Result Totals CaptureFault → Type 0
 IsCheckedAt family querier settings terms input output answer =
     Checks (asked_configuration family querier settings) terms input.old input.new output.old.held output.new.held answer
 
@@ -39,22 +38,11 @@ IsCheckDoneAt family querier settings terms input output totals =
     IsAcceptedAt family querier settings terms.until × (output.new.failed ≡ output.old.failed)
     × IsCheckedAt family querier settings terms input output (Ok totals)
 
--- The check ended early, by its result. With a fault of the capture, a gap or too many pending entries, all earlier
--- findings were written. With an allocation failure nothing was read or written. Or the output failed.
-abbrev pub IsCheckBroken : (Does : Result Totals CheckFault → Type 0) → Input → Output → Failure → Type 0
-IsCheckBroken Does input output (Capture f) = (output.new.failed ≡ output.old.failed) × Does (Err (answer.Pcap f))
-IsCheckBroken Does input output (Gap number) = (output.new.failed ≡ output.old.failed) × Does (Err (answer.Gap number))
-IsCheckBroken Does input output (Waiting number) = (output.new.failed ≡ output.old.failed) × Does (Err (answer.Waiting number))
-IsCheckBroken Does input output Memory = (input.new ≡ input.old) × (output.new ≡ output.old)
-IsCheckBroken Does input output Write =
-    (output.new.failed ≡ true) × (r : Result Totals CheckFault) × (r ≡ Err answer.Memory → ⊥) × Does r
-IsCheckBroken Does input output failure = ⊥
-
 -- the request was accepted, and the check ended early
 abbrev pub IsCheckBrokenAt : Family → (querier : ℕ) → Settings → CheckTerms → Input → Output → Failure → Type 0
 IsCheckBrokenAt family querier settings terms input output failure =
     IsAcceptedAt family querier settings terms.until
-    × IsCheckBroken (IsCheckedAt family querier settings terms input output) input output failure
+    × IsBrokenOff (IsCheckedAt family querier settings terms input output) input output failure
 
 -- the check of the requested address reached the end, or ended early
 abbrev pub WritesVerdict : Protocol → (querier : List ℕ) → Settings → CheckTerms → Input → Output → Totals → Type 0

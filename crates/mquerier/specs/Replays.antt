@@ -11,7 +11,7 @@ use Rattle.mq_link.specs.Counters.{Counters}
 use Rattle.mq_link.specs.Defaults.{defaults_of}
 use Rattle.mq_text.specs.Reading.{SpellsV4, SpellsV6}
 use Rattle.mq_replay.specs.declared.asked.Asked.{Asked}
-use Rattle.mq_replay.specs.declared.replay_fault.ReplayFault.{ReplayFault}
+use Rattle.mq_replay.specs.declared.capture_fault.CaptureFault.{CaptureFault}
 use Rattle.mq_replay.specs.Replaying.{Replays}
 use Rattle.mq_wire.specs.Family.{Family}
 use Rattle.mq_wire.specs.Family as family
@@ -69,7 +69,7 @@ IsAcceptedAt family own settings until =
     (is_too_large until ≡ false) × IsFaultless (asked_configuration family own settings)
 
 -- the capture was replayed as requested, with this result
-abbrev pub IsReplayedAt : Family → (own : ℕ) → Settings → Asked → Input → Output → Result Counters ReplayFault → Type 0
+abbrev pub IsReplayedAt : Family → (own : ℕ) → Settings → Asked → Input → Output → Result Counters CaptureFault → Type 0
 IsReplayedAt family own settings asked input output answer =
     Replays (asked_configuration family own settings) asked input.old input.new output.old.held output.new.held answer
 

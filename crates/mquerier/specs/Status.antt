@@ -20,7 +20,7 @@ use Rattle.mq_convert.specs.declared.fault.ConvertFault.{ConvertFault}
 use Rattle.mq_convert.specs.Converting.{Converts}
 use Rattle.mq_text.specs.Reading.{SpellsV6}
 use Rattle.mq_replay.specs.declared.asked.Asked.{Asked}
-use Rattle.mq_replay.specs.declared.replay_fault.ReplayFault.{ReplayFault}
+use Rattle.mq_replay.specs.declared.capture_fault.CaptureFault.{CaptureFault}
 use Rattle.mq_replay.specs.Listing.{Shows}
 use Rattle.mq_wire.specs.Family as family
 use Rattle.mq_wire.specs.PseudoHeader.{pseudo_header}
@@ -99,7 +99,7 @@ WritesMessage protocol from to hex output flag =
     (line : List ℕ) × IsAskedLine protocol from to hex flag line × Writes output line
 
 -- a capture was shown, with this result
-abbrev pub WritesListing : Input → Output → Result ℕ ReplayFault → Type 0
+abbrev pub WritesListing : Input → Output → Result ℕ CaptureFault → Type 0
 WritesListing input output answer = Shows input.old input.new output.old.held output.new.held answer
 
 -- a capture was converted with this selection of packets, with this result

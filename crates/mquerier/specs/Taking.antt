@@ -5,8 +5,8 @@ use Rattle.std.specs.Str.{bytes_eq}
 use Rattle.std.specs.Option.{option_or}
 use Rattle.clap.specs.declared.error.Error.{Error}
 use Rattle.mq_check.specs.declared.announced.Announced.{Announced}
-use Rattle.mq_check.specs.declared.check_fault.CheckFault.{CheckFault}
-use Rattle.mq_check.specs.declared.check_fault.CheckFault.TheVariants as answer
+use Rattle.mq_replay.specs.declared.capture_fault.CaptureFault.{CaptureFault}
+use Rattle.mq_replay.specs.declared.capture_fault.CaptureFault.TheVariants as answer
 use Rattle.mq_check.specs.declared.totals.Totals.{Totals}
 use Rattle.mq_check.specs.declared.unjudged.Unjudged.{Unjudged}
 use Rattle.mq_check.specs.Announced.{Announces}
@@ -92,12 +92,12 @@ ChecksFound family options found input output (Err failure) =
     × (status_of failure ≡ 1 → IsFoundBroken family options found input output failure)
 
 -- the failure of the first reading: a fault of the capture, or else refused memory
-abbrev pub first_failure : CheckFault → Failure
+abbrev pub first_failure : CaptureFault → Failure
 first_failure (answer.Pcap f) = Capture f
 first_failure fault = Memory
 
 -- the result by what the first reading of the capture found
-abbrev pub ChecksBy : Family → CheckOptions → Input → Output → Result (Option (Announced ℕ)) CheckFault → Result (Option Totals) Failure → Type 0
+abbrev pub ChecksBy : Family → CheckOptions → Input → Output → Result (Option (Announced ℕ)) CaptureFault → Result (Option Totals) Failure → Type 0
 ChecksBy family options input output (Ok (Some found)) (Ok (Some totals)) =
     ChecksFound family options found input output (Ok totals)
 ChecksBy family options input output (Ok (Some found)) (Ok None) = ⊥
@@ -107,7 +107,7 @@ ChecksBy family options input output (Ok None) r = (r ≡ Ok None) × IsUntouche
 ChecksBy family options input output (Err fault) r = (r ≡ Err (first_failure fault)) × IsUntouched input output
 
 pub record ChecksTaking (family : Family) (options : CheckOptions) (first input : Input) (output : Output) (r : Result (Option Totals) Failure) : Type 0 where
-  pub found : Result (Option (Announced ℕ)) CheckFault
+  pub found : Result (Option (Announced ℕ)) CaptureFault
   pub announces : Announces family first.old first.new found
   pub checks : ChecksBy family options input output found r
 
@@ -127,7 +127,7 @@ pub record PerformsFound (family : Family) (options : CheckOptions) (found : Ann
       × IsFoundDone family options found input output totals × IsTold errors (unjudged_line why)
 
 -- the outcome by what the first reading of the capture found
-abbrev pub PerformsBy : Family → CheckOptions → (in_words : Bool) → Input → (output errors : Output) → (status : ℕ) → Result (Option (Announced ℕ)) CheckFault → Type 0
+abbrev pub PerformsBy : Family → CheckOptions → (in_words : Bool) → Input → (output errors : Output) → (status : ℕ) → Result (Option (Announced ℕ)) CaptureFault → Type 0
 PerformsBy family options in_words input output errors status (Ok (Some found)) =
     PerformsFound family options found in_words input output errors status
 PerformsBy family options in_words input output errors status (Ok None) =
@@ -138,6 +138,6 @@ PerformsBy family options in_words input output errors status (Err fault) =
 -- A check of the querier that the capture names was performed with this status. The capture was read once for what is
 -- announced, and then again for the check.
 pub record PerformsTaking (options : CheckOptions) (in_words : Bool) (first input : Input) (output errors : Output) (status : ℕ) : Type 0 where
-  pub found : Result (Option (Announced ℕ)) CheckFault
+  pub found : Result (Option (Announced ℕ)) CaptureFault
   pub announces : Announces (family_of options.protocol) first.old first.new found
   pub performs : PerformsBy (family_of options.protocol) options in_words input output errors status found

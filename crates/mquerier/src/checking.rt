@@ -4,10 +4,11 @@ ghost use Rattle.std.specs.Prelude.{◌≡◌};
 ghost use Rattle.mquerier.specs.Changes.{input_by, output_by};
 ghost use Rattle.mquerier.specs.Working.{ChecksAt, IsUnwritten, WorksOnCheck};
 
+use crate::breaking::broken_off;
 use crate::failure::Failure;
 use crate::replaying::{configured, moment_asked};
 use crate::work::flush;
-use mq_check::{CheckFault, CheckTerms, CheckedFamily, Totals, check};
+use mq_check::{CheckTerms, CheckedFamily, Totals, check};
 use mq_command::{Protocol, Settings};
 use mq_count::Watched;
 use mq_lines::LineKey;
@@ -86,19 +87,6 @@ where
             flush(output)?;
             Ok(totals)
         }
-        Err(CheckFault::Pcap(fault)) => {
-            flush(output)?;
-            Err(Failure::Capture(fault))
-        }
-        Err(CheckFault::Gap { number }) => {
-            flush(output)?;
-            Err(Failure::Gap { number })
-        }
-        Err(CheckFault::Waiting { number }) => {
-            flush(output)?;
-            Err(Failure::Waiting { number })
-        }
-        Err(CheckFault::Write) => Err(Failure::Write),
-        Err(CheckFault::Memory) => Err(Failure::Memory),
+        Err(fault) => Err(broken_off(fault, output)),
     }
 }

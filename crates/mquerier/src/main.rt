@@ -9,6 +9,7 @@
 //! program.
 #![tactic(auto)]
 
+mod breaking;
 mod checking;
 mod console;
 mod converting;

@@ -5,6 +5,7 @@ ghost use Rattle.mquerier.specs.Changes.{input_by, output_by};
 ghost use Rattle.mquerier.specs.Replays.{asked_configuration, asked_limits, is_too_large};
 ghost use Rattle.mquerier.specs.Working.{IsConfigured, IsUnwritten, WorksAt, WorksOnReplay};
 
+use crate::breaking::broken_off;
 use crate::failure::Failure;
 use crate::work::flush;
 use mq_command::{Protocol, Settings};
@@ -12,7 +13,7 @@ use mq_count::{Moment, Watched};
 use mq_lines::LineKey;
 use mq_link::{Config, Igmp, Limits, Mld};
 use mq_pcap::Supply;
-use mq_replay::{Asked, CapturedFamily, ReplayFault, replay};
+use mq_replay::{Asked, CapturedFamily, replay};
 use mq_text::{read_v4, read_v6};
 use std::alloc::Global;
 use std::io::{Read, Write};
@@ -81,10 +82,10 @@ where
     ensures unread { IsUnwritten result → input.new ≡ input.old }
     ensures unwritten { IsUnwritten result → output.new ≡ output.old }
 {
-    let end = moment_asked(options.until)?;
+    let _end = moment_asked(options.until)?;
     let config = configured::<F>(own, &options.settings)?;
     let asked = Asked {
-        until: end,
+        until: options.until,
         changes: options.changes,
     };
     match replay(alloc, config, asked, supply, input, output) {
@@ -92,16 +93,7 @@ where
             flush(output)?;
             Ok(true)
         }
-        Err(ReplayFault::Pcap(fault)) => {
-            flush(output)?;
-            Err(Failure::Capture(fault))
-        }
-        Err(ReplayFault::Gap { number }) => {
-            flush(output)?;
-            Err(Failure::Gap { number })
-        }
-        Err(ReplayFault::Write) => Err(Failure::Write),
-        Err(ReplayFault::Memory) => Err(Failure::Memory),
+        Err(fault) => Err(broken_off(fault, output)),
     }
 }
 

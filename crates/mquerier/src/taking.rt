@@ -13,12 +13,13 @@ use crate::program::{print_whole, status_of_totals, terms_of, told};
 use crate::taken_line::taken_line_of;
 use crate::unopened::tell_no_querier;
 use clap::Error;
-use mq_check::{Announced, CheckFault, CheckedFamily, Totals, announced_variables};
+use mq_check::{Announced, CheckedFamily, Totals, announced_variables};
 use mq_command::{Protocol, Request, Settings};
 use mq_count::Watched;
 use mq_lines::LineKey;
 use mq_link::{Igmp, Mld};
 use mq_pcap::Supply;
+use mq_replay::CaptureFault;
 use mq_wire::WireKey;
 use std::alloc::Global;
 use std::io::{Read, Write};
@@ -133,11 +134,11 @@ where
 }
 
 /// Returns the failure of the first reading: a fault of the capture, or else refused memory.
-fn first_failure(fault: CheckFault) -> Failure
+fn first_failure(fault: CaptureFault) -> Failure
     ensures { result ≡ spec.first_failure fault }
 {
     match fault {
-        CheckFault::Pcap(fault) => Failure::Capture(fault),
+        CaptureFault::Pcap(fault) => Failure::Capture(fault),
         _ => Failure::Memory,
     }
 }

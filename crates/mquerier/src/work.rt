@@ -10,6 +10,7 @@ ghost use Rattle.mquerier.specs.Changes.{input_by, output_by};
 ghost use Rattle.mquerier.specs.Status.{IsCheck, IsConversion, IsNoAddress, IsOfMessage};
 ghost use Rattle.mquerier.specs.Working.{IsRefusal, IsUndecoded, IsUnwritten, Works, WorksOnListing, WorksOnMessage};
 
+use crate::breaking::broken_off;
 use crate::failure::Failure;
 use crate::replaying::{ReplayOptions, replay_capture};
 use hex::FromHexError;
@@ -17,7 +18,7 @@ use mq_command::{Protocol, Request};
 use mq_count::Watched;
 use mq_lines::{igmp_line, mld_line};
 use mq_pcap::Supply;
-use mq_replay::{ReplayFault, show};
+use mq_replay::show;
 use mq_text::{read_v4, read_v6};
 use std::alloc::Global;
 use std::io::{Read, Write};
@@ -189,14 +190,7 @@ fn listing<S: Supply, R: Read, W: Write>(
             flush(output)?;
             Ok(true)
         }
-        Err(ReplayFault::Pcap(fault)) => {
-            flush(output)?;
-            Err(Failure::Capture(fault))
-        }
-        Err(ReplayFault::Write) => Err(Failure::Write),
-        // Only a replay looks for gaps.
-        Err(ReplayFault::Gap { .. }) => unreachable!(),
-        Err(ReplayFault::Memory) => Err(Failure::Memory),
+        Err(fault) => Err(broken_off(fault, output)),
     }
 }
 

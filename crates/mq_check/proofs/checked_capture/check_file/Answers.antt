@@ -1,13 +1,12 @@
-use Rattle.std.proofs.Common.{◌≤◌, ◌^◌, ◌||◌, Bool, ap, sym, refl, subst, ◌∙◌}
+use Rattle.std.proofs.Common.{◌≤◌, ◌^◌, ◌||◌, Bool, ap, sym, subst, ◌∙◌}
 use Rattle.std.specs.Prelude.{IfSome}
 use Rattle.std.proofs.lemmas.Result.{err_from_is_err_and}
 use Rattle.mq_link.specs.Configuration.{Configuration}
 use Rattle.mq_text.specs.Printing.{output_of}
+use Rattle.mq_replay.specs.Faults.{is_failed_write}
 use Rattle.mq_replay.proofs.WalkedOver.{fault_or}
 use Rattle.mq_check.specs.declared.check_terms.CheckTerms.{CheckTerms}
-use Rattle.mq_check.specs.CheckedCaptures.{is_failed_write}
-use Rattle.mq_check.specs.Telling.{ToldState}
-use Rattle.mq_check.proofs.CheckedOver.{kept_to_the_end, verdict_early, verdict_well}
+use Rattle.mq_check.proofs.CheckedOver.{kept, verdict_early, verdict_well}
 use Rattle.mq_check.proofs.checked_capture.check_file.Goals as goal
 
 pub returns-in_err-walked-clause-puts : goal.returns-in_err-walked-clause-puts
@@ -15,52 +14,47 @@ returns-in_err-walked-clause-puts g c =
     let p = err_from_is_err_and c.from_residual.result c.from_residual.ensures.1 in
     let family = g.met.F.CapturedFamily.same_family ∙ sym c.is_faultless.ensures.family ∙ ap (λ (k : Configuration). k.family) c.config.ensures in
     rw (p.1, p.2) (verdict_early g.F.Address.LineKey.family
-    (λ x. record { link = x.0.link; queries = x.0.queries; terms = x.0.terms; told = x.0.told; output = output_of g.W.Write.contents x.1 }) _ _ _ refl
-    refl family (ap (λ (t : ToldState). t.additions) c.requires.told) (ap (λ (t : ToldState). t.last) c.requires.told) c.requires.starts _ _ _ _
-    c.in_err-walked.ensures).0
+    (λ x. record { link = x.0.link; queries = x.0.queries; terms = x.0.terms; told = x.0.told; output = output_of g.W.Write.contents x.1 })
+    (λ y. (y.0.steps, y.1)) _ _ _ _ family c.requires.told c.requires.starts _ c.in_err-walked.ensures).0
 
 pub returns-in_err-walked-clause-failed : goal.returns-in_err-walked-clause-failed
 returns-in_err-walked-clause-failed g c =
     let p = err_from_is_err_and c.from_residual.result c.from_residual.ensures.1 in
     let family = g.met.F.CapturedFamily.same_family ∙ sym c.is_faultless.ensures.family ∙ ap (λ (k : Configuration). k.family) c.config.ensures in
     rw (p.1, p.2) (verdict_early g.F.Address.LineKey.family
-    (λ x. record { link = x.0.link; queries = x.0.queries; terms = x.0.terms; told = x.0.told; output = output_of g.W.Write.contents x.1 }) _ _ _ refl
-    refl family (ap (λ (t : ToldState). t.additions) c.requires.told) (ap (λ (t : ToldState). t.last) c.requires.told) c.requires.starts _ _ _ _
-    c.in_err-walked.ensures).1
+    (λ x. record { link = x.0.link; queries = x.0.queries; terms = x.0.terms; told = x.0.told; output = output_of g.W.Write.contents x.1 })
+    (λ y. (y.0.steps, y.1)) _ _ _ _ family c.requires.told c.requires.starts _ c.in_err-walked.ensures).1
 
 pub returns-in_err-walked-clause-no_memory : goal.returns-in_err-walked-clause-no_memory
 returns-in_err-walked-clause-no_memory g c =
     let p = err_from_is_err_and c.from_residual.result c.from_residual.ensures.1 in
     let family = g.met.F.CapturedFamily.same_family ∙ sym c.is_faultless.ensures.family ∙ ap (λ (k : Configuration). k.family) c.config.ensures in
-    rw (p.1, p.2) (λ is.
-    (verdict_early g.F.Address.LineKey.family
-    (λ x. record { link = x.0.link; queries = x.0.queries; terms = x.0.terms; told = x.0.told; output = output_of g.W.Write.contents x.1 }) _ _ _ refl
-    refl family (ap (λ (t : ToldState). t.additions) c.requires.told) (ap (λ (t : ToldState). t.last) c.requires.told) c.requires.starts _ _ _ _
-    c.in_err-walked.ensures).2 (ap (fault_or c.in_err-walked.field-0.0) is))
+    rw (p.1, p.2) (λ is. (verdict_early g.F.Address.LineKey.family
+    (λ x. record { link = x.0.link; queries = x.0.queries; terms = x.0.terms; told = x.0.told; output = output_of g.W.Write.contents x.1 })
+    (λ y. (y.0.steps, y.1)) _ _ _ _ family c.requires.told c.requires.starts _ c.in_err-walked.ensures).2 (ap (fault_or c.in_err-walked.field-0.0) is))
 
 pub rest-requires : goal.rest-requires
 rest-requires g c =
     let family = g.met.F.CapturedFamily.same_family ∙ sym c.is_faultless.ensures.family ∙ ap (λ (k : Configuration). k.family) c.config.ensures in
-    let kept = kept_to_the_end g.F.Address.LineKey.family
-    (λ x. record { link = x.0.link; queries = x.0.queries; terms = x.0.terms; told = x.0.told; output = output_of g.W.Write.contents x.1 }) _ _ _ refl
-    refl family (ap (λ (t : ToldState). t.additions) c.requires.told)
-    (ap (λ (t : ToldState). t.last) c.requires.told) c.requires.starts _ _ _ c.in_ok-walked.walked c.in_ok-walked.ensures in
-    record { in_range = subst (λ (t : CheckTerms). IfSome t.until (λ ms. ms ≤ 2 ^ 53)) (sym kept.0) c.requires.in_range }
+    let same = kept g.F.Address.LineKey.family
+    (λ x. record { link = x.0.link; queries = x.0.queries; terms = x.0.terms; told = x.0.told; output = output_of g.W.Write.contents x.1 })
+    (λ y. (y.0.steps, y.1)) _ _ _ _ family c.requires.told c.requires.starts c.in_ok-walked.walked c.in_ok-walked.ensures in
+    record {
+      few = c.in_ok-walked.ensures.ended.few;
+      in_range = subst (λ (t : CheckTerms). IfSome t.until (λ ms. ms ≤ 2 ^ 53)) (sym same.0) c.requires.in_range;
+    }
 
 pub returns-clause-puts : goal.returns-clause-puts
 returns-clause-puts g c =
     let family = g.met.F.CapturedFamily.same_family ∙ sym c.is_faultless.ensures.family ∙ ap (λ (k : Configuration). k.family) c.config.ensures in
     verdict_well g.F.Address.LineKey.family
-    (λ x. record { link = x.0.link; queries = x.0.queries; terms = x.0.terms; told = x.0.told; output = output_of g.W.Write.contents x.1 }) _ _ _ refl
-    refl family (ap (λ (t : ToldState). t.additions) c.requires.told)
-    (ap (λ (t : ToldState). t.last) c.requires.told) c.requires.starts _ _ _ c.in_ok-walked.walked _ _ _
-    (ap (λ (t : ToldState). t.count) c.requires.told) c.in_ok-walked.ensures c.rest.ensures.rest
+    (λ x. record { link = x.0.link; queries = x.0.queries; terms = x.0.terms; told = x.0.told; output = output_of g.W.Write.contents x.1 })
+    (λ y. (y.0.steps, y.1)) _ _ _ _ family c.requires.told c.requires.starts c.in_ok-walked.walked c.in_ok-walked.ensures _ _ _ c.rest.ensures.rest
 
 pub returns-clause-failed : goal.returns-clause-failed
 returns-clause-failed g c =
     let family = g.met.F.CapturedFamily.same_family ∙ sym c.is_faultless.ensures.family ∙ ap (λ (k : Configuration). k.family) c.config.ensures in
-    let kept = kept_to_the_end g.F.Address.LineKey.family
-    (λ x. record { link = x.0.link; queries = x.0.queries; terms = x.0.terms; told = x.0.told; output = output_of g.W.Write.contents x.1 }) _ _ _ refl
-    refl family (ap (λ (t : ToldState). t.additions) c.requires.told)
-    (ap (λ (t : ToldState). t.last) c.requires.told) c.requires.starts _ _ _ c.in_ok-walked.walked c.in_ok-walked.ensures in
-    c.rest.ensures.failed ∙ ap (λ (b : Bool). b || is_failed_write c.rest.result) kept.1
+    let same = kept g.F.Address.LineKey.family
+    (λ x. record { link = x.0.link; queries = x.0.queries; terms = x.0.terms; told = x.0.told; output = output_of g.W.Write.contents x.1 })
+    (λ y. (y.0.steps, y.1)) _ _ _ _ family c.requires.told c.requires.starts c.in_ok-walked.walked c.in_ok-walked.ensures in
+    c.rest.ensures.failed ∙ ap (λ (b : Bool). b || is_failed_write c.rest.result) same.1

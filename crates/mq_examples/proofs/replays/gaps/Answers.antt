@@ -3,12 +3,13 @@ use Rattle.mq_pcap.specs.{Capture.Captured, Capture.header_in, Capture.header_of
 use Rattle.std.specs.Fmt.{digits}
 use Rattle.hex.specs.Hex.{encode_with}
 use Rattle.mq_wire.specs.Codes.{code_of}
+use Rattle.mq_replay.specs.Courses.{with_packets}
 use Rattle.mq_examples.specs.{Links.igmp, Replays.two_packets, Replays.totals_of}
-use Rattle.mq_examples.proofs.{Captures.the_form, KnownReplays.within_known, KnownReplays.packets_known, KnownReplays.report-known}
+use Rattle.mq_examples.proofs.{Captures.the_form, KnownReplays.within_known, KnownReplays.report-known}
 use Rattle.mq_examples.proofs.replays.gaps.Goals as goal
 
 pub returns-clause-packet : goal.returns-clause-packet
-unfolding header_of header_in in_ethernet within_known packets_known digits encode_with code_of
+unfolding header_of header_in in_ethernet within_known with_packets digits encode_with code_of
 returns-clause-packet c =
     let first : Captured = record { stamp = 0; bytes = [] } in
     let second : Captured = record { stamp = 86400001; bytes = [] } in
@@ -41,7 +42,7 @@ returns-clause-packet c =
     }
 
 pub returns-clause-until : goal.returns-clause-until
-unfolding header_of header_in within_known packets_known digits encode_with code_of
+unfolding header_of header_in within_known with_packets digits encode_with code_of
 returns-clause-until c =
     let is = report-known igmp (Some 86400001) the_form [] None in
     record {

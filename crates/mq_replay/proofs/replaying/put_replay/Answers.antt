@@ -1,58 +1,50 @@
-use Rattle.std.proofs.Common.{◌≤◌, ◌^◌, ◌||◌, Bool, Result, Ok, Err, ap, sym, subst, ◌∙◌}
+use Rattle.std.proofs.Common.{◌≤◌, ◌^◌, ◌||◌, Bool, ap, sym, subst, ◌∙◌}
 use Rattle.std.specs.Prelude.{IfSome}
 use Rattle.std.proofs.lemmas.Result.{err_from_is_err_and}
 use Rattle.mq_text.specs.Printing.{output_of}
 use Rattle.mq_replay.specs.declared.asked.Asked.{Asked}
-use Rattle.mq_replay.specs.Listing.{is_failed_write}
-use Rattle.mq_replay.proofs.ReplayedOver.{kept_to_the_end, replays_from, reported_early, reported_well}
+use Rattle.mq_replay.specs.Faults.{is_failed_write}
+use Rattle.mq_replay.proofs.ReplayedOver.{kept, replayed_early, replayed_well}
 use Rattle.mq_replay.proofs.WalkedOver.{fault_or}
 use Rattle.mq_replay.proofs.replaying.put_replay.Goals as goal
 
 pub returns-in_err-walked-clause-puts : goal.returns-in_err-walked-clause-puts
 returns-in_err-walked-clause-puts g c =
     let p = err_from_is_err_and c.from_residual.result c.from_residual.ensures.1 in
-    rw (p.1, p.2) (reported_early
-    (λ x. record { link = x.0.link; asked = x.0.asked; held = x.0.buffer.items; output = output_of g.W.Write.contents x.1 }) _ _ _ _ _
-    (replays_from (λ x. record { link = x.0.link; asked = x.0.asked; held = x.0.buffer.items; output = output_of g.W.Write.contents x.1 }) _
-    c.requires.starts) _ _ _ _ c.in_err-walked.ensures).0
+    rw (p.1, p.2) (replayed_early
+    (λ x. record { link = x.0.link; asked = x.0.asked; held = x.0.buffer.items; output = output_of g.W.Write.contents x.1 })
+    (λ y. (y.0.steps, y.1)) _ _ _ _ c.requires.starts _ c.in_err-walked.ensures).0
 
 pub returns-in_err-walked-clause-failed : goal.returns-in_err-walked-clause-failed
 returns-in_err-walked-clause-failed g c =
     let p = err_from_is_err_and c.from_residual.result c.from_residual.ensures.1 in
-    rw (p.1, p.2) (reported_early
-    (λ x. record { link = x.0.link; asked = x.0.asked; held = x.0.buffer.items; output = output_of g.W.Write.contents x.1 }) _ _ _ _ _
-    (replays_from (λ x. record { link = x.0.link; asked = x.0.asked; held = x.0.buffer.items; output = output_of g.W.Write.contents x.1 }) _
-    c.requires.starts) _ _ _ _ c.in_err-walked.ensures).1
+    rw (p.1, p.2) (replayed_early
+    (λ x. record { link = x.0.link; asked = x.0.asked; held = x.0.buffer.items; output = output_of g.W.Write.contents x.1 })
+    (λ y. (y.0.steps, y.1)) _ _ _ _ c.requires.starts _ c.in_err-walked.ensures).1
 
 pub returns-in_err-walked-clause-no_memory : goal.returns-in_err-walked-clause-no_memory
 returns-in_err-walked-clause-no_memory g c =
     let p = err_from_is_err_and c.from_residual.result c.from_residual.ensures.1 in
-    rw (p.1, p.2) (λ is.
-    (reported_early (λ x. record { link = x.0.link; asked = x.0.asked; held = x.0.buffer.items; output = output_of g.W.Write.contents x.1 }) _ _ _ _ _
-    (replays_from (λ x. record { link = x.0.link; asked = x.0.asked; held = x.0.buffer.items; output = output_of g.W.Write.contents x.1 }) _
-    c.requires.starts) _ _ _ _ c.in_err-walked.ensures).2 (ap (fault_or c.in_err-walked.field-0.0) is))
+    rw (p.1, p.2) (λ is. (replayed_early
+    (λ x. record { link = x.0.link; asked = x.0.asked; held = x.0.buffer.items; output = output_of g.W.Write.contents x.1 })
+    (λ y. (y.0.steps, y.1)) _ _ _ _ c.requires.starts _ c.in_err-walked.ensures).2 (ap (fault_or c.in_err-walked.field-0.0) is))
 
 pub put_rest-requires-clause-few : goal.put_rest-requires-clause-few
 put_rest-requires-clause-few g c = c.in_ok-walked.ensures.ended.few
 
 pub put_rest-requires-clause-in_range : goal.put_rest-requires-clause-in_range
 put_rest-requires-clause-in_range g c =
-    let kept = kept_to_the_end
-    (λ x. record { link = x.0.link; asked = x.0.asked; held = x.0.buffer.items; output = output_of g.W.Write.contents x.1 }) _ _ _ _ _
-    (replays_from (λ x. record { link = x.0.link; asked = x.0.asked; held = x.0.buffer.items; output = output_of g.W.Write.contents x.1 }) _
-    c.requires.starts) _ _ _ c.in_ok-walked.walked c.in_ok-walked.ensures in
-    subst (λ (a : Asked). IfSome a.until (λ moment. moment ≤ 2 ^ 53)) (sym kept.0) c.requires.in_range
+    let same = kept (λ x. record { link = x.0.link; asked = x.0.asked; held = x.0.buffer.items; output = output_of g.W.Write.contents x.1 })
+    (λ y. (y.0.steps, y.1)) _ _ _ _ c.requires.starts c.in_ok-walked.walked c.in_ok-walked.ensures in
+    subst (λ (a : Asked). IfSome a.until (λ moment. moment ≤ 2 ^ 53)) (sym same.0) c.requires.in_range
 
 pub returns-clause-puts : goal.returns-clause-puts
 returns-clause-puts g c =
-    reported_well (λ x. record { link = x.0.link; asked = x.0.asked; held = x.0.buffer.items; output = output_of g.W.Write.contents x.1 }) _ _ _ _ _
-    (replays_from (λ x. record { link = x.0.link; asked = x.0.asked; held = x.0.buffer.items; output = output_of g.W.Write.contents x.1 }) _
-    c.requires.starts) _ _ _ c.in_ok-walked.walked _ _ _ c.in_ok-walked.ensures c.put_rest.ensures.rest
+    replayed_well (λ x. record { link = x.0.link; asked = x.0.asked; held = x.0.buffer.items; output = output_of g.W.Write.contents x.1 })
+    (λ y. (y.0.steps, y.1)) _ _ _ _ c.requires.starts c.in_ok-walked.walked c.in_ok-walked.ensures _ _ _ c.put_rest.ensures.rest
 
 pub returns-clause-failed : goal.returns-clause-failed
 returns-clause-failed g c =
-    let kept = kept_to_the_end
-    (λ x. record { link = x.0.link; asked = x.0.asked; held = x.0.buffer.items; output = output_of g.W.Write.contents x.1 }) _ _ _ _ _
-    (replays_from (λ x. record { link = x.0.link; asked = x.0.asked; held = x.0.buffer.items; output = output_of g.W.Write.contents x.1 }) _
-    c.requires.starts) _ _ _ c.in_ok-walked.walked c.in_ok-walked.ensures in
-    c.put_rest.ensures.failed ∙ ap (λ (b : Bool). b || is_failed_write c.put_rest.result) kept.1
+    let same = kept (λ x. record { link = x.0.link; asked = x.0.asked; held = x.0.buffer.items; output = output_of g.W.Write.contents x.1 })
+    (λ y. (y.0.steps, y.1)) _ _ _ _ c.requires.starts c.in_ok-walked.walked c.in_ok-walked.ensures in
+    c.put_rest.ensures.failed ∙ ap (λ (b : Bool). b || is_failed_write c.put_rest.result) same.1

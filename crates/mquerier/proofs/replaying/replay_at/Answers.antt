@@ -1,14 +1,22 @@
-use Rattle.std.proofs.Common.{arith, refl, rules, subst, Ok, Err, ◌∙◌}
+use Rattle.std.proofs.Common.{arith, refl, rules, subst, Bool, Ok, Err, ap, ◌∙◌}
 use Rattle.std.proofs.Math.Bool.{or-true}
 use Rattle.std.proofs.lemmas.Result.{err_from_is_err_and}
 use Rattle.mq_count.specs.Streams.{inner_of}
+use Rattle.mq_link.specs.Configuration.{Configuration}
+use Rattle.mq_pcap.specs.Filling.{input_of}
 use Rattle.mq_text.specs.Printing.{output_of}
-use Rattle.mq_replay.specs.declared.replay_fault.ReplayFault.{ReplayFault}
-use Rattle.mq_replay.specs.declared.replay_fault.ReplayFault.TheVariants as answer
+use Rattle.mq_replay.specs.declared.asked.Asked.{Asked}
 use Rattle.mq_replay.specs.Replaying.{Replays}
+use Rattle.mq_replay.specs.Report.{replay_of}
 use Rattle.mquerier.specs.Changes.{input_by}
+use Rattle.mquerier.specs.Replays.{asked_configuration}
+use Rattle.mquerier.proofs.Breakings.{reports_broke_off, status_by, unflushed_by, unwritten_by}
+use Rattle.mquerier.proofs.Checkings.{until_in_range}
 use Rattle.mquerier.proofs.Replayed.{flushed_at}
 use Rattle.mquerier.proofs.replaying.replay_at.Goals as goal
+
+pub replay-requires : goal.replay-requires
+replay-requires g c = until_in_range c.args.options.now.until c.in_ok-_end.ensures.1
 
 pub returns-in_err-flush-in-Ok-clause-works : goal.returns-in_err-flush-in-Ok-clause-works
 returns-in_err-flush-in-Ok-clause-works g c =
@@ -18,46 +26,11 @@ returns-in_err-flush-in-Ok-clause-works g c =
     let mid = g.W.Write.contents (inner_of c.replay.new.writer) in
     let new = output_of g.W.Write.contents c.flush.new.output in
     let r = Ok c.in-Ok._counts in
-    let flushed = flushed_at g.F.Family.FAMILY (g.F.Address.Key.number c.args.own) c.args.options.now.settings c.args.options.now.until _
-    c.args.options.now.changes _ input old mid new r c.in_ok-end.ensures c.in_ok-config.ensures c.in-Ok.ensures.replays
-    (λ e. absurd (cc e)) c.in_err-flush-in-Ok.ensures.bytes in
+    let flushed = flushed_at g.F.Family.FAMILY (g.F.Address.Key.number c.args.own) c.args.options.now.settings _ _ input old mid new r
+    c.in_ok-config.ensures c.in-Ok.ensures.replays refl c.in_err-flush-in-Ok.ensures.bytes in
     rw (p.1, p.2, c.in_err-flush-in-Ok.ensures.write) (
       λ e. absurd (omega (arith, e)),
-      λ e. ((c.in_ok-end.ensures.1, c.in_ok-config.ensures.0), (c.in_err-flush-in-Ok.ensures.failed ∙ or-true _, r, λ e. absurd (cc e), flushed)),
-    )
-
-pub returns-in_err-flush-in-Err-Pcap-clause-works : goal.returns-in_err-flush-in-Err-Pcap-clause-works
-returns-in_err-flush-in-Err-Pcap-clause-works g c =
-    let p = err_from_is_err_and c.from_residual-in_err-flush-in-Err-Pcap.result c.from_residual-in_err-flush-in-Err-Pcap.ensures.1 in
-    let input = input_by g.R.Read.remaining c.args.input.now c.replay.new.reader in
-    let old = output_of g.W.Write.contents c.args.output.now in
-    let mid = g.W.Write.contents (inner_of c.replay.new.writer) in
-    let new = output_of g.W.Write.contents c.flush-in-Err-Pcap.new.output in
-    let r = Err (answer.Pcap c.in-Err-Pcap.fault) in
-    let flushed = flushed_at g.F.Family.FAMILY (g.F.Address.Key.number c.args.own) c.args.options.now.settings c.args.options.now.until _
-    c.args.options.now.changes _ input old mid new r c.in_ok-end.ensures c.in_ok-config.ensures
-    (subst (λ (f : ReplayFault). Replays c.in_ok-config.config (record { until = c.in_ok-end.end; changes = c.args.options.now.changes }) input.old
-    input.new old.held mid (Err f)) c.in-Err-Pcap.field-0-is c.in-Err-Pcap.ensures.replays) (λ e. absurd (cc e)) c.in_err-flush-in-Err-Pcap.ensures.bytes in
-    rw (p.1, p.2, c.in_err-flush-in-Err-Pcap.ensures.write) (
-      λ e. absurd (omega (arith, e)),
-      λ e. ((c.in_ok-end.ensures.1, c.in_ok-config.ensures.0), (c.in_err-flush-in-Err-Pcap.ensures.failed ∙ or-true _, r, λ e. absurd (cc e), flushed)),
-    )
-
-pub returns-in_err-flush-in-Err-Gap-clause-works : goal.returns-in_err-flush-in-Err-Gap-clause-works
-returns-in_err-flush-in-Err-Gap-clause-works g c =
-    let p = err_from_is_err_and c.from_residual-in_err-flush-in-Err-Gap.result c.from_residual-in_err-flush-in-Err-Gap.ensures.1 in
-    let input = input_by g.R.Read.remaining c.args.input.now c.replay.new.reader in
-    let old = output_of g.W.Write.contents c.args.output.now in
-    let mid = g.W.Write.contents (inner_of c.replay.new.writer) in
-    let new = output_of g.W.Write.contents c.flush-in-Err-Gap.new.output in
-    let r = Err (answer.Gap c.in-Err-Gap.number) in
-    let flushed = flushed_at g.F.Family.FAMILY (g.F.Address.Key.number c.args.own) c.args.options.now.settings c.args.options.now.until _
-    c.args.options.now.changes _ input old mid new r c.in_ok-end.ensures c.in_ok-config.ensures
-    (subst (λ (f : ReplayFault). Replays c.in_ok-config.config (record { until = c.in_ok-end.end; changes = c.args.options.now.changes }) input.old
-    input.new old.held mid (Err f)) c.in-Err-Gap.field-0-is c.in-Err-Gap.ensures.replays) (λ e. absurd (cc e)) c.in_err-flush-in-Err-Gap.ensures.bytes in
-    rw (p.1, p.2, c.in_err-flush-in-Err-Gap.ensures.write) (
-      λ e. absurd (omega (arith, e)),
-      λ e. ((c.in_ok-end.ensures.1, c.in_ok-config.ensures.0), (c.in_err-flush-in-Err-Gap.ensures.failed ∙ or-true _, r, λ e. absurd (cc e), flushed)),
+      λ e. ((c.in_ok-_end.ensures.1, c.in_ok-config.ensures.0), (c.in_err-flush-in-Ok.ensures.failed ∙ or-true _, r, λ e. absurd (cc e), flushed)),
     )
 
 pub returns-in_ok-flush-in-Ok-clause-works : goal.returns-in_ok-flush-in-Ok-clause-works
@@ -66,21 +39,31 @@ returns-in_ok-flush-in-Ok-clause-works g c =
     let old = output_of g.W.Write.contents c.args.output.now in
     let mid = g.W.Write.contents (inner_of c.replay.new.writer) in
     let new = output_of g.W.Write.contents c.flush.new.output in
-    let r = Ok c.in-Ok._counts in
-    let flushed = flushed_at g.F.Family.FAMILY (g.F.Address.Key.number c.args.own) c.args.options.now.settings c.args.options.now.until _
-    c.args.options.now.changes _ input old mid new r c.in_ok-end.ensures c.in_ok-config.ensures c.in-Ok.ensures.replays
-    (λ e. absurd (cc e)) c.in_ok-flush-in-Ok.ensures.bytes in
-    ((c.in_ok-end.ensures.1, c.in_ok-config.ensures.0), refl, search rules, c.in-Ok._counts, flushed)
+    let flushed = flushed_at g.F.Family.FAMILY (g.F.Address.Key.number c.args.own) c.args.options.now.settings _ _ input old mid new
+    (Ok c.in-Ok._counts) c.in_ok-config.ensures c.in-Ok.ensures.replays refl c.in_ok-flush-in-Ok.ensures.bytes in
+    ((c.in_ok-_end.ensures.1, c.in_ok-config.ensures.0), refl, search rules, c.in-Ok._counts, flushed)
 
-pub returns-in_ok-flush-in-Err-Pcap-clause-works : goal.returns-in_ok-flush-in-Err-Pcap-clause-works
-returns-in_ok-flush-in-Err-Pcap-clause-works g c =
+pub returns-in-Err-clause-works : goal.returns-in-Err-clause-works
+returns-in-Err-clause-works g c =
     let input = input_by g.R.Read.remaining c.args.input.now c.replay.new.reader in
     let old = output_of g.W.Write.contents c.args.output.now in
-    let mid = g.W.Write.contents (inner_of c.replay.new.writer) in
-    let new = output_of g.W.Write.contents c.flush-in-Err-Pcap.new.output in
-    let r = Err (answer.Pcap c.in-Err-Pcap.fault) in
-    let flushed = flushed_at g.F.Family.FAMILY (g.F.Address.Key.number c.args.own) c.args.options.now.settings c.args.options.now.until _
-    c.args.options.now.changes _ input old mid new r c.in_ok-end.ensures c.in_ok-config.ensures
-    (subst (λ (f : ReplayFault). Replays c.in_ok-config.config (record { until = c.in_ok-end.end; changes = c.args.options.now.changes }) input.old
-    input.new old.held mid (Err f)) c.in-Err-Pcap.field-0-is c.in-Err-Pcap.ensures.replays) (λ e. absurd (cc e)) c.in_ok-flush-in-Err-Pcap.ensures.bytes in
-    (λ e. absurd (omega (arith, e)), λ e. ((c.in_ok-end.ensures.1, c.in_ok-config.ensures.0), (search rules, flushed)))
+    let mid = output_of g.W.Write.contents c.replay.new.writer in
+    let new = output_of g.W.Write.contents c.broken_off.new.output in
+    let asked : Asked = record { until = c.args.options.now.until; changes = c.args.options.now.changes } in
+    let config = asked_configuration g.F.Family.FAMILY (g.F.Address.Key.number c.args.own) c.args.options.now.settings in
+    let replays = subst (λ (k : Configuration). Replays k asked input.old input.new old.held mid.held (Err c.in-Err.fault)) c.in_ok-config.ensures.1
+    c.in-Err.ensures.replays in
+    let all = reports_broke_off (replay_of config asked) c.in-Err.fault c.broken_off.result input old mid new replays c.in-Err.ensures.failed
+    (λ e. let both = c.in-Err.ensures.memory (ap Err e) in (ap (input_of g.R.Read.remaining) both.0, ap (output_of g.W.Write.contents) both.1))
+    c.broken_off.ensures.bytes c.broken_off.ensures.failure (λ u. ap (output_of g.W.Write.contents) (c.broken_off.ensures.unflushed u)) in
+    let one = status_by c.in-Err.fault c.broken_off.result _ _ c.broken_off.ensures.failure in
+    (λ e. absurd (omega (arith, e, one)), λ e. ((c.in_ok-_end.ensures.1, c.in_ok-config.ensures.0), all))
+
+pub returns-in-Err-clause-unread : goal.returns-in-Err-clause-unread
+returns-in-Err-clause-unread g c =
+    λ none. (c.in-Err.ensures.memory (ap Err (unwritten_by {X = Bool} c.in-Err.fault c.broken_off.result _ _ c.broken_off.ensures.failure none))).0
+
+pub returns-in-Err-clause-unwritten : goal.returns-in-Err-clause-unwritten
+returns-in-Err-clause-unwritten g c =
+    λ none. let is = unwritten_by {X = Bool} c.in-Err.fault c.broken_off.result _ _ c.broken_off.ensures.failure none in
+    c.broken_off.ensures.unflushed (unflushed_by c.in-Err.fault is) ∙ (c.in-Err.ensures.memory (ap Err is)).1

@@ -1,23 +1,14 @@
-use Rattle.std.proofs.Common.{ℕ, ap, sym, ◌∙◌}
-use Rattle.mq_replay.specs.Report.{is_gap}
+use Rattle.std.proofs.Common.{◌+◌}
+use Rattle.std.proofs.lemmas.Result.{err_from_is_err_and}
+use Rattle.mq_replay.proofs.ReportedOver.{gap_put}
+use Rattle.mq_check.specs.declared.totals.Totals.{Totals}
 use Rattle.mq_check.specs.Coming.{checked_in}
 use Rattle.mq_check.specs.Ending.{ended_behind}
-use Rattle.mq_check.proofs.EndedChecks.{gap_at_rest, rest_at_end, rest_as}
 use Rattle.mq_check.proofs.running_check.Check.rest.Goals as goal
 
-pub returns-then-is_gap-clause-rest : goal.returns-then-is_gap-clause-rest
-returns-then-is_gap-clause-rest g c =
-    let gap = sym (λ i. is_gap (c.moment-before.ensures.same i) ((c.moment-now.ensures.same ∙ c.last_moment-end.ensures) i)) ∙ sym c.is_gap.ensures ∙
-    c.if-is_gap.true in
-    gap_at_rest c.args.self.now.link.config c.args.self.now.terms.within c.args.self.now.terms.until c.args.self.now.told c.args.last c.args.number
-    (checked_in c.args.self.now.link c.args.self.now.queries) _ _ gap
-
-pub returns-clause-rest : goal.returns-clause-rest
-returns-clause-rest g c =
-    let none = sym (λ i. is_gap (c.moment-before.ensures.same i) ((c.moment-now.ensures.same ∙ c.last_moment-end.ensures) i)) ∙ sym c.is_gap.ensures ∙
-    c.if-is_gap.false in
-    rest_as _ _ _ _ _ _ _
-    (sym (rest_at_end c.args.self.now.link.config c.args.self.now.terms.within c.args.self.now.terms.until c.args.self.now.told c.args.last
-    c.args.number (checked_in c.args.self.now.link c.args.self.now.queries) none ∙
-    ap (λ (end : ℕ). ended_behind c.args.self.now.link.config c.args.self.now.terms.within c.args.self.now.told end c.args.number
-    (checked_in c.args.self.now.link c.args.self.now.queries)) (sym c.last_moment-end.ensures))) c.end.ensures.rest
+pub returns-in_err-end-clause-rest : goal.returns-in_err-end-clause-rest
+returns-in_err-end-clause-rest g c =
+    let p = err_from_is_err_and c.from_residual.result c.from_residual.ensures.1 in
+    let number = c.args.walked.packets + 1 in
+    rw (p.1, p.2) (gap_put {T = Totals} (λ end. ended_behind c.args.self.now.link.config c.args.self.now.terms.within c.args.self.now.told end number
+    (checked_in c.args.self.now.link c.args.self.now.queries)) c.args.self.now.terms.until c.args.walked.last number _ _ _ c.in_err-end.ensures)

@@ -3,16 +3,12 @@ use Rattle.std.proofs.lemmas.Result.{err_from_is_err_and}
 use Rattle.mq_text.specs.declared.printing.LineFault.{LineFault}
 use Rattle.mq_check.specs.Checking.{CheckingValue}
 use Rattle.mq_check.proofs.WalkedChecks.{comes_broken, comes_then, comes_well}
-use Rattle.mq_check.proofs.running_check.CheckStepWatched.packet.Goals as goal
-
-pub returns-then-follows_gap : goal.returns-then-follows_gap
-returns-then-follows_gap g c = (sym c.follows_gap.ensures ∙ c.if-follows_gap.true, refl, refl)
+use Rattle.mq_check.proofs.running_check.CheckGaplessStepWatched.packet.Goals as goal
 
 pub returns-in_err-check_packet : goal.returns-in_err-check_packet
 returns-in_err-check_packet g c =
     let p = err_from_is_err_and c.from_residual.result c.from_residual.ensures.1 in
     rw (p.1, p.2) (record {
-      no_gap = sym c.follows_gap.ensures ∙ c.if-follows_gap.false;
       same_terms = c.in_err-check_packet.ensures.terms;
       comes = comes_broken _ _ _ _ _ _ _ _ _ _ c.in_err-check_packet.ensures.comes;
     })
@@ -21,7 +17,6 @@ pub returns-then-is_full : goal.returns-then-is_full
 returns-then-is_full g c =
     let state = c.is_full.ensures ∙ ap (λ (s : CheckingValue). s.waiting.is_full) c.checking.ensures in (
       record {
-        no_gap = sym c.follows_gap.ensures ∙ c.if-follows_gap.false;
         same_terms = c.in_ok-check_packet.ensures.terms;
         comes = comes_well _ _ _ _ _ _ _ _ _ c.in_ok-check_packet.ensures.comes;
       },
@@ -34,7 +29,6 @@ returns-in_err-write_before_wait g c =
     let p = err_from_is_err_and c.from_residual-in_err-write_before_wait.result c.from_residual-in_err-write_before_wait.ensures.1 in
     let written = c.in_err-write_before_wait.ensures in
     rw (p.1, p.2) (record {
-      no_gap = sym c.follows_gap.ensures ∙ c.if-follows_gap.false;
       same_terms = c.in_ok-check_packet.ensures.terms;
       comes = comes_broken _ _ _ _ _ _ _ _ _ _
           (comes_then (Unit {0}) LineFault _ _ _ _ _ _ _ c.write_before_wait.new.self _ _ _ _ (Err c.in_err-write_before_wait.field-0.0)
@@ -46,7 +40,6 @@ returns g c =
     let state = c.is_full.ensures ∙ ap (λ (s : CheckingValue). s.waiting.is_full) c.checking.ensures in
     let written = c.in_ok-write_before_wait.ensures in (
       record {
-        no_gap = sym c.follows_gap.ensures ∙ c.if-follows_gap.false;
         same_terms = c.in_ok-check_packet.ensures.terms;
         comes = comes_well _ _ _ _ _ _ _ _ _
             (comes_then (Unit {0}) LineFault _ _ _ _ _ _ _ c.write_before_wait.new.self _ _ _ _
