@@ -5,7 +5,7 @@ ghost use Rattle.mq_c.specs.Queries.{framed, outbox_at, outbox_of};
 
 use byteorder::{BigEndian, ByteOrder};
 use mq_link::Outlet;
-use mq_wire::WireKey;
+use mq_wire::{Query, WireKey};
 
 /// The most bytes of a message, whose length has two bytes.
 const LONGEST: usize = 65535;
@@ -76,7 +76,7 @@ impl<'a, K: WireKey> Outlet<K> for Queries<'a> {
 
     ghost takes = { TakesFramed K.WIDTH };
 
-    fn datagram(&mut self, to: K, bytes: &[u8]) -> bool {
+    fn datagram(&mut self, to: K, _query: &Query<'_, K>, bytes: &[u8]) -> bool {
         let room = self.out.len();
         if bytes.len() > LONGEST
             || room < self.written

@@ -1,6 +1,7 @@
 -- Subjects and terms of queries (RFC 3376 sections 4.1, 4.1.11 and 7.1, RFC 3810 sections 5.1, 5.1.13 and 8.1).
 -- Addresses are numbers.
 use Rattle.std.specs.Prelude.{ℕ, ◌==◌, ◌&&◌, Bool, true, false, if◌then◌else◌, List, [], ◌∷◌, map as list_map, Option, None, Some, Result, Ok, Err}
+use Rattle.std.specs.Option.{option_map}
 use Rattle.mq_wire.specs.declared.message.Message.{Message}
 use Rattle.mq_wire.specs.declared.message.Message.TheVariants.{Query as AQuery, OldReport, Leave, Report}
 use Rattle.mq_wire.specs.declared.message.WireFault.{WireFault}
@@ -13,7 +14,6 @@ use Rattle.mq_table.specs.declared.timing.Timing.{Timing}
 use Rattle.mq_link.specs.Family.{general_destination}
 use Rattle.mq_link.specs.Receive.{Envelope, read_of, pseudo_of, envelope_tests}
 use Rattle.mq_link.specs.Configuration.{Configuration}
-use Rattle.mq_link.specs.Sent.{Outgoing}
 use Rattle.mq_link.specs.Tests.{first_named}
 use Rattle.mq_lines.specs.Text.{current_version, has_response, query_sources, query_version}
 use Rattle.mq_replay.specs.Report.{Datagram}
@@ -78,6 +78,15 @@ terms_of family packet to query = record {
   packet = packet;
 }
 
+-- the terms of a query that is sent: its bytes have the codes of its response and its interval
+abbrev pub terms_sent : Family → (packet to : ℕ) → Query ℕ → Terms ℕ
+terms_sent family packet to query =
+    let terms = terms_of family packet to query in
+    record terms {
+      response = option_map (response_lowered family) terms.response;
+      querier = option_map (λ (q : QuerierTerms). record q { interval = interval_lowered q.interval }) terms.querier;
+    }
+
 -- The terms of a general query. The response is the Query Response Interval, and QRV and QQIC are those in force, each
 -- rounded by its code. S is clear. RFC 3376 sections 4.1.1, 4.1.5 to 4.1.7, 4.1.12 and 8.3, RFC 3810 sections 5.1.3,
 -- 5.1.7 to 5.1.9, 5.1.15 and 9.3.
@@ -105,15 +114,6 @@ query_read (Ok (Report records)) = None
 -- the query that the bytes of a datagram encode, if there is one
 unfoldable pub query_spelled : Family → Envelope → (bytes : List ℕ) → Option (Query ℕ)
 query_spelled family envelope bytes = query_read (read_of family (pseudo_of family envelope bytes) bytes)
-
--- the envelope of a message that the router sends itself; for IGMP only the source matters
-abbrev pub envelope_sent : Family → (own to : ℕ) → Envelope
-envelope_sent Igmp own to = record { source = own; destination = 0; hop_limit = 0; alert = false }
-envelope_sent Mld own to = record { source = own; destination = to; hop_limit = 1; alert = true }
-
--- the query in a message that the link sends
-abbrev pub query_sent : Family → (own : ℕ) → Outgoing → Option (Query ℕ)
-query_sent family own message = query_spelled family (envelope_sent family own message.to) message.bytes
 
 -- A query of the router at the own address on which hosts act. A query that hosts drop for its packet or its bytes is
 -- none (RFC 3376 section 4.1.2, RFC 3810 sections 5.1.2, 5.1.14 and 6.2).

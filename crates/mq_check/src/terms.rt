@@ -80,6 +80,28 @@ pub(crate) fn terms_of<K: LineKey>(packet: u64, to: K, query: &Query<'_, K>) -> 
     }
 }
 
+/// Returns the terms of a query that is sent to an address: its bytes have the codes of its response and its interval.
+pub(crate) fn terms_sent<F: CheckedFamily>(
+    packet: u64,
+    to: F::Address,
+    query: &Query<'_, F::Address>,
+) -> Terms<F::Address>
+where
+    F::Address: LineKey,
+    ensures { numbered_terms F.Address.number result
+        ≡ spec.terms_sent F.FAMILY packet (F.Address.number to) (numbered_query F.Address.number query.now) }
+{
+    let terms = terms_of(packet, to, query);
+    Terms {
+        response: terms.response.map(F::response_said),
+        querier: terms.querier.map(|querier| QuerierTerms {
+            interval: interval_said(querier.interval),
+            ..querier
+        }),
+        ..terms
+    }
+}
+
 /// Returns the terms of a general query under this timing in force.
 pub(crate) fn general_terms<F: CheckedFamily>(
     config: &Config<F>,

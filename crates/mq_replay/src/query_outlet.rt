@@ -7,6 +7,7 @@ use mq_count::{Moment, Watched};
 use mq_lines::LineKey;
 use mq_link::Outlet;
 use mq_text::{LineFault, Text};
+use mq_wire::Query;
 use std::io::Write;
 
 /// An outlet that puts the line of each query at one moment. It answers true if the line was put. Once a write has
@@ -54,7 +55,7 @@ impl<'a, K: LineKey, W: Write> Outlet<K> for QueryLines<'a, W> {
 
     ghost takes = { TakesQuery W.contents K.family };
 
-    fn datagram(&mut self, to: K, bytes: &[u8]) -> bool {
+    fn datagram(&mut self, to: K, _query: &Query<'_, K>, bytes: &[u8]) -> bool {
         if self.answer.is_err() {
             return false;
         }
