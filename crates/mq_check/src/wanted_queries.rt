@@ -20,7 +20,7 @@ use crate::stamp::Stamp;
 use crate::told::Told;
 use mq_count::{Moment, Watched};
 use mq_lines::LineKey;
-use mq_link::{Link, Outlet};
+use mq_link::{Link, QueryOutlet};
 use mq_pcap::{Inner, LinkType};
 use mq_replay::CapturedDatagram;
 use mq_sched::OtherQuerier;
@@ -261,14 +261,17 @@ where
         };
         self.checking.query_seen(within, link, packet, query);
     }
+}
 
-    /// Handles a query that the link sends.
-    fn want(&mut self, to: F::Address, query: &Query<'_, F::Address>)
-        ensures { self.new ≡ record self.old {
-          checking =
-              spec.one_wanted F.FAMILY self.old.moment self.old.basis.packets self.old.by_tick self.old.is_returning (F.Address.number to) (numbered_query F.Address.number query.now) self.old.checking;
-        } }
-    {
+impl<F: CheckedFamily, A: Allocator> QueryOutlet<F::Address> for WantedQueries<F, A>
+where
+    F::Address: LineKey,
+{
+    ghost use Rattle.mq_check.specs.Wanting.{TakesMessage};
+
+    ghost takes = { TakesMessage F.FAMILY };
+
+    fn query(&mut self, to: F::Address, query: &Query<'_, F::Address>, _bytes: &[u8]) -> bool {
         let packet = self.basis.packets;
         self.checking.query_wanted(
             self.moment,
@@ -278,24 +281,6 @@ where
             to,
             query,
         );
-    }
-}
-
-impl<F: CheckedFamily, A: Allocator> Outlet<F::Address> for WantedQueries<F, A>
-where
-    F::Address: LineKey,
-{
-    ghost use Rattle.mq_check.specs.Wanting.{TakesMessage};
-
-    ghost takes = { TakesMessage F.FAMILY };
-
-    fn datagram(
-        &mut self,
-        to: F::Address,
-        query: &Query<'_, F::Address>,
-        _bytes: &[u8],
-    ) -> bool {
-        self.want(to, query);
         true
     }
 }

@@ -13,7 +13,7 @@ ghost use Rattle.mq_link.specs.State.{one_if};
 
 use crate::config::Config;
 use crate::family::Family;
-use crate::outlet::Outlet;
+use crate::outlet::QueryOutlet;
 use arrayvec::ArrayVec;
 use mq_sched::{QueryParts, Sink};
 use mq_table::Timing;
@@ -161,7 +161,7 @@ pub(crate) struct Sender<'a, F: Family, O> {
     unsent: u64,
 }
 
-impl<'a, F: Family, O: Outlet<F::Address>> Sender<'a, F, O> {
+impl<'a, F: Family, O: QueryOutlet<F::Address>> Sender<'a, F, O> {
     /// Returns a sender to this outlet on these terms. Each call of a link sets them anew.
     pub(crate) fn new(terms: &'a mut QueryTerms<F>, outlet: &'a mut O) -> Sender<'a, F, O>
         ensures same_terms { result.terms.ghost_name ≡ terms.entry.ghost_name }
@@ -226,7 +226,7 @@ impl<'a, F: Family, O: Outlet<F::Address>> Sender<'a, F, O> {
         ensures unsent { self.new.unsent ≡ counted_on self.old.unsent (one_if (not result)) }
     {
         let to = destination::<F>(query.group);
-        let answer = self.outlet.datagram(to, query, bytes);
+        let answer = self.outlet.query(to, query, bytes);
         if answer {
             self.sent = self.sent.saturating_add(1);
         } else {
@@ -236,7 +236,7 @@ impl<'a, F: Family, O: Outlet<F::Address>> Sender<'a, F, O> {
     }
 }
 
-impl<'a, F: Family, O: Outlet<F::Address>> Sink<F::Address> for Sender<'a, F, O> {
+impl<'a, F: Family, O: QueryOutlet<F::Address>> Sink<F::Address> for Sender<'a, F, O> {
     ghost takes = { TakesQuery O.takes F.FAMILY };
 
     fn send(&mut self, query: QueryParts<'_, F::Address>) -> bool

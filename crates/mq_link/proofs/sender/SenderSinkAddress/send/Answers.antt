@@ -22,7 +22,7 @@ returns-then-not-fits_one-clause-takes g c =
 
 pub returns-clause-takes : goal.returns-clause-takes
 returns-clause-takes g c =
-    let takes = g.O.Outlet.takes in
+    let takes = g.O.QueryOutlet.takes in
     let before = c.args.self.now in
     let handed = c.hand_over.ensures in
     let written = c.write-fields.ensures in
