@@ -1,5 +1,5 @@
 -- What a sender has taken of what is due at a moment.
-use Rattle.std.proofs.Common.{◌≡◌, ℕ, Bool, cond, List, [], ◌∷◌, ◌++◌, sym, subst}
+use Rattle.std.proofs.Common.{◌≡◌, ℕ, Bool, cond, [], ◌∷◌, ◌++◌, sym, subst}
 use Rattle.mq_wire.specs.Family.{Family}
 use Rattle.mq_table.specs.declared.timing.Timing.{Timing}
 use Rattle.mq_sched.specs.Election.{ElectionState, ticked, general_messages}

@@ -1,5 +1,5 @@
 -- What a tick makes of a router.
-use Rattle.std.proofs.Common.{◌≡◌, ℕ, Bool, max, List, ◌++◌, sym, ap, ◌∙◌, subst}
+use Rattle.std.proofs.Common.{◌≡◌, ℕ, Bool, max, ◌++◌, sym, ap, ◌∙◌, subst}
 use Rattle.mq_wire.specs.Family.{Family}
 use Rattle.mq_table.specs.Variables.{AreInRange}
 use Rattle.mq_sched.specs.Election.{ticked, general_messages}
