@@ -26,7 +26,7 @@ use Rattle.mq_check.specs.Schedules.{SchedulesValue, schedules_at_start, schedul
 use Rattle.mq_link.specs.Configuration.{Configuration}
 use Rattle.mq_link.specs.Sent.{Outgoing}
 use Rattle.mq_link.specs.State.{LinkState}
-use Rattle.mq_check.specs.Queries.{asked_in, is_general, terms_of, terms_sent, general_terms}
+use Rattle.mq_check.specs.Queries.{asked_in, is_general, terms_of, general_terms}
 use Rattle.mq_check.specs.Waiting.{WaitingValue, nothing, with_entry, with_partner, is_free, has_free}
 use Rattle.mq_check.specs.Waiting as waits
 
@@ -239,7 +239,7 @@ abbrev pub one_wanted : Family → (moment packet : ℕ) → (by_tick is_returni
 one_wanted family moment packet by_tick is_returning to query c =
     if is_general query && not is_returning
     then c
-    else fold (subject_wanted moment (by_tick && not (is_general query)) (terms_sent family packet to query)) c (asked_in query)
+    else fold (subject_wanted moment (by_tick && not (is_general query)) (terms_of family packet to query)) c (asked_in query)
 
 -- the check after all messages of a step
 abbrev pub with_messages : Family → (moment packet : ℕ) → (by_tick is_returning : Bool) → List Outgoing → CheckingValue → CheckingValue

@@ -1,7 +1,6 @@
 -- Subjects and terms of queries (RFC 3376 sections 4.1, 4.1.11 and 7.1, RFC 3810 sections 5.1, 5.1.13 and 8.1).
 -- Addresses are numbers.
 use Rattle.std.specs.Prelude.{ℕ, ◌==◌, ◌&&◌, Bool, true, false, if◌then◌else◌, List, [], ◌∷◌, map as list_map, Option, None, Some, Result, Ok, Err}
-use Rattle.std.specs.Option.{option_map}
 use Rattle.mq_wire.specs.declared.message.Message.{Message}
 use Rattle.mq_wire.specs.declared.message.Message.TheVariants.{Query as AQuery, OldReport, Leave, Report}
 use Rattle.mq_wire.specs.declared.message.WireFault.{WireFault}
@@ -54,18 +53,18 @@ is_same (Source g s) AllGroups = false
 is_same (Source g s) (Group g') = false
 is_same (Source g s) (Source g' s') = (g == g') && (s == s')
 
--- the response of a query, which one of IGMPv1 doesn't have
+-- the response of a query, rounded by its code, which one of IGMPv1 doesn't have
 abbrev pub response_said : Family → (response : ℕ) → QueryVersion ℕ → Option ℕ
 response_said family response (Older version) = if has_response family version then Some response else None
-response_said family response (Current fields) = Some response
+response_said family response (Current fields) = Some (response_lowered family response)
 
--- the S flag, QRV and the interval of QQIC, which older queries don't have
+-- the S flag, QRV and the interval of QQIC, rounded by its code, which older queries don't have
 abbrev pub querier_terms : QueryVersion ℕ → Option QuerierTerms
 querier_terms (Older version) = None
 querier_terms (Current fields) = Some (record {
   suppress = fields.suppress;
   robustness = fields.robustness;
-  interval = fields.interval;
+  interval = interval_lowered fields.interval;
 })
 
 -- the version, the fields and the destination of a query, and the number of a packet
@@ -77,15 +76,6 @@ terms_of family packet to query = record {
   to = to;
   packet = packet;
 }
-
--- the terms of a query that is sent: its bytes have the codes of its response and its interval
-abbrev pub terms_sent : Family → (packet to : ℕ) → Query ℕ → Terms ℕ
-terms_sent family packet to query =
-    let terms = terms_of family packet to query in
-    record terms {
-      response = option_map (response_lowered family) terms.response;
-      querier = option_map (λ (q : QuerierTerms). record q { interval = interval_lowered q.interval }) terms.querier;
-    }
 
 -- The terms of a general query. The response is the Query Response Interval, and QRV and QQIC are those in force, each
 -- rounded by its code. S is clear. RFC 3376 sections 4.1.1, 4.1.5 to 4.1.7, 4.1.12 and 8.3, RFC 3810 sections 5.1.3,

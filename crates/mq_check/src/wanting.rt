@@ -14,7 +14,7 @@ use crate::asked::Asked;
 use crate::checked_family::CheckedFamily;
 use crate::checking::Checking;
 use crate::entry::Entry;
-use crate::terms::{Terms, terms_sent};
+use crate::terms::{Terms, terms_of};
 use crate::waiting::Side;
 use mq_count::Moment;
 use mq_lines::LineKey;
@@ -178,7 +178,7 @@ where
         if is_general && !is_returning {
             return;
         }
-        let terms = terms_sent::<F>(packet, to, query);
+        let terms = terms_of::<F>(packet, to, query);
         self.want_all(moment, by_tick && !is_general, terms, query);
     }
 }

@@ -21,7 +21,7 @@ use Rattle.mq_replay.specs.Listing.{moment_of}
 use Rattle.mq_replay.specs.Report.{Datagram, datagram_of, all_sent}
 use Rattle.mq_check.specs.declared.headers.HeaderFault.{HeaderFault}
 use Rattle.mq_check.specs.Check.{destination_in, faults_in}
-use Rattle.mq_check.specs.Queries.{asked_in, is_general, terms_of, terms_sent, query_seen}
+use Rattle.mq_check.specs.Queries.{asked_in, is_general, terms_of, query_seen}
 use Rattle.mq_laws.specs.Captures.{Passage, happening_behind, wanted_for, wanted_of, wanted_by, role_by_tick, role_by_datagram, tick_passage}
 use Rattle.mq_laws.specs.Captures.{ticks_passage, ticks_through, event_of, fault_events, datagram_passage, frame_passage, packet_passage}
 use Rattle.mq_laws.specs.Captures.{packets_passage, last_of, end_of, events_ahead, events_of}
@@ -74,7 +74,7 @@ order-wanted_for : (now packets : ℕ) (family : Family) (by_tick is_returning :
     AreInOrder now (wanted_for family packets by_tick is_returning to query) now
 order-wanted_for now packets family by_tick is_returning to query = by_test (is_general query && not is_returning)
   where
-    by_test : (b : Bool) → AreInOrder now (cond b [] (Wants (by_tick && not (is_general query)) (terms_sent family packets to query) (asked_in query) ∷ [])) now
+    by_test : (b : Bool) → AreInOrder now (cond b [] (Wants (by_tick && not (is_general query)) (terms_of family packets to query) (asked_in query) ∷ [])) now
     by_test true = omega arith
     by_test false = omega arith
 
