@@ -51,7 +51,7 @@ Puts width old (message ∷ messages) (answer ∷ answers) new =
     (IsTrue answer ↔ Fits width message old) × Puts width (put width message answer old) messages answers new
 
 -- The effect of one query on the outlet.
-pub record TakesFramed (width : ℕ) (old : Queries) (to : ℕ) (bytes : List ℕ) (answer : Bool) (new : Queries) : Type 0 where
+pub record TakesFramed (width : ℕ) (old : Queries) (message : Outgoing) (answer : Bool) (new : Queries) : Type 0 where
   pub same_out : new.out.ghost_name ≡ old.out.ghost_name
-  pub fits : IsTrue answer ↔ Fits width (record { to = to; bytes = bytes }) (outbox_of old)
-  pub puts : outbox_of new ≡ put width (record { to = to; bytes = bytes }) answer (outbox_of old)
+  pub fits : IsTrue answer ↔ Fits width message (outbox_of old)
+  pub puts : outbox_of new ≡ put width message answer (outbox_of old)

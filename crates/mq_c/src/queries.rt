@@ -4,8 +4,8 @@ ghost use Rattle.std.specs.Prelude.{◌≡◌, ◌≤◌, ◌<◌, ◌+◌, ◌+
 ghost use Rattle.mq_c.specs.Queries.{framed, outbox_at, outbox_of};
 
 use byteorder::{BigEndian, ByteOrder};
-use mq_link::Outlet;
-use mq_wire::WireKey;
+use mq_link::QueryOutlet;
+use mq_wire::{Query, WireKey};
 
 /// The most bytes of a message, whose length has two bytes.
 const LONGEST: usize = 65535;
@@ -71,12 +71,12 @@ fn frame<K: WireKey>(to: K, bytes: &[u8], out: &mut [u8])
     message.copy_from_slice(bytes);
 }
 
-impl<'a, K: WireKey> Outlet<K> for Queries<'a> {
+impl<'a, K: WireKey> QueryOutlet<K> for Queries<'a> {
     ghost use Rattle.mq_c.specs.Queries.{TakesFramed};
 
     ghost takes = { TakesFramed K.WIDTH };
 
-    fn datagram(&mut self, to: K, bytes: &[u8]) -> bool {
+    fn query(&mut self, to: K, _query: &Query<'_, K>, bytes: &[u8]) -> bool {
         let room = self.out.len();
         if bytes.len() > LONGEST
             || room < self.written

@@ -39,26 +39,26 @@ step_left family now before after step begun new messages answers out handed =
 -- what is wanted by a step
 step_wanted : (family : Family) (now : ℕ) (by_tick : Bool) (before after : LinkValue) (step : Step) (old begun new : WantingValue)
     (messages : List Outgoing) (answers : List Bool)
-    → family ≡ before.config.family → old.own ≡ before.config.own → begun ≡ begun_at now by_tick before old
+    → family ≡ before.config.family → begun ≡ begun_at now by_tick before old
     → HandsOut before.config step messages answers after.state → HandsOver (TakesMessage family) begun messages answers new
     → new.checking ≡ wanted_by before.config now by_tick step (checked_in before old)
-step_wanted family now by_tick before after step old begun new messages answers is_family is_own begins out handed =
+step_wanted family now by_tick before after step old begun new messages answers is_family begins out handed =
     let is_returning = not (is_querier before.state.election.role) in
     ap (λ (w : WantingValue). w.checking) (all_wanted family begun messages answers new handed ∙ ap (after_messages family messages) begins)
-    ∙ (λ i. with_messages (is_family i) (is_own i) now old.basis.packets by_tick is_returning (out.handed i) old.checking)
+    ∙ (λ i. with_messages (is_family i) now old.basis.packets by_tick is_returning (out.handed i) old.checking)
 
 pub ticked_is : (family : Family) (within now : ℕ) (before after : LinkValue) (old begun new last : WantingValue) (messages : List Outgoing)
     (answers : List Bool)
-    → family ≡ before.config.family → old.own ≡ before.config.own → begun ≡ begun_at now true before old
+    → family ≡ before.config.family → begun ≡ begun_at now true before old
     → HandsOut before.config (tick_of before.config now before.state) messages answers after.state → HandsOver (TakesMessage family) begun messages answers new
     → last.checking ≡ role_after_tick within now (is_querier before.state.election.role) (is_querier after.state.election.role) new.checking
     → last.basis ≡ basis.role_after_tick now (is_querier before.state.election.role) (is_querier after.state.election.role) new.basis
     → checked_in after last ≡ ticked before.config within now (checked_in before old)
 unfolding ticked
-ticked_is family within now before after old begun new last messages answers is_family is_own begins out handed role rests =
+ticked_is family within now before after old begun new last messages answers is_family begins out handed role rests =
     let step = tick_of before.config now before.state in
     let left = step_left family now before after step begun new messages answers out handed in
-    let wanted = step_wanted family now true before after step old begun new messages answers is_family is_own begins out handed in
+    let wanted = step_wanted family now true before after step old begun new messages answers is_family begins out handed in
     let kept : new.basis ≡ old.basis = basis_kept family begun new messages answers handed ∙ ap (λ (w : WantingValue). w.basis) begins in
     λ i. record {
       link = left i;
@@ -68,7 +68,7 @@ ticked_is family within now before after old begun new last messages answers is_
 
 pub received_is : (family : Family) (within now : ℕ) (datagram : Datagram) (before after : LinkValue) (old noted begun new last : WantingValue)
     (messages : List Outgoing) (answers : List Bool)
-    → family ≡ before.config.family → old.own ≡ before.config.own →
+    → family ≡ before.config.family →
     noted ≡ record old { checking = all_blocked now (blocked_in before.config.family datagram) old.checking } → begun ≡ begun_at now false before noted
     → HandsOut before.config (receipt_of before.config datagram.envelope datagram.body now before.state).step messages answers after.state →
     HandsOver (TakesMessage family) begun messages answers new
@@ -77,11 +77,10 @@ pub received_is : (family : Family) (within now : ℕ) (datagram : Datagram) (be
     (basis.role_changed now (is_querier before.state.election.role) (is_querier after.state.election.role) new.basis)
     → checked_in after last ≡ received before.config within now datagram (checked_in before old)
 unfolding received
-received_is family within now datagram before after old noted begun new last messages answers is_family is_own notes begins out handed role rests =
+received_is family within now datagram before after old noted begun new last messages answers is_family notes begins out handed role rests =
     let step = (receipt_of before.config datagram.envelope datagram.body now before.state).step in
     let left = step_left family now before after step begun new messages answers out handed in
-    let owns = ap (λ (w : WantingValue). w.own) notes ∙ is_own in
-    let wanted = step_wanted family now false before after step noted begun new messages answers is_family owns begins out handed ∙
+    let wanted = step_wanted family now false before after step noted begun new messages answers is_family begins out handed ∙
     ap (λ (w : WantingValue). wanted_by before.config now false step (checked_in before w)) notes in
     let kept : new.basis ≡ old.basis = basis_kept family begun new messages answers handed ∙ ap (λ (w : WantingValue). w.basis) begins ∙
     ap (λ (w : WantingValue). w.basis) notes in

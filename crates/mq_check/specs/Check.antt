@@ -70,7 +70,7 @@ settled_at moment r = record r { checking = settled moment r.checking }
 abbrev pub wanted_by : Configuration → (moment : ℕ) → (by_tick : Bool) → Step → Checked → CheckingValue
 wanted_by config moment by_tick step r =
     let is_returning = not (is_querier r.link.election.role) in
-    with_messages config.family config.own moment r.basis.packets by_tick is_returning (outgoing_of config step) r.checking
+    with_messages config.family moment r.basis.packets by_tick is_returning (outgoing_of config step) r.checking
 
 -- the check after a tick, by which the router may become querier again
 unfoldable pub ticked : Configuration → (within moment : ℕ) → Checked → Checked

@@ -26,7 +26,7 @@ use Rattle.mq_check.specs.Schedules.{SchedulesValue, schedules_at_start, schedul
 use Rattle.mq_link.specs.Configuration.{Configuration}
 use Rattle.mq_link.specs.Sent.{Outgoing}
 use Rattle.mq_link.specs.State.{LinkState}
-use Rattle.mq_check.specs.Queries.{asked_in, is_general, terms_of, general_terms, query_sent}
+use Rattle.mq_check.specs.Queries.{asked_in, is_general, terms_of, general_terms}
 use Rattle.mq_check.specs.Waiting.{WaitingValue, nothing, with_entry, with_partner, is_free, has_free}
 use Rattle.mq_check.specs.Waiting as waits
 
@@ -241,19 +241,10 @@ one_wanted family moment packet by_tick is_returning to query c =
     then c
     else fold (subject_wanted moment (by_tick && not (is_general query)) (terms_of family packet to query)) c (asked_in query)
 
-abbrev pub query_wanted : Family → (moment packet : ℕ) → (by_tick is_returning : Bool) → (to : ℕ) → Option (Query ℕ) → CheckingValue → CheckingValue
-query_wanted family moment packet by_tick is_returning to None c = c
-query_wanted family moment packet by_tick is_returning to (Some query) c =
-    one_wanted family moment packet by_tick is_returning to query c
-
--- the check after one message of the link with this own address, and after all messages of a step
-unfoldable pub with_message : Family → (own moment packet : ℕ) → (by_tick is_returning : Bool) → CheckingValue → Outgoing → CheckingValue
-with_message family own moment packet by_tick is_returning c message =
-    query_wanted family moment packet by_tick is_returning message.to (query_sent family own message) c
-
-abbrev pub with_messages : Family → (own moment packet : ℕ) → (by_tick is_returning : Bool) → List Outgoing → CheckingValue → CheckingValue
-with_messages family own moment packet by_tick is_returning messages c =
-    fold (with_message family own moment packet by_tick is_returning) c messages
+-- the check after all messages of a step
+abbrev pub with_messages : Family → (moment packet : ℕ) → (by_tick is_returning : Bool) → List Outgoing → CheckingValue → CheckingValue
+with_messages family moment packet by_tick is_returning messages c =
+    fold (λ c message. one_wanted family moment packet by_tick is_returning message.to message.query c) c messages
 
 -- The check after the role was lost, from which no general query is wanted, or after the role returned.
 unfoldable pub role_lost : (within : ℕ) → (configured : Timing) → (moment : ℕ) → CheckingValue → CheckingValue

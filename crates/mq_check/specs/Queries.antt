@@ -13,7 +13,6 @@ use Rattle.mq_table.specs.declared.timing.Timing.{Timing}
 use Rattle.mq_link.specs.Family.{general_destination}
 use Rattle.mq_link.specs.Receive.{Envelope, read_of, pseudo_of, envelope_tests}
 use Rattle.mq_link.specs.Configuration.{Configuration}
-use Rattle.mq_link.specs.Sent.{Outgoing}
 use Rattle.mq_link.specs.Tests.{first_named}
 use Rattle.mq_lines.specs.Text.{current_version, has_response, query_sources, query_version}
 use Rattle.mq_replay.specs.Report.{Datagram}
@@ -54,18 +53,18 @@ is_same (Source g s) AllGroups = false
 is_same (Source g s) (Group g') = false
 is_same (Source g s) (Source g' s') = (g == g') && (s == s')
 
--- the response of a query, which one of IGMPv1 doesn't have
+-- the response of a query, rounded by its code, which one of IGMPv1 doesn't have
 abbrev pub response_said : Family → (response : ℕ) → QueryVersion ℕ → Option ℕ
 response_said family response (Older version) = if has_response family version then Some response else None
-response_said family response (Current fields) = Some response
+response_said family response (Current fields) = Some (response_lowered family response)
 
--- the S flag, QRV and the interval of QQIC, which older queries don't have
+-- the S flag, QRV and the interval of QQIC, rounded by its code, which older queries don't have
 abbrev pub querier_terms : QueryVersion ℕ → Option QuerierTerms
 querier_terms (Older version) = None
 querier_terms (Current fields) = Some (record {
   suppress = fields.suppress;
   robustness = fields.robustness;
-  interval = fields.interval;
+  interval = interval_lowered fields.interval;
 })
 
 -- the version, the fields and the destination of a query, and the number of a packet
@@ -105,15 +104,6 @@ query_read (Ok (Report records)) = None
 -- the query that the bytes of a datagram encode, if there is one
 unfoldable pub query_spelled : Family → Envelope → (bytes : List ℕ) → Option (Query ℕ)
 query_spelled family envelope bytes = query_read (read_of family (pseudo_of family envelope bytes) bytes)
-
--- the envelope of a message that the router sends itself; for IGMP only the source matters
-abbrev pub envelope_sent : Family → (own to : ℕ) → Envelope
-envelope_sent Igmp own to = record { source = own; destination = 0; hop_limit = 0; alert = false }
-envelope_sent Mld own to = record { source = own; destination = to; hop_limit = 1; alert = true }
-
--- the query in a message that the link sends
-abbrev pub query_sent : Family → (own : ℕ) → Outgoing → Option (Query ℕ)
-query_sent family own message = query_spelled family (envelope_sent family own message.to) message.bytes
 
 -- A query of the router at the own address on which hosts act. A query that hosts drop for its packet or its bytes is
 -- none (RFC 3376 section 4.1.2, RFC 3810 sections 5.1.2, 5.1.14 and 6.2).

@@ -5,7 +5,6 @@ ghost use Rattle.mq_wire.specs.RoundTrip.{response_lowered};
 ghost use Rattle.mq_check.specs.Check.{packet_in, destination4_in, destination_in, headers_in};
 ghost use Rattle.mq_check.specs.Basis.{named};
 ghost use Rattle.mq_check.specs.Headers.{has_query_type, has_reserved_bits};
-ghost use Rattle.mq_check.specs.Queries as spec;
 
 use crate::headers::{Headers, byte_at, headers4};
 use crate::querier_address::QuerierAddress;
@@ -21,10 +20,6 @@ pub trait CheckedFamily: CapturedFamily
 where
     Self::Address: LineKey,
 {
-    /// Returns the envelope of a message that the router at `own` sends to an address.
-    fn envelope_sent(own: Self::Address, to: Self::Address) -> Self::Envelope
-        ensures { Self.envelope_of result ≡ spec.envelope_sent Self.FAMILY (Self.Address.number own) (Self.Address.number to) };
-
     /// Returns the destination of the packet that a frame carries.
     fn destination(link: LinkType, frame: &[u8], envelope: &Self::Envelope) -> Self::Address
         ensures { Self.Address.number result ≡ destination_in Self.FAMILY link frame.now (Self.envelope_of envelope.now) };
@@ -73,10 +68,6 @@ fn packet_in(link: LinkType, frame: &[u8]) -> &[u8]
 }
 
 impl CheckedFamily for Igmp {
-    fn envelope_sent(own: Addr4, _to: Addr4) -> IgmpEnvelope {
-        IgmpEnvelope { source: own }
-    }
-
     fn destination(link: LinkType, frame: &[u8], _envelope: &IgmpEnvelope) -> Addr4 {
         let packet = packet_in(link, frame);
         if packet.len() < 20 {
@@ -107,15 +98,6 @@ impl CheckedFamily for Igmp {
 }
 
 impl CheckedFamily for Mld {
-    fn envelope_sent(own: Addr6, to: Addr6) -> MldEnvelope {
-        MldEnvelope {
-            source: own,
-            destination: to,
-            hop_limit: 1,
-            alert: true,
-        }
-    }
-
     fn destination(_link: LinkType, _frame: &[u8], envelope: &MldEnvelope) -> Addr6 {
         envelope.destination
     }

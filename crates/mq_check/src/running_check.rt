@@ -30,7 +30,6 @@ where
     pub(crate) queries: WantedQueries<F, A>,
     pub(crate) terms: CheckTerms,
     pub(crate) told: Told,
-    ghost own: { queries.own ≡ link.config.own },
 }
 
 impl<F: CheckedFamily, A: Allocator> Check<F, A>

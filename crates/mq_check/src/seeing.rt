@@ -325,7 +325,7 @@ where
     {
         let config = link.config();
         config.is_faultless();
-        let terms = terms_of(packet.number, packet.to, query);
+        let terms = terms_of::<F>(packet.number, packet.to, query);
         let configured = config.timing();
         let in_force = link.timing();
         if is_general::<F>(query) {

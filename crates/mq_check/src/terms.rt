@@ -51,13 +51,19 @@ fn number_of(version: OlderVersion) -> u8
 }
 
 /// Returns the terms of a query to an address, with the number of a packet.
-pub(crate) fn terms_of<K: LineKey>(packet: u64, to: K, query: &Query<'_, K>) -> Terms<K>
-    ensures { numbered_terms K.number result ≡ spec.terms_of K.family packet (K.number to) (numbered_query K.number query.now) }
+pub(crate) fn terms_of<F: CheckedFamily>(
+    packet: u64,
+    to: F::Address,
+    query: &Query<'_, F::Address>,
+) -> Terms<F::Address>
+where
+    F::Address: LineKey,
+    ensures { numbered_terms F.Address.number result ≡ spec.terms_of F.FAMILY packet (F.Address.number to) (numbered_query F.Address.number query.now) }
 {
     match &query.version {
         QueryVersion::Older(version) => Terms {
             version: number_of(*version),
-            response: if K::has_response(*version) {
+            response: if F::Address::has_response(*version) {
                 Some(query.response)
             } else {
                 None
@@ -67,12 +73,12 @@ pub(crate) fn terms_of<K: LineKey>(packet: u64, to: K, query: &Query<'_, K>) -> 
             packet,
         },
         QueryVersion::Current(fields) => Terms {
-            version: K::current_version(),
-            response: Some(query.response),
+            version: F::Address::current_version(),
+            response: Some(F::response_said(query.response)),
             querier: Some(QuerierTerms {
                 suppress: fields.suppress,
                 robustness: fields.robustness.get(),
-                interval: fields.interval,
+                interval: interval_said(fields.interval),
             }),
             to,
             packet,

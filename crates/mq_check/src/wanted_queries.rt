@@ -16,12 +16,11 @@ use crate::checked_family::CheckedFamily;
 use crate::checking::Checking;
 use crate::headers::Headers;
 use crate::seeing::SeenPacket;
-use crate::seen_queries::query_spelled;
 use crate::stamp::Stamp;
 use crate::told::Told;
 use mq_count::{Moment, Watched};
 use mq_lines::LineKey;
-use mq_link::{Link, Outlet};
+use mq_link::{Link, QueryOutlet};
 use mq_pcap::{Inner, LinkType};
 use mq_replay::CapturedDatagram;
 use mq_sched::OtherQuerier;
@@ -40,7 +39,6 @@ where
 {
     checking: Checking<F, A>,
     basis: Basis,
-    own: F::Address,
     moment: Moment,
     by_tick: bool,
     is_returning: bool,
@@ -55,7 +53,7 @@ where
 
     ghost Value = { WantingValue };
 
-    ghost view = { λ w. record { checking = w.checking; basis = w.basis; own = F.Address.number w.own; moment = w.moment; by_tick = w.by_tick; is_returning = w.is_returning } };
+    ghost view = { λ w. record { checking = w.checking; basis = w.basis; moment = w.moment; by_tick = w.by_tick; is_returning = w.is_returning } };
 
     ghost invariant = { λ w. w.moment ≤ 2 ^ 53 };
 }
@@ -71,12 +69,11 @@ where
         moment: Moment,
     ) -> WantedQueries<F, A>
         requires { moment ≡ 0 }
-        ensures { result ≡ record { checking = checking; basis = basis.basis_at_start (basis.named F.FAMILY (F.Address.number own)); own = F.Address.number own; moment = moment; by_tick = false; is_returning = false } }
+        ensures { result ≡ record { checking = checking; basis = basis.basis_at_start (basis.named F.FAMILY (F.Address.number own)); moment = moment; by_tick = false; is_returning = false } }
     {
         WantedQueries {
             checking,
             basis: Basis::at_start(F::named(own), F::named(own), moment),
-            own,
             moment,
             by_tick: false,
             is_returning: false,
@@ -153,7 +150,6 @@ where
         writer: &mut Watched<W>,
     ) -> Result<(), LineFault>
         requires in_range { now ≤ 2 ^ 53 }
-        ensures own { self.new.own ≡ self.old.own }
         ensures basis { self.new.basis ≡ self.old.basis }
         ensures settled { IfOk result (λ _. self.new.checking ≡ spec.settled now self.old.checking) }
         ensures tells { Tells F.Address.family (spec.told within now self.old.checking) told.old told.new
@@ -192,7 +188,6 @@ where
         writer: &mut Watched<W>,
     ) -> Result<(), LineFault>
         requires in_range { end ≤ 2 ^ 53 }
-        ensures own { self.new.own ≡ self.old.own }
         ensures tells { Tells F.Address.family (flat_map (spec.found_of_last within end self.old.checking.changed) self.old.checking.waiting.entries) told.old told.new
             (output_of W.contents writer.old) (output_of W.contents writer.new) result }
     {
@@ -266,14 +261,17 @@ where
         };
         self.checking.query_seen(within, link, packet, query);
     }
+}
 
-    /// Handles a query that the link sends.
-    fn want(&mut self, to: F::Address, query: &Query<'_, F::Address>)
-        ensures { self.new ≡ record self.old {
-          checking =
-              spec.one_wanted F.FAMILY self.old.moment self.old.basis.packets self.old.by_tick self.old.is_returning (F.Address.number to) (numbered_query F.Address.number query.now) self.old.checking;
-        } }
-    {
+impl<F: CheckedFamily, A: Allocator> QueryOutlet<F::Address> for WantedQueries<F, A>
+where
+    F::Address: LineKey,
+{
+    ghost use Rattle.mq_check.specs.Wanting.{TakesMessage};
+
+    ghost takes = { TakesMessage F.FAMILY };
+
+    fn query(&mut self, to: F::Address, query: &Query<'_, F::Address>, _bytes: &[u8]) -> bool {
         let packet = self.basis.packets;
         self.checking.query_wanted(
             self.moment,
@@ -283,23 +281,6 @@ where
             to,
             query,
         );
-    }
-}
-
-impl<F: CheckedFamily, A: Allocator> Outlet<F::Address> for WantedQueries<F, A>
-where
-    F::Address: LineKey,
-{
-    ghost use Rattle.mq_check.specs.Wanting.{TakesMessage};
-
-    ghost takes = { TakesMessage F.FAMILY };
-
-    fn datagram(&mut self, to: F::Address, bytes: &[u8]) -> bool {
-        let envelope = F::envelope_sent(self.own, to);
-        let Some(query) = query_spelled::<F>(&envelope, bytes) else {
-            return true;
-        };
-        self.want(to, &query);
         true
     }
 }

@@ -178,7 +178,7 @@ where
         if is_general && !is_returning {
             return;
         }
-        let terms = terms_of(packet, to, query);
+        let terms = terms_of::<F>(packet, to, query);
         self.want_all(moment, by_tick && !is_general, terms, query);
     }
 }

@@ -26,9 +26,9 @@ use Rattle.mq_check.specs.Basis as basis
 use Rattle.mq_check.specs.Blocked.{blocked_in}
 use Rattle.mq_check.specs.Check.{Checked, Outcome, behind, quiet, settled_at, ticked, ticked_within, ticked_through, received, seen_at}
 use Rattle.mq_check.specs.Check.{seen_or_received, with_datagram, with_faults, with_packet, destination_in, faults_in, noted}
-use Rattle.mq_check.specs.Checking.{CheckingValue, all_blocked, counted_up, told, settled, faults_seen, with_fault, with_message, with_messages}
-use Rattle.mq_check.specs.Checking.{query_wanted, role_after_tick, role_changed, query_came}
-use Rattle.mq_check.specs.Queries.{is_general, query_sent, query_seen}
+use Rattle.mq_check.specs.Checking.{CheckingValue, all_blocked, counted_up, told, settled, faults_seen, with_fault, with_messages}
+use Rattle.mq_check.specs.Checking.{one_wanted, role_after_tick, role_changed, query_came}
+use Rattle.mq_check.specs.Queries.{is_general, query_seen}
 use Rattle.mq_check.proofs.Steppings.{none_within, one_within}
 use Rattle.mq_laws.specs.Captures.{Passage, nothing_happens, happening_behind, wanted_for, wanted_of, wanted_by, role_by_tick, role_by_datagram}
 use Rattle.mq_laws.specs.Captures.{tick_passage, ticks_passage, ticks_through, event_of, fault_events, datagram_passage, frame_passage}
@@ -68,30 +68,27 @@ still-append within timing now xs ys c d e first second = record {
 }
 
 -- a query that the link sends
-still-wanted : (within : ℕ) (timing : Timing) (now packets : ℕ) (family : Family) (by_tick is_returning : Bool) (to : ℕ) (query : Option (Query ℕ))
+still-wanted : (within : ℕ) (timing : Timing) (now packets : ℕ) (family : Family) (by_tick is_returning : Bool) (to : ℕ) (query : Query ℕ)
     (c : CheckingValue)
-    → IsStill within timing now (wanted_for family packets by_tick is_returning to query) c (query_wanted family now packets by_tick is_returning to query c)
-still-wanted within timing now packets family by_tick is_returning to None c = record { check = refl; told = refl; moment = refl }
-still-wanted within timing now packets family by_tick is_returning to (Some query) c =
+    → IsStill within timing now (wanted_for family packets by_tick is_returning to query) c (one_wanted family now packets by_tick is_returning to query c)
+still-wanted within timing now packets family by_tick is_returning to query c =
     elim (is_general query && not is_returning) as (λ b.
-    (is_general query && not is_returning) ≡ b → IsStill within timing now (wanted_for family packets by_tick is_returning to (Some query)) c
-    (query_wanted family now packets by_tick is_returning to (Some query) c)) [
+    (is_general query && not is_returning) ≡ b → IsStill within timing now (wanted_for family packets by_tick is_returning to query) c
+    (one_wanted family now packets by_tick is_returning to query c)) [
       | true ↦ λ is. rw is (record { check = refl; told = refl; moment = refl })
       | false ↦ λ is. rw is (record { check = refl; told = refl; moment = refl })
     ] refl
 
 still-messages : (within : ℕ) (config : Configuration) (now packets : ℕ) (by_tick is_returning : Bool) (messages : List Outgoing) (c : CheckingValue)
     → IsStill within config.timing now (wanted_of config packets by_tick is_returning messages) c
-    (with_messages config.family config.own now packets by_tick is_returning messages c)
-unfolding with_message
+    (with_messages config.family now packets by_tick is_returning messages c)
 still-messages within config now packets by_tick is_returning [] c = record { check = refl; told = refl; moment = refl }
 still-messages within config now packets by_tick is_returning (message ∷ messages) c =
-    let query = query_sent config.family config.own message in
-    still-append within config.timing now (wanted_for config.family packets by_tick is_returning message.to query)
-    (wanted_of config packets by_tick is_returning messages) c
-    (with_message config.family config.own now packets by_tick is_returning c message) _
-    (still-wanted within config.timing now packets config.family by_tick is_returning message.to query c)
-    (still-messages within config now packets by_tick is_returning messages (with_message config.family config.own now packets by_tick is_returning c message))
+    let wanted = one_wanted config.family now packets by_tick is_returning message.to message.query c in
+    still-append within config.timing now (wanted_for config.family packets by_tick is_returning message.to message.query)
+    (wanted_of config packets by_tick is_returning messages) c wanted _
+    (still-wanted within config.timing now packets config.family by_tick is_returning message.to message.query c)
+    (still-messages within config now packets by_tick is_returning messages wanted)
 
 -- the role
 still-tick : (within : ℕ) (timing : Timing) (now : ℕ) (was is : Bool) (c : CheckingValue) →
@@ -204,7 +201,7 @@ follows-tick config within moment r =
     let step = tick_of config moment r.link in
     let was = is_querier r.link.election.role in
     let c = settled moment r.checking in
-    let wanted = with_messages config.family config.own moment r.basis.packets true (not was) (outgoing_of config step) c in
+    let wanted = with_messages config.family moment r.basis.packets true (not was) (outgoing_of config step) c in
     follows-still within config.timing moment _ _ (wanted_by config r.basis.packets true r.link step ++
     role_by_tick was (is_querier step.state.election.role)) r (ticked config within moment (settled_at moment r)) refl
     (tick_packets moment was (is_querier step.state.election.role) r.basis)
@@ -292,7 +289,7 @@ follows-datagram config within moment number to datagram None faults r =
     let c = faults_seen moment number faults begun in
     let blocked = blocked_in config.family datagram in
     let noted = all_blocked moment blocked c in
-    let wanted = with_messages config.family config.own moment r.basis.packets false (not was) (outgoing_of config step) noted in
+    let wanted = with_messages config.family moment r.basis.packets false (not was) (outgoing_of config step) noted in
     let rest = wanted_by config r.basis.packets false r.link step ++ role_by_datagram was (is_querier step.state.election.role) in
     follows-still within config.timing moment _ _ (fault_events number faults ++ Blocks blocked ∷ rest) r
     (received config within moment datagram (with_faults moment number faults (settled_at moment r))) refl

@@ -21,7 +21,7 @@ use Rattle.mq_replay.specs.Listing.{moment_of}
 use Rattle.mq_replay.specs.Report.{Datagram, datagram_of, all_sent}
 use Rattle.mq_check.specs.declared.headers.HeaderFault.{HeaderFault}
 use Rattle.mq_check.specs.Check.{destination_in, faults_in}
-use Rattle.mq_check.specs.Queries.{asked_in, is_general, terms_of, query_sent, query_seen}
+use Rattle.mq_check.specs.Queries.{asked_in, is_general, terms_of, query_seen}
 use Rattle.mq_laws.specs.Captures.{Passage, happening_behind, wanted_for, wanted_of, wanted_by, role_by_tick, role_by_datagram, tick_passage}
 use Rattle.mq_laws.specs.Captures.{ticks_passage, ticks_through, event_of, fault_events, datagram_passage, frame_passage, packet_passage}
 use Rattle.mq_laws.specs.Captures.{packets_passage, last_of, end_of, events_ahead, events_of}
@@ -70,10 +70,9 @@ order-append now middle (SeesFault number fault ∷ es) ys end first second = or
 order-append now middle (Blocks asked ∷ es) ys end first second = order-append now middle es ys end first second
 
 -- what happens at one moment
-order-wanted_for : (now packets : ℕ) (family : Family) (by_tick is_returning : Bool) (to : ℕ) (query : Option (Query ℕ)) →
+order-wanted_for : (now packets : ℕ) (family : Family) (by_tick is_returning : Bool) (to : ℕ) (query : Query ℕ) →
     AreInOrder now (wanted_for family packets by_tick is_returning to query) now
-order-wanted_for now packets family by_tick is_returning to None = omega arith
-order-wanted_for now packets family by_tick is_returning to (Some query) = by_test (is_general query && not is_returning)
+order-wanted_for now packets family by_tick is_returning to query = by_test (is_general query && not is_returning)
   where
     by_test : (b : Bool) → AreInOrder now (cond b [] (Wants (by_tick && not (is_general query)) (terms_of family packets to query) (asked_in query) ∷ [])) now
     by_test true = omega arith
@@ -83,9 +82,9 @@ order-wanted : (now packets : ℕ) (config : Configuration) (by_tick is_returnin
     AreInOrder now (wanted_of config packets by_tick is_returning messages) now
 order-wanted now packets config by_tick is_returning [] = omega arith
 order-wanted now packets config by_tick is_returning (message ∷ messages) =
-    order-append now now (wanted_for config.family packets by_tick is_returning message.to (query_sent config.family config.own message))
+    order-append now now (wanted_for config.family packets by_tick is_returning message.to message.query)
     (wanted_of config packets by_tick is_returning messages) now
-    (order-wanted_for now packets config.family by_tick is_returning message.to (query_sent config.family config.own message))
+    (order-wanted_for now packets config.family by_tick is_returning message.to message.query)
     (order-wanted now packets config by_tick is_returning messages)
 
 order-tick : (now : ℕ) (was is : Bool) → AreInOrder now (role_by_tick was is) now
@@ -253,12 +252,11 @@ of_ticks-append : (xs ys : List CheckEvent) → AllByRecursion IsOfTick xs → A
 of_ticks-append [] ys first second = second
 of_ticks-append (x ∷ xs) ys first second = (first.0, of_ticks-append xs ys first.1 second)
 
-wanted-of_tick : (family : Family) (packets : ℕ) (by_tick is_returning : Bool) (to : ℕ) (query : Option (Query ℕ)) →
+wanted-of_tick : (family : Family) (packets : ℕ) (by_tick is_returning : Bool) (to : ℕ) (query : Query ℕ) →
     AllByRecursion IsOfTick (wanted_for family packets by_tick is_returning to query)
-wanted-of_tick family packets by_tick is_returning to None = tt
-wanted-of_tick family packets by_tick is_returning to (Some query) =
+wanted-of_tick family packets by_tick is_returning to query =
     elim (is_general query && not is_returning) as (λ b. (is_general query && not is_returning) ≡ b →
-    AllByRecursion IsOfTick (wanted_for family packets by_tick is_returning to (Some query))) [
+    AllByRecursion IsOfTick (wanted_for family packets by_tick is_returning to query)) [
       | true ↦ λ is. rw is tt
       | false ↦ λ is. rw is (tt, tt)
     ] refl
@@ -267,9 +265,9 @@ all_wanted-of_tick : (config : Configuration) (packets : ℕ) (by_tick is_return
     AllByRecursion IsOfTick (wanted_of config packets by_tick is_returning messages)
 all_wanted-of_tick config packets by_tick is_returning [] = tt
 all_wanted-of_tick config packets by_tick is_returning (message ∷ messages) =
-    of_ticks-append (wanted_for config.family packets by_tick is_returning message.to (query_sent config.family config.own message))
+    of_ticks-append (wanted_for config.family packets by_tick is_returning message.to message.query)
     (wanted_of config packets by_tick is_returning messages)
-    (wanted-of_tick config.family packets by_tick is_returning message.to (query_sent config.family config.own message))
+    (wanted-of_tick config.family packets by_tick is_returning message.to message.query)
     (all_wanted-of_tick config packets by_tick is_returning messages)
 
 role-of_tick : (was is : Bool) → AllByRecursion IsOfTick (role_by_tick was is)

@@ -20,7 +20,7 @@ use Rattle.mq_check.specs.declared.headers.HeaderFault.{HeaderFault}
 use Rattle.mq_check.specs.Blocked.{blocked_in}
 use Rattle.mq_check.specs.Check.{destination_in, faults_in}
 use Rattle.mq_check.specs.Checking.{counted_up}
-use Rattle.mq_check.specs.Queries.{asked_in, is_general, terms_of, general_terms, query_sent, query_seen}
+use Rattle.mq_check.specs.Queries.{asked_in, is_general, terms_of, general_terms, query_seen}
 use Rattle.mq_check.specs.Unheld.{specific_terms, unheld}
 use Rattle.mq_laws.specs.Events.{CheckEvent, Comes, Wants, Sees, SeesGeneral, LosesRole, HasRoleAgain, SeesFault, Blocks}
 
@@ -39,14 +39,13 @@ happening_behind events p = record p { events = events ++ p.events }
 
 -- The expectation by a query of the link, after this number of packets. A general query is only expected if the router
 -- is querier again. A tick sends each other query again.
-abbrev pub wanted_for : Family → (packets : ℕ) → (by_tick is_returning : Bool) → (to : ℕ) → Option (Query ℕ) → List CheckEvent
-wanted_for family packets by_tick is_returning to None = []
-wanted_for family packets by_tick is_returning to (Some query) =
+abbrev pub wanted_for : Family → (packets : ℕ) → (by_tick is_returning : Bool) → (to : ℕ) → Query ℕ → List CheckEvent
+wanted_for family packets by_tick is_returning to query =
     if is_general query && not is_returning then [] else Wants (by_tick && not (is_general query)) (terms_of family packets to query) (asked_in query) ∷ []
 
 abbrev pub wanted_of : Configuration → (packets : ℕ) → (by_tick is_returning : Bool) → List Outgoing → List CheckEvent
 wanted_of config packets by_tick is_returning messages =
-    flat_map (λ (message : Outgoing). wanted_for config.family packets by_tick is_returning message.to (query_sent config.family config.own message)) messages
+    flat_map (λ (message : Outgoing). wanted_for config.family packets by_tick is_returning message.to message.query) messages
 
 -- the expectations by the link's queries in a step, a tick or a datagram
 abbrev pub wanted_by : Configuration → (packets : ℕ) → (by_tick : Bool) → LinkState → Step → List CheckEvent

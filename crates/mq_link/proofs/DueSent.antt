@@ -1,5 +1,5 @@
 -- What a sender has taken of what is due at a moment.
-use Rattle.std.proofs.Common.{◌≡◌, ℕ, Bool, cond, List, [], ◌∷◌, ◌++◌, sym, subst}
+use Rattle.std.proofs.Common.{◌≡◌, ℕ, Bool, cond, [], ◌∷◌, ◌++◌, sym, subst}
 use Rattle.mq_wire.specs.Family.{Family}
 use Rattle.mq_table.specs.declared.timing.Timing.{Timing}
 use Rattle.mq_sched.specs.Election.{ElectionState, ticked, general_messages}
@@ -9,10 +9,11 @@ use Rattle.mq_sched.proofs.Collecting.{Sends-append}
 use Rattle.mq_link.specs.declared.sender.Sender.{Sender}
 use Rattle.mq_link.specs.Configuration.{Configuration}
 use Rattle.mq_link.specs.Sender.{TakesQuery, begun}
+use Rattle.mq_link.specs.Sent.{Outgoing}
 use Rattle.mq_link.specs.State.{Groups}
 use Rattle.mq_link.specs.Tick.{groups_expired, queries_due}
 
-pub due_sent : {F O K E : Type 0} (takes : O → ℕ → List ℕ → Bool → O → Type 0) (family : Family) (config : Configuration) (now : ℕ)
+pub due_sent : {F O K E : Type 0} (takes : O → Outgoing → Bool → O → Type 0) (family : Family) (config : Configuration) (now : ℕ)
     (before : ElectionState) (groups : Groups) (timing : Timing) (old first between new : Sender F O K E) (is_due : Bool)
     → timing ≡ (ticked config.timing now before).timing → first ≡ begun config timing old
     → general_messages config.timing now before ≡ cond is_due (GeneralQuery ∷ []) []

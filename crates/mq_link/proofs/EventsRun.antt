@@ -7,20 +7,21 @@ use Rattle.mq_link.specs.Handing.{HandsOver}
 use Rattle.mq_link.specs.Link.{LinkValue, HasTicked, HasReceived}
 use Rattle.mq_link.specs.Receive.{Envelope}
 use Rattle.mq_link.specs.Run.{Event, Tick, Datagram, Happening, Happens, RunFrom}
+use Rattle.mq_link.specs.Sent.{Outgoing}
 use Rattle.mq_link.proofs.HandedOver.{HandsOver-append}
 
 -- To run all events from a link on, it is enough to run those that are left from the link that there is now.
-abbrev pub RunsOn : {O : Type 0} (takes : O → ℕ → List ℕ → Bool → O → Type 0) (events : List Event) (before : LinkValue) (old : O) (left : List Event)
+abbrev pub RunsOn : {O : Type 0} (takes : O → Outgoing → Bool → O → Type 0) (events : List Event) (before : LinkValue) (old : O) (left : List Event)
     (now : LinkValue) (outlet : O) → Type 0
 RunsOn {O = O} takes events before old left now outlet =
     (after : LinkValue) (new : O) → HasRun takes left now after outlet new → HasRun takes events before after old new
 
 -- no events
-pub none_run : {O : Type 0} (takes : O → ℕ → List ℕ → Bool → O → Type 0) (link : LinkValue) (outlet : O) → HasRun takes [] link link outlet outlet
+pub none_run : {O : Type 0} (takes : O → Outgoing → Bool → O → Type 0) (link : LinkValue) (outlet : O) → HasRun takes [] link link outlet outlet
 none_run takes link outlet = record { happenings = []; events_are = refl; runs = tt; leaves = refl; same_config = refl; handed = refl }
 
 -- one that happens first
-happened : {O : Type 0} (takes : O → ℕ → List ℕ → Bool → O → Type 0) (h : Happening) (events : List Event) (before between after : LinkValue) (old mid new : O)
+happened : {O : Type 0} (takes : O → Outgoing → Bool → O → Type 0) (h : Happening) (events : List Event) (before between after : LinkValue) (old mid new : O)
     → Happens before.config before.state h → h.after ≡ between.state → between.config ≡ before.config → HandsOver takes old h.messages h.answers mid
     → HasRun takes events between after mid new → HasRun takes (h.event ∷ events) before after old new
 happened takes h events before between after old mid new happens is_after same handed rest = record {
@@ -33,7 +34,7 @@ happened takes h events before between after old mid new happens is_after same h
 }
 
 -- a tick first
-pub ticked_first : {O : Type 0} (takes : O → ℕ → List ℕ → Bool → O → Type 0) (now : ℕ) (events : List Event) (before between : LinkValue) (old mid : O)
+pub ticked_first : {O : Type 0} (takes : O → Outgoing → Bool → O → Type 0) (now : ℕ) (events : List Event) (before between : LinkValue) (old mid : O)
     → between.config ≡ before.config → HasTicked takes now before between old mid
     → RunsOn takes (Tick now ∷ events) before old events between mid
 ticked_first takes now events before between old mid same ticked after new =
@@ -41,7 +42,7 @@ ticked_first takes now events before between old mid same ticked after new =
     happened takes h events before between after old mid new (record { answer_is = refl; hands_out = ticked.ticks }) refl same ticked.handed
 
 -- a datagram first
-pub received_first : {O : Type 0} (takes : O → ℕ → List ℕ → Bool → O → Type 0) (envelope : Envelope) (bytes : List ℕ) (now : ℕ) (answer : Received)
+pub received_first : {O : Type 0} (takes : O → Outgoing → Bool → O → Type 0) (envelope : Envelope) (bytes : List ℕ) (now : ℕ) (answer : Received)
     (events : List Event) (before between : LinkValue) (old mid : O)
     → between.config ≡ before.config → HasReceived takes envelope bytes now answer before between old mid
     → RunsOn takes (Datagram envelope bytes now ∷ events) before old events between mid
@@ -59,7 +60,7 @@ received_first takes envelope bytes now answer events before between old mid sam
     refl same received.handed
 
 -- one more of the events that are left has been run
-pub one_more : {O : Type 0} (takes : O → ℕ → List ℕ → Bool → O → Type 0) (events left more others : List Event) (before now between : LinkValue)
+pub one_more : {O : Type 0} (takes : O → Outgoing → Bool → O → Type 0) (events left more others : List Event) (before now between : LinkValue)
     (old outlet mid : O)
     → left ≡ more → RunsOn takes events before old left now outlet → RunsOn takes more now outlet others between mid
     → RunsOn takes events before old others between mid

@@ -19,7 +19,7 @@ use Rattle.mq_link.specs.Tick.{Step}
 use Rattle.mq_link.proofs.HandedOver.{handed_all, counted_from_none}
 
 -- each message has been answered
-answered_each : {O : Type 0} (takes : O → ℕ → List ℕ → Bool → O → Type 0) (old : O) (messages : List Outgoing) (answers : List Bool) (new : O) →
+answered_each : {O : Type 0} (takes : O → Outgoing → Bool → O → Type 0) (old : O) (messages : List Outgoing) (answers : List Bool) (new : O) →
     HandsOver takes old messages answers new → length answers ≡ length messages
 answered_each takes old [] [] new h = refl
 answered_each takes old [] (answer ∷ answers) new h = absurd h
@@ -31,14 +31,14 @@ abbrev pub with_answers : Counters → (sent unsent : ℕ) → Counters
 with_answers c sent unsent = record c { sent = counted_on c.sent sent; unsent = counted_on c.unsent unsent }
 
 -- a step with what its outlet was handed and answered
-pub record IsHanded {O : Type 0} (takes : O → ℕ → List ℕ → Bool → O → Type 0) (config : Configuration) (step : Step) (after : LinkState)
+pub record IsHanded {O : Type 0} (takes : O → Outgoing → Bool → O → Type 0) (config : Configuration) (step : Step) (after : LinkState)
     (old new : O) : Type 0 where
   pub messages : List Outgoing
   pub answers : List Bool
   pub hands_out : HandsOut config step messages answers after
   pub handed : HandsOver takes old messages answers new
 
-pub is_handed : {F O K E : Type 0} (takes : O → ℕ → List ℕ → Bool → O → Type 0) (family : Family) (config : Configuration) (step : Step)
+pub is_handed : {F O K E : Type 0} (takes : O → Outgoing → Bool → O → Type 0) (family : Family) (config : Configuration) (step : Step)
     (after : LinkState) (old new : Sender F O K E)
     → config.family ≡ family → AllFit (per_query config.family) step.queries
     → Sends (TakesQuery takes family) (begun config step.timing old) step.queries new

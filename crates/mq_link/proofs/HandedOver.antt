@@ -16,7 +16,7 @@ use Rattle.mq_link.specs.Sent.{Outgoing}
 use Rattle.mq_link.specs.State.{one_if}
 
 -- some messages, and then others
-pub HandsOver-append : {O : Type 0} (takes : O → ℕ → List ℕ → Bool → O → Type 0) (old between new : O) (messages more : List Outgoing)
+pub HandsOver-append : {O : Type 0} (takes : O → Outgoing → Bool → O → Type 0) (old between new : O) (messages more : List Outgoing)
     (answers others : List Bool) → HandsOver takes old messages answers between → HandsOver takes between more others new →
     HandsOver takes old (messages ++ more) (answers ++ others) new
 HandsOver-append takes old between new [] more [] others first second = subst (λ s. HandsOver takes s more others new) (sym first) second
@@ -51,7 +51,7 @@ counted_more old test answer answers one new first later =
     later ∙ ap (λ m. counted_on m n) first ∙ more_on old (one_if (test answer)) n ∙ ap (counted_on old) (sym all)
 
 -- the queries that a sender takes are handed over
-pub handed_all : {F O K E : Type 0} (takes : O → ℕ → List ℕ → Bool → O → Type 0) (family : Family) (old : Sender F O K E) (queries : List SentQuery)
+pub handed_all : {F O K E : Type 0} (takes : O → Outgoing → Bool → O → Type 0) (family : Family) (old : Sender F O K E) (queries : List SentQuery)
     (new : Sender F O K E)
     → AllFit (per_query family) queries → Sends (TakesQuery takes family) old queries new
     → HandsAll takes family old.terms.now queries (tally_of old) (tally_of new)
@@ -80,14 +80,14 @@ handed_all takes family old (query ∷ queries) new fit sends =
     }
 
 -- on the same terms
-pub same_terms : {F O K E : Type 0} (takes : O → ℕ → List ℕ → Bool → O → Type 0) (family : Family) (old : Sender F O K E) (queries : List SentQuery)
+pub same_terms : {F O K E : Type 0} (takes : O → Outgoing → Bool → O → Type 0) (family : Family) (old : Sender F O K E) (queries : List SentQuery)
     (new : Sender F O K E)
     → Sends (TakesQuery takes family) old queries new → new.terms ≡ old.terms
 same_terms takes family old [] new same = ap (λ s. s.terms) (sym same)
 same_terms takes family old (query ∷ queries) new sends = same_terms takes family sends.0 queries new sends.2 ∙ sends.1.same_terms
 
 -- to the same outlet
-pub same_outlet : {F O K E : Type 0} (takes : O → ℕ → List ℕ → Bool → O → Type 0) (family : Family) (old : Sender F O K E) (queries : List SentQuery)
+pub same_outlet : {F O K E : Type 0} (takes : O → Outgoing → Bool → O → Type 0) (family : Family) (old : Sender F O K E) (queries : List SentQuery)
     (new : Sender F O K E)
     → Sends (TakesQuery takes family) old queries new → new.outlet.ghost_name ≡ old.outlet.ghost_name
 same_outlet takes family old [] new same = ap (λ s. s.outlet.ghost_name) (sym same)

@@ -21,6 +21,7 @@ use Rattle.mq_link.specs.Receive.{Envelope, Receipt, count_read, taken_in, taken
 use Rattle.mq_link.specs.Receive.{pseudo_of, counting_read}
 use Rattle.mq_link.specs.Router.{HasReceipt, HasStep, RouterValue, link_of, silent_step, state_of}
 use Rattle.mq_link.specs.Sender.{TakesQuery, begun}
+use Rattle.mq_link.specs.Sent.{Outgoing}
 use Rattle.mq_link.specs.State.{LinkState}
 use Rattle.mq_link.specs.Tick.{Step, tick_of}
 use Rattle.mq_link.proofs.AllFits.{fits-receipt_of}
@@ -71,7 +72,7 @@ read_in family envelope bytes = read_of family (pseudo_of family envelope bytes)
 abbrev FitsReceipt : Configuration → Envelope → Result (Message ℕ) WireFault → Step → Type 0
 FitsReceipt config envelope read at = AllFit (per_query config.family) (receipt_after config envelope read at).step.queries
 
-abbrev IsAnswered : {O : Type 0} → (takes : O → ℕ → List ℕ → Bool → O → Type 0) → Configuration → (after : LinkState) → (old new : O) → Received →
+abbrev IsAnswered : {O : Type 0} → (takes : O → Outgoing → Bool → O → Type 0) → Configuration → (after : LinkState) → (old new : O) → Received →
     Receipt → Type 0
 IsAnswered takes config after old new answer receipt = (answer ≡ receipt.answer) × IsHanded takes config receipt.step after old new
 
@@ -104,7 +105,7 @@ is_taken envelope message old between none counted =
     ∙ ap (λ (r : RouterValue). taken_in r.at.config envelope message (silent_step (state_of r))) (sym counted)
 
 -- with the outlet's answers counted, it is a datagram of the link
-pub has_received : {F O K E : Type 0} (takes : O → ℕ → List ℕ → Bool → O → Type 0) (family : Family) (envelope : Envelope) (bytes : List ℕ) (now : ℕ)
+pub has_received : {F O K E : Type 0} (takes : O → Outgoing → Bool → O → Type 0) (family : Family) (envelope : Envelope) (bytes : List ℕ) (now : ℕ)
     (before ticked left after : RouterValue) (answer : Received) (old between new : Sender F O K E)
     → before.at.config.family ≡ family
     → (let step = tick_of before.at.config now (state_of before) in

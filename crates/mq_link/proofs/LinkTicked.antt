@@ -1,5 +1,5 @@
 -- What a tick makes of a router.
-use Rattle.std.proofs.Common.{◌≡◌, ℕ, Bool, max, List, ◌++◌, sym, ap, ◌∙◌, subst}
+use Rattle.std.proofs.Common.{◌≡◌, ℕ, Bool, max, ◌++◌, sym, ap, ◌∙◌, subst}
 use Rattle.mq_wire.specs.Family.{Family}
 use Rattle.mq_table.specs.Variables.{AreInRange}
 use Rattle.mq_sched.specs.Election.{ticked, general_messages}
@@ -9,6 +9,7 @@ use Rattle.mq_link.specs.Link.{HasTicked}
 use Rattle.mq_link.specs.Record.{Setting}
 use Rattle.mq_link.specs.Router.{HasStep, RouterValue, link_of, state_of}
 use Rattle.mq_link.specs.Sender.{TakesQuery, begun}
+use Rattle.mq_link.specs.Sent.{Outgoing}
 use Rattle.mq_link.specs.Sound.{AreSound}
 use Rattle.mq_link.specs.State.{LinkState}
 use Rattle.mq_link.specs.Tick.{groups_expired, queries_due, groups_after_round, tick_at, tick_of}
@@ -19,7 +20,7 @@ use Rattle.mq_link.proofs.Receipts.{sound_in}
 use Rattle.mq_link.proofs.Ticked.{IsWellFormed-tick_at}
 
 -- what the work of a moment leaves, and what the sender has taken by it
-pub record HasDone {F O K E : Type 0} (takes : O → ℕ → List ℕ → Bool → O → Type 0) (family : Family) (moment : ℕ) (before after : RouterValue)
+pub record HasDone {F O K E : Type 0} (takes : O → Outgoing → Bool → O → Type 0) (family : Family) (moment : ℕ) (before after : RouterValue)
     (old new : Sender F O K E) : Type 0 where
   pub status_is : after.at ≡ record before.at { election = ticked before.at.config.timing moment before.at.election; now = moment }
   pub groups_are : after.groups ≡ groups_after_round (ticked before.at.config.timing moment before.at.election).timing moment
@@ -29,7 +30,7 @@ pub record HasDone {F O K E : Type 0} (takes : O → ℕ → List ℕ → Bool �
       (general_messages before.at.config.timing moment before.at.election ++
       queries_due family (ticked before.at.config.timing moment before.at.election).timing moment (groups_expired moment before.groups)) new
 
-module _ {F O K E : Type 0} (takes : O → ℕ → List ℕ → Bool → O → Type 0) (family : Family) (now moment : ℕ) (before after : RouterValue)
+module _ {F O K E : Type 0} (takes : O → Outgoing → Bool → O → Type 0) (family : Family) (now moment : ℕ) (before after : RouterValue)
     (old new : Sender F O K E) (is_family : before.at.config.family ≡ family) (is_moment : moment ≡ max before.at.now now)
     (done : HasDone takes family moment before after old new) where
   -- it is the tick of that moment
@@ -70,7 +71,7 @@ abbrev pub with_answers_in : (sent unsent : ℕ) → LinkState → LinkState
 with_answers_in sent unsent s = record s { counters = with_answers s.counters sent unsent }
 
 -- with the answers counted, it is a tick of the link
-pub has_ticked : {F O K E : Type 0} (takes : O → ℕ → List ℕ → Bool → O → Type 0) (family : Family) (now : ℕ) (before between after : RouterValue)
+pub has_ticked : {F O K E : Type 0} (takes : O → Outgoing → Bool → O → Type 0) (family : Family) (now : ℕ) (before between after : RouterValue)
     (old new : Sender F O K E)
     → before.at.config.family ≡ family
     → (let step = tick_of before.at.config now (state_of before) in

@@ -36,7 +36,7 @@ answers_of (h ∷ hs) = h.answers ++ answers_of hs
 
 -- A run of these events on a link, with what happened at each. The link afterwards has the same configuration. The
 -- outlet received the messages of all happenings, in order, and no other.
-pub record HasRun {O : Type 0} (takes : O → ℕ → List ℕ → Bool → O → Type 0) (events : List Event) (before after : LinkValue) (old new : O) : Type 0 where
+pub record HasRun {O : Type 0} (takes : O → Outgoing → Bool → O → Type 0) (events : List Event) (before after : LinkValue) (old new : O) : Type 0 where
   pub happenings : List Happening
   pub events_are : events_alone happenings ≡ events
   pub runs : RunFrom before.config before.state happenings

@@ -12,12 +12,12 @@ use Rattle.mq_link.specs.State.{one_if}
 
 -- An outlet received these messages and no other, in order, and gave these answers. `takes` states the effect of one
 -- message.
-abbrev pub HandsOver : {O : Type 0} → (takes : O → ℕ → List ℕ → Bool → O → Type 0) → O → List Outgoing → List Bool → O → Type 0
+abbrev pub HandsOver : {O : Type 0} → (takes : O → Outgoing → Bool → O → Type 0) → O → List Outgoing → List Bool → O → Type 0
 HandsOver takes old [] [] new = old ≡ new
 HandsOver takes old [] (answer ∷ answers) new = ⊥
 HandsOver takes old (message ∷ messages) [] new = ⊥
 HandsOver {O = O} takes old (message ∷ messages) (answer ∷ answers) new =
-    (between : O) × takes old message.to message.bytes answer between × HandsOver takes between messages answers new
+    (between : O) × takes old message answer between × HandsOver takes between messages answers new
 
 -- The own address and the timing in force, which all queries of a router carry.
 pub record Terms : Type 0 where
@@ -35,6 +35,7 @@ outgoing_on family terms query =
     let fields = fields_sent terms.timing query in
     record {
       to = if fields.group == 0 then general_destination family else fields.group;
+      query = fields;
       bytes = canon family terms.own fields;
     }
 
@@ -56,14 +57,14 @@ pub record Tally (O : Type 0) : Type 0 where
 
 -- The effect of one query. If one message holds it, the outlet receives it and its answer is counted. Otherwise the
 -- outlet does not receive it, and nothing differs.
-pub record HandsOne {O : Type 0} (takes : O → ℕ → List ℕ → Bool → O → Type 0) (family : Family) (terms : Terms) (query : SentQuery) (old new : Tally O) : Type 0 where
+pub record HandsOne {O : Type 0} (takes : O → Outgoing → Bool → O → Type 0) (family : Family) (terms : Terms) (query : SentQuery) (old new : Tally O) : Type 0 where
   pub handed : FitsOne family query
-      → (answer : Bool) × takes old.outlet (outgoing_on family terms query).to (outgoing_on family terms query).bytes answer new.outlet
+      → (answer : Bool) × takes old.outlet (outgoing_on family terms query) answer new.outlet
       × (new.sent ≡ counted_on old.sent (one_if answer)) × (new.unsent ≡ counted_on old.unsent (one_if (not answer)))
   pub kept : per_query family < named_in query → new ≡ old
 
 -- The effect of several queries. The outlet receives them in order, on the same terms, and all answers are counted.
-pub record HandsAll {O : Type 0} (takes : O → ℕ → List ℕ → Bool → O → Type 0) (family : Family) (terms : Terms) (queries : List SentQuery) (old new : Tally O) : Type 0 where
+pub record HandsAll {O : Type 0} (takes : O → Outgoing → Bool → O → Type 0) (family : Family) (terms : Terms) (queries : List SentQuery) (old new : Tally O) : Type 0 where
   pub answers : List Bool
   pub handed : HandsOver takes old.outlet (list_map (outgoing_on family terms) queries) answers new.outlet
   pub sent : new.sent ≡ counted_on old.sent (count_by (λ b. b) answers)

@@ -19,14 +19,14 @@ pub record LinkValue : Type 0 where
   pub changed : List ℕ
 
 -- A tick at a moment, with the messages that the outlet received and its answers.
-pub record HasTicked {O : Type 0} (takes : O → ℕ → List ℕ → Bool → O → Type 0) (now : ℕ) (before after : LinkValue) (old new : O) : Type 0 where
+pub record HasTicked {O : Type 0} (takes : O → Outgoing → Bool → O → Type 0) (now : ℕ) (before after : LinkValue) (old new : O) : Type 0 where
   pub messages : List Outgoing
   pub answers : List Bool
   pub ticks : Ticks before.config now before.state messages answers after.state
   pub handed : HandsOver takes old messages answers new
 
 -- A datagram at a moment, with its answer, the messages that the outlet received and the outlet's answers.
-pub record HasReceived {O : Type 0} (takes : O → ℕ → List ℕ → Bool → O → Type 0) (envelope : Envelope) (bytes : List ℕ) (now : ℕ) (answer : Received) (before after : LinkValue) (old new : O) : Type 0 where
+pub record HasReceived {O : Type 0} (takes : O → Outgoing → Bool → O → Type 0) (envelope : Envelope) (bytes : List ℕ) (now : ℕ) (answer : Received) (before after : LinkValue) (old new : O) : Type 0 where
   pub messages : List Outgoing
   pub answers : List Bool
   pub receives : Receives before.config envelope bytes now before.state answer messages answers after.state

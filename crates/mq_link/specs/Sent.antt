@@ -30,9 +30,10 @@ fields_sent timing GeneralQuery = query_with timing 0 timing.response_interval f
 fields_sent timing (GroupQuery group s) = query_with timing group timing.last_member_interval s []
 fields_sent timing (SourcesQuery group s sources) = query_with timing group timing.last_member_interval s sources
 
--- a message as the outlet receives it: its destination and its bytes
+-- a message as the outlet receives it: its destination, its query and its bytes
 pub record Outgoing : Type 0 where
   pub to : ℕ
+  pub query : Query ℕ
   pub bytes : List ℕ
 
 -- the message of a query in its canonical bytes, from the router's own address
@@ -41,6 +42,7 @@ outgoing config timing query =
     let fields = fields_sent timing query in
     record {
       to = if fields.group == 0 then general_destination config.family else fields.group;
+      query = fields;
       bytes = canon config.family config.own fields;
     }
 

@@ -28,7 +28,7 @@ use crate::answers::Received;
 use crate::config::Config;
 use crate::counts::Counts;
 use crate::family::Family;
-use crate::outlet::Outlet;
+use crate::outlet::QueryOutlet;
 use crate::router::Router;
 use crate::sender::{QueryTerms, Sender};
 use crate::workspace::Workspace;
@@ -116,7 +116,7 @@ impl<F: Family, A: Allocator> BareLink<F, A> {
 
     /// Acts like `Link::tick`, in a workspace of the caller. If that is too small, it does nothing. The content of the
     /// workspace before makes no difference.
-    pub fn tick<B: Allocator, O: Outlet<F::Address>>(
+    pub fn tick<B: Allocator, O: QueryOutlet<F::Address>>(
         &mut self,
         workspace: &mut Workspace<F, B>,
         now: Moment,
@@ -149,7 +149,7 @@ impl<F: Family, A: Allocator> BareLink<F, A> {
 
     /// Acts like `Link::receive`, in a workspace of the caller. If that is too small, it does nothing. The content of
     /// the workspace before makes no difference.
-    pub fn receive<B: Allocator, O: Outlet<F::Address>>(
+    pub fn receive<B: Allocator, O: QueryOutlet<F::Address>>(
         &mut self,
         workspace: &mut Workspace<F, B>,
         envelope: &F::Envelope,
@@ -180,7 +180,7 @@ impl<F: Family, A: Allocator> BareLink<F, A> {
     }
 
     /// Handles a tick, in a workspace that suffices.
-    pub(crate) fn tick_in<B: Allocator, O: Outlet<F::Address>>(
+    pub(crate) fn tick_in<B: Allocator, O: QueryOutlet<F::Address>>(
         &mut self,
         workspace: &mut Workspace<F, B>,
         now: Moment,
@@ -212,7 +212,7 @@ impl<F: Family, A: Allocator> BareLink<F, A> {
     }
 
     /// Handles a datagram, in a workspace that suffices.
-    pub(crate) fn receive_in<B: Allocator, O: Outlet<F::Address>>(
+    pub(crate) fn receive_in<B: Allocator, O: QueryOutlet<F::Address>>(
         &mut self,
         workspace: &mut Workspace<F, B>,
         envelope: &F::Envelope,

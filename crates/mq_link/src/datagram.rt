@@ -21,7 +21,7 @@ use crate::answers::{MessageKind, Received};
 use crate::counts::Counts;
 use crate::dropping::drop_reason;
 use crate::family::Family;
-use crate::outlet::Outlet;
+use crate::outlet::QueryOutlet;
 use crate::router::Router;
 use crate::sender::Sender;
 use crate::statement::StatementKind;
@@ -64,7 +64,7 @@ impl<F: Family, A: Allocator> Router<F, A> {
     }
 
     /// Takes a message that isn't dropped: a query, or the records of any other message.
-    fn take_message<B: Allocator, O: Outlet<F::Address>>(
+    fn take_message<B: Allocator, O: QueryOutlet<F::Address>>(
         &mut self,
         work: &mut Workspace<F, B>,
         envelope: &F::Envelope,
@@ -114,7 +114,7 @@ impl<F: Family, A: Allocator> Router<F, A> {
     }
 
     /// Reads a datagram, counts it, and drops it or takes it.
-    fn take_in<B: Allocator, O: Outlet<F::Address>>(
+    fn take_in<B: Allocator, O: QueryOutlet<F::Address>>(
         &mut self,
         work: &mut Workspace<F, B>,
         envelope: &F::Envelope,
@@ -155,7 +155,7 @@ impl<F: Family, A: Allocator> Router<F, A> {
 
     /// Handles a datagram that came at `now`. It does what is due then, drops or takes the datagram, and counts the
     /// answers of the outlet.
-    pub(crate) fn receive<B: Allocator, O: Outlet<F::Address>>(
+    pub(crate) fn receive<B: Allocator, O: QueryOutlet<F::Address>>(
         &mut self,
         work: &mut Workspace<F, B>,
         envelope: &F::Envelope,

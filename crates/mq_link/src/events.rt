@@ -5,7 +5,7 @@ ghost use Rattle.mq_link.specs.Events.{event_of, moment_at, HasRun};
 
 use crate::family::Family;
 use crate::link::Link;
-use crate::outlet::Outlet;
+use crate::outlet::QueryOutlet;
 use mq_count::Moment;
 use std::alloc::Allocator;
 
@@ -27,7 +27,7 @@ pub enum Event<'a, F: Family> {
 /// Gives all events to a link, in order, by `tick` or `receive`. The answers to the datagrams are not returned. For any
 /// events, the acts of the link and the messages of the outlet are a run as the definitions have it. If `Link::new`
 /// made the link, it is a run from its start.
-pub fn run<F: Family, A: Allocator, O: Outlet<F::Address>>(
+pub fn run<F: Family, A: Allocator, O: QueryOutlet<F::Address>>(
     link: &mut Link<F, A>,
     events: &[Event<'_, F>],
     outlet: &mut O,

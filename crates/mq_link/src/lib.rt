@@ -10,7 +10,7 @@
 //! - The family: `Family`, which `Igmp` and `Mld` implement, each with its envelope.
 //! - A configuration without a fault: `Config`.
 //! - The reasons to drop a datagram: `dropping`.
-//! - The receiver of the datagrams that a link sends: `Outlet`.
+//! - The receiver of the queries that a link sends: `QueryOutlet`. `Datagrams` is one, with an `Outlet` of their bytes.
 //! - The counters: `Counts`.
 //! - The whole link: `Link`, or `BareLink` with a `Workspace` that many links may use.
 //! - The held groups of a link: `HeldEntries`, `HeldGroup`, with the types of their parts.
@@ -57,5 +57,5 @@ pub use link::Link;
 pub use mld::{Mld, MldEnvelope};
 pub use mq_held::{HeldEntries, HeldGroup};
 pub use mq_table::{FilterMode, Source, SourceTimer};
-pub use outlet::Outlet;
+pub use outlet::{Datagrams, Outlet, QueryOutlet};
 pub use workspace::Workspace;

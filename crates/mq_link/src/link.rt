@@ -28,7 +28,7 @@ use crate::bare_link::BareLink;
 use crate::config::Config;
 use crate::counts::Counts;
 use crate::family::Family;
-use crate::outlet::Outlet;
+use crate::outlet::QueryOutlet;
 use crate::workspace::Workspace;
 use mq_arena::{OfAllocator, VectorSource, both_sizes};
 use mq_count::Moment;
@@ -113,7 +113,7 @@ impl<F: Family, A: Allocator> Link<F, A> {
     /// queries that are due for the groups are sent. However late the call is, each query is sent once. Afterwards
     /// `next_deadline()` is later than `now`. RFC 3376 sections 6.5, 6.6.2 and 6.6.3, RFC 3810 sections 7.5, 7.6.2 and
     /// 7.6.3.
-    pub fn tick<O: Outlet<F::Address>>(&mut self, now: Moment, outlet: &mut O)
+    pub fn tick<O: QueryOutlet<F::Address>>(&mut self, now: Moment, outlet: &mut O)
         requires in_range { now ≤ 2 ^ 53 }
         ensures config { self.new.config ≡ self.old.config }
         ensures changed { AreThose (changed_by_tick self.old.config now self.old.state) self.new.changed }
@@ -137,7 +137,7 @@ impl<F: Family, A: Allocator> Link<F, A> {
     /// First it does what a tick does then. Then the datagram is read, and dropped or taken. The envelope has the facts
     /// of its packet, and `body` has its bytes without the IP header. The bounds hold whatever its records are. RFC
     /// 3376 sections 4, 6.4 and 7.3.2, RFC 3810 sections 5, 7.4 and 8.3.2.
-    pub fn receive<O: Outlet<F::Address>>(
+    pub fn receive<O: QueryOutlet<F::Address>>(
         &mut self,
         envelope: &F::Envelope,
         body: &[u8],

@@ -13,7 +13,7 @@ ghost use Rattle.mq_link.specs.State.{one_if};
 
 use crate::config::Config;
 use crate::family::Family;
-use crate::outlet::Outlet;
+use crate::outlet::QueryOutlet;
 use arrayvec::ArrayVec;
 use mq_sched::{QueryParts, Sink};
 use mq_table::Timing;
@@ -105,12 +105,16 @@ impl<F: Family> QueryTerms<F> {
         }
     }
 
-    /// Writes a query that one message holds to the front, and returns its destination and its number of bytes.
-    fn write(&self, query: QueryParts<'_, F::Address>, out: &mut [u8]) -> (F::Address, usize)
+    /// Writes a query that one message holds to the front, and returns its fields and its number of bytes.
+    fn write<'q>(
+        &self,
+        query: QueryParts<'q, F::Address>,
+        out: &mut [u8],
+    ) -> (Query<'q, F::Address>, usize)
         requires fits { FitsOne F.FAMILY (query_of F.Address.number query) }
         requires length { length out.old ≡ 1476 }
-        ensures to { F.Address.number result.0
-            ≡ (outgoing_on F.FAMILY self.now (query_of F.Address.number query.entry)).to }
+        ensures fields { numbered_query F.Address.number result.0
+            ≡ (outgoing_on F.FAMILY self.now (query_of F.Address.number query.entry)).query }
         ensures within { result.1 ≤ 1476 }
         ensures len { length out.new ≡ length out.old }
         ensures bytes { take result.1 out.new
@@ -118,7 +122,7 @@ impl<F: Family> QueryTerms<F> {
     {
         let fields = self.fields(query);
         match F::write(self.own, &fields, out) {
-            Ok(length) => (destination::<F>(fields.group), length),
+            Ok(length) => (fields, length),
             Err(_) => unreachable!(),
         }
     }
@@ -157,7 +161,7 @@ pub(crate) struct Sender<'a, F: Family, O> {
     unsent: u64,
 }
 
-impl<'a, F: Family, O: Outlet<F::Address>> Sender<'a, F, O> {
+impl<'a, F: Family, O: QueryOutlet<F::Address>> Sender<'a, F, O> {
     /// Returns a sender to this outlet on these terms. Each call of a link sets them anew.
     pub(crate) fn new(terms: &'a mut QueryTerms<F>, outlet: &'a mut O) -> Sender<'a, F, O>
         ensures same_terms { result.terms.ghost_name ≡ terms.entry.ghost_name }
@@ -212,14 +216,17 @@ impl<'a, F: Family, O: Outlet<F::Address>> Sender<'a, F, O> {
     }
 
     /// Gives one datagram to the outlet, and counts the answer.
-    fn hand_over(&mut self, to: F::Address, bytes: &[u8]) -> bool
+    fn hand_over(&mut self, query: &Query<'_, F::Address>, bytes: &[u8]) -> bool
         ensures terms { self.new.terms ≡ self.old.terms }
         ensures same_outlet { self.new.outlet.ghost_name ≡ self.old.outlet.ghost_name }
-        ensures takes { O.takes self.old.outlet.now (F.Address.number to) bytes.now result self.new.outlet.now }
+        ensures takes { let q = numbered_query F.Address.number query.now in
+            let to = if q.group == 0 then family.general_destination F.FAMILY else q.group in
+            O.takes self.old.outlet.now (record { to = to; query = q; bytes = bytes.now }) result self.new.outlet.now }
         ensures sent { self.new.sent ≡ counted_on self.old.sent (one_if result) }
         ensures unsent { self.new.unsent ≡ counted_on self.old.unsent (one_if (not result)) }
     {
-        let answer = self.outlet.datagram(to, bytes);
+        let to = destination::<F>(query.group);
+        let answer = self.outlet.query(to, query, bytes);
         if answer {
             self.sent = self.sent.saturating_add(1);
         } else {
@@ -229,7 +236,7 @@ impl<'a, F: Family, O: Outlet<F::Address>> Sender<'a, F, O> {
     }
 }
 
-impl<'a, F: Family, O: Outlet<F::Address>> Sink<F::Address> for Sender<'a, F, O> {
+impl<'a, F: Family, O: QueryOutlet<F::Address>> Sink<F::Address> for Sender<'a, F, O> {
     ghost takes = { TakesQuery O.takes F.FAMILY };
 
     fn send(&mut self, query: QueryParts<'_, F::Address>) -> bool
@@ -240,7 +247,7 @@ impl<'a, F: Family, O: Outlet<F::Address>> Sink<F::Address> for Sender<'a, F, O>
             return false;
         }
         let mut out = ArrayVec::from([0; LONGEST]);
-        let (to, length) = self.terms.write(query, out.as_mut_slice());
-        self.hand_over(to, &out.as_slice()[..length])
+        let (fields, length) = self.terms.write(query, out.as_mut_slice());
+        self.hand_over(&fields, &out.as_slice()[..length])
     }
 }

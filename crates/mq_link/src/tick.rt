@@ -28,7 +28,7 @@ ghost use Rattle.mq_link.specs.Workspace.{suffices, with_changed};
 ghost use Rattle.mq_link.specs.Tick.{group_expired, groups_expired, queries_due, groups_after_round, moment_of, next_of, tick_of};
 
 use crate::family::Family;
-use crate::outlet::Outlet;
+use crate::outlet::QueryOutlet;
 use crate::router::Router;
 use crate::sender::Sender;
 use crate::status::{InForce, Status};
@@ -181,7 +181,7 @@ fn later(a: Moment, b: Moment, m: &mut Meter) -> Moment
 }
 
 /// Sends a general query, if it is due.
-fn send_general<F: Family, O: Outlet<F::Address>>(is_due: bool, sender: &mut Sender<F, O>)
+fn send_general<F: Family, O: QueryOutlet<F::Address>>(is_due: bool, sender: &mut Sender<F, O>)
     ensures { Sends (TakesQuery O.takes F.FAMILY) sender.old (if is_due then GeneralQuery ∷ [] else []) sender.new }
 {
     if is_due {
@@ -193,7 +193,7 @@ impl<F: Family> Status<F> {
     /// Handles what is due at or before `now`. In this order it handles the end of the other querier's deadline, the
     /// general query, the end of timers, and what is due for the groups. The sender begins anew, on the terms that are
     /// in force then. Lists the addresses of the groups whose filter changed.
-    fn do_due<A: Allocator, B: Allocator, O: Outlet<F::Address>>(
+    fn do_due<A: Allocator, B: Allocator, O: QueryOutlet<F::Address>>(
         &mut self,
         storage: &mut Storage<F::Address, A>,
         lists: &mut Lists<F::Address, B>,
@@ -240,7 +240,7 @@ impl<F: Family> Status<F> {
 impl<F: Family, A: Allocator> Router<F, A> {
     /// Handles what is due at or before `now`; a moment before the last one counts as the last one. The workspace lists
     /// the groups that it changes, and no others.
-    pub(crate) fn come_to<B: Allocator, O: Outlet<F::Address>>(
+    pub(crate) fn come_to<B: Allocator, O: QueryOutlet<F::Address>>(
         &mut self,
         work: &mut Workspace<F, B>,
         now: Moment,
@@ -275,7 +275,7 @@ impl<F: Family, A: Allocator> Router<F, A> {
     }
 
     /// Handles a tick: what is due then is done, and the answers of the outlet are counted.
-    pub(crate) fn tick<B: Allocator, O: Outlet<F::Address>>(
+    pub(crate) fn tick<B: Allocator, O: QueryOutlet<F::Address>>(
         &mut self,
         work: &mut Workspace<F, B>,
         now: Moment,

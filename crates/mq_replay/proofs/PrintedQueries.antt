@@ -14,7 +14,7 @@ use Rattle.mq_replay.specs.QueryLines.{TakesQuery, PutsQuery}
 use Rattle.mq_replay.specs.ReplayLines.{query_line, query_lines}
 
 module _ {W : Type 0} (contents : W → Option (List ℕ)) (family : Family) where
-  abbrev takes : QueryLines W → ℕ → List ℕ → Bool → QueryLines W → Type 0
+  abbrev takes : QueryLines W → Outgoing → Bool → QueryLines W → Type 0
   takes = TakesQuery contents family
 
   -- it holds the same buffer and the same writer
@@ -81,15 +81,15 @@ module _ {W : Type 0} (contents : W → Option (List ℕ)) (family : Family) whe
     where
       first : (r : Result Unit LineFault) → handed.0.answer ≡ r
           → Puts (contents (inner_of old.writer.now)) (contents (inner_of handed.0.writer.now)) old.buffer.now.items handed.0.buffer.now.items
-          (query_line family moment message) r
+          (query_line family moment message.to message.bytes) r
           × (has_failed handed.0.writer.now ≡ has_failed old.writer.now || is_err r)
       first r is =
           let put = subst (λ (r : Result Unit LineFault). PutsQuery contents family old message handed.0 r) fine handed.1.puts in
           let at_moment = subst
           (λ (m : ℕ). Puts (contents (inner_of old.writer.now))
-          (contents (inner_of handed.0.writer.now)) old.buffer.now.items handed.0.buffer.now.items (query_line family m message) handed.0.answer) at put.0 in (
+          (contents (inner_of handed.0.writer.now)) old.buffer.now.items handed.0.buffer.now.items (query_line family m message.to message.bytes) handed.0.answer) at put.0 in (
             subst (λ (r : Result Unit LineFault). Puts (contents (inner_of old.writer.now))
-                (contents (inner_of handed.0.writer.now)) old.buffer.now.items handed.0.buffer.now.items (query_line family moment message) r) is at_moment,
+                (contents (inner_of handed.0.writer.now)) old.buffer.now.items handed.0.buffer.now.items (query_line family moment message.to message.bytes) r) is at_moment,
             subst (λ (r : Result Unit LineFault). has_failed handed.0.writer.now ≡ has_failed old.writer.now || is_err r) is put.1,
           )
 
@@ -99,7 +99,7 @@ module _ {W : Type 0} (contents : W → Option (List ℕ)) (family : Family) whe
           let one = first (Ok v) is in
           let rest = others v is in
           record {
-            put = then_put _ _ _ _ _ _ (query_line family moment message) (query_lines family moment messages) new.answer one.0 rest.put;
+            put = then_put _ _ _ _ _ _ (query_line family moment message.to message.bytes) (query_lines family moment messages) new.answer one.0 rest.put;
             failed = rest.failed ∙ ap (λ (b : Bool). b || is_err new.answer) (one.1 ∙ or-false _);
             all_sent = more_sent messages message answer answers new.answer (handed.1.sent_is ∙ ap is_ok is) rest.all_sent;
           }
@@ -113,7 +113,7 @@ module _ {W : Type 0} (contents : W → Option (List ℕ)) (family : Family) whe
           let lines = query_lines family moment (message ∷ messages) in
           subst (λ (q : QueryLines W). Printed moment old (message ∷ messages) (answer ∷ answers) q) (sym stays) (record {
             put = subst (λ (r : Result Unit LineFault). Puts a b held left lines r) (sym is)
-                (broken_within a b held (query_line family moment message) (query_lines family moment messages) one.0);
+                (broken_within a b held (query_line family moment message.to message.bytes) (query_lines family moment messages) one.0);
             failed = subst (λ (r : Result Unit LineFault). has_failed handed.0.writer.now ≡ has_failed old.writer.now || is_err r) (sym is) one.1;
             all_sent = subst (λ (r : Result Unit LineFault). IfOk r (λ u. answer ∷ answers ≡ list_map (λ message. true) (message ∷ messages))) (sym is) tt;
           })

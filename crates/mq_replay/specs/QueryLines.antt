@@ -15,16 +15,16 @@ use Rattle.mq_replay.specs.ReplayLines.{query_line, query_lines}
 -- the effect of a query on the outlet: its line is put at its moment, unless a write failed before
 abbrev pub PutsQuery : {W : Type 0} → (W → Option (List ℕ)) → Family → (old : QueryLines W) → Outgoing → (new : QueryLines W) → Result Unit LineFault → Type 0
 PutsQuery contents family old query new (Ok u) =
-    Puts (contents (inner_of old.writer.now)) (contents (inner_of new.writer.now)) old.buffer.now.items new.buffer.now.items (query_line family old.moment query) new.answer
+    Puts (contents (inner_of old.writer.now)) (contents (inner_of new.writer.now)) old.buffer.now.items new.buffer.now.items (query_line family old.moment query.to query.bytes) new.answer
     × (has_failed new.writer.now ≡ has_failed old.writer.now || is_err new.answer)
 PutsQuery contents family old query new (Err e) = new ≡ old
 
-pub record TakesQuery {W : Type 0} (contents : W → Option (List ℕ)) (family : Family) (old : QueryLines W) (to : ℕ) (bytes : List ℕ) (sent : Bool) (new : QueryLines W) : Type 0 where
+pub record TakesQuery {W : Type 0} (contents : W → Option (List ℕ)) (family : Family) (old : QueryLines W) (query : Outgoing) (sent : Bool) (new : QueryLines W) : Type 0 where
   pub same_buffer : new.buffer.ghost_name ≡ old.buffer.ghost_name
   pub same_writer : new.writer.ghost_name ≡ old.writer.ghost_name
   pub same_moment : new.moment ≡ old.moment
   pub sent_is : sent ≡ is_ok new.answer
-  pub puts : PutsQuery contents family old (record { to = to; bytes = bytes }) new old.answer
+  pub puts : PutsQuery contents family old query new old.answer
 
 -- A tick of a link, whose messages were put as lines: all of them, if no write failed.
 pub record TicksPrinting (family : Family) (now : ℕ) (before after : LinkValue) (old new : Option (List ℕ)) (held left : List ℕ) (r : Result Unit LineFault) : Type 0 where

@@ -23,12 +23,12 @@ use Rattle.mq_lines.specs.Text.{address_text, line_of}
 abbrev pub query_start : Family → (moment to : ℕ) → List ℕ
 query_start family moment to = decimal moment ++ codes " send " ++ address_text family to ++ codes " "
 
-abbrev pub query_line : Family → (moment : ℕ) → Outgoing → List ℕ
-query_line family moment query = line_of (query_start family moment query.to ++ encode_lower query.bytes)
+abbrev pub query_line : Family → (moment to : ℕ) → (bytes : List ℕ) → List ℕ
+query_line family moment to bytes = line_of (query_start family moment to ++ encode_lower bytes)
 
 -- the queries of one moment, in order
 abbrev pub query_lines : Family → (moment : ℕ) → List Outgoing → List ℕ
-query_lines family moment queries = flat_map (query_line family moment) queries
+query_lines family moment queries = flat_map (λ query. query_line family moment query.to query.bytes) queries
 
 -- the numbers of applied, ignored and refused records of a datagram, or the number of the reason to drop it
 abbrev pub received_text : Received → List ℕ

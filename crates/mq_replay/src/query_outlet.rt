@@ -5,8 +5,9 @@ ghost use Rattle.std.specs.Prelude.{◌≡◌};
 use crate::replay_lines::put_query;
 use mq_count::{Moment, Watched};
 use mq_lines::LineKey;
-use mq_link::Outlet;
+use mq_link::QueryOutlet;
 use mq_text::{LineFault, Text};
+use mq_wire::Query;
 use std::io::Write;
 
 /// An outlet that puts the line of each query at one moment. It answers true if the line was put. Once a write has
@@ -49,12 +50,12 @@ impl<'a, W: Write> QueryLines<'a, W> {
     }
 }
 
-impl<'a, K: LineKey, W: Write> Outlet<K> for QueryLines<'a, W> {
+impl<'a, K: LineKey, W: Write> QueryOutlet<K> for QueryLines<'a, W> {
     ghost use Rattle.mq_replay.specs.QueryLines.{TakesQuery};
 
     ghost takes = { TakesQuery W.contents K.family };
 
-    fn datagram(&mut self, to: K, bytes: &[u8]) -> bool {
+    fn query(&mut self, to: K, _query: &Query<'_, K>, bytes: &[u8]) -> bool {
         if self.answer.is_err() {
             return false;
         }

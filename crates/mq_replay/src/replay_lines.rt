@@ -27,7 +27,7 @@ pub(crate) fn put_query<K: LineKey, W: Write>(
 ) -> Result<(), LineFault>
     ensures text { Puts
         (W.contents (inner_of writer.old)) (W.contents (inner_of writer.new))
-        buffer.old.items buffer.new.items (query_line K.family moment (record { to = K.number to; bytes = bytes.now })) result }
+        buffer.old.items buffer.new.items (query_line K.family moment (K.number to) bytes.now) result }
     ensures failed { has_failed writer.new ≡ has_failed writer.old || is_err result }
 {
     make_room(buffer, writer)?;

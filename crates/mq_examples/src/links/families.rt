@@ -10,7 +10,7 @@ ghost use Rattle.mq_sched.specs.Sending.{GeneralQuery, GroupQuery, SourcesQuery}
 ghost use Rattle.mq_link.specs.Family.{is_admitted, in_source_specific_range, is_link_local, is_router_address};
 ghost use Rattle.mq_link.specs.Configuration.{configuration_fault};
 ghost use Rattle.mq_link.specs.Counters.{Applied, Ignored, Refused};
-ghost use Rattle.mq_link.specs.Sent.{outgoing};
+ghost use Rattle.mq_link.specs.Sent.{fields_sent, outgoing};
 ghost use Rattle.mq_examples.specs.Links.{igmp, mld, limited, mld_limited, timed, owned, mld_owned, source_specific_mld, host, ipv4, from, mld_from, link_local, a_source, a_group, a_source_specific_group, octets, listed, early, asking, saying, Comes, Becomes};
 
 use mq_link::{ConfigFault, DropReason, LimitName, Received, Refusal};
@@ -158,21 +158,21 @@ pub fn the_source_specific_range_of_mld()
 /// Queries as they are sent: general queries to all systems and all nodes, specific ones to their group.
 pub fn queries_as_sent()
     ensures general { outgoing igmp default_timing GeneralQuery
-        ≡ record { to = ipv4 224 0 0 1; bytes = octets 12 0x1164ec1e00000000027d0000 } }
+        ≡ record { to = ipv4 224 0 0 1; query = fields_sent default_timing GeneralQuery; bytes = octets 12 0x1164ec1e00000000027d0000 } }
     ensures general_of_mld { outgoing mld default_timing GeneralQuery
-        ≡ record { to = 0xff02 * 2 ^ 112 + 1; bytes = octets 28 0x820056962710000000000000000000000000000000000000027d0000 } }
+        ≡ record { to = 0xff02 * 2 ^ 112 + 1; query = fields_sent default_timing GeneralQuery; bytes = octets 28 0x820056962710000000000000000000000000000000000000027d0000 } }
     ensures source { outgoing igmp default_timing (SourcesQuery the_group false (host 1 ∷ []))
-        ≡ record { to = the_group; bytes = octets 16 0x110af973e8010101027d00010a000001 } }
+        ≡ record { to = the_group; query = fields_sent default_timing (SourcesQuery the_group false (host 1 ∷ [])); bytes = octets 16 0x110af973e8010101027d00010a000001 } }
     ensures group { outgoing igmp default_timing (GroupQuery (ipv4 239 1 2 3) false)
-        ≡ record { to = ipv4 239 1 2 3; bytes = octets 12 0x110afb73ef010203027d0000 } }
+        ≡ record { to = ipv4 239 1 2 3; query = fields_sent default_timing (GroupQuery (ipv4 239 1 2 3) false); bytes = octets 12 0x110afb73ef010203027d0000 } }
     ensures suppressing { outgoing igmp default_timing (GroupQuery (ipv4 239 1 2 3) true)
-        ≡ record { to = ipv4 239 1 2 3; bytes = octets 12 0x110af373ef0102030a7d0000 } }
+        ≡ record { to = ipv4 239 1 2 3; query = fields_sent default_timing (GroupQuery (ipv4 239 1 2 3) true); bytes = octets 12 0x110af373ef0102030a7d0000 } }
     ensures two_sources { outgoing igmp default_timing (SourcesQuery the_group false (host 1 ∷ host 2 ∷ []))
-        ≡ record { to = the_group; bytes = octets 20 0x110aef70e8010101027d00020a0000010a000002 } }
+        ≡ record { to = the_group; query = fields_sent default_timing (SourcesQuery the_group false (host 1 ∷ host 2 ∷ [])); bytes = octets 20 0x110aef70e8010101027d00020a0000010a000002 } }
     ensures suppressing_a_source { outgoing igmp default_timing (SourcesQuery the_group true (host 1 ∷ []))
-        ≡ record { to = the_group; bytes = octets 16 0x110af173e80101010a7d00010a000001 } }
+        ≡ record { to = the_group; query = fields_sent default_timing (SourcesQuery the_group true (host 1 ∷ [])); bytes = octets 16 0x110af173e80101010a7d00010a000001 } }
     ensures the_other_source { outgoing igmp default_timing (SourcesQuery the_group false (host 2 ∷ []))
-        ≡ record { to = the_group; bytes = octets 16 0x110af972e8010101027d00010a000002 } }
+        ≡ record { to = the_group; query = fields_sent default_timing (SourcesQuery the_group false (host 2 ∷ [])); bytes = octets 16 0x110af972e8010101027d00010a000002 } }
 {}
 
 /// The length of a query with as many sources as a packet of 1500 octets holds, and with one.

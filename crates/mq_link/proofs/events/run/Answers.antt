@@ -18,14 +18,14 @@ loop-event-preserved g c =
     elim c.match-event.branch [
       | in-Tick w ↦
           let e = Tick w.in-Tick.now in
-          let one = ticked_first g.O.Outlet.takes w.in-Tick.now others before w.tick.new.self old w.tick.new.outlet w.tick.ensures.config
+          let one = ticked_first g.O.QueryOutlet.takes w.in-Tick.now others before w.tick.new.self old w.tick.new.outlet w.tick.ensures.config
           w.tick.ensures.ticks in
           rw (w.link-is, w.outlet-is)
           (one_more _ _ _ _ _ _ _ _ _ _ _ (left e c.loop-event-test.true c.event-item.is (ap f w.in-Tick.is)) c.loop-event.invariant one)
       | in-Datagram w ↦
           let envelope = g.F.Family.envelope_of w.in-Datagram.envelope in
           let e = Datagram envelope w.in-Datagram.body.now w.in-Datagram.now in
-          let one = received_first g.O.Outlet.takes envelope w.in-Datagram.body.now w.in-Datagram.now w.receive.result others before
+          let one = received_first g.O.QueryOutlet.takes envelope w.in-Datagram.body.now w.in-Datagram.now w.receive.result others before
           w.receive.new.self old w.receive.new.outlet w.receive.ensures.config w.receive.ensures.receives in
           rw (w.link-is, w.outlet-is)
           (one_more _ _ _ _ _ _ _ _ _ _ _ (left e c.loop-event-test.true c.event-item.is (ap f w.in-Datagram.is)) c.loop-event.invariant one)
@@ -40,5 +40,5 @@ returns g c =
     let none_left = sym (drop_of_length-le xs c.loop-event-test.false) in
     record {
       runs = c.loop-event.invariant last outlet
-          (subst (λ ys. HasRun g.O.Outlet.takes (map f ys) last last outlet outlet) none_left (none_run g.O.Outlet.takes last outlet));
+          (subst (λ ys. HasRun g.O.QueryOutlet.takes (map f ys) last last outlet outlet) none_left (none_run g.O.QueryOutlet.takes last outlet));
     }

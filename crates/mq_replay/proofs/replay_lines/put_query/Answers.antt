@@ -8,7 +8,7 @@ use Rattle.mq_replay.proofs.replay_lines.put_query.Goals as goal
 pub returns-in_err-make_room-clause-text : goal.returns-in_err-make_room-clause-text
 returns-in_err-make_room-clause-text g c =
     let p = err_from_is_err_and c.from_residual.result c.from_residual.ensures.1 in
-    let line = query_line g.K.LineKey.family c.args.moment (record { to = g.K.Key.number c.args.to; bytes = c.args.bytes.now }) in
+    let line = query_line g.K.LineKey.family c.args.moment (g.K.Key.number c.args.to) c.args.bytes.now in
     rw p.1 (broken_within _ _ _ [] line c.in_err-make_room.ensures.text)
 
 pub returns-in_err-put_hexadecimal-clause-text : goal.returns-in_err-put_hexadecimal-clause-text

@@ -10,7 +10,7 @@ use Rattle.mq_check.proofs.checking.Checking.query_seen.Goals as goal
 pub returns-then-is_general : goal.returns-then-is_general
 returns-then-is_general g c =
     let is_config = c.config-config.ensures in
-    let family = g.met.F.CapturedFamily.same_family ∙ sym c.is_faultless.ensures.family ∙ ap (λ (k : Configuration). k.family) is_config in
+    let family = sym c.is_faultless.ensures.family ∙ ap (λ (k : Configuration). k.family) is_config in
     let terms = c.terms_of-terms.ensures ∙
     ap (λ (f : Family). terms_of f c.args.packet.number (g.F.Address.Key.number c.args.packet.to)
     (numbered_query g.F.Address.Key.number c.args.query.now)) family in
@@ -21,11 +21,10 @@ returns-then-is_general g c =
 pub returns : goal.returns
 returns g c =
     let is_config = c.config-config.ensures in
-    let family = g.met.F.CapturedFamily.same_family ∙ sym c.is_faultless.ensures.family ∙ ap (λ (k : Configuration). k.family) is_config in
+    let family = sym c.is_faultless.ensures.family ∙ ap (λ (k : Configuration). k.family) is_config in
     let terms = c.terms_of-terms.ensures ∙
     ap (λ (f : Family). terms_of f c.args.packet.number (g.F.Address.Key.number c.args.packet.to)
     (numbered_query g.F.Address.Key.number c.args.query.now)) family in
     let wanted = c.specific_terms-wanted.ensures ∙
     (λ i. specific_terms (is_config i) (c.timing-in_force.ensures i) (numbered_query g.F.Address.Key.number c.args.query.now)) in
-    let named = sym c.is_faultless.ensures.family ∙ ap (λ (k : Configuration). k.family) is_config in
-    specific_came _ _ _ _ _ _ _ _ _ _ _ _ _ (sym c.is_general.ensures ∙ c.if-is_general.false) named terms wanted c.moment.ensures.same c.see_specific.ensures
+    specific_came _ _ _ _ _ _ _ _ _ _ _ _ _ (sym c.is_general.ensures ∙ c.if-is_general.false) family terms wanted c.moment.ensures.same c.see_specific.ensures

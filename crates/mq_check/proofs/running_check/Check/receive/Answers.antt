@@ -8,7 +8,6 @@ use Rattle.mq_check.specs.Checking.{all_blocked, role_changed}
 use Rattle.mq_check.specs.Wanting.{WantingValue}
 use Rattle.mq_check.proofs.Bases.{other_named}
 use Rattle.mq_check.proofs.Steppings.{received_at, received_is}
-use Rattle.mq_check.proofs.WantedMessages.{own_kept}
 use Rattle.mq_check.proofs.running_check.Check.receive.Goals as goal
 
 pub returns-clause-receives : goal.returns-clause-receives
@@ -35,14 +34,5 @@ returns-clause-receives g c =
     (c.is_querier-stays_querier.ensures i) c.receive.new.outlet.basis)) in
     received_at _ _ _ _ _ _ _ c.moment-now.ensures.same
     (received_is g.F.Family.FAMILY c.args.self.now.terms.within now _ c.args.self.now.link c.receive.new.self c.args.self.now.queries
-    c.block_all.new.self c.begin.new.self c.receive.new.outlet c.name_other.new.self _ _ is_family c.args.self.now.own notes begins
+    c.block_all.new.self c.begin.new.self c.receive.new.outlet c.name_other.new.self _ _ is_family notes begins
     receives.receives.hands_out receives.handed role rests)
-
-pub invariant_of-self : goal.invariant_of-self
-invariant_of-self g c =
-    record {
-      own = ap (λ (w : WantingValue). w.own) c.name_other.ensures ∙ ap (λ (w : WantingValue). w.own) c.change_role.ensures ∙
-          own_kept g.F.Family.FAMILY c.begin.new.self c.receive.new.outlet _ _ c.receive.ensures.receives.handed ∙
-          ap (λ (w : WantingValue). w.own) c.begin.ensures ∙ ap (λ (w : WantingValue). w.own) c.block_all.ensures ∙ c.args.self.now.own ∙
-          sym (ap (λ (config : Configuration). config.own) c.receive.ensures.config);
-    }

@@ -5,7 +5,6 @@ use Rattle.mq_check.specs.Basis as basis
 use Rattle.mq_check.specs.Checking.{role_after_tick}
 use Rattle.mq_check.specs.Wanting.{WantingValue}
 use Rattle.mq_check.proofs.Steppings.{ticked_is}
-use Rattle.mq_check.proofs.WantedMessages.{own_kept}
 use Rattle.mq_check.proofs.running_check.Check.tick.Goals as goal
 
 pub returns-then-was_querier-clause-ticks : goal.returns-then-was_querier-clause-ticks
@@ -16,7 +15,7 @@ returns-then-was_querier-clause-ticks g c =
     (λ i. record c.args.self.now.queries { moment = c.args.now; by_tick = true; is_returning = not (c.is_querier-was_querier.ensures i) }) in
     let ticks = c.tick.ensures.ticks in
     ticked_is g.F.Family.FAMILY c.args.self.now.terms.within c.args.now c.args.self.now.link c.tick.new.self c.args.self.now.queries c.begin.new.self
-    c.tick.new.outlet c.tick.new.outlet _ _ is_family c.args.self.now.own begins ticks.ticks ticks.handed
+    c.tick.new.outlet c.tick.new.outlet _ _ is_family begins ticks.ticks ticks.handed
     (ap (λ (b : Bool). role_after_tick c.args.self.now.terms.within c.args.now b (is_querier c.tick.new.self.state.election.role)
     c.tick.new.outlet.checking) (sym was))
     (ap (λ (b : Bool). basis.role_after_tick c.args.now b (is_querier c.tick.new.self.state.election.role) c.tick.new.outlet.basis) (sym was))
@@ -30,7 +29,7 @@ returns-then-not-is_querier-clause-ticks g c =
     (λ i. record c.args.self.now.queries { moment = c.args.now; by_tick = true; is_returning = not (c.is_querier-was_querier.ensures i) }) in
     let ticks = c.tick.ensures.ticks in
     ticked_is g.F.Family.FAMILY c.args.self.now.terms.within c.args.now c.args.self.now.link c.tick.new.self c.args.self.now.queries c.begin.new.self
-    c.tick.new.outlet c.tick.new.outlet _ _ is_family c.args.self.now.own begins ticks.ticks ticks.handed
+    c.tick.new.outlet c.tick.new.outlet _ _ is_family begins ticks.ticks ticks.handed
     (λ i. role_after_tick c.args.self.now.terms.within c.args.now (sym was i) (sym is i) c.tick.new.outlet.checking)
     (λ i. basis.role_after_tick c.args.now (sym was i) (sym is i) c.tick.new.outlet.basis)
 
@@ -43,29 +42,7 @@ returns-clause-ticks g c =
     (λ i. record c.args.self.now.queries { moment = c.args.now; by_tick = true; is_returning = not (c.is_querier-was_querier.ensures i) }) in
     let ticks = c.tick.ensures.ticks in
     ticked_is g.F.Family.FAMILY c.args.self.now.terms.within c.args.now c.args.self.now.link c.tick.new.self c.args.self.now.queries c.begin.new.self
-    c.tick.new.outlet c.return_role.new.self _ _ is_family c.args.self.now.own begins ticks.ticks ticks.handed
+    c.tick.new.outlet c.return_role.new.self _ _ is_family begins ticks.ticks ticks.handed
     (ap (λ (w : WantingValue). w.checking) c.return_role.ensures ∙
     (λ i. role_after_tick c.args.self.now.terms.within c.args.now (sym was i) (sym is i) c.tick.new.outlet.checking))
     (ap (λ (w : WantingValue). w.basis) c.return_role.ensures ∙ (λ i. basis.role_after_tick c.args.now (sym was i) (sym is i) c.tick.new.outlet.basis))
-
-pub invariant_of-self : goal.invariant_of-self
-invariant_of-self g c =
-    record {
-      own = own_kept g.F.Family.FAMILY c.begin.new.self c.tick.new.outlet _ _ c.tick.ensures.ticks.handed ∙
-          ap (λ (w : WantingValue). w.own) c.begin.ensures ∙ c.args.self.now.own ∙ sym (ap (λ (config : Configuration). config.own) c.tick.ensures.config);
-    }
-
-pub invariant_of-self-then-not-is_querier : goal.invariant_of-self-then-not-is_querier
-invariant_of-self-then-not-is_querier g c =
-    record {
-      own = own_kept g.F.Family.FAMILY c.begin.new.self c.tick.new.outlet _ _ c.tick.ensures.ticks.handed ∙
-          ap (λ (w : WantingValue). w.own) c.begin.ensures ∙ c.args.self.now.own ∙ sym (ap (λ (config : Configuration). config.own) c.tick.ensures.config);
-    }
-
-pub invariant_of-self-2 : goal.invariant_of-self-2
-invariant_of-self-2 g c =
-    record {
-      own = ap (λ (w : WantingValue). w.own) c.return_role.ensures ∙
-          own_kept g.F.Family.FAMILY c.begin.new.self c.tick.new.outlet _ _ c.tick.ensures.ticks.handed ∙
-          ap (λ (w : WantingValue). w.own) c.begin.ensures ∙ c.args.self.now.own ∙ sym (ap (λ (config : Configuration). config.own) c.tick.ensures.config);
-    }

@@ -17,7 +17,7 @@ receive_in-requires-clause-enough g c = c.self.invariant.0
 
 pub returns-clause-receives : goal.returns-clause-receives
 returns-clause-receives g c =
-    let takes = g.O.Outlet.takes in
+    let takes = g.O.QueryOutlet.takes in
     let around = g.F.Family.envelope_of c.args.envelope.now in
     let before : LinkValue = record c.self.inside.bare { changed = c.self.inside.workspace.changed } in
     let left : LinkValue = record c.receive_in.new.self { changed = c.receive_in.new.workspace.changed } in

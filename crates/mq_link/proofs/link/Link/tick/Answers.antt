@@ -17,7 +17,7 @@ tick_in-requires-clause-enough g c = c.self.invariant.0
 
 pub returns-clause-ticks : goal.returns-clause-ticks
 returns-clause-ticks g c =
-    let takes = g.O.Outlet.takes in
+    let takes = g.O.QueryOutlet.takes in
     let before : LinkValue = record c.self.inside.bare { changed = c.self.inside.workspace.changed } in
     let left : LinkValue = record c.tick_in.new.self { changed = c.tick_in.new.workspace.changed } in
     let did = c.tick_in.ensures.ticks in

@@ -60,7 +60,7 @@ at_moment g c = c.later-now.ensures.later ∙ ap (λ n. max n c.args.now) c.mome
 
 -- what is due then is done
 did : (g : Over) (c : After-do_due g) → (let parts = c.self.inside in
-    HasDone g.O.Outlet.takes g.F.Family.FAMILY c.later-now.result (router_of parts.status parts.storage parts.counts)
+    HasDone g.O.QueryOutlet.takes g.F.Family.FAMILY c.later-now.result (router_of parts.status parts.storage parts.counts)
     (router_of c.do_due.new.self c.do_due.new.storage parts.counts) c.args.sender.now c.do_due.new.sender)
 did g c = let done = c.do_due.ensures in record { status_is = done.status; groups_are = done.groups; counters_are = refl; sent = done.sent }
 
@@ -105,7 +105,7 @@ returns-clause-step g c =
     let parts = c.self.inside in
     let after = router_of c.do_due.new.self c.do_due.new.storage parts.counts in
     subst (λ (r : RouterValue). let step = tick_of r.at.config c.args.now (state_of r) in
-    HasStep (TakesQuery g.O.Outlet.takes g.F.Family.FAMILY) step r after (begun r.at.config step.timing c.args.sender.now) c.do_due.new.sender) c.self.view_is
+    HasStep (TakesQuery g.O.QueryOutlet.takes g.F.Family.FAMILY) step r after (begun r.at.config step.timing c.args.sender.now) c.do_due.new.sender) c.self.view_is
     (does_tick _ _ c.args.now _ _ after _ _ c.lemma_is_sound.ensures.family (at_moment g c) (did g c))
 
 pub returns-clause-workspace : goal.returns-clause-workspace

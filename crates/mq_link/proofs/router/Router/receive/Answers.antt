@@ -34,7 +34,7 @@ returns-clause-config g c = ap (λ (r : RouterValue). r.at.config) (counted g c)
 
 pub returns-clause-receives : goal.returns-clause-receives
 returns-clause-receives g c =
-    has_received g.O.Outlet.takes g.F.Family.FAMILY (g.F.Family.envelope_of c.args.envelope.now) c.args.body.now c.args.now c.args.self.now
+    has_received g.O.QueryOutlet.takes g.F.Family.FAMILY (g.F.Family.envelope_of c.args.envelope.now) c.args.body.now c.args.now c.args.self.now
     c.come_to.new.self c.take_in-received.new.self c.count_answers.new.self c.take_in-received.result c.args.sender.now c.come_to.new.sender
     c.take_in-received.new.sender c.lemma_is_stored.ensures.family c.come_to.ensures.step c.take_in-received.ensures.receipt (counted g c)
 

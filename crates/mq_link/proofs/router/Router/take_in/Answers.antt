@@ -54,7 +54,7 @@ take_message-requires-clause-counted g c =
 -- a datagram that is dropped comes to its reason
 dropped : (g : Over) (c : After-count_dropped g) → (let around = g.F.Family.envelope_of c.args.envelope.now in
     (drop_reason c.args.self.now.at.config around (numbered_read g.F.Address.Key.number c.read-read.result) ≡ Some c.in-Some.reason)
-    × HasReceipt (TakesQuery g.O.Outlet.takes g.F.Family.FAMILY) (whole g around c.args.body.now c.args.self.now)
+    × HasReceipt (TakesQuery g.O.QueryOutlet.takes g.F.Family.FAMILY) (whole g around c.args.body.now c.args.self.now)
     (Dropped c.in-Some.reason) c.args.self.now c.count_dropped.new.self c.args.sender.now c.args.sender.now)
 dropped g c =
     let read = numbered_read g.F.Address.Key.number c.read-read.result in
@@ -64,7 +64,7 @@ dropped g c =
     ap (λ k. drop_reason k around read) (ap (λ (r : RouterValue). r.at.config) (sym c.count_read.ensures) ∙ sym c.config.ensures) ∙
     sym c.drop_reason.ensures ∙ c.in-Some.is
     in
-    let takes = TakesQuery g.O.Outlet.takes g.F.Family.FAMILY in
+    let takes = TakesQuery g.O.QueryOutlet.takes g.F.Family.FAMILY in
     let comes = is_dropped takes c.args.sender.now around read c.in-Some.reason before c.count_read.new.self c.count_dropped.new.self is
     c.count_read.ensures c.count_dropped.ensures in (
       is,
@@ -114,7 +114,7 @@ pub returns-clause-receipt : goal.returns-clause-receipt
 returns-clause-receipt g c =
     let whole = c.take_message.ensures.receipt in
     let config = ap (λ (r : RouterValue). r.at.config) c.count_read.ensures in
-    subst (λ (x : Receipt). HasReceipt (TakesQuery g.O.Outlet.takes g.F.Family.FAMILY) x c.take_message.result c.args.self.now c.take_message.new.self
+    subst (λ (x : Receipt). HasReceipt (TakesQuery g.O.QueryOutlet.takes g.F.Family.FAMILY) x c.take_message.result c.args.self.now c.take_message.new.self
     c.args.sender.now c.take_message.new.sender) (sym (taken g c).2)
     (record {
       step = record {

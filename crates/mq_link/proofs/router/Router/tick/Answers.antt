@@ -20,7 +20,7 @@ pub returns-clause-config : goal.returns-clause-config
 returns-clause-config g c = ap (λ (r : RouterValue). r.at.config) (counted g c) ∙ c.come_to.ensures.step.leaves.config
 
 pub returns-clause-ticks : goal.returns-clause-ticks
-returns-clause-ticks g c = has_ticked g.O.Outlet.takes g.F.Family.FAMILY c.args.now c.args.self.now c.come_to.new.self c.count_answers.new.self
+returns-clause-ticks g c = has_ticked g.O.QueryOutlet.takes g.F.Family.FAMILY c.args.now c.args.self.now c.come_to.new.self c.count_answers.new.self
     c.args.sender.now c.come_to.new.sender c.lemma_is_stored.ensures.family c.come_to.ensures.step (counted g c)
 
 pub returns-clause-same_outlet : goal.returns-clause-same_outlet

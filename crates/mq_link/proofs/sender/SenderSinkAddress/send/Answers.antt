@@ -1,7 +1,8 @@
-use Rattle.std.proofs.Common.{◌≡◌, Bool, false, length, ap, ◌∙◌, subst, refl, arith, take}
+use Rattle.std.proofs.Common.{◌≡◌, ℕ, Bool, false, length, ap, ◌∙◌, subst, refl, arith, take}
+use Rattle.std.specs.Prelude.{◌==◌, if◌then◌else◌}
 use Rattle.std.specs.Bool.{IsTrue}
-use Rattle.mq_sched.specs.Sink.{query_of}
-use Rattle.mq_link.specs.Handing.{outgoing_on}
+use Rattle.mq_wire.specs.declared.query.Query.{Query}
+use Rattle.mq_link.specs.Family.{general_destination}
 use Rattle.mq_link.proofs.Lengths.{written_back}
 use Rattle.mq_link.proofs.sender.SenderSinkAddress.send.Goals as goal
 
@@ -21,15 +22,15 @@ returns-then-not-fits_one-clause-takes g c =
 
 pub returns-clause-takes : goal.returns-clause-takes
 returns-clause-takes g c =
-    let takes = g.O.Outlet.takes in
+    let takes = g.O.QueryOutlet.takes in
     let before = c.args.self.now in
     let handed = c.hand_over.ensures in
-    let written = c.write-to.ensures in
-    let message = outgoing_on g.F.Family.FAMILY before.terms.now (query_of g.F.Address.Key.number c.args.query) in
+    let written = c.write-fields.ensures in
+    let to_of : Query ℕ → ℕ = λ q. if q.group == 0 then general_destination g.F.Family.FAMILY else q.group in
     let fits = c.fits_one.ensures.0 c.if-not-fits_one.false in
     let room = ap length c.as_mut_slice.ensures.value in
-    let stored = ap (take c.write-to.result.1) c.as_slice.ensures.value
-    ∙ written_back _ _ c.from-out.result.items c.write-to.new.out (omega (arith, written.within, written.len, room))
+    let stored = ap (take c.write-fields.result.1) c.as_slice.ensures.value
+    ∙ written_back _ _ c.from-out.result.items c.write-fields.new.out (omega (arith, written.within, written.len, room))
     (omega (arith, written.within, written.len, room)) in
     record {
       same_terms = handed.terms;
@@ -37,9 +38,8 @@ returns-clause-takes g c =
       hands = record {
         handed = λ small. (
           c.hand_over.result,
-          subst (λ bytes. takes before.outlet.now message.to bytes c.hand_over.result c.hand_over.new.self.outlet.now) (stored ∙ written.bytes)
-              (subst (λ to. takes before.outlet.now to (take c.write-to.result.1 c.as_slice.result.now) c.hand_over.result
-              c.hand_over.new.self.outlet.now) written.to handed.takes),
+          subst (λ m. takes before.outlet.now m c.hand_over.result c.hand_over.new.self.outlet.now)
+              (λ i. record { to = to_of (written.fields i); query = written.fields i; bytes = (stored ∙ written.bytes) i }) handed.takes,
           handed.sent,
           handed.unsent,
         );

@@ -43,13 +43,13 @@ returns-clause-sent g c =
     let moment : c.in_force-at.result.moment ≡ now = ap (λ (f : InForce). f.moment) in_force ∙ ap (λ (s : Setting). s.now) c.tick-is_due.ensures.ticked in
     let begun_is = c.begin.ensures ∙ ap (λ k. begun k c.in_force-at.result.timing c.args.sender.now)
     (c.config.ensures ∙ ap (λ (s : Setting). s.config) c.tick-is_due.ensures.ticked) in
-    due_sent g.O.Outlet.takes family config now c.args.self.now.election c.args.storage.now.held.groups c.in_force-at.result.timing c.args.sender.now
+    due_sent g.O.QueryOutlet.takes family config now c.args.self.now.election c.args.storage.now.held.groups c.in_force-at.result.timing c.args.sender.now
     c.begin.new.self c.send_general.new.sender c.tick_groups.new.sink c.tick-is_due.result
     timing
     begun_is
     c.tick-is_due.ensures.sent
     c.send_general.ensures
-    (subst (λ n. Sends (TakesQuery g.O.Outlet.takes family) c.send_general.new.sender
+    (subst (λ n. Sends (TakesQuery g.O.QueryOutlet.takes family) c.send_general.new.sender
     (queries_due family c.in_force-at.result.timing n (groups_expired n c.args.storage.now.held.groups)) c.tick_groups.new.sink) moment
     (c.tick_groups.ensures.sent family g.met.F.Family.per_query))
 
