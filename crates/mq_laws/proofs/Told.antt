@@ -158,10 +158,10 @@ behind_packets k course None None number is answered =
     → (course.fault ≡ None) × EndTells k.config k.additions k.totals (at_last k.config k.within moment course.state.checked)
     (all_reported k.additions (all_found k.config k.within moment course.state.found course.state.checked)) verdict.text) [
       | true ↦ λ gap.
-          let broken : verdict ≡ broken_off work (Gap number) course.state = rw gap refl in
+          let broken : verdict ≡ broken_off work (Gap number) course.state = rw (gap, reported) refl in
           absurd (let two = ap (λ (v : Report Totals). v.answer) (sym broken) ∙ answered in cc)
       | false ↦ λ near.
-          let ended : verdict ≡ ended_at k.config k.within k.additions moment number course.state.found course.state.checked = rw near refl in (
+          let ended : verdict ≡ ended_at k.config k.within k.additions moment number course.state.found course.state.checked = rw (near, reported) refl in (
             is,
             rw ended (ended_tells k.config k.within k.additions moment number course.state.found course.state.checked k.totals
                 (ap (λ (v : Report Totals). v.answer) (sym ended) ∙ answered)),
