@@ -87,9 +87,11 @@ module _ {W : Type 0} (contents : W → Option (List ℕ)) (family : Family) whe
           let put = subst (λ (r : Result Unit LineFault). PutsQuery contents family old message handed.0 r) fine handed.1.puts in
           let at_moment = subst
           (λ (m : ℕ). Puts (contents (inner_of old.writer.now))
-          (contents (inner_of handed.0.writer.now)) old.buffer.now.items handed.0.buffer.now.items (query_line family m message.to message.bytes) handed.0.answer) at put.0 in (
+          (contents (inner_of handed.0.writer.now)) old.buffer.now.items handed.0.buffer.now.items
+          (query_line family m message.to message.bytes) handed.0.answer) at put.0 in (
             subst (λ (r : Result Unit LineFault). Puts (contents (inner_of old.writer.now))
-                (contents (inner_of handed.0.writer.now)) old.buffer.now.items handed.0.buffer.now.items (query_line family moment message.to message.bytes) r) is at_moment,
+                (contents (inner_of handed.0.writer.now)) old.buffer.now.items handed.0.buffer.now.items
+                (query_line family moment message.to message.bytes) r) is at_moment,
             subst (λ (r : Result Unit LineFault). has_failed handed.0.writer.now ≡ has_failed old.writer.now || is_err r) is put.1,
           )
 

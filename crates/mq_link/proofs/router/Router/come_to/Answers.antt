@@ -105,7 +105,8 @@ returns-clause-step g c =
     let parts = c.self.inside in
     let after = router_of c.do_due.new.self c.do_due.new.storage parts.counts in
     subst (λ (r : RouterValue). let step = tick_of r.at.config c.args.now (state_of r) in
-    HasStep (TakesQuery g.O.QueryOutlet.takes g.F.Family.FAMILY) step r after (begun r.at.config step.timing c.args.sender.now) c.do_due.new.sender) c.self.view_is
+    HasStep (TakesQuery g.O.QueryOutlet.takes g.F.Family.FAMILY) step r after (begun r.at.config step.timing c.args.sender.now)
+    c.do_due.new.sender) c.self.view_is
     (does_tick _ _ c.args.now _ _ after _ _ c.lemma_is_sound.ensures.family (at_moment g c) (did g c))
 
 pub returns-clause-workspace : goal.returns-clause-workspace
