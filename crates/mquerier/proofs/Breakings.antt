@@ -10,7 +10,7 @@ use Rattle.mq_replay.specs.declared.capture_fault.CaptureFault.{CaptureFault}
 use Rattle.mq_replay.specs.declared.capture_fault.CaptureFault.TheVariants as answer
 use Rattle.mq_replay.specs.Courses.{Work}
 use Rattle.mq_replay.specs.Faults.{is_failed_write}
-use Rattle.mq_replay.specs.Listing.{Shows}
+use Rattle.mq_replay.specs.Listing.{IsWritten, Shows}
 use Rattle.mq_replay.specs.Reports.{IsWrittenBy, Reports, text_by}
 use Rattle.mquerier.specs.declared.failure.Failure.{Failure}
 use Rattle.mquerier.specs.declared.failure.Failure.TheVariants.{Capture, Gap, Waiting, Memory, Write}
@@ -34,11 +34,26 @@ reports_kept work old new before mid after r unlike reports kept = record {
 
 pub shown_kept : (old new : InputState) (before mid after : Option (List ℕ)) (fault : CaptureFault) → is_failed_write {T = ℕ} (Err fault) ≡ false
     → Shows old new before mid (Err fault) → Keeps mid after → Shows old new before after (Err fault)
-shown_kept old new before mid after answer.Write unlike shows kept = absurd (cc unlike)
-shown_kept old new before mid after (answer.Pcap f) unlike shows kept = record shows { written = Appends-kept before mid after shows.text shows.written kept }
-shown_kept old new before mid after (answer.Gap number) unlike shows kept = absurd shows.ended
-shown_kept old new before mid after (answer.Waiting number) unlike shows kept = absurd shows.ended
-shown_kept old new before mid after answer.Memory unlike shows kept = record shows { written = Appends-kept before mid after shows.text shows.written kept }
+shown_kept old new before mid after fault unlike shows kept = record {
+  bytes = shows.bytes;
+  header = shows.header;
+  packets = shows.packets;
+  end = shows.end;
+  text = shows.text;
+  takes = shows.takes;
+  capture = shows.capture;
+  listing = shows.listing;
+  ended = shows.ended;
+  written = still fault unlike shows.written;
+}
+  where
+    still : (fault : CaptureFault) → is_failed_write {T = ℕ} (Err fault) ≡ false → IsWritten before mid shows.text (Err fault) →
+        IsWritten before after shows.text (Err fault)
+    still answer.Write unlike written = absurd (cc unlike)
+    still (answer.Pcap f) unlike written = Appends-kept before mid after shows.text written kept
+    still (answer.Gap number) unlike written = Appends-kept before mid after shows.text written kept
+    still (answer.Waiting number) unlike written = Appends-kept before mid after shows.text written kept
+    still answer.Memory unlike written = Appends-kept before mid after shows.text written kept
 
 -- the work that `Does` states ended early, by the bytes that the output holds then
 module _ {X : Type 0} (Does : Option (List ℕ) → Result X CaptureFault → Type 0)
@@ -111,11 +126,11 @@ pub unflushed_by : (fault : CaptureFault) → fault ≡ answer.Memory → IsUnfl
 unflushed_by fault is = subst IsUnflushed (sym is) tt
 
 -- only an allocation failure comes before anything is written
-pub unwritten_by : {X : Type 0} (fault : CaptureFault) (failure : Failure) (old new : Bool) → IsBrokenBy fault old new failure →
+pub unwritten_by : (X : Type 0) (fault : CaptureFault) (failure : Failure) (old new : Bool) → IsBrokenBy fault old new failure →
     IsUnwritten {X = X} (Err failure) → fault ≡ answer.Memory
-unwritten_by {X} fault failure old new by none = by_fault fault by
+unwritten_by X fault failure old new by none = by_fault fault by
   where
-    never : {A : Type 0} → 1 ≡ 2 → A
+    never : {A : Type 0} → status_of Write ≡ 2 → A
     never two = absurd (omega (arith, two))
 
     renamed : {g : Failure} → failure ≡ g → IsUnwritten {X = X} (Err g)

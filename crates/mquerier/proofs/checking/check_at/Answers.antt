@@ -60,9 +60,9 @@ returns-in-Err-clause-works g c =
 
 pub returns-in-Err-clause-unread : goal.returns-in-Err-clause-unread
 returns-in-Err-clause-unread g c =
-    λ none. (c.in-Err.ensures.memory (ap Err (unwritten_by {X = Totals} c.in-Err.fault c.broken_off.result _ _ c.broken_off.ensures.failure none))).0
+    λ none. (c.in-Err.ensures.memory (ap Err (unwritten_by Totals c.in-Err.fault c.broken_off.result _ _ c.broken_off.ensures.failure none))).0
 
 pub returns-in-Err-clause-unwritten : goal.returns-in-Err-clause-unwritten
 returns-in-Err-clause-unwritten g c =
-    λ none. let is = unwritten_by {X = Totals} c.in-Err.fault c.broken_off.result _ _ c.broken_off.ensures.failure none in
+    λ none. let is = unwritten_by Totals c.in-Err.fault c.broken_off.result _ _ c.broken_off.ensures.failure none in
     c.broken_off.ensures.unflushed (unflushed_by c.in-Err.fault is) ∙ (c.in-Err.ensures.memory (ap Err is)).1

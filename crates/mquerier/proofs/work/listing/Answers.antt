@@ -23,5 +23,5 @@ returns-in-Err-clause-accepted g c =
 
 pub returns-in-Err-clause-unwritten : goal.returns-in-Err-clause-unwritten
 returns-in-Err-clause-unwritten g c =
-    λ none. let is = unwritten_by {X = Bool} c.in-Err.fault c.broken_off.result _ _ c.broken_off.ensures.failure none in
+    λ none. let is = unwritten_by Bool c.in-Err.fault c.broken_off.result _ _ c.broken_off.ensures.failure none in
     c.broken_off.ensures.unflushed (unflushed_by c.in-Err.fault is) ∙ (c.in-Err.ensures.memory (ap Err is)).1
