@@ -53,6 +53,13 @@ def are_as_printed(data):
         assert is_as_printed(data, ["check", family, "--cite", "--within", "9"], mquerier.check, "--querier", own, tolerance=9)
 
 
+def test_a_first_stamp_of_an_hour_later():
+    later = (int.from_bytes(DATA[24:28], "little") + 3600).to_bytes(4, "little")
+    data = DATA[:24] + later + DATA[28:]
+    are_as_printed(data)
+    assert mquerier.check(data, "10.9.0.1").unjudged == "every second packet or more has a stamp that goes back"
+
+
 @pytest.mark.parametrize("file", CAPTURES, ids=os.path.basename)
 def test_texts_are_those_of_the_program(file):
     ran = subprocess.run([f"{TOP}/bin/mquerier", "convert", file], stdout=subprocess.PIPE, check=True)
