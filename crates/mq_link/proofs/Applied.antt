@@ -5,7 +5,7 @@ use Rattle.mq_sched.specs.Sending.{SentQuery}
 use Rattle.mq_link.specs.declared.statement.StatementKind.{StatementKind}
 use Rattle.mq_link.specs.declared.statement.Verdict.{Verdict}
 use Rattle.mq_link.specs.declared.storage.Scratch.{Scratch}
-use Rattle.mq_link.specs.declared.storage.Sought.{Sought}
+use Rattle.mq_link.specs.declared.storage.GroupLookup.{GroupLookup}
 use Rattle.mq_link.specs.declared.storage.Storage.{Storage}
 use Rattle.mq_link.specs.Applying.{CanApply, HasEffect}
 use Rattle.mq_link.specs.Changing.{statement_of}
@@ -17,19 +17,19 @@ use Rattle.mq_link.proofs.ChangedRecords.{marked_still}
 use Rattle.mq_link.proofs.Moved.{paid_none, paid_within}
 
 -- after more comparisons it can still be applied
-pub can_apply_still : {K A B : Type 0} {number : K → ℕ} {at : Setting} {storage : Storage K A} {work : Scratch K B} {group : Sought K} (spent : ℕ)
+pub can_apply_still : {K A B : Type 0} {number : K → ℕ} {at : Setting} {storage : Storage K A} {work : Scratch K B} {group : GroupLookup K} (spent : ℕ)
     → CanApply number at storage work group → CanApply number at (has_counted storage spent) work group
 can_apply_still spent can = record {
   admitted = can.admitted;
   sound = can.sound;
-  sought = can.sought;
+  lookup = can.lookup;
   room = can.room;
   named = can.named;
   group_room = can.group_room;
   source_room = can.source_room;
 }
 
-module _ {K A B S : Type 0} {number : K → ℕ} {takes : S → SentQuery → S → Type 0} {at : Setting} {group : Sought K}
+module _ {K A B S : Type 0} {number : K → ℕ} {takes : S → SentQuery → S → Type 0} {at : Setting} {group : GroupLookup K}
     {said : StatementKind} {verdict : Verdict} {storage : Storage K A} {work done : Scratch K B} (spent : ℕ) where
   -- the effect is that on the storage before these comparisons
   pub effect_before : {left : Storage K A} {old new : S} → HasEffect number takes at group said verdict (has_counted storage spent) left work done old new

@@ -6,7 +6,7 @@ use Rattle.mq_held.specs.Groups.{group_at, sources_of}
 use Rattle.mq_link.specs.declared.statement.StatementKind.{StatementKind}
 use Rattle.mq_link.specs.declared.statement.Verdict.{Verdict}
 use Rattle.mq_link.specs.declared.storage.Scratch.{Scratch}
-use Rattle.mq_link.specs.declared.storage.Sought.{Sought}
+use Rattle.mq_link.specs.declared.storage.GroupLookup.{GroupLookup}
 use Rattle.mq_link.specs.declared.storage.Storage.{Storage}
 use Rattle.mq_link.specs.Changing.{statement_of}
 use Rattle.mq_link.specs.Family.{is_admitted}
@@ -17,14 +17,14 @@ use Rattle.mq_link.specs.Record.{Setting, stated}
 use Rattle.mq_link.specs.Router.{HasOutcome}
 use Rattle.mq_link.specs.Seen.{AreMarked, KeepsNumbers, met_in}
 use Rattle.mq_link.specs.Sound.{AreSound}
-use Rattle.mq_link.specs.Storage.{HasRoom, IsSought, KeepsRoom, KeepsRooms}
+use Rattle.mq_link.specs.Storage.{HasRoom, IsLookup, KeepsRoom, KeepsRooms}
 
 -- The conditions for a statement about a group. The group is admitted and was searched for, and the router may hold its
 -- groups. The work names at most as many sources as a group may have. There is room for what the configuration allows.
-pub record CanApply {K A B : Type 0} (number : K → ℕ) (at : Setting) (storage : Storage K A) (work : Scratch K B) (group : Sought K) : Type 0 where
+pub record CanApply {K A B : Type 0} (number : K → ℕ) (at : Setting) (storage : Storage K A) (work : Scratch K B) (group : GroupLookup K) : Type 0 where
   pub admitted : is_admitted at.config.family (number group.address) ≡ true
   pub sound : AreSound at storage.held.groups
-  pub sought : IsSought number storage.held group
+  pub lookup : IsLookup number storage.held group
   pub room : HasRoom at.config.limits.groups at.config.limits.group_sources work
   pub named : length work.named.members ≤ at.config.limits.group_sources
   pub group_room : storage.held.order.room ≡ at.config.limits.groups
@@ -33,7 +33,7 @@ pub record CanApply {K A B : Type 0} (number : K → ℕ) (at : Setting) (storag
 -- The effect of a statement about a group. The work names its sources. The verdict, the groups afterwards, and the
 -- queries that the sink takes are those of its outcome. Groups keep their numbers, and storage and work their room. The
 -- work counts the group as changed if its filter changed. The bound on moves is this project's.
-pub record HasEffect {K A B S : Type 0} (number : K → ℕ) (takes : S → SentQuery → S → Type 0) (at : Setting) (group : Sought K)
+pub record HasEffect {K A B S : Type 0} (number : K → ℕ) (takes : S → SentQuery → S → Type 0) (at : Setting) (group : GroupLookup K)
     (said : StatementKind) (verdict : Verdict) (storage left : Storage K A) (work done : Scratch K B) (old new : S) : Type 0 where
   pub outcome : (let said_so = statement_of said (named_in number work.named.members) in
       let outcome = stated at (number group.address) said_so storage.held.groups in

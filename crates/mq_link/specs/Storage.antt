@@ -10,7 +10,7 @@ use Rattle.mq_held.specs.declared.held_group.HeldGroup.{HeldGroup}
 use Rattle.mq_held.specs.Groups.{Groups, group_at, running_in, sources_in, sources_of}
 use Rattle.mq_held.specs.Held.{HeldState, HasNumber}
 use Rattle.mq_link.specs.declared.storage.Lists.{Lists}
-use Rattle.mq_link.specs.declared.storage.Sought.{Sought}
+use Rattle.mq_link.specs.declared.storage.GroupLookup.{GroupLookup}
 use Rattle.mq_link.specs.declared.storage.Storage.{Storage}
 use Rattle.mq_link.specs.declared.storage.Scratch.{Scratch}
 use Rattle.mq_link.specs.Serving.{AreServed}
@@ -57,9 +57,9 @@ abbrev pub has_counted : {K A : Type 0} → Storage K A → (spent : ℕ) → St
 has_counted s spent = record s { meter = spent }
 
 -- the group that was searched for has its number, or would go to the spot
-abbrev pub IsSought : {K : Type 0} → (K → ℕ) → HeldState → Sought K → Type 0
-IsSought number held sought =
-    MatchResult sought.found (HasNumber held (number sought.address)) (IsSpotFor held.order.items held.order.pages (number sought.address))
+abbrev pub IsLookup : {K : Type 0} → (K → ℕ) → HeldState → GroupLookup K → Type 0
+IsLookup number held lookup =
+    MatchResult lookup.found (HasNumber held (number lookup.address)) (IsSpotFor held.order.items held.order.pages (number lookup.address))
 
 -- room for the numbers of `groups` groups, twice, and for the addresses of twice as many
 pub record HasSpace {K A : Type 0} (groups : ℕ) (lists : Lists K A) : Type 0 where

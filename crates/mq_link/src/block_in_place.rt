@@ -30,12 +30,12 @@ ghost use Rattle.mq_link.specs.Record.{stated};
 ghost use Rattle.mq_link.specs.Refreshed.{most_blocked};
 ghost use Rattle.mq_link.specs.Router.{HasOutcome};
 ghost use Rattle.mq_link.specs.Sound.{AreSound};
-ghost use Rattle.mq_link.specs.Storage.{IsSought, has_counted};
+ghost use Rattle.mq_link.specs.Storage.{IsLookup, has_counted};
 
 use crate::family::Family;
 use crate::statement::StatementKind;
 use crate::status::Status;
-use crate::storage::{Sought, Storage};
+use crate::storage::{GroupLookup, Storage};
 use mq_count::{Key, Meter, Moment};
 use mq_sched::Sink;
 use mq_table::{Head, Kind, timer_among};
@@ -68,22 +68,22 @@ impl<F: Family> Status<F> {
         &self,
         storage: &mut Storage<F::Address, A>,
         named: &[F::Address],
-        sought: Sought<F::Address>,
+        lookup: GroupLookup<F::Address>,
         said: StatementKind,
     ) -> Option<u16>
-        requires sought { IsSought F.Address.number storage.old.held sought }
-        ensures found { IfSome result (HasNumber storage.old.held (F.Address.number sought.address)) }
-        ensures held { OnSome result (is_ok sought.found ≡ true) }
+        requires lookup { IsLookup F.Address.number storage.old.held lookup }
+        ensures found { IfSome result (HasNumber storage.old.held (F.Address.number lookup.address)) }
+        ensures held { OnSome result (is_ok lookup.found ≡ true) }
         ensures kind { OnSome result (blocked.is_block said ≡ true) }
-        ensures can { OnSome result (CanBlock self.now (F.Address.number sought.address) (length named.now) storage.old.held.groups) }
-        ensures done { blocked.is_block said ≡ true → is_ok sought.found ≡ true → CanBlock self.now (F.Address.number sought.address) (length named.now) storage.old.held.groups → is_some result ≡ true }
+        ensures can { OnSome result (CanBlock self.now (F.Address.number lookup.address) (length named.now) storage.old.held.groups) }
+        ensures done { blocked.is_block said ≡ true → is_ok lookup.found ≡ true → CanBlock self.now (F.Address.number lookup.address) (length named.now) storage.old.held.groups → is_some result ≡ true }
         ensures left { storage.new ≡ has_counted storage.old storage.new.meter }
         ensures spent { Spends 0 (if blocked.is_block said then 4 else 0) storage.old.meter storage.new.meter }
     {
         if !is_block(said) || named.len() > 1 {
             return None;
         }
-        let Ok(number) = sought.found else {
+        let Ok(number) = lookup.found else {
             return None;
         };
         storage.held.lemma_is_numbered();
@@ -166,31 +166,31 @@ impl<F: Family> Status<F> {
         &self,
         storage: &mut Storage<F::Address, A>,
         named: &[F::Address],
-        sought: Sought<F::Address>,
+        lookup: GroupLookup<F::Address>,
         said: StatementKind,
         sink: &mut S,
     ) -> bool
         requires sound { AreSound self.now storage.old.held.groups }
-        requires sought { IsSought F.Address.number storage.old.held sought }
+        requires lookup { IsLookup F.Address.number storage.old.held lookup }
         ensures outcome { let said_so = statement_of said (named_in F.Address.number named.now) in
-            let outcome = stated self.now (F.Address.number sought.address) said_so storage.old.held.groups in
+            let outcome = stated self.now (F.Address.number lookup.address) said_so storage.old.held.groups in
             result ≡ true → HasOutcome S.takes outcome counters.Applied storage.new.held.groups sink.old sink.new }
-        ensures held { result ≡ true → is_ok sought.found ≡ true }
-        ensures left { result ≡ true → (e : ScheduledGroup) × (storage.new.held.groups ≡ with_group storage.old.held.groups (F.Address.number sought.address) e) }
-        ensures changes { result ≡ true → changes storage.old.held.groups storage.new.held.groups (F.Address.number sought.address) ≡ false }
+        ensures held { result ≡ true → is_ok lookup.found ≡ true }
+        ensures left { result ≡ true → (e : ScheduledGroup) × (storage.new.held.groups ≡ with_group storage.old.held.groups (F.Address.number lookup.address) e) }
+        ensures changes { result ≡ true → changes storage.old.held.groups storage.new.held.groups (F.Address.number lookup.address) ≡ false }
         ensures kept { storage.new.held ≡ record storage.old.held { groups = storage.new.held.groups } }
         ensures none { result ≡ false → storage.new ≡ has_counted storage.old storage.new.meter }
         ensures unsent { result ≡ false → sink.new ≡ sink.old }
-        ensures done { let e = group_at storage.old.held.groups (F.Address.number sought.address) in
-            blocked.is_block said ≡ true → is_ok sought.found ≡ true → CanBlock self.now (F.Address.number sought.address) (length named.now) storage.old.held.groups
+        ensures done { let e = group_at storage.old.held.groups (F.Address.number lookup.address) in
+            blocked.is_block said ≡ true → is_ok lookup.found ≡ true → CanBlock self.now (F.Address.number lookup.address) (length named.now) storage.old.held.groups
             → ((source : F.Address) → named.now ≡ source ∷ [] → (is_include e.group.mode || is_some (timer_at e.group (F.Address.number source))) ≡ true) → result ≡ true }
-        ensures spent { let size = sources_of (group_at storage.old.held.groups (F.Address.number sought.address)) in
+        ensures spent { let size = sources_of (group_at storage.old.held.groups (F.Address.number lookup.address)) in
             let most = most_blocked said size (length named.now) in
             Spends (if result then min size (length named.now) else 0) (if result then most + 3 * size + 5 + bitlen (map.len storage.old.held.groups) else most) storage.old.meter storage.new.meter }
-        ensures moved { let size = sources_of (group_at storage.old.held.groups (F.Address.number sought.address)) in
+        ensures moved { let size = sources_of (group_at storage.old.held.groups (F.Address.number lookup.address)) in
             MovesWithin (size + moved_by_edit) storage.old storage.new }
     {
-        let Some(number) = self.number_blocked(storage, named, sought, said) else {
+        let Some(number) = self.number_blocked(storage, named, lookup, said) else {
             return false;
         };
         storage.held.lemma_is_numbered();

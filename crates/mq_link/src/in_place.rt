@@ -21,12 +21,12 @@ ghost use Rattle.mq_link.specs.Record.{stated};
 ghost use Rattle.mq_link.specs.Refreshed.{IsHeardAgain, is_restart, most_blocked, most_tried, restarts};
 ghost use Rattle.mq_link.specs.Router.{HasOutcome};
 ghost use Rattle.mq_link.specs.Sound.{AreSound};
-ghost use Rattle.mq_link.specs.Storage.{IsSought, has_counted};
+ghost use Rattle.mq_link.specs.Storage.{IsLookup, has_counted};
 
 use crate::family::Family;
 use crate::statement::StatementKind;
 use crate::status::Status;
-use crate::storage::{Sought, Storage};
+use crate::storage::{GroupLookup, Storage};
 use mq_count::Key;
 use mq_sched::Sink;
 use mq_table::Kind;
@@ -54,21 +54,21 @@ impl<F: Family> Status<F> {
         &self,
         storage: &mut Storage<F::Address, A>,
         named: &[F::Address],
-        sought: Sought<F::Address>,
+        lookup: GroupLookup<F::Address>,
         said: StatementKind,
     ) -> Option<bool>
         requires sound { AreSound self.now storage.old.held.groups }
-        requires sought { IsSought F.Address.number storage.old.held sought }
+        requires lookup { IsLookup F.Address.number storage.old.held lookup }
         requires named { IsAscending F.Address.number named.now }
         ensures outcome { let said_so = statement_of said (named_in F.Address.number named.now) in
-            OnSome result (stated self.now (F.Address.number sought.address) said_so storage.old.held.groups ≡ record { verdict = counters.Applied; groups = storage.new.held.groups; queries = [] }) }
-        ensures held { OnSome result (is_ok sought.found ≡ true) }
-        ensures left { OnSome result ((e : ScheduledGroup) × (storage.new.held.groups ≡ with_group storage.old.held.groups (F.Address.number sought.address) e)) }
-        ensures changes { IfSome result (λ changes_it. changes_it ≡ changes storage.old.held.groups storage.new.held.groups (F.Address.number sought.address)) }
+            OnSome result (stated self.now (F.Address.number lookup.address) said_so storage.old.held.groups ≡ record { verdict = counters.Applied; groups = storage.new.held.groups; queries = [] }) }
+        ensures held { OnSome result (is_ok lookup.found ≡ true) }
+        ensures left { OnSome result ((e : ScheduledGroup) × (storage.new.held.groups ≡ with_group storage.old.held.groups (F.Address.number lookup.address) e)) }
+        ensures changes { IfSome result (λ changes_it. changes_it ≡ changes storage.old.held.groups storage.new.held.groups (F.Address.number lookup.address)) }
         ensures kept { storage.new.held ≡ record storage.old.held { groups = storage.new.held.groups } }
         ensures none { result ≡ None → storage.new ≡ has_counted storage.old storage.new.meter }
-        ensures done { IsHeardAgain self.now.now said (list_map F.Address.number named.now) storage.old.held.groups (F.Address.number sought.address) → is_some result ≡ true }
-        ensures spent { let size = sources_of (group_at storage.old.held.groups (F.Address.number sought.address)) in
+        ensures done { IsHeardAgain self.now.now said (list_map F.Address.number named.now) storage.old.held.groups (F.Address.number lookup.address) → is_some result ≡ true }
+        ensures spent { let size = sources_of (group_at storage.old.held.groups (F.Address.number lookup.address)) in
             let count = length named.now in
             let most = 2 + most_set size count (bitlen (map.len storage.old.held.groups)) in
             MatchOption result (Spends 0 (most_tried said size count) storage.old.meter storage.new.meter)
@@ -80,7 +80,7 @@ impl<F: Family> Status<F> {
         self.lemma_is_sound();
         storage.held.lemma_is_numbered();
         let at = self.in_force();
-        let Ok(number) = sought.found else {
+        let Ok(number) = lookup.found else {
             return None;
         };
         let schedule = storage.held.entry_of(number).schedule;
@@ -103,43 +103,43 @@ impl<F: Family> Status<F> {
         &self,
         storage: &mut Storage<F::Address, A>,
         named: &[F::Address],
-        sought: Sought<F::Address>,
+        lookup: GroupLookup<F::Address>,
         said: StatementKind,
         sink: &mut S,
     ) -> Option<bool>
         requires sound { AreSound self.now storage.old.held.groups }
-        requires sought { IsSought F.Address.number storage.old.held sought }
+        requires lookup { IsLookup F.Address.number storage.old.held lookup }
         requires named { IsAscending F.Address.number named.now }
         ensures outcome { let said_so = statement_of said (named_in F.Address.number named.now) in
-            let outcome = stated self.now (F.Address.number sought.address) said_so storage.old.held.groups in
+            let outcome = stated self.now (F.Address.number lookup.address) said_so storage.old.held.groups in
             OnSome result (HasOutcome S.takes outcome counters.Applied storage.new.held.groups sink.old sink.new) }
-        ensures held { OnSome result (is_ok sought.found ≡ true) }
-        ensures left { OnSome result ((e : ScheduledGroup) × (storage.new.held.groups ≡ with_group storage.old.held.groups (F.Address.number sought.address) e)) }
-        ensures changes { IfSome result (λ changes_it. changes_it ≡ changes storage.old.held.groups storage.new.held.groups (F.Address.number sought.address)) }
+        ensures held { OnSome result (is_ok lookup.found ≡ true) }
+        ensures left { OnSome result ((e : ScheduledGroup) × (storage.new.held.groups ≡ with_group storage.old.held.groups (F.Address.number lookup.address) e)) }
+        ensures changes { IfSome result (λ changes_it. changes_it ≡ changes storage.old.held.groups storage.new.held.groups (F.Address.number lookup.address)) }
         ensures kept { storage.new.held ≡ record storage.old.held { groups = storage.new.held.groups } }
         ensures none { result ≡ None → storage.new ≡ has_counted storage.old storage.new.meter }
         ensures unsent { result ≡ None → sink.new ≡ sink.old }
-        ensures again { IsHeardAgain self.now.now said (list_map F.Address.number named.now) storage.old.held.groups (F.Address.number sought.address) → is_some result ≡ true }
-        ensures blocked { let e = group_at storage.old.held.groups (F.Address.number sought.address) in
-            blocked.is_block said ≡ true → is_ok sought.found ≡ true → CanBlock self.now (F.Address.number sought.address) (length named.now) storage.old.held.groups
+        ensures again { IsHeardAgain self.now.now said (list_map F.Address.number named.now) storage.old.held.groups (F.Address.number lookup.address) → is_some result ≡ true }
+        ensures blocked { let e = group_at storage.old.held.groups (F.Address.number lookup.address) in
+            blocked.is_block said ≡ true → is_ok lookup.found ≡ true → CanBlock self.now (F.Address.number lookup.address) (length named.now) storage.old.held.groups
             → ((source : F.Address) → named.now ≡ source ∷ [] → (is_include e.group.mode || is_some (timer_at e.group (F.Address.number source))) ≡ true) → is_some result ≡ true }
-        ensures spent { let size = sources_of (group_at storage.old.held.groups (F.Address.number sought.address)) in
+        ensures spent { let size = sources_of (group_at storage.old.held.groups (F.Address.number lookup.address)) in
             let count = length named.now in
             MatchOption result (Spends 0 (most_tried said size count + most_blocked said size count) storage.old.meter storage.new.meter)
             (λ _. Spends (min size count) (6 * (size + count) + 17 + bitlen (map.len storage.old.held.groups)) storage.old.meter storage.new.meter) }
-        ensures moved { let size = sources_of (group_at storage.old.held.groups (F.Address.number sought.address)) in
+        ensures moved { let size = sources_of (group_at storage.old.held.groups (F.Address.number lookup.address)) in
             MovesWithin (size + length named.now + moved_by_edit) storage.old storage.new }
         // A record that only sets timers anew moves no source but the named ones.
-        ensures moves { let size = sources_of (group_at storage.old.held.groups (F.Address.number sought.address)) in
+        ensures moves { let size = sources_of (group_at storage.old.held.groups (F.Address.number lookup.address)) in
             let count = length named.now in
             let digits = bitlen (map.len storage.old.held.groups) in
-            IsHeardAgain self.now.now said (list_map F.Address.number named.now) storage.old.held.groups (F.Address.number sought.address) →
+            IsHeardAgain self.now.now said (list_map F.Address.number named.now) storage.old.held.groups (F.Address.number lookup.address) →
             Spends 0 (2 + most_set size count digits) storage.old.meter storage.new.meter × Spends 0 (count + 2 + digits) storage.old.moves storage.new.moves }
     {
-        match self.refresh(storage, named, sought, said) {
+        match self.refresh(storage, named, lookup, said) {
             Some(changes) => Some(changes),
             None => {
-                if self.block(storage, named, sought, said, sink) {
+                if self.block(storage, named, lookup, said, sink) {
                     Some(false)
                 } else {
                     None

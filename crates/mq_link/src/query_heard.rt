@@ -22,7 +22,7 @@ ghost use Rattle.mq_link.specs.Workspace.{suffices};
 
 use crate::family::Family;
 use crate::router::Router;
-use crate::status::{InForce, Status};
+use crate::status::{QuerierContext, Status};
 use crate::storage::Storage;
 use crate::workspace::Workspace;
 use mq_count::{Meter, Moment};
@@ -131,7 +131,7 @@ impl<K: WireKey, A: Allocator> Storage<K, A> {
         &mut self,
         query: &Query<'_, K>,
         group: &mut Group<K, B>,
-        at: &InForce,
+        at: &QuerierContext,
     )
         requires in_range { at.now.moment ≤ 2 ^ 53 }
         requires ready { IsReady group.old.room self.old }

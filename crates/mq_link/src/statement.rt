@@ -31,9 +31,9 @@ use crate::answers::Refusal;
 use crate::family::Family;
 use crate::in_place::restarting;
 use crate::limits::Change;
-use crate::met::MetGroups;
-use crate::status::{InForce, Status};
-use crate::storage::{Scratch, Sought, Storage, look};
+use crate::record_counts::RecordCounts;
+use crate::status::{QuerierContext, Status};
+use crate::storage::{GroupLookup, Scratch, Storage, look};
 use mq_count::{Key, Meter, Moment};
 use mq_held::HeldGroup;
 use mq_sched::{Schedule, Sink};
@@ -150,7 +150,7 @@ impl<K: Key, A: Allocator> Scratch<K, A> {
         stored: &HeldGroup<'_, K>,
         said: StatementKind,
         muting: MutingRules,
-        at: &InForce,
+        at: &QuerierContext,
         m: &mut Meter,
     ) -> Option<Loaded>
         requires in_range { at.now.moment ≤ 2 ^ 53 }
@@ -207,7 +207,7 @@ impl<K: Key, A: Allocator> Scratch<K, A> {
 
     /// Applies the queries of a change to the changed group and its schedule. Queries that have lost their cause are
     /// dropped. The querier starts the queries for the group and for the sources to ask for, which the group has.
-    fn ask(&mut self, schedule: &mut Schedule, asks_group: bool, at: &InForce, m: &mut Meter)
+    fn ask(&mut self, schedule: &mut Schedule, asks_group: bool, at: &QuerierContext, m: &mut Meter)
         requires in_range { at.now.moment ≤ 2 ^ 53 }
         requires ascending { IsAscending K.number self.old.asked.items }
         requires held { (s : ℕ) → set_of K.number self.old.asked.items s ≡ true → IsSome (timer_at self.old.group.state s) }
@@ -241,7 +241,7 @@ impl<K: Key, A: Allocator> Scratch<K, A> {
 }
 
 /// Counts that a record has changed the group of a number, if it has one and its filter changed.
-fn count_changed<A: Allocator>(changed: &mut MetGroups<A>, number: Option<u16>, changes: bool)
+fn count_changed<A: Allocator>(changed: &mut RecordCounts<A>, number: Option<u16>, changes: bool)
     requires number { IfSome number (λ number. number < length changed.old) }
     ensures { changed.new ≡ (if changes then option_map_or (counted_again changed.old) number changed.old else changed.old) }
 {
@@ -272,33 +272,33 @@ impl<F: Family> Status<F> {
         &self,
         storage: &mut Storage<F::Address, A>,
         work: &mut Scratch<F::Address, B>,
-        sought: Sought<F::Address>,
+        lookup: GroupLookup<F::Address>,
         said: StatementKind,
         sink: &mut S,
     ) -> Verdict
-        requires { CanApply F.Address.number self.now storage.old work.old sought }
-        ensures effect { HasEffect F.Address.number S.takes self.now sought said result storage.old storage.new work.old work.new sink.old sink.new }
+        requires { CanApply F.Address.number self.now storage.old work.old lookup }
+        ensures effect { HasEffect F.Address.number S.takes self.now lookup said result storage.old storage.new work.old work.new sink.old sink.new }
         ensures spent { let said_so = statement_of said (named_in F.Address.number work.old.named.members) in
-            let sizes = sources_of (group_at storage.old.held.groups (F.Address.number sought.address)) + length work.old.named.members in
-            let least = least_work self.now (F.Address.number sought.address) said_so storage.old.held.groups in
+            let sizes = sources_of (group_at storage.old.held.groups (F.Address.number lookup.address)) + length work.old.named.members in
+            let least = least_work self.now (F.Address.number lookup.address) said_so storage.old.held.groups in
             Spends least (6 * sizes + 17 + bitlen (map.len storage.old.held.groups)) storage.old.meter storage.new.meter }
         // A record that only sets timers anew is applied where the group is stored: no source but the named ones is
         // moved.
-        ensures in_place { let size = sources_of (group_at storage.old.held.groups (F.Address.number sought.address)) in
+        ensures in_place { let size = sources_of (group_at storage.old.held.groups (F.Address.number lookup.address)) in
             let count = length work.old.named.members in
             let digits = bitlen (map.len storage.old.held.groups) in
-            IsHeardAgain self.now.now said (list_map F.Address.number work.old.named.members) storage.old.held.groups (F.Address.number sought.address) →
+            IsHeardAgain self.now.now said (list_map F.Address.number work.old.named.members) storage.old.held.groups (F.Address.number lookup.address) →
             Spends 0 (2 + most_set size count digits) storage.old.meter storage.new.meter × Spends 0 (count + 2 + digits) storage.old.moves storage.new.moves }
     {
         self.lemma_is_sound();
         storage.held.lemma_is_numbered();
-        match self.apply_in_place(storage, work.named.as_slice(), sought, said, sink) {
+        match self.apply_in_place(storage, work.named.as_slice(), lookup, said, sink) {
             Some(changes) => {
                 storage.held.lemma_is_numbered();
-                count_changed(&mut work.changed, sought.found.ok(), changes);
+                count_changed(&mut work.changed, lookup.found.ok(), changes);
                 Verdict::Applied
             }
-            None => self.apply_to_copy(storage, work, sought, said, sink),
+            None => self.apply_to_copy(storage, work, lookup, said, sink),
         }
     }
 
@@ -308,15 +308,15 @@ impl<F: Family> Status<F> {
         &self,
         storage: &mut Storage<F::Address, A>,
         work: &mut Scratch<F::Address, B>,
-        sought: Sought<F::Address>,
+        lookup: GroupLookup<F::Address>,
         said: StatementKind,
         sink: &mut S,
     ) -> Verdict
-        requires { CanApply F.Address.number self.now storage.old work.old sought }
-        ensures effect { HasEffect F.Address.number S.takes self.now sought said result storage.old storage.new work.old work.new sink.old sink.new }
+        requires { CanApply F.Address.number self.now storage.old work.old lookup }
+        ensures effect { HasEffect F.Address.number S.takes self.now lookup said result storage.old storage.new work.old work.new sink.old sink.new }
         ensures spent { let said_so = statement_of said (named_in F.Address.number work.old.named.members) in
-            let size = sources_of (group_at storage.old.held.groups (F.Address.number sought.address)) in
-            let least = least_work self.now (F.Address.number sought.address) said_so storage.old.held.groups in
+            let size = sources_of (group_at storage.old.held.groups (F.Address.number lookup.address)) in
+            let least = least_work self.now (F.Address.number lookup.address) said_so storage.old.held.groups in
             let most = most_copied said size (length work.old.named.members) (map.len storage.old.held.groups) in
             Spends least most storage.old.meter storage.new.meter }
     {
@@ -326,16 +326,16 @@ impl<F: Family> Status<F> {
         let limits = self.config().limits();
         let muting = MutingRules {
             v1_mutes_leave: F::V1_MUTES_LEAVE,
-            is_muted: self.is_muted(sought.address, said),
+            is_muted: self.is_muted(lookup.address, said),
         };
-        let stored = look(&storage.held, sought);
+        let stored = look(&storage.held, lookup);
         let Some(loaded) = work.change(&stored, said, muting, &at, &mut storage.meter) else {
             return Verdict::Ignored;
         };
         let mut schedule = stored.schedule;
         work.ask(&mut schedule, loaded.asks_group, &at, &mut storage.meter);
         let change = Change {
-            is_held: sought.found.is_ok(),
+            is_held: lookup.found.is_ok(),
             sources: stored.sources.len(),
             before: stored.schedule,
             schedule,
@@ -344,7 +344,7 @@ impl<F: Family> Status<F> {
             return Verdict::Refused(name);
         }
         schedule.round(
-            sought.address,
+            lookup.address,
             &mut work.group,
             at.moment,
             &at.timing,
@@ -352,7 +352,7 @@ impl<F: Family> Status<F> {
             &mut storage.meter,
             sink,
         );
-        let kept = storage.keep(sought, &work.group, schedule);
+        let kept = storage.keep(lookup, &work.group, schedule);
         storage.held.lemma_is_numbered();
         count_changed(&mut work.changed, kept, loaded.changes_filter);
         Verdict::Applied

@@ -18,7 +18,7 @@ use std::marker::Model;
 
 /// The moment, the timing in force, and whether the router is querier.
 #[derive(Clone, Copy)]
-pub(crate) struct InForce {
+pub(crate) struct QuerierContext {
     pub(crate) moment: Moment,
     pub(crate) timing: Timing,
     pub(crate) is_querier: bool,
@@ -95,7 +95,7 @@ impl<F: Family> Status<F> {
     }
 
     /// Returns the moment, the timing in force, and whether the router is querier.
-    pub(crate) fn in_force(&self) -> InForce
+    pub(crate) fn in_force(&self) -> QuerierContext
         ensures in_force { result ≡ record {
           moment = self.now.now;
           timing = self.now.election.timing;
@@ -103,7 +103,7 @@ impl<F: Family> Status<F> {
         } }
         ensures in_range { result.moment ≤ 2 ^ 53 }
     {
-        InForce {
+        QuerierContext {
             moment: self.moment,
             timing: self.election.timing(),
             is_querier: self.election.is_querier(),

@@ -18,10 +18,10 @@ ghost use Rattle.mq_held.specs.Held.{HasNumber, IsNumber, empty_state};
 ghost use Rattle.mq_link.specs.Moved.{MovesWithin, moved_by_edit};
 ghost use Rattle.mq_link.specs.Seen.{AreNone, KeepsNumbers};
 ghost use Rattle.mq_link.specs.Sizes.{bytes_of_link, bytes_of_lists, bytes_of_scratch};
-ghost use Rattle.mq_link.specs.Storage.{HasRoom, HasSpace, group_stored, IsSought, KeepsRooms};
+ghost use Rattle.mq_link.specs.Storage.{HasRoom, HasSpace, group_stored, IsLookup, KeepsRooms};
 
 use crate::configuration::Limits;
-use crate::met::MetGroups;
+use crate::record_counts::RecordCounts;
 use mq_arena::{VectorSource, both_sizes, filled, vector_size};
 use mq_count::{Key, Meter, Moves};
 use mq_held::{HeldGroup, HeldGroups};
@@ -37,8 +37,8 @@ pub(crate) struct Scratch<K: Key, A: Allocator> {
     pub(crate) group: Group<K, A>,
     pub(crate) named: SourceSet<K, A>,
     pub(crate) asked: Vec<K, A>,
-    pub(crate) met: MetGroups<A>,
-    pub(crate) changed: MetGroups<A>,
+    pub(crate) met: RecordCounts<A>,
+    pub(crate) changed: RecordCounts<A>,
 }
 
 impl<K: Key, A: Allocator> Scratch<K, A> {
@@ -54,7 +54,7 @@ impl<K: Key, A: Allocator> Scratch<K, A> {
             ),
             vector_size::<K>(2 * sources),
         );
-        let marks = MetGroups::<A>::size(groups);
+        let marks = RecordCounts::<A>::size(groups);
         both_sizes(both_sizes(of_sources, marks), marks)
     }
 
@@ -77,8 +77,8 @@ impl<K: Key, A: Allocator> Scratch<K, A> {
             group: Group::with_room_in(memory, 2 * sources)?,
             named: SourceSet::with_room_in(memory, sources)?,
             asked: memory.with_capacity(2 * sources)?,
-            met: MetGroups::with_room(memory, groups)?,
-            changed: MetGroups::with_room(memory, groups)?,
+            met: RecordCounts::with_room(memory, groups)?,
+            changed: RecordCounts::with_room(memory, groups)?,
         })
     }
 }
@@ -141,7 +141,7 @@ pub(crate) struct Storage<K: Key, A: Allocator> {
 
 /// A group that was searched for: its address, and its number, or as an `Err` the spot where it would go.
 #[derive_where(Clone, Copy)]
-pub(crate) struct Sought<K: Key> {
+pub(crate) struct GroupLookup<K: Key> {
     pub(crate) address: K,
     pub(crate) found: Result<u16, Spot>,
 }
@@ -151,14 +151,14 @@ pub(crate) fn find<K: Key, A: Allocator>(
     held: &HeldGroups<K, A>,
     address: K,
     m: &mut Meter,
-) -> Sought<K>
+) -> GroupLookup<K>
     ensures address { result.address ≡ address }
     ensures held { is_ok result.found ≡ map.contains_key held.now.groups (K.number address) }
-    ensures sought { IsSought K.number held.now result }
+    ensures lookup { IsLookup K.number held.now result }
     ensures spent { let count = map.len held.now.groups in
         Spends (min 1 count) (bitlen count + 2) m.old m.new }
 {
-    Sought {
+    GroupLookup {
         address,
         found: held.find(address, m),
     }
@@ -168,19 +168,19 @@ pub(crate) fn find<K: Key, A: Allocator>(
 /// nothing due. No comparison.
 pub(crate) fn look<K: Key, A: Allocator>(
     held: &HeldGroups<K, A>,
-    sought: Sought<K>,
+    lookup: GroupLookup<K>,
 ) -> HeldGroup<'_, K>
-    requires sought { IsSought K.number held.now sought }
+    requires lookup { IsLookup K.number held.now lookup }
     ensures group { let e : ScheduledGroup = record { group = group_stored K.number result; schedule = result.schedule } in
-        e ≡ group_at held.now.groups (K.number sought.address) }
+        e ≡ group_at held.now.groups (K.number lookup.address) }
     ensures ascending { IsAscending (number_in K.number) result.sources.now }
-    ensures len { length result.sources.now ≡ sources_of (group_at held.now.groups (K.number sought.address)) }
+    ensures len { length result.sources.now ≡ sources_of (group_at held.now.groups (K.number lookup.address)) }
 {
     held.lemma_is_numbered();
-    match sought.found {
+    match lookup.found {
         Ok(number) => held.entry_of(number),
         Err(_) => HeldGroup {
-            address: sought.address,
+            address: lookup.address,
             mode: FilterMode::Include,
             sources: &[],
             v1: None,
@@ -243,28 +243,28 @@ impl<K: Key, A: Allocator> Storage<K, A> {
     /// inserted. If it isn't held before or after, it is left alone. A group that is held stays held.
     pub(crate) fn keep<B: Allocator>(
         &mut self,
-        sought: Sought<K>,
+        lookup: GroupLookup<K>,
         group: &Group<K, B>,
         schedule: Schedule,
     ) -> Option<u16>
         requires few { self.old.held.order.room ≤ 65535 }
-        requires sought { IsSought K.number self.old.held sought }
+        requires lookup { IsLookup K.number self.old.held lookup }
         requires held { is_vacant group.now.state ≡ false → IsHeld group.now.state }
-        requires stays { is_ok sought.found ≡ true → is_vacant group.now.state ≡ false }
+        requires stays { is_ok lookup.found ≡ true → is_vacant group.now.state ≡ false }
         requires room { let e : ScheduledGroup = record { group = group.now.state; schedule = schedule } in
-            map.len (with_group self.old.held.groups (K.number sought.address) e) ≤ self.old.held.order.room }
-        requires fits { sources_in self.old.held.groups + size_of group.now.state ≤ self.old.held.source_room + sources_of (group_at self.old.held.groups (K.number sought.address)) }
+            map.len (with_group self.old.held.groups (K.number lookup.address) e) ≤ self.old.held.order.room }
+        requires fits { sources_in self.old.held.groups + size_of group.now.state ≤ self.old.held.source_room + sources_of (group_at self.old.held.groups (K.number lookup.address)) }
         ensures groups { let e : ScheduledGroup = record { group = group.now.state; schedule = schedule } in
-            self.new.held.groups ≡ with_group self.old.held.groups (K.number sought.address) e }
-        ensures number { MatchOption result (map.contains_key self.new.held.groups (K.number sought.address) ≡ false)
-            (HasNumber self.new.held (K.number sought.address)) }
+            self.new.held.groups ≡ with_group self.old.held.groups (K.number lookup.address) e }
+        ensures number { MatchOption result (map.contains_key self.new.held.groups (K.number lookup.address) ≡ false)
+            (HasNumber self.new.held (K.number lookup.address)) }
         ensures numbers { KeepsNumbers self.old.held self.new.held }
         ensures rooms { KeepsRooms self.old self.new }
         ensures spent { Spends 0 (size_of group.now.state + 4 + bitlen (map.len self.old.held.groups)) self.old.meter self.new.meter }
         ensures moved { MovesWithin (5 * size_of group.now.state + moved_by_edit) self.old self.new }
     {
         self.held.lemma_is_numbered();
-        match sought.found {
+        match lookup.found {
             Ok(number) => {
                 self.put(number, group, schedule);
                 Some(number)
@@ -273,7 +273,7 @@ impl<K: Key, A: Allocator> Storage<K, A> {
                 if group.is_vacant() {
                     return None;
                 }
-                Some(self.insert(spot, sought.address, group, schedule))
+                Some(self.insert(spot, lookup.address, group, schedule))
             }
         }
     }

@@ -31,7 +31,7 @@ use crate::family::Family;
 use crate::outlet::QueryOutlet;
 use crate::router::Router;
 use crate::sender::Sender;
-use crate::status::{InForce, Status};
+use crate::status::{QuerierContext, Status};
 use crate::storage::{Lists, Storage};
 use crate::workspace::Workspace;
 use mq_count::{Meter, Moment};
@@ -40,7 +40,7 @@ use mq_table::Group;
 use mq_wire::WireKey;
 use std::alloc::Allocator;
 
-impl InForce {
+impl QuerierContext {
     /// Ends the timers of a group that have expired, and sends what is due for it then. Returns whether its filter
     /// changed.
     fn serve<K: WireKey, A: Allocator, S: Sink<K>>(
@@ -83,7 +83,7 @@ impl<K: WireKey, A: Allocator> Storage<K, A> {
         &mut self,
         number: u16,
         group: &mut Group<K, B>,
-        at: &InForce,
+        at: &QuerierContext,
         sink: &mut S,
     ) -> Option<K>
         requires in_range { at.now.moment ≤ 2 ^ 53 }
@@ -123,7 +123,7 @@ impl<K: WireKey, A: Allocator> Storage<K, A> {
         &mut self,
         lists: &mut Lists<K, B>,
         group: &mut Group<K, B>,
-        at: &InForce,
+        at: &QuerierContext,
         sink: &mut S,
     )
         requires in_range { at.now.moment ≤ 2 ^ 53 }

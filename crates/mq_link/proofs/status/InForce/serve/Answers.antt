@@ -5,7 +5,7 @@ use Rattle.mq_table.specs.Stored.{size_of}
 use Rattle.mq_sched.specs.Schedule.{ScheduledGroup}
 use Rattle.mq_link.proofs.Bounds.{expired_size}
 use Rattle.mq_link.proofs.KeptFilters.{alike_after, round_keeps_filter}
-use Rattle.mq_link.proofs.status.InForce.serve.Goals as goal
+use Rattle.mq_link.proofs.status.QuerierContext.serve.Goals as goal
 
 -- the round keeps the filter that the end of the timers leaves
 pub returns-clause-changes : goal.returns-clause-changes

@@ -32,9 +32,9 @@ IsFound held a found = MatchResult found (HasNumber held a) (IsSpotFor held.orde
 
 -- the number of the group, which is held
 within_so : (g : Over) (c : After-ok g) → IfSome c.ok.result (λ n. n < length c.args.work.now.changed)
-within_so g c = subst (λ o. IfSome o (λ n. n < length c.args.work.now.changed)) (sym c.ok.ensures.value) (by_found c.args.sought.found c.requires.sought)
+within_so g c = subst (λ o. IfSome o (λ n. n < length c.args.work.now.changed)) (sym c.ok.ensures.value) (by_found c.args.lookup.found c.requires.lookup)
   where
-    by_found : (found : Result ℕ Spot) → IsFound c.args.storage.now.held (g.F.Address.Key.number c.args.sought.address) found
+    by_found : (found : Result ℕ Spot) → IsFound c.args.storage.now.held (g.F.Address.Key.number c.args.lookup.address) found
         → IfSome (result_ok found) (λ n. n < length c.args.work.now.changed)
     by_found (Ok n) has = let below = c.lemma_is_numbered.ensures.within _ n has in omega (arith, below, c.requires.group_room, c.requires.room.changed)
     by_found (Err spot) is = tt
@@ -45,13 +45,13 @@ keeps_so g c = subst (KeepsNumbers c.args.storage.now.held) (sym c.in-Some.ensur
 abbrev IsNumbered : HeldState → ℕ → Option ℕ → Type 0
 IsNumbered held a number = MatchOption number (map.contains_key held.groups a ≡ false) (HasNumber held a)
 
-numbered_so : (g : Over) (c : After-ok g) → IsNumbered c.apply_in_place.new.storage.held (g.F.Address.Key.number c.args.sought.address) c.ok.result
+numbered_so : (g : Over) (c : After-ok g) → IsNumbered c.apply_in_place.new.storage.held (g.F.Address.Key.number c.args.lookup.address) c.ok.result
 numbered_so g c =
-    subst (IsNumbered c.apply_in_place.new.storage.held (g.F.Address.Key.number c.args.sought.address)) (sym c.ok.ensures.value)
-    (by_found c.args.sought.found c.requires.sought c.in-Some.ensures.held)
+    subst (IsNumbered c.apply_in_place.new.storage.held (g.F.Address.Key.number c.args.lookup.address)) (sym c.ok.ensures.value)
+    (by_found c.args.lookup.found c.requires.lookup c.in-Some.ensures.held)
   where
-    by_found : (found : Result ℕ Spot) → IsFound c.args.storage.now.held (g.F.Address.Key.number c.args.sought.address) found → is_ok found ≡ true
-        → IsNumbered c.apply_in_place.new.storage.held (g.F.Address.Key.number c.args.sought.address) (result_ok found)
+    by_found : (found : Result ℕ Spot) → IsFound c.args.storage.now.held (g.F.Address.Key.number c.args.lookup.address) found → is_ok found ≡ true
+        → IsNumbered c.apply_in_place.new.storage.held (g.F.Address.Key.number c.args.lookup.address) (result_ok found)
     by_found (Ok n) has is = keeps_so g c _ n has
     by_found (Err spot) at is = absurd (true≢false (sym is))
 
@@ -70,7 +70,7 @@ returns-in-Some-clause-effect g c =
     let is = c.lemma_is_numbered-in-Some.ensures in
     let numbered : AreNumbered storage.held = record { held = was.held; of_one = was.of_one; same = was.same; one = was.one } in
     let numbered_next : AreNumbered next.held = record { held = is.held; of_one = is.of_one; same = is.same; one = is.one } in
-    let address = g.F.Address.Key.number c.args.sought.address in
+    let address = g.F.Address.Key.number c.args.lookup.address in
     let left = c.in-Some.ensures.left in
     let kept = c.in-Some.ensures.kept in
     let counted = c.count_changed.ensures in
@@ -93,7 +93,7 @@ returns-in-Some-clause-effect g c =
 pub returns-in-Some-clause-spent : goal.returns-in-Some-clause-spent
 returns-in-Some-clause-spent g c =
     let number = g.F.Address.Key.number in
-    let least = least_named number c.args.self.now (number c.args.sought.address) c.args.said c.args.work.now.named.members c.args.storage.now.held.groups in
+    let least = least_named number c.args.self.now (number c.args.lookup.address) c.args.said c.args.work.now.named.members c.args.storage.now.held.groups in
     let spent = rw c.as_slice.ensures.members at c.in-Some.ensures.spent in
     Spends-within _ _ spent (omega (arith, least)) (omega arith)
 
@@ -110,31 +110,31 @@ returns-in-None-clause-in_place g c heard =
 pub apply_to_copy-requires : goal.apply_to_copy-requires
 apply_to_copy-requires g c =
     let none = c.apply_in_place.ensures.none c.in-None.is in
-    subst (λ (s : Storage _ _). CanApply g.F.Address.Key.number c.args.self.now s c.args.work.now c.args.sought) (sym none)
+    subst (λ (s : Storage _ _). CanApply g.F.Address.Key.number c.args.self.now s c.args.work.now c.args.lookup) (sym none)
     (can_apply_still c.apply_in_place.new.storage.meter c.requires)
 
 -- the effect of the copy with its comparisons, by the storage and the sink as they were
 copied_so : (g : Over) (c : goal.After-apply_to_copy g) → (let number = g.F.Address.Key.number in
     let at = c.args.self.now in
-    let address = number c.args.sought.address in
+    let address = number c.args.lookup.address in
     let work = c.args.work.now in
     let groups = c.args.storage.now.held.groups in
     let tried = has_counted c.args.storage.now c.apply_in_place.new.storage.meter in
     let done = c.apply_to_copy.new in
     let least = least_work at address (statement_of c.args.said (named_in number work.named.members)) groups in
     let most = most_copied c.args.said (sources_of (group_at groups address)) (length work.named.members) (map.len groups) in
-    HasEffect number g.S.Sink.takes at c.args.sought c.args.said c.apply_to_copy.result tried done.storage work done.work c.args.sink.now done.sink
+    HasEffect number g.S.Sink.takes at c.args.lookup c.args.said c.apply_to_copy.result tried done.storage work done.work c.args.sink.now done.sink
     × Spends least most tried.meter done.storage.meter)
 copied_so g c =
     let number = g.F.Address.Key.number in
     let at = c.args.self.now in
-    let address = number c.args.sought.address in
+    let address = number c.args.lookup.address in
     let work = c.args.work.now in
     let result = c.apply_to_copy.result in
     let done = c.apply_to_copy.new in
     let least : Groups → ℕ = λ groups. least_work at address (statement_of c.args.said (named_in number work.named.members)) groups in
     let most : Groups → ℕ = λ groups. most_copied c.args.said (sources_of (group_at groups address)) (length work.named.members) (map.len groups) in
-    subst (λ (p : Storage _ _ × _). HasEffect number g.S.Sink.takes at c.args.sought c.args.said result p.0 done.storage work done.work p.1 done.sink
+    subst (λ (p : Storage _ _ × _). HasEffect number g.S.Sink.takes at c.args.lookup c.args.said result p.0 done.storage work done.work p.1 done.sink
     × Spends (least p.0.held.groups) (most p.0.held.groups) p.0.meter done.storage.meter)
     (λ i. (c.apply_in_place.ensures.none c.in-None.is i, c.apply_in_place.ensures.unsent c.in-None.is i))
     (c.apply_to_copy.ensures.effect, c.apply_to_copy.ensures.spent)
@@ -145,7 +145,7 @@ returns-in-None-clause-effect g c = effect_before c.apply_in_place.new.storage.m
 pub returns-in-None-clause-spent : goal.returns-in-None-clause-spent
 returns-in-None-clause-spent g c =
     let groups = c.args.storage.now.held.groups in
-    let size = sources_of (group_at groups (g.F.Address.Key.number c.args.sought.address)) in
+    let size = sources_of (group_at groups (g.F.Address.Key.number c.args.lookup.address)) in
     let tried = rw c.as_slice.ensures.members at c.in-None.ensures.spent in
     let most = tried_and_copied c.args.said size (length c.args.work.now.named.members) (map.len groups) in
     Spends-join_within _ _ tried (copied_so g c).1 (omega arith) (omega (arith, most))

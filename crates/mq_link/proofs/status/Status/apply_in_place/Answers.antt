@@ -12,20 +12,20 @@ use Rattle.mq_link.proofs.status.Status.apply_in_place.Goals as goal
 pub returns-in-Some-clause-spent : goal.returns-in-Some-clause-spent
 returns-in-Some-clause-spent g c =
     let groups = c.args.storage.now.held.groups in
-    let size = sources_of (group_at groups (g.F.Address.Key.number c.args.sought.address)) in
+    let size = sources_of (group_at groups (g.F.Address.Key.number c.args.lookup.address)) in
     Spends-within _ _ c.in-Some.ensures.spent (omega arith) (omega (arith, set_few size (length c.args.named.now) (map.len groups)))
 
 pub returns-then-block-clause-left : goal.returns-then-block-clause-left
 returns-then-block-clause-left g c =
     let left = c.block.ensures.left c.if-block.true in (
       left.0,
-      left.1 ∙ ap (λ (s : Storage _ _). with_group s.held.groups (g.F.Address.Key.number c.args.sought.address) left.0)
+      left.1 ∙ ap (λ (s : Storage _ _). with_group s.held.groups (g.F.Address.Key.number c.args.lookup.address) left.0)
           (c.refresh.ensures.none c.in-None.is),
     )
 
 pub returns-then-block-clause-spent : goal.returns-then-block-clause-spent
 returns-then-block-clause-spent g c =
-    let a = g.F.Address.Key.number c.args.sought.address in
+    let a = g.F.Address.Key.number c.args.lookup.address in
     let groups = c.args.storage.now.held.groups in
     let count = length c.args.named.now in
     let tried = c.in-None.ensures.spent in

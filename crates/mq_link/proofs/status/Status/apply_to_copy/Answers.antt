@@ -17,7 +17,7 @@ use Rattle.mq_sched.specs.Election.{is_querier}
 use Rattle.mq_sched.specs.Sink.{Sends}
 use Rattle.mq_held.specs.Held.{HeldState, HasNumber}
 use Rattle.mq_held.specs.Groups.{group_at, sources_in, sources_of, with_group}
-use Rattle.mq_link.specs.declared.status.InForce.{InForce}
+use Rattle.mq_link.specs.declared.status.QuerierContext.{QuerierContext}
 use Rattle.mq_link.specs.declared.storage.Storage.{Storage}
 use Rattle.mq_link.specs.declared.answers.Refusal.{Refusal}
 use Rattle.mq_link.specs.declared.statement.Verdict.TheVariants.{Refused}
@@ -33,7 +33,7 @@ use Rattle.mq_link.specs.Record.{Outcome, Statement, change_in, change_stated, c
 use Rattle.mq_link.specs.Forwarding.{changes}
 use Rattle.mq_link.specs.Refreshed.{most_asked, most_changed}
 use Rattle.mq_link.specs.Seen.{AreMarked, KeepsNumbers, counted_again, met_in}
-use Rattle.mq_link.specs.Storage.{group_stored, IsSought, KeepsRoom, KeepsRooms, has_counted}
+use Rattle.mq_link.specs.Storage.{group_stored, IsLookup, KeepsRoom, KeepsRooms, has_counted}
 use Rattle.mq_link.proofs.Applied.{groups_left}
 use Rattle.mq_link.proofs.ChangedRecords.{changed_then, length-by, marked_by, met_in-by}
 use Rattle.mq_link.proofs.Faultless.{few_groups, few_in_all, few_sources}
@@ -70,7 +70,7 @@ sent_of g c = c.before.before.before.before.before.before.before
 
 -- the group as it is held, the statement with its sources, and the least comparisons for it
 abbrev address_in : (g : Over) → After-change g → ℕ
-address_in g c = g.F.Address.Key.number c.args.sought.address
+address_in g c = g.F.Address.Key.number c.args.lookup.address
 
 abbrev held_in : (g : Over) → After-change g → ScheduledGroup
 held_in g c = group_at c.args.storage.now.held.groups (address_in g c)
@@ -142,15 +142,15 @@ few_so g c =
 
 -- the group is held if it was found
 is_held_so : (g : Over) (c : After-refusal-arg-3-1 g)
-    → map.contains_key c.args.storage.now.held.groups (g.F.Address.Key.number c.args.sought.address) ≡ c.is_ok.result
+    → map.contains_key c.args.storage.now.held.groups (g.F.Address.Key.number c.args.lookup.address) ≡ c.is_ok.result
 is_held_so g c =
     let is = c.lemma_is_numbered.ensures in
-    found_or_not c.args.storage.now.held (g.F.Address.Key.number c.args.sought.address) c.args.sought.found c.requires.sought is.held is.of_one
+    found_or_not c.args.storage.now.held (g.F.Address.Key.number c.args.lookup.address) c.args.lookup.found c.requires.lookup is.held is.of_one
     ∙ sym c.is_ok.ensures.value
 
 -- and the limits are checked by that, its sources and its schedule
 change_at : (g : Over) (c : After-refusal-arg-3-1 g) → (let stored = c.look-stored.result in
-    IsChangeAt c.args.storage.now.held.groups (g.F.Address.Key.number c.args.sought.address)
+    IsChangeAt c.args.storage.now.held.groups (g.F.Address.Key.number c.args.lookup.address)
     (record { is_held = c.is_ok.result; sources = length stored.sources.now; before = stored.schedule; schedule = c.ask.new.schedule }))
 change_at g c = record {
   is_held = is_held_so g c;
@@ -171,7 +171,7 @@ did g c =
     let ask = asked_of g c in
     let address = address_in g (changed_of g ask) in
     let done = c.change.new.self in
-    let moment = ap (λ (f : InForce). f.moment) c.in_force-at.ensures.in_force in
+    let moment = ap (λ (f : QuerierContext). f.moment) c.in_force-at.ensures.in_force in
     let limits = c.limits-limits.ensures ∙ ap (λ (k : Configuration). k.limits) c.config.ensures in
     let after : ℕ → ScheduledGroup = λ now. after_round at.election.timing now (started_in g ask) in
     record {
@@ -221,7 +221,7 @@ returns-in_default-clause-spent g c = Spends-within _ _ (spent_changing g c.befo
 
 pub change-requires-clause-room : goal.change-requires-clause-room
 change-requires-clause-room g c =
-    let within = c.requires.sound.within.group_sources (g.F.Address.Key.number c.args.sought.address) in
+    let within = c.requires.sound.within.group_sources (g.F.Address.Key.number c.args.lookup.address) in
     let named = c.requires.named in
     let room = c.requires.room.group in
     let asked = c.requires.room.asked in
@@ -234,7 +234,7 @@ change-requires-clause-running g c include =
     let number = g.F.Address.Key.number in
     let stored : ScheduledGroup = record { group = group_stored number c.look-stored.result; schedule = c.look-stored.result.schedule } in
     none_stopped_in number c.look-stored.result.sources.now c.look-stored.ensures.ascending
-    (none_is_stopped c.args.self.now (number c.args.sought.address) c.args.storage.now.held.groups stored c.look-stored.ensures.group c.requires.sound include)
+    (none_is_stopped c.args.self.now (number c.args.lookup.address) c.args.storage.now.held.groups stored c.look-stored.ensures.group c.requires.sound include)
 
 pub ask-requires-clause-ascending : goal.ask-requires-clause-ascending
 ask-requires-clause-ascending g c = rw c.in-Some.is at c.change.ensures.ascending
@@ -256,11 +256,11 @@ pub refusal-requires-clause-few : goal.refusal-requires-clause-few
 refusal-requires-clause-few g c =
     let few = few_so g c.before.before.before.before.before.before.before.before in
     let most = few_sources c.args.self.now.config c.lemma_is_sound.ensures.faultless in
-    let within = c.requires.sound.within.group_sources (g.F.Address.Key.number c.args.sought.address) in
+    let within = c.requires.sound.within.group_sources (g.F.Address.Key.number c.args.lookup.address) in
     omega (arith, most, within, c.requires.named, few.changed, few.asked)
 
 pub refusal-requires-clause-change : goal.refusal-requires-clause-change
-refusal-requires-clause-change g c = (g.F.Address.Key.number c.args.sought.address, change_at g c)
+refusal-requires-clause-change g c = (g.F.Address.Key.number c.args.lookup.address, change_at g c)
 
 -- what is refused leaves the groups
 pub returns-in-Some-refusal-clause-effect : goal.returns-in-Some-refusal-clause-effect
@@ -274,7 +274,7 @@ returns-in-Some-refusal-clause-effect g c =
     let kept = room_on c.change.ensures.kept c.ask.ensures.kept in
     let met = c.ask.ensures.met ∙ c.change.ensures.met in
     let changed = c.ask.ensures.changed ∙ c.change.ensures.changed in
-    subst (λ (s : Storage _ _). HasEffect g.F.Address.Key.number g.S.Sink.takes at c.args.sought c.args.said verdict storage s work done sink sink)
+    subst (λ (s : Storage _ _). HasEffect g.F.Address.Key.number g.S.Sink.takes at c.args.lookup c.args.said verdict storage s work done sink sink)
     (sym c.refusal.ensures.left) (groups_left c.refusal.new.self.meter (judged g c.before c.in-Some-refusal.is) kept met changed)
 
 pub returns-in-Some-refusal-clause-spent : goal.returns-in-Some-refusal-clause-spent
@@ -294,9 +294,9 @@ keep-kept-requires-clause-few g c =
     let room = ap (λ (s : Storage _ _). s.held.order.room) c.refusal.ensures.left ∙ c.requires.group_room in
     omega (arith, room, few_groups c.args.self.now.config c.lemma_is_sound.ensures.faultless)
 
-pub keep-kept-requires-clause-sought : goal.keep-kept-requires-clause-sought
-keep-kept-requires-clause-sought g c =
-    subst (λ (s : Storage _ _). IsSought g.F.Address.Key.number s.held c.args.sought) (sym c.refusal.ensures.left) c.requires.sought
+pub keep-kept-requires-clause-lookup : goal.keep-kept-requires-clause-lookup
+keep-kept-requires-clause-lookup g c =
+    subst (λ (s : Storage _ _). IsLookup g.F.Address.Key.number s.held c.args.lookup) (sym c.refusal.ensures.left) c.requires.lookup
 
 pub keep-kept-requires-clause-held : goal.keep-kept-requires-clause-held
 keep-kept-requires-clause-held g c =
@@ -307,7 +307,7 @@ keep-kept-requires-clause-held g c =
 -- a group that was found is held
 pub keep-kept-requires-clause-stays : goal.keep-kept-requires-clause-stays
 keep-kept-requires-clause-stays g c found =
-    let address = g.F.Address.Key.number c.args.sought.address in
+    let address = g.F.Address.Key.number c.args.lookup.address in
     let groups = c.args.storage.now.held.groups in
     let check = checked_of g c.before.before in
     let contained = is_held_so g check.before ∙ c.is_ok.ensures.value ∙ found in
@@ -316,7 +316,7 @@ keep-kept-requires-clause-stays g c found =
 
 pub keep-kept-requires-clause-room : goal.keep-kept-requires-clause-room
 keep-kept-requires-clause-room g c =
-    let address = g.F.Address.Key.number c.args.sought.address in
+    let address = g.F.Address.Key.number c.args.lookup.address in
     let sent = c.before.before in
     let did_so = did g (checked_of g sent) in
     let most = left_has_place _ _ _ _ _ _ _ _ did_so c.lemma_is_sound.ensures.positive c.requires.admitted c.requires.sound c.in_default-refusal.is in
@@ -325,7 +325,7 @@ keep-kept-requires-clause-room g c =
 
 pub keep-kept-requires-clause-fits : goal.keep-kept-requires-clause-fits
 keep-kept-requires-clause-fits g c =
-    let address = g.F.Address.Key.number c.args.sought.address in
+    let address = g.F.Address.Key.number c.args.lookup.address in
     let sent = c.before.before in
     let did_so = did g (checked_of g sent) in
     let most = left_has_room _ _ _ _ _ _ _ _ did_so c.lemma_is_sound.ensures.positive c.requires.admitted c.requires.sound c.in_default-refusal.is in
@@ -338,7 +338,7 @@ within_so : (g : Over) (c : After-lemma_is_numbered-2 g) → IfSome c.keep-kept.
 within_so g c = by_number c.keep-kept.result c.keep-kept.ensures.number
   where
     address : ℕ
-    address = g.F.Address.Key.number c.args.sought.address
+    address = g.F.Address.Key.number c.args.lookup.address
 
     by_number : (number : Option ℕ)
         → MatchOption number (map.contains_key c.keep-kept.new.self.held.groups address ≡ false) (HasNumber c.keep-kept.new.self.held address)
@@ -363,10 +363,10 @@ record IsKept {K A : Type 0} (address : ℕ) (from : Storage K A × ScheduledGro
   moved : MovesWithin (5 * size_of from.1.group + moved_by_edit) from.0 left
 
 kept_so : (g : Over) (c : After-count_changed g) → (let e = started_in g (asked_of g (checked_of g (sent_of g c))) in
-    IsKept (g.F.Address.Key.number c.args.sought.address) (has_counted c.args.storage.now c.round.new.m, after_sending c.args.self.now e) c.keep-kept.new.self)
+    IsKept (g.F.Address.Key.number c.args.lookup.address) (has_counted c.args.storage.now c.round.new.m, after_sending c.args.self.now e) c.keep-kept.new.self)
 kept_so g c =
     let kept = c.keep-kept.ensures in
-    subst (λ (p : Storage _ _ × ScheduledGroup). IsKept (g.F.Address.Key.number c.args.sought.address) p c.keep-kept.new.self) (kept_from g (sent_of g c))
+    subst (λ (p : Storage _ _ × ScheduledGroup). IsKept (g.F.Address.Key.number c.args.lookup.address) p c.keep-kept.new.self) (kept_from g (sent_of g c))
     (record { groups = kept.groups; numbers = kept.numbers; rooms = kept.rooms; spent = kept.spent; moved = kept.moved })
 
 -- the group is counted as changed if its filter changed
@@ -384,7 +384,7 @@ marked_so g c before marked =
     let at = c.args.self.now in
     let held = c.args.storage.now.held in
     let left = c.keep-kept.new.self.held in
-    let address = g.F.Address.Key.number c.args.sought.address in
+    let address = g.F.Address.Key.number c.args.lookup.address in
     let loaded = c.in-Some.loaded in
     let ask = asked_of g (checked_of g (sent_of g c)) in
     let started = started_in g ask in
@@ -405,7 +405,7 @@ marked_so g c before marked =
 pub returns-clause-effect : goal.returns-clause-effect
 returns-clause-effect g c =
     let at = c.args.self.now in
-    let address = g.F.Address.Key.number c.args.sought.address in
+    let address = g.F.Address.Key.number c.args.lookup.address in
     let check = checked_of g (sent_of g c) in
     let ask = asked_of g check in
     let started = started_in g ask in

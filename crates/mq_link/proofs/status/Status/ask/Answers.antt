@@ -11,7 +11,7 @@ use Rattle.mq_held.specs.Groups.{group_at, running_in, sources_of}
 use Rattle.mq_held.specs.Held.{HeldState}
 use Rattle.mq_held.proofs.Inside.{some-address}
 use Rattle.mq_held.proofs.RestartedTimers.{insert-same}
-use Rattle.mq_link.specs.declared.status.InForce.{InForce}
+use Rattle.mq_link.specs.declared.status.QuerierContext.{QuerierContext}
 use Rattle.mq_link.specs.declared.storage.Storage.{Storage}
 use Rattle.mq_link.specs.Family.{per_query}
 use Rattle.mq_link.proofs.KeptGroups.{group_found}
@@ -25,7 +25,7 @@ returns-then-at-clause-groups g c address has =
     let at = c.args.self.now in
     let groups = c.args.storage.now.held.groups in
     let in_force = c.in_force-at.ensures.in_force in
-    let asks = sym (ap (λ (f : InForce). f.is_querier) in_force) ∙ c.if-at.true in
+    let asks = sym (ap (λ (f : QuerierContext). f.is_querier) in_force) ∙ c.if-at.true in
     let asked = set_of (λ s. s) (g.F.Address.Key.number c.args.source ∷ []) in
     c.ask.ensures.groups address has
     ∙ (λ i. let s : HeldState =
@@ -39,7 +39,7 @@ pub returns-then-at-clause-sent : goal.returns-then-at-clause-sent
 returns-then-at-clause-sent g c address has =
     let groups = c.args.storage.now.held.groups in
     let in_force = c.in_force-at.ensures.in_force in
-    let asks = sym (ap (λ (f : InForce). f.is_querier) in_force) ∙ c.if-at.true in
+    let asks = sym (ap (λ (f : QuerierContext). f.is_querier) in_force) ∙ c.if-at.true in
     let per = c.PER_QUERY.ensures ∙ g.met.F.Family.per_query ∙ ap per_query (sym c.lemma_is_sound.ensures.family) in
     let asked = set_of (λ s. s) (g.F.Address.Key.number c.args.source ∷ []) in
     subst (λ queries. Sends g.S.Sink.takes c.args.sink.now queries c.ask.new.sink)
@@ -83,7 +83,7 @@ returns-else-at-clause-groups g c address has =
     let at = c.args.self.now in
     let groups = c.args.storage.now.held.groups in
     let e = group_at groups address in
-    let asks = sym (ap (λ (f : InForce). f.is_querier) c.in_force-at.ensures.in_force) ∙ c.if-at.false in
+    let asks = sym (ap (λ (f : QuerierContext). f.is_querier) c.in_force-at.ensures.in_force) ∙ c.if-at.false in
     let asked = set_of (λ s. s) (g.F.Address.Key.number c.args.source ∷ []) in
     let stays = ap (λ b. after_round at.election.timing at.now (acted b at.election.timing at.now false asked e)) asks ∙
     same_round at.election.timing at.now e (c.requires.quiet address has) in
@@ -95,7 +95,7 @@ pub returns-else-at-clause-sent : goal.returns-else-at-clause-sent
 returns-else-at-clause-sent g c address has =
     let at = c.args.self.now in
     let e = group_at c.args.storage.now.held.groups address in
-    let asks = sym (ap (λ (f : InForce). f.is_querier) c.in_force-at.ensures.in_force) ∙ c.if-at.false in
+    let asks = sym (ap (λ (f : QuerierContext). f.is_querier) c.in_force-at.ensures.in_force) ∙ c.if-at.false in
     let asked = set_of (λ s. s) (g.F.Address.Key.number c.args.source ∷ []) in
     let silent = ap (λ b. messages_due (per_query at.config.family) at.election.timing at.now address
     (acted b at.election.timing at.now false asked e)) asks ∙ quiet_is_silent (per_query at.config.family) at.election.timing at.now address e

@@ -40,8 +40,8 @@ same_so : (g : Over) (c : goal.After-ask-arg-2-1 g) → c.number_blocked.new.sto
 same_so g c = ap (λ (s : Storage _ _). s.held) c.in-Some.ensures.left
 
 -- and the number is the group's there
-has_so : (g : Over) (c : goal.After-ask-arg-2-1 g) → HasNumber c.number_blocked.new.storage.held (g.F.Address.Key.number c.args.sought.address) c.in-Some.number
-has_so g c = subst (λ (h : HeldState). HasNumber h (g.F.Address.Key.number c.args.sought.address) c.in-Some.number) (sym (same_so g c)) c.in-Some.ensures.found
+has_so : (g : Over) (c : goal.After-ask-arg-2-1 g) → HasNumber c.number_blocked.new.storage.held (g.F.Address.Key.number c.args.lookup.address) c.in-Some.number
+has_so g c = subst (λ (h : HeldState). HasNumber h (g.F.Address.Key.number c.args.lookup.address) c.in-Some.number) (sym (same_so g c)) c.in-Some.ensures.found
 
 -- one source is named
 some_so : (g : Over) (c : goal.After-ask-arg-2-1 g) → length c.args.named.now ≡ 1
@@ -52,23 +52,23 @@ list_so g c = one_item c.args.named.now c.index-named-0.result (some_so g c) c.i
 
 -- what is done, where no source is named
 done_empty : (g : Over) (c : Then-is_empty g) → (let number = g.F.Address.Key.number in
-    IsDone g.S.Sink.takes c.args.self.now (number c.args.sought.address) c.args.said (named_in number c.args.named.now) c.args.storage.now.held.groups
+    IsDone g.S.Sink.takes c.args.self.now (number c.args.lookup.address) c.args.said (named_in number c.args.named.now) c.args.storage.now.held.groups
     c.number_blocked.new.storage.held.groups c.args.sink.now c.args.sink.now)
 done_empty g c =
     let number = g.F.Address.Key.number in
     let facts = c.in-Some.ensures in
     let none = nil_from_length c.args.named.now (eqb-true (length c.args.named.now) 0 (sym c.is_empty.ensures ∙ c.if-is_empty.true)) in
-    done_unnamed number g.S.Sink.takes c.args.self.now (number c.args.sought.address) c.args.said c.args.named.now c.args.storage.now.held
+    done_unnamed number g.S.Sink.takes c.args.self.now (number c.args.lookup.address) c.args.said c.args.named.now c.args.storage.now.held
     c.number_blocked.new.storage.held c.requires.sound facts.can facts.kind (ap (λ (s : Storage _ _). s.held) facts.left)
     none c.args.sink.now
 
 -- where the group has the one that is named
 there_then : (g : Over) (c : Then-there g) → (let number = g.F.Address.Key.number in
-    let e = group_at c.args.storage.now.held.groups (number c.args.sought.address) in
+    let e = group_at c.args.storage.now.held.groups (number c.args.lookup.address) in
     (is_include e.group.mode || is_some (timer_at e.group (number c.index-named-0.result))) ≡ true)
 there_then g c =
     let number = g.F.Address.Key.number in
-    let a = number c.args.sought.address in
+    let a = number c.args.lookup.address in
     let x = number c.index-named-0.result in
     let e = group_at c.args.storage.now.held.groups a in
     or_right (is_include e.group.mode) (is_some (timer_at e.group x))
@@ -76,11 +76,11 @@ there_then g c =
     sym (c.ask-there.ensures.there a (has_so g c.before.before)) ∙ c.if-there.true)
 
 done_then : (g : Over) (c : Then-there g) → (let number = g.F.Address.Key.number in
-    IsDone g.S.Sink.takes c.args.self.now (number c.args.sought.address) c.args.said (named_in number c.args.named.now) c.args.storage.now.held.groups
+    IsDone g.S.Sink.takes c.args.self.now (number c.args.lookup.address) c.args.said (named_in number c.args.named.now) c.args.storage.now.held.groups
     c.ask-there.new.storage.held.groups c.args.sink.now c.ask-there.new.sink)
 done_then g c =
     let number = g.F.Address.Key.number in
-    let a = number c.args.sought.address in
+    let a = number c.args.lookup.address in
     let has = has_so g c.before.before in
     let facts = c.in-Some.ensures in
     done_named number g.S.Sink.takes c.args.self.now a c.args.said c.args.named.now c.args.storage.now.held c.number_blocked.new.storage.held
@@ -90,19 +90,19 @@ done_then g c =
 
 -- where the group hasn't, and is in INCLUDE
 include_so : (g : Over) (c : Else-there g) →
-    c.is_include-is_include.result ≡ is_include (group_at c.args.storage.now.held.groups (g.F.Address.Key.number c.args.sought.address)).group.mode
+    c.is_include-is_include.result ≡ is_include (group_at c.args.storage.now.held.groups (g.F.Address.Key.number c.args.lookup.address)).group.mode
 include_so g c =
-    let a = g.F.Address.Key.number c.args.sought.address in
+    let a = g.F.Address.Key.number c.args.lookup.address in
     c.is_include-is_include.ensures
     ∙ ap (λ (e : ScheduledGroup). is_include e.group.mode) (c.entry_of.ensures.group a (has_so g c.before.before))
     ∙ (λ i. is_include (group_at (same_so g c.before.before i).groups a).group.mode)
 
 done_else : (g : Over) (c : Else-there g) → c.is_include-is_include.result ≡ true → (let number = g.F.Address.Key.number in
-    IsDone g.S.Sink.takes c.args.self.now (number c.args.sought.address) c.args.said (named_in number c.args.named.now) c.args.storage.now.held.groups
+    IsDone g.S.Sink.takes c.args.self.now (number c.args.lookup.address) c.args.said (named_in number c.args.named.now) c.args.storage.now.held.groups
     c.ask-there.new.storage.held.groups c.args.sink.now c.ask-there.new.sink)
 done_else g c include =
     let number = g.F.Address.Key.number in
-    let a = number c.args.sought.address in
+    let a = number c.args.lookup.address in
     let e = group_at c.args.storage.now.held.groups a in
     let has = has_so g c.before.before in
     let facts = c.in-Some.ensures in
@@ -124,7 +124,7 @@ returns-then-is_empty-clause-changes g c done = let did = done_empty g c in did.
 pub ask-there-requires-clause-quiet : goal.ask-there-requires-clause-quiet
 ask-there-requires-clause-quiet g c address has_it =
     let at = c.args.self.now in
-    let a = g.F.Address.Key.number c.args.sought.address in
+    let a = g.F.Address.Key.number c.args.lookup.address in
     let held = c.args.storage.now.held in
     let quiet = quiet_by at.now (group_at held.groups a).schedule c.in-Some.ensures.can.quiet in
     let is = c.lemma_is_numbered.ensures.same address a c.in-Some.number has_it (has_so g c) in
@@ -153,7 +153,7 @@ pub returns-then-there-clause-moved : goal.returns-then-there-clause-moved
 returns-then-there-clause-moved g c =
     let number = g.F.Address.Key.number in
     let at = c.args.self.now in
-    let a = number c.args.sought.address in
+    let a = number c.args.lookup.address in
     let held = c.args.storage.now.held in
     let groups = held.groups in
     let next = c.ask-there.new.storage in
@@ -174,7 +174,7 @@ returns-then-there-clause-moved g c =
 pub returns-else-there-clause-done : goal.returns-else-there-clause-done
 returns-else-there-clause-done g c block ok can_it there =
     let number = g.F.Address.Key.number in
-    let a = number c.args.sought.address in
+    let a = number c.args.lookup.address in
     let e = group_at c.args.storage.now.held.groups a in
     let x = number c.index-named-0.result in
     let gone : is_some (timer_at e.group x) ≡ false = (λ i. is_some (timer_at (group_at (sym (same_so g c.before.before) i).groups a).group x)) ∙
@@ -187,7 +187,7 @@ returns-else-there-clause-done g c block ok can_it there =
 
 pub returns-else-there-clause-spent : goal.returns-else-there-clause-spent
 returns-else-there-clause-spent g c =
-    let a = g.F.Address.Key.number c.args.sought.address in
+    let a = g.F.Address.Key.number c.args.lookup.address in
     let groups = c.args.storage.now.held.groups in
     let facts = c.in-Some.ensures in
     let same = same_so g c.before.before in

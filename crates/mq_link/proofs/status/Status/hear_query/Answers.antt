@@ -7,7 +7,7 @@ use Rattle.mq_sched.specs.Election.{loses_role}
 use Rattle.mq_held.specs.Groups.{group_at, sources_of, sources_in}
 use Rattle.mq_held.proofs.Amounts.{own_sources}
 use Rattle.mq_wire.specs.Numbered.{numbered_query}
-use Rattle.mq_link.specs.declared.status.InForce.{InForce}
+use Rattle.mq_link.specs.declared.status.QuerierContext.{QuerierContext}
 use Rattle.mq_link.specs.declared.storage.Storage.{Storage}
 use Rattle.mq_link.specs.Heard.{groups_cleared, groups_lowered}
 use Rattle.mq_link.specs.Moved.{MovesWithin}
@@ -64,8 +64,8 @@ returns-clause-groups g c =
       | else-hear w ↦
           ap (λ (s : Storage _ _). s.held.groups) w.storage-is ∙ ap (λ b. cond b (groups_cleared groups) groups) (sym w.if-hear.false ∙ c.hear.ensures.lost)
     ] in
-    let moment = ap (λ (f : InForce). f.moment) c.in_force-at.ensures.in_force ∙ ap (λ (s : Setting). s.now) c.hear.ensures.heard in
-    let timing = ap (λ (f : InForce). f.timing) c.in_force-at.ensures.in_force ∙ ap (λ (s : Setting). s.election.timing) (returns-clause-election g c) in
+    let moment = ap (λ (f : QuerierContext). f.moment) c.in_force-at.ensures.in_force ∙ ap (λ (s : Setting). s.now) c.hear.ensures.heard in
+    let timing = ap (λ (f : QuerierContext). f.timing) c.in_force-at.ensures.in_force ∙ ap (λ (s : Setting). s.election.timing) (returns-clause-election g c) in
     c.lower_held.ensures.groups ∙ (λ i. groups_lowered (timing i) (moment i) query (left i))
 
 pub returns-clause-rooms : goal.returns-clause-rooms

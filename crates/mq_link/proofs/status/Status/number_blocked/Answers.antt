@@ -4,7 +4,7 @@ use Rattle.mq_sched.specs.Rounds.{is_due_at}
 use Rattle.mq_sched.specs.Schedule.{ScheduledGroup}
 use Rattle.mq_table.specs.Stored.{timers_in}
 use Rattle.mq_held.specs.Groups.{schedules_in}
-use Rattle.mq_link.specs.declared.status.InForce.{InForce}
+use Rattle.mq_link.specs.declared.status.QuerierContext.{QuerierContext}
 use Rattle.mq_link.specs.Blocked.{has_older_hosts}
 use Rattle.mq_link.specs.Configuration.{Configuration}
 use Rattle.mq_link.proofs.status.Status.number_blocked.Goals as goal
@@ -14,9 +14,9 @@ use Rattle.mq_link.proofs.status.Status.number_blocked.Goals.{then-is_some, else
 pub returns-then-is_due-clause-done : goal.returns-then-is_due-clause-done
 returns-then-is_due-clause-done g c block ok can =
     let number = g.F.Address.Key.number in
-    let a = number c.args.sought.address in
-    let has = rw c.in-Ok.is at c.requires.sought in
-    let moment = ap (λ (f : InForce). f.moment) c.in_force-at.ensures.in_force in
+    let a = number c.args.lookup.address in
+    let has = rw c.in-Ok.is at c.requires.lookup in
+    let moment = ap (λ (f : QuerierContext). f.moment) c.in_force-at.ensures.in_force in
     let entry = c.entry_of-stored.ensures.group a has in
     elim c.then-is_due.branch [
       | then-is_due-via-then-is_due w ↦
@@ -29,9 +29,9 @@ returns-then-is_due-clause-done g c block ok can =
 pub returns-then-schedules-limits-clause-can : goal.returns-then-schedules-limits-clause-can
 returns-then-schedules-limits-clause-can g c =
     let number = g.F.Address.Key.number in
-    let a = number c.args.sought.address in
-    let has = rw c.in-Ok.is at c.requires.sought in
-    let moment = ap (λ (f : InForce). f.moment) c.in_force-at.ensures.in_force in
+    let a = number c.args.lookup.address in
+    let has = rw c.in-Ok.is at c.requires.lookup in
+    let moment = ap (λ (f : QuerierContext). f.moment) c.in_force-at.ensures.in_force in
     let entry = c.entry_of-stored.ensures.group a has in
     let limits : c.limits-limits.result ≡ c.args.self.now.config.limits = c.limits-limits.ensures ∙ ap (λ (k : Configuration). k.limits) c.config.ensures in
     let due = ap is_some c.sources_due.ensures ∙ ap (λ (e : ScheduledGroup). is_some e.schedule.sources_due) entry in

@@ -17,7 +17,7 @@ use Rattle.mq_held.specs.Groups.{group_at, running_in, sources_of, with_group}
 use Rattle.mq_held.specs.Held.{HasNumber, HeldState}
 use Rattle.mq_held.specs.Restarted.{has_each, most_looked, restarted_each}
 use Rattle.mq_held.proofs.RestartedEach.{IsWellFormed-restarted_each}
-use Rattle.mq_link.specs.declared.status.InForce.{InForce}
+use Rattle.mq_link.specs.declared.status.QuerierContext.{QuerierContext}
 use Rattle.mq_link.specs.Changing.{statement_of}
 use Rattle.mq_link.specs.Counters.{Applied}
 use Rattle.mq_link.specs.Forwarding.{changes}
@@ -37,59 +37,59 @@ use Rattle.mq_link.proofs.status.Status.refresh.Goals as goal
 use Rattle.mq_link.proofs.status.Status.refresh.Goals.{After-restart_each}
 
 -- the group, its number, and what is due for it
-has_so : (g : Over) (c : After-restart_each g) → HasNumber c.args.storage.now.held (g.F.Address.Key.number c.args.sought.address) c.in-Ok.number
-has_so g c = rw c.in-Ok.is at c.requires.sought
+has_so : (g : Over) (c : After-restart_each g) → HasNumber c.args.storage.now.held (g.F.Address.Key.number c.args.lookup.address) c.in-Ok.number
+has_so g c = rw c.in-Ok.is at c.requires.lookup
 
-held_so : (g : Over) (c : After-restart_each g) → map.contains_key c.args.storage.now.held.groups (g.F.Address.Key.number c.args.sought.address) ≡ true
-held_so g c = c.lemma_is_numbered.ensures.of_one (g.F.Address.Key.number c.args.sought.address) c.in-Ok.number (has_so g c)
+held_so : (g : Over) (c : After-restart_each g) → map.contains_key c.args.storage.now.held.groups (g.F.Address.Key.number c.args.lookup.address) ≡ true
+held_so g c = c.lemma_is_numbered.ensures.of_one (g.F.Address.Key.number c.args.lookup.address) c.in-Ok.number (has_so g c)
 
 quiet_so : (g : Over) (c : After-restart_each g) →
-    IsQuietAt c.args.self.now.now (group_at c.args.storage.now.held.groups (g.F.Address.Key.number c.args.sought.address)).schedule
+    IsQuietAt c.args.self.now.now (group_at c.args.storage.now.held.groups (g.F.Address.Key.number c.args.lookup.address)).schedule
 quiet_so g c =
-    let moment = ap (λ (f : InForce). f.moment) c.in_force-at.ensures.in_force in
-    let entry = c.entry_of.ensures.group (g.F.Address.Key.number c.args.sought.address) (has_so g c) in
+    let moment = ap (λ (f : QuerierContext). f.moment) c.in_force-at.ensures.in_force in
+    let entry = c.entry_of.ensures.group (g.F.Address.Key.number c.args.lookup.address) (has_so g c) in
     subst (λ (p : ℕ × ScheduledGroup). IsQuietAt p.0 p.1.schedule) (λ i. (moment i, entry i)) (quiet_by _ _ (sym c.is_due.ensures.due ∙ c.if-is_due.false))
 
-formed_so : (g : Over) (c : After-restart_each g) → IsWellFormed (group_at c.args.storage.now.held.groups (g.F.Address.Key.number c.args.sought.address)).group
+formed_so : (g : Over) (c : After-restart_each g) → IsWellFormed (group_at c.args.storage.now.held.groups (g.F.Address.Key.number c.args.lookup.address)).group
 formed_so g c =
     let number = g.F.Address.Key.number in
-    let h = held_as c.args.self.now (number c.args.sought.address) c.in_ok-_kind._kind
+    let h = held_as c.args.self.now (number c.args.lookup.address) c.in_ok-_kind._kind
     (named_in number c.args.named.now) c.args.storage.now.held.groups c.in_ok-_kind.ensures.1 c.requires.sound (held_so g c) (quiet_so g c) in
     h.held
 
 -- the group then, where it has each source that is named
 abbrev after_so : (g : Over) (c : After-restart_each g) → ScheduledGroup
 after_so g c = let number = g.F.Address.Key.number in restarted_each c.after-deadline.result (list_map number c.args.named.now)
-    (group_at c.args.storage.now.held.groups (number c.args.sought.address))
+    (group_at c.args.storage.now.held.groups (number c.args.lookup.address))
 
 all_so : (g : Over) (c : After-restart_each g) → is_some c.restart_each.result ≡ true →
     (let number = g.F.Address.Key.number in has_each (list_map number c.args.named.now)
-    (group_at c.args.storage.now.held.groups (number c.args.sought.address)) ≡ true)
+    (group_at c.args.storage.now.held.groups (number c.args.lookup.address)) ≡ true)
 all_so g c there = sym (c.restart_each.ensures.effect _ (has_so g c)).all ∙ there
 
 formed_then : (g : Over) (c : After-restart_each g) → is_some c.restart_each.result ≡ true → IsWellFormed (after_so g c).group
 formed_then g c there =
     let number = g.F.Address.Key.number in
     IsWellFormed-restarted_each c.after-deadline.result (list_map number c.args.named.now)
-    (group_at c.args.storage.now.held.groups (number c.args.sought.address)) (all_so g c there) (formed_so g c)
+    (group_at c.args.storage.now.held.groups (number c.args.lookup.address)) (all_so g c there) (formed_so g c)
 
 left_so : (g : Over) (c : After-restart_each g) → is_some c.restart_each.result ≡ true →
     c.restart_each.new.self
-    ≡ record c.args.storage.now.held { groups = map.insert c.args.storage.now.held.groups (g.F.Address.Key.number c.args.sought.address) (after_so g c) }
+    ≡ record c.args.storage.now.held { groups = map.insert c.args.storage.now.held.groups (g.F.Address.Key.number c.args.lookup.address) (after_so g c) }
 left_so g c there =
-    let a = g.F.Address.Key.number c.args.sought.address in
+    let a = g.F.Address.Key.number c.args.lookup.address in
     let held = c.args.storage.now.held in
     (c.restart_each.ensures.effect a (has_so g c)).groups
     ∙ ap (λ b. let s : HeldState = record held { groups = cond b (map.insert held.groups a (after_so g c)) held.groups } in s) there
 
 left_groups : (g : Over) (c : After-restart_each g) → is_some c.restart_each.result ≡ true →
-    c.restart_each.new.self.groups ≡ map.insert c.args.storage.now.held.groups (g.F.Address.Key.number c.args.sought.address) (after_so g c)
+    c.restart_each.new.self.groups ≡ map.insert c.args.storage.now.held.groups (g.F.Address.Key.number c.args.lookup.address) (after_so g c)
 left_groups g c there = ap (λ (s : HeldState). s.groups) (left_so g c there)
 
 put_so : (g : Over) (c : After-restart_each g) → is_some c.restart_each.result ≡ true →
-    c.restart_each.new.self.groups ≡ with_group c.args.storage.now.held.groups (g.F.Address.Key.number c.args.sought.address) (after_so g c)
+    c.restart_each.new.self.groups ≡ with_group c.args.storage.now.held.groups (g.F.Address.Key.number c.args.lookup.address) (after_so g c)
 put_so g c there =
-    left_groups g c there ∙ sym (put_is c.args.storage.now.held.groups (g.F.Address.Key.number c.args.sought.address) (after_so g c) (formed_then g c there))
+    left_groups g c there ∙ sym (put_is c.args.storage.now.held.groups (g.F.Address.Key.number c.args.lookup.address) (after_so g c) (formed_then g c there))
 
 digits_so : (g : Over) (c : After-restart_each g) → bitlen (running_in c.args.storage.now.held.groups - 1) ≤ bitlen (map.len c.args.storage.now.held.groups)
 digits_so g c =
@@ -98,13 +98,13 @@ digits_so g c =
 
 pub restart_each-requires-clause-number : goal.restart_each-requires-clause-number
 restart_each-requires-clause-number g c =
-    is_number c.args.storage.now.held (g.F.Address.Key.number c.args.sought.address) c.in-Ok.number (rw c.in-Ok.is at c.requires.sought)
+    is_number c.args.storage.now.held (g.F.Address.Key.number c.args.lookup.address) c.in-Ok.number (rw c.in-Ok.is at c.requires.lookup)
 
 pub returns-clause-outcome : goal.returns-clause-outcome
 returns-clause-outcome g c = on_some c.restart_each.result (λ there.
     let number = g.F.Address.Key.number in
     let at = c.args.self.now in
-    let a = number c.args.sought.address in
+    let a = number c.args.lookup.address in
     let groups = c.args.storage.now.held.groups in
     let sources = list_map number c.args.named.now in
     let in_force = c.in_force-at.ensures.in_force in
@@ -124,7 +124,7 @@ pub returns-clause-changes : goal.returns-clause-changes
 returns-clause-changes g c = if_some _ c.restart_each.result (λ changes_it is.
     let number = g.F.Address.Key.number in
     let at = c.args.self.now in
-    let a = number c.args.sought.address in
+    let a = number c.args.lookup.address in
     let groups = c.args.storage.now.held.groups in
     let before = group_at groups a in
     let sources = list_map number c.args.named.now in
@@ -144,7 +144,7 @@ returns-clause-kept g c =
 -- nothing changes, where it is None
 unchanged_so : (g : Over) (c : After-restart_each g) → c.restart_each.result ≡ None → c.restart_each.new.self ≡ c.args.storage.now.held
 unchanged_so g c none =
-    let a = g.F.Address.Key.number c.args.sought.address in
+    let a = g.F.Address.Key.number c.args.lookup.address in
     let held = c.args.storage.now.held in
     (c.restart_each.ensures.effect a (has_so g c)).groups
     ∙ ap (λ (o : Option Bool). let s : HeldState = record held { groups = cond (is_some o) (map.insert held.groups a (after_so g c)) held.groups } in s) none
@@ -156,7 +156,7 @@ returns-clause-none g c none =
 
 pub returns-clause-spent : goal.returns-clause-spent
 returns-clause-spent g c =
-    let a = g.F.Address.Key.number c.args.sought.address in
+    let a = g.F.Address.Key.number c.args.lookup.address in
     let groups = c.args.storage.now.held.groups in
     let size = sources_of (group_at groups a) in
     let count = length c.args.named.now in
@@ -177,7 +177,7 @@ returns-clause-moves g c = on_some c.restart_each.result (λ there.
 pub returns-clause-moved : goal.returns-clause-moved
 returns-clause-moved g c =
     let number = g.F.Address.Key.number in
-    let a = number c.args.sought.address in
+    let a = number c.args.lookup.address in
     let groups = c.args.storage.now.held.groups in
     let count = length c.args.named.now in
     let few = c.requires.sound.within.group_count in

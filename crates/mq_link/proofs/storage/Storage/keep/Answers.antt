@@ -10,17 +10,17 @@ use Rattle.mq_link.proofs.PaidEdits.{few_digits}
 use Rattle.mq_link.proofs.storage.Storage.keep.Goals as goal
 
 pub put-requires-clause-number : goal.put-requires-clause-number
-put-requires-clause-number g c = is_number _ _ _ (rw c.in-Ok.is at c.requires.sought)
+put-requires-clause-number g c = is_number _ _ _ (rw c.in-Ok.is at c.requires.lookup)
 
 pub put-requires-clause-fits : goal.put-requires-clause-fits
 put-requires-clause-fits g c address has =
-    let same = c.lemma_is_numbered.ensures.same address _ _ has (rw c.in-Ok.is at c.requires.sought) in
+    let same = c.lemma_is_numbered.ensures.same address _ _ has (rw c.in-Ok.is at c.requires.lookup) in
     subst (λ a. sources_in c.args.self.now.held.groups + size_of c.args.group.now.state ≤ c.args.self.now.held.source_room + sources_of
     (group_at c.args.self.now.held.groups a)) (sym same) c.requires.fits
 
 pub returns-in-Ok-clause-groups : goal.returns-in-Ok-clause-groups
 returns-in-Ok-clause-groups g c =
-    c.put.ensures.groups _ (rw c.in-Ok.is at c.requires.sought)
+    c.put.ensures.groups _ (rw c.in-Ok.is at c.requires.lookup)
     ∙ with_other _ _ (record { group = c.args.group.now.state; schedule = c.args.schedule }) (c.requires.stays (ap is_ok c.in-Ok.is))
 
 pub returns-in-Ok-clause-numbers : goal.returns-in-Ok-clause-numbers
@@ -33,20 +33,20 @@ returns-in-Ok-clause-moved g c =
 
 pub insert-requires-clause-room : goal.insert-requires-clause-room
 insert-requires-clause-room g c =
-    let absent = spot_absent _ _ _ (rw c.in-Err.is at c.requires.sought) c.lemma_is_numbered.ensures.held in
-    let grown = len_with_new c.args.self.now.held.groups (g.K.Key.number c.args.sought.address) absent
+    let absent = spot_absent _ _ _ (rw c.in-Err.is at c.requires.lookup) c.lemma_is_numbered.ensures.held in
+    let grown = len_with_new c.args.self.now.held.groups (g.K.Key.number c.args.lookup.address) absent
     (record { group = c.args.group.now.state; schedule = c.args.schedule }) (sym c.is_vacant.ensures ∙ c.if-is_vacant.false) in
     omega (arith, grown, c.requires.room)
 
 pub insert-requires-clause-fits : goal.insert-requires-clause-fits
 insert-requires-clause-fits g c =
-    let absent = spot_absent _ _ _ (rw c.in-Err.is at c.requires.sought) c.lemma_is_numbered.ensures.held in
-    let none = absent_sources c.args.self.now.held.groups (g.K.Key.number c.args.sought.address) absent in
+    let absent = spot_absent _ _ _ (rw c.in-Err.is at c.requires.lookup) c.lemma_is_numbered.ensures.held in
+    let none = absent_sources c.args.self.now.held.groups (g.K.Key.number c.args.lookup.address) absent in
     omega (arith, none, c.requires.fits)
 
 pub returns-then-is_vacant-clause-groups : goal.returns-then-is_vacant-clause-groups
 returns-then-is_vacant-clause-groups g c =
-    let absent = spot_absent _ _ _ (rw c.in-Err.is at c.requires.sought) c.lemma_is_numbered.ensures.held in
+    let absent = spot_absent _ _ _ (rw c.in-Err.is at c.requires.lookup) c.lemma_is_numbered.ensures.held in
     with_none _ _ absent _ (sym c.is_vacant.ensures ∙ c.if-is_vacant.true)
 
 pub returns-else-is_vacant-clause-groups : goal.returns-else-is_vacant-clause-groups

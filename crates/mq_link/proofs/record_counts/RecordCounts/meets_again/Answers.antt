@@ -3,7 +3,7 @@ use Rattle.std.specs.Prelude.{slice_index, is_ok}
 use Rattle.std.proofs.lemmas.List.{get_or_default}
 use Rattle.mq_link.specs.Seen.{AreListed}
 use Rattle.mq_link.proofs.ListedNumbers.{listed_again, listed_first, room_for_one}
-use Rattle.mq_link.proofs.met.MetGroups.meets_again.Goals as goal
+use Rattle.mq_link.proofs.record_counts.RecordCounts.meets_again.Goals as goal
 
 pub unwrap-requires : goal.unwrap-requires
 unwrap-requires g c =

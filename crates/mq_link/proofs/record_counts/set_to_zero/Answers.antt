@@ -1,5 +1,5 @@
 use Rattle.mq_link.proofs.ListedNumbers.{all_cleared}
-use Rattle.mq_link.proofs.met.set_to_zero.Goals as goal
+use Rattle.mq_link.proofs.record_counts.set_to_zero.Goals as goal
 
 pub returns-clause-none : goal.returns-clause-none
 returns-clause-none g c = all_cleared c.loop-number.counts.items c.args.numbers.now c.loop-number.number-index c.loop-number-test.false

@@ -1,7 +1,7 @@
 use Rattle.std.proofs.Common.{sym, arith, subst}
 use Rattle.mq_link.specs.Seen.{AreListed}
 use Rattle.mq_link.proofs.ListedNumbers.{listed_each, none_listed}
-use Rattle.mq_link.proofs.met.MetGroups.clear.Goals as goal
+use Rattle.mq_link.proofs.record_counts.RecordCounts.clear.Goals as goal
 
 pub invariant_of-self : goal.invariant_of-self
 invariant_of-self g c = (

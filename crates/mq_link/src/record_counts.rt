@@ -19,14 +19,14 @@ const MEETINGS: u8 = 4;
 /// not distinguished: the fifth record is one too many. A contract sees the list of these counts, by the number.
 /// Nothing is searched for, compared or moved. It has three bytes for each group that may be held.
 #[derive(Drop)]
-pub(crate) struct MetGroups<A: Allocator> {
+pub(crate) struct RecordCounts<A: Allocator> {
     // The count of each number.
     counts: Vec<u8, A>,
     // The numbers whose count isn't zero, each once, in the order in which they were met.
     numbers: Vec<u16, A>,
 }
 
-impl<A: Allocator> Model for MetGroups<A> {
+impl<A: Allocator> Model for RecordCounts<A> {
     ghost use Rattle.std.specs.Prelude.{ℕ, List, ◌≤◌, length, vec_capacity};
     ghost use Rattle.std.specs.Coded.{coded_ℕ, coded_list};
     ghost use Rattle.mq_link.specs.Seen.{AreListed};
@@ -52,7 +52,7 @@ fn set_to_zero<A: Allocator>(counts: &mut Vec<u8, A>, numbers: &[u16])
     }
 }
 
-impl<A: Allocator> MetGroups<A> {
+impl<A: Allocator> RecordCounts<A> {
     /// Returns the bytes that `with_room` allocates, or None if no memory has as many.
     pub(crate) fn size(groups: usize) -> Option<usize>
         ensures { IsSize (bytes_of_marks groups) result }
@@ -65,19 +65,19 @@ impl<A: Allocator> MetGroups<A> {
     pub(crate) fn with_room<M: VectorSource<A>>(
         memory: &mut M,
         groups: usize,
-    ) -> Result<MetGroups<A>, Memory>
+    ) -> Result<RecordCounts<A>, Memory>
         ensures room { IfOk result (λ s. length s ≡ groups) }
         ensures none { IfOk result AreNone }
         ensures memory { Takes (bytes_of_marks groups) (M.less_than memory.old) (M.less_than memory.new) (is_ok result) }
     {
-        Ok(MetGroups {
+        Ok(RecordCounts {
             counts: filled(memory, 0, groups)?,
             numbers: memory.with_capacity(groups)?,
         })
     }
 }
 
-impl<A: Allocator> MetGroups<A> {
+impl<A: Allocator> RecordCounts<A> {
     /// Returns the numbers of the groups that were met, each once, in the order in which they were met.
     pub(crate) fn numbers(&self) -> &[u16]
         ensures { AreListed self.now result.now }

@@ -1,5 +1,5 @@
 use Rattle.mq_link.specs.Sizes.{bytes_of_marks}
-use Rattle.mq_link.proofs.met.MetGroups.size.Goals as goal
+use Rattle.mq_link.proofs.record_counts.RecordCounts.size.Goals as goal
 
 pub returns : goal.returns
 unfolding bytes_of_marks

@@ -1,6 +1,6 @@
 use Rattle.std.proofs.Common.{◌≡◌, length}
 use Rattle.mq_link.proofs.ListedNumbers.{IsLeft}
-use Rattle.mq_link.proofs.met.set_to_zero.Given as goal
+use Rattle.mq_link.proofs.record_counts.set_to_zero.Given as goal
 
 -- what isn't zero is of a number that is left
 abbrev pub invariant-loop-number : goal.invariant-loop-number
