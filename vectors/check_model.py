@@ -12,6 +12,12 @@ from model import BLOCK, DAY, TO_EX, Options, Querier
 from wire import IGMP, CaptureFault, Fault, code_of, moments, opened, placed, read, text_of, unwrap, value_of
 
 
+# Sections of RFC 3376 and of RFC 3810.
+ELECTION, OLDER_HOSTS, INTERVAL = ("6.6.2", "7.6.2"), ("7.3.2", "8.3.2"), ("8.2", "9.2")
+HEADERS, CHECKSUM, RESERVED = ("4", "5"), ("4.1.2", "5.1.2"), ("4.1.4", "5.1")
+FIELDS = {"version": ("7.1", "8.1"), "qrv": ("4.1.6", "5.1.8"), "interval": ("4.1.7", "5.1.9"), "to": ("4.1.12", "5.1.15")}
+
+
 @dataclasses.dataclass
 class Terms:
     """The fields of a query besides its group and sources. `querier` is S, QRV and the seconds of QQIC."""
@@ -27,8 +33,8 @@ class Asked:
     """A query for one thing: a group, a source of one (`source` is None without), or all groups (`group` is zero). `order` is
     its place in the order in which things happen, and `packet` the number of its packet, or of the last one before a wanted query. A
     timer sends a wanted query with `is_again` again: then the packet is the one that started its schedule. If the standard's words
-    allow a query that was seen, `allowed` has its fields. `is_found` says that a wanted query was seen, and `may_come_later` that it
-    may be seen after the end."""
+    allow a query that was seen, `allowed` has its fields. `is_muted` says that an older host mutes what asks for a query that was
+    seen. `is_found` says that a wanted query was seen, and `may_come_later` that it may be seen after the end."""
 
     order: int
     at: int
@@ -40,6 +46,7 @@ class Asked:
     may_be_left_out: bool = False
     in_role: bool = True
     allowed: Terms | None = None
+    is_muted: bool = False
     is_found: bool = False
     may_come_later: bool = False
     is_again: bool = False
@@ -49,6 +56,26 @@ class Asked:
 
     def text(self):
         return text_of(self.group) + (f" {text_of(self.source)}" if self.source is not None else "")
+
+    def sending(self):
+        """The sections that say when the query is sent."""
+        if not any(self.group):
+            return ELECTION
+        return ("6.6.3.1", "7.6.3.1") if self.source is None else ("6.6.3.2", "7.6.3.2")
+
+    def extra(self):
+        """The sections that the query violates if nothing asks for it."""
+        if not self.in_role:
+            return ELECTION
+        return OLDER_HOSTS if self.is_muted else self.sending()
+
+    def differing(self, name):
+        """The sections of a field of the query."""
+        if name in FIELDS:
+            return FIELDS[name]
+        if name == "response":
+            return ("8.8", "9.8") if any(self.group) else ("8.3", "9.3")
+        return self.sending() if any(self.group) else ("4.1.5", "5.1.7")
 
 
 @dataclasses.dataclass
@@ -256,6 +283,11 @@ class Observed(Querier):
         has_timer = held is not None and (held.until is not None if source is None else source in held.running())
         return self.is_admitted(group) and (source is None or any(source)) and not has_timer
 
+    def mutes(self, group, source):
+        """Whether an older host mutes what asks for a query: BLOCK for a source, Leave and TO_IN for a group."""
+        hosts = self.groups[group].hosts if group in self.groups else {}
+        return bool(hosts) if source is not None else self.family is IGMP and 1 in hosts
+
     def send(self, group, sources, s, response):
         if not any(group) and not self.is_back:
             return
@@ -289,10 +321,11 @@ VARIABLES = ("response", "qrv", "interval")
 
 class Check:
     """A check of a capture. `findings` are lines with their order, and for a difference its kind of query, field and values. With
-    `packets` each has the number of its packet. With `once` a changed variable is reported once."""
+    `packets` each has the number of its packet, and with `cite` its section. With `once` a changed variable is reported once."""
 
-    def __init__(self, family, options, within, strict, packets, once):
-        self.family, self.it, self.within, self.strict, self.packets, self.once = family, options, within, strict, packets, once
+    def __init__(self, family, options, within, strict, packets, once, cite):
+        self.family, self.it, self.within, self.strict = family, options, within, strict
+        self.packets, self.once, self.cite = packets, once, cite
         self.link = Observed(family, options)
         self.seen, self.blocked, self.changes, self.findings = [], [], [], []
         # The time for which a query waits for its partner.
@@ -349,18 +382,18 @@ class Check:
             is_query = read(self.family, packet.body, packet.source, packet.to).what == "query"
         except Fault as fault:
             if fault.number == 2 and packet.body[0] == self.family.query:
-                self.find(self.link.next_order(), f"{moment} packet {number} checksum")
+                self.find(self.link.next_order(), f"{moment} packet {number} checksum", CHECKSUM)
             return
         if not is_query:
             return
         ttl, alert = (packet.hops, packet.alert) if packet.to else headers4(ip_in(kind, frame))
         if ttl != 1:
-            self.find(self.link.next_order(), f"{moment} packet {number} ttl {ttl}, wanted 1")
+            self.find(self.link.next_order(), f"{moment} packet {number} ttl {ttl}, wanted 1", HEADERS)
         if not alert:
-            self.find(self.link.next_order(), f"{moment} packet {number} alert 0")
+            self.find(self.link.next_order(), f"{moment} packet {number} alert 0", HEADERS)
         reserved = packet.body[8:9].hex()[:1] if self.family is IGMP else packet.body[1:2].hex() + packet.body[6:8].hex()
         if reserved.strip("0"):
-            self.find(self.link.next_order(), f"{moment} packet {number} reserved")
+            self.find(self.link.next_order(), f"{moment} packet {number} reserved", RESERVED)
 
     def see(self, moment, message, to):
         has_response = message.version > 1 or self.family is not IGMP
@@ -370,7 +403,7 @@ class Check:
             self.specific += 1
             for source in message.sources or [None]:
                 it = Asked(self.link.next_order(), moment, message.group, source, terms, self.link.packet, in_role=in_role)
-                it.allowed = self.allowed(it, message)
+                it.allowed, it.is_muted = self.allowed(it, message), self.link.mutes(message.group, source)
                 self.seen.append(it)
             return
         self.general += 1
@@ -401,7 +434,7 @@ class Check:
         if passed is not None and self.is_known and startup and self.is_near(passed, first):
             self.startup = startup - 1
         elif passed is not None and (not self.is_near(passed, query) if self.is_known else passed > query + self.within):
-            self.find(self.link.next_order(), f"{moment} general after {passed}, wanted {query}", self.link.packet)
+            self.find(self.link.next_order(), f"{moment} general after {passed}, wanted {query}", INTERVAL, self.link.packet)
         if not self.is_known and self.before is not None:
             self.startup = startup
         self.before, self.is_known = moment, True
@@ -410,7 +443,7 @@ class Check:
         if self.link.other is not None and self.before is None:
             return
         if self.before is not None and moment - self.before > 1000 * self.it.qi + self.within:
-            self.find(order, f"{moment} general none for {moment - self.before}, wanted {1000 * self.it.qi}")
+            self.find(order, f"{moment} general none for {moment - self.before}, wanted {1000 * self.it.qi}", INTERVAL)
 
     def block(self, moment, packet):
         """Notes the sources that a Report blocks, if routers don't drop it."""
@@ -430,9 +463,12 @@ class Check:
         changes = [it for it in self.changes if it <= moment + self.keep]
         return bool(changes) and self.is_near(moment, changes[-1])
 
-    def find(self, order, line, packet=0, difference=None):
+    def find(self, order, line, sections, packet=0, difference=None):
         """Adds a finding. A silence has no packet, and the line of a packet's headers names it already."""
-        self.findings.append((order, f"{line} packet {packet}" if self.packets and packet else line, difference))
+        line += f" packet {packet}" if self.packets and packet else ""
+        standard, section = ("3376", sections[0]) if self.family is IGMP else ("3810", sections[1])
+        line += f" (RFC {standard} section {section})" if self.cite else ""
+        self.findings.append((order, line, difference))
 
     def reported(self):
         """Returns the lines of the findings, in order. With `once`, those are omitted that repeat the last difference of a variable in
@@ -476,7 +512,7 @@ class Check:
         for name, one, other in named:
             if one != other:
                 line = f"{it.at} differs {it.text()}: {name} {one}, wanted {other}"
-                self.find(it.order, line, it.packet, (any(it.group), name, one, other))
+                self.find(it.order, line, it.differing(name), it.packet, (any(it.group), name, one, other))
 
     def judge(self, end):
         """All lines, where the capture ends at a moment. The partner of a wanted query may come after the end: then it isn't missing. The
@@ -489,14 +525,14 @@ class Check:
         self.pair(end)
         for it in self.link.wanted:
             if not it.is_found and not it.may_be_left_out and not it.may_come_later and it.at + self.within < end:
-                self.find(it.order, f"{it.at} missing {it.text()}", it.packet)
+                self.find(it.order, f"{it.at} missing {it.text()}", it.sending(), it.packet)
         for it in self.seen:
             if it.partner:
                 self.differences(it)
             elif not self.is_near_change(it.at) and it.allowed:
                 self.differences(it)
             elif not self.is_near_change(it.at):
-                self.find(it.order, f"{it.at} extra {it.text()}", it.packet)
+                self.find(it.order, f"{it.at} extra {it.text()}", it.extra(), it.packet)
         lines = self.reported()
         totals = f"checked general {self.general} specific {self.specific}: {len(lines)} findings"
         unjudged = basis.unjudged(self.general, self.specific, len(lines))
@@ -565,7 +601,7 @@ def taken(data, family):
     return (querier, found) if querier else (None, "nothing judged: there is no general query of this family")
 
 
-def check_taking(data, family, given, within=100, strict=False, packets=False):
+def check_taking(data, family, given, within=100, strict=False, packets=False, cite=False):
     """The verdict of a whole capture about the querier that it names, or None and what it says. `given` are the options."""
     querier, found = taken(data, family)
     if querier is None:
@@ -573,17 +609,18 @@ def check_taking(data, family, given, within=100, strict=False, packets=False):
     options = Options(querier, **{**found, **given})
     if options.qri >= 1000 * options.qi:
         return None, "configuration fault 3"
-    verdict, fault = check(data, family, options, within, strict, packets, True)
+    verdict, fault = check(data, family, options, within, strict, packets, True, cite)
     if verdict:
         words = [f" {name} {found[name]}" for name in ("rv", "qi", "qri", "lmqi") if name in found and name not in given]
         verdict.lines.append(f"taken from the capture: querier {text_of(querier)}{''.join(words)}")
     return verdict, fault
 
 
-def check(data, family, options, within=100, strict=False, packets=False, once=False):
-    """The verdict of a whole capture, or None and what it says where a fault or a gap ends it. `strict` allows no other readings, and
-    with `packets` findings have the numbers of packets. With `once` a changed variable is reported once."""
-    it, last, number = Check(family, options, within, strict, packets, once), 0, 0
+def check(data, family, options, within=100, strict=False, packets=False, once=False, cite=False):
+    """The verdict of a whole capture, or None and what it says where a fault or a gap ends it. `strict` allows no other readings.
+    With `packets` findings have the numbers of packets, and with `cite` their sections. With `once` a changed variable is reported
+    once."""
+    it, last, number = Check(family, options, within, strict, packets, once, cite), 0, 0
     try:
         kind, records = opened(data)
         for number, moment, goes_back, frame in placed(records):

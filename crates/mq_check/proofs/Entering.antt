@@ -7,6 +7,8 @@ use Rattle.mq_check.specs.declared.asked.Asked.TheVariants.{AllGroups}
 use Rattle.mq_check.specs.declared.entry.Entry.TheVariants.{Wanted, Seen}
 use Rattle.mq_check.specs.declared.entry.Unpaired.{Unpaired}
 use Rattle.mq_check.specs.declared.entry.Unpaired.TheVariants.{Extra}
+use Rattle.mq_check.specs.declared.finding.ExtraReason.TheVariants.{NoChange}
+use Rattle.mq_check.specs.declared.standing.Standing.{Standing}
 use Rattle.mq_check.specs.declared.phase.Phase.{Phase}
 use Rattle.mq_check.specs.declared.phase.Phase.TheVariants.{NotQuerier}
 use Rattle.mq_check.specs.declared.terms.Terms.{Terms}
@@ -47,20 +49,20 @@ wanted_put moment terms asked from viewed scheduling knowing old partnered put i
     λ i. record (all i) { waiting = (is ∙ (λ j. with_entry (Wanted moment asked terms (optional_too j) (found_too j)) (joined_too j))) i }
 
 -- `recently` is the check behind the removal of old schedules, and `pairing` the one behind the search for a partner
-pub seen_put : (moment : ℕ) (terms : Terms ℕ) (unheld : Option (Terms ℕ)) (asked : Asked ℕ) (from : ℕ) (viewed pairing recently old : CheckingValue)
+pub seen_put : (moment : ℕ) (terms : Terms ℕ) (standing : Standing ℕ) (asked : Asked ℕ) (from : ℕ) (viewed pairing recently old : CheckingValue)
     (put : WaitingValue) (partner : Option (Terms ℕ)) (alone : Unpaired ℕ)
     (has_partner : Bool) (scheduled : SchedulesValue)
     → from ≡ near moment old → viewed ≡ pairing → recently ≡ record old { schedules = recent moment old.schedules } →
-    alone ≡ alone_after moment terms unheld asked recently
+    alone ≡ alone_after moment terms standing asked recently
     → partner ≡ partner_if (is_late_in from moment asked recently.waiting recently.schedules) from terms asked recently.waiting
     → pairing ≡ record recently { waiting = paired_if (is_late_in from moment asked recently.waiting recently.schedules) from terms asked recently.waiting }
     → has_partner ≡ is_some partner → scheduled ≡ schedules_seen moment terms asked has_partner viewed.schedules
     → put ≡ with_entry (Seen moment asked terms partner alone) viewed.waiting
-    → record viewed { waiting = put; schedules = scheduled } ≡ with_seen moment terms unheld old asked
+    → record viewed { waiting = put; schedules = scheduled } ≡ with_seen moment terms standing old asked
 unfolding with_seen
-seen_put moment terms unheld asked from viewed pairing recently old put partner alone has_partner scheduled is_from same recents without found joined
+seen_put moment terms standing asked from viewed pairing recently old put partner alone has_partner scheduled is_from same recents without found joined
     has follows is =
-    let without_too = without ∙ ap (alone_after moment terms unheld asked) recents in
+    let without_too = without ∙ ap (alone_after moment terms standing asked) recents in
     let found_too : partner ≡ partner_of moment terms asked old =
     found ∙ (λ i. partner_if (is_late_in (is_from i) moment asked (recents i).waiting (recents i).schedules) (is_from i) terms asked (recents i).waiting) in
     let all : viewed ≡ record old { waiting = paired moment terms asked old; schedules = recent moment old.schedules } =
@@ -79,14 +81,18 @@ pub general_put : (within : ℕ) (configured : Timing) (moment at from : ℕ) (t
     (judged partnered put : WaitingValue) (passed : Option ℕ) (phase : Phase)
     → viewed ≡ old → at ≡ moment → from ≡ near moment viewed → passed ≡ wrong_interval within configured moment viewed.phase →
     judged ≡ with_interval configured moment terms.packet passed viewed.waiting → phase ≡ phase_behind within configured moment viewed.phase
-    → partnered ≡ with_partner OfWanted AllGroups from terms judged → put ≡ with_entry (Seen at AllGroups terms (Some wanted) (Extra true)) partnered
+    → partnered ≡ with_partner OfWanted AllGroups from terms judged → put ≡ with_entry (Seen at AllGroups terms (Some wanted) (Extra NoChange)) partnered
     → record viewed { waiting = put; phase = phase } ≡ with_general within configured moment terms wanted old
 unfolding with_general
 general_put within configured moment at from terms wanted viewed old judged partnered put passed phase same now is_from wrong judging behind joined is =
     let judged_too = judging ∙ ap (λ (p : Option ℕ). with_interval configured moment terms.packet p viewed.waiting) wrong in
     let joined_too = joined ∙ (λ i. with_partner OfWanted AllGroups (is_from i) terms (judged_too i)) in
     let here : record viewed { waiting = put; phase = phase } ≡ with_general within configured moment terms wanted viewed =
-    λ i. record viewed { waiting = (is ∙ (λ j. with_entry (Seen (now j) AllGroups terms (Some wanted) (Extra true)) (joined_too j))) i; phase = behind i } in
+    λ i. record viewed {
+      waiting = (is ∙ (λ j. with_entry (Seen (now j) AllGroups terms (Some wanted) (Extra NoChange)) (joined_too j))) i;
+      phase =
+          behind i;
+    } in
     here ∙ ap (with_general within configured moment terms wanted) same
 
 pub lost_put : (within : ℕ) (configured : Timing) (moment at : ℕ) (viewed old : CheckingValue) (put : WaitingValue) (passed : Option ℕ)

@@ -12,16 +12,20 @@ use Rattle.mq_check.specs.declared.entry.Entry.{Entry}
 use Rattle.mq_check.specs.declared.entry.Entry.TheVariants.{Wanted, Seen, Interval, Silence, Packet}
 use Rattle.mq_check.specs.declared.entry.Unpaired.{Unpaired}
 use Rattle.mq_check.specs.declared.entry.Unpaired.TheVariants.{Extra, Allowed}
+use Rattle.mq_check.specs.declared.finding.ExtraReason.{ExtraReason}
+use Rattle.mq_check.specs.declared.finding.ExtraReason.TheVariants.{NoChange, OlderHost, NotQuerier}
 use Rattle.mq_check.specs.declared.finding.Finding.{Finding}
 use Rattle.mq_check.specs.declared.finding.Finding.TheVariants as finding
 use Rattle.mq_check.specs.declared.headers.HeaderFault.{HeaderFault}
 use Rattle.mq_check.specs.declared.phase.Phase.{Phase}
 use Rattle.mq_check.specs.declared.phase.Phase.TheVariants.{Starting, Heard, Returned, NotQuerier}
+use Rattle.mq_check.specs.declared.standing.Standing.{Standing}
 use Rattle.mq_check.specs.declared.terms.Terms.{Terms}
 use Rattle.mq_check.specs.declared.waiting.Side.TheVariants.{OfWanted, OfSeen}
 use Rattle.mq_check.specs.Entries.{moment_of, first_terms, may_be_left_out, excused_if, findings_of}
 use Rattle.mq_check.specs.General.{phase_at_start, wrong_interval, phase_behind, silence_up_to, phase_again}
-use Rattle.mq_check.specs.Unheld.{specific_terms, unheld}
+use Rattle.mq_check.specs.Standing.{held, standing_in}
+use Rattle.mq_check.specs.Unheld.{specific_terms}
 use Rattle.mq_check.specs.Schedules.{SchedulesValue, schedules_at_start, schedules_seen, schedules_wanted, schedules_blocked, recent, allowed_by, as_seen, before_in, is_next, terms_wanted}
 use Rattle.mq_link.specs.Configuration.{Configuration}
 use Rattle.mq_link.specs.Sent.{Outgoing}
@@ -115,27 +119,32 @@ with_wanted moment terms c asked =
 abbrev pub subject_wanted : (moment : ℕ) → (is_again : Bool) → Terms ℕ → CheckingValue → Asked ℕ → CheckingValue
 subject_wanted moment is_again terms c asked = with_wanted moment (terms_wanted is_again terms asked c.schedules) c asked
 
+-- The reason why a query is extra that is seen while the router is querier. `is_muted` is set if an older host mutes the
+-- change that asks for it.
+abbrev pub reason_of : (is_muted : Bool) → ExtraReason
+reason_of false = NoChange
+reason_of true = OlderHost
+
 -- A seen query if it finds no partner. It is allowed if the router is querier, and its subject may be held since before
--- the capture, or it belongs to an earlier schedule. `unheld` has the terms of such a query if the link doesn't hold the
--- subject, and `earlier` has those of an earlier schedule.
-abbrev pub allowed_if : (is_querier : Bool) → Option (Terms ℕ) → Unpaired ℕ
-allowed_if false wanted = Extra false
-allowed_if true None = Extra true
-allowed_if true (Some wanted) = Allowed wanted
+-- the capture, or it belongs to an earlier schedule. `wanted` has the terms of such a query, if there are any.
+abbrev pub allowed_if : (is_querier is_muted : Bool) → (wanted : Option (Terms ℕ)) → Unpaired ℕ
+allowed_if false is_muted wanted = Extra NotQuerier
+allowed_if true is_muted None = Extra (reason_of is_muted)
+allowed_if true is_muted (Some wanted) = Allowed wanted
 
 abbrev pub either_of : (may_be_unknown : Bool) → (unheld earlier : Option (Terms ℕ)) → Option (Terms ℕ)
 either_of false unheld earlier = earlier
 either_of true None earlier = earlier
 either_of true (Some wanted) earlier = Some wanted
 
-abbrev pub alone_after : (moment : ℕ) → Terms ℕ → (unheld : Option (Terms ℕ)) → Asked ℕ → CheckingValue → Unpaired ℕ
-alone_after moment terms unheld asked c =
-    allowed_if (is_querier_in c.phase)
-    (either_of (may_be_unknown moment asked c) unheld (allowed_by moment terms asked c.schedules))
+abbrev pub alone_after : (moment : ℕ) → Terms ℕ → Standing ℕ → Asked ℕ → CheckingValue → Unpaired ℕ
+alone_after moment terms standing asked c =
+    allowed_if (is_querier_in c.phase) standing.is_muted
+    (either_of (may_be_unknown moment asked c) standing.unheld (allowed_by moment terms asked c.schedules))
 
-abbrev pub alone_in : (moment : ℕ) → Terms ℕ → (unheld : Option (Terms ℕ)) → Asked ℕ → CheckingValue → Unpaired ℕ
-alone_in moment terms unheld asked c =
-    alone_after moment terms unheld asked (record c { schedules = recent moment c.schedules })
+abbrev pub alone_in : (moment : ℕ) → Terms ℕ → Standing ℕ → Asked ℕ → CheckingValue → Unpaired ℕ
+alone_in moment terms standing asked c =
+    alone_after moment terms standing asked (record c { schedules = recent moment c.schedules })
 
 -- The partner of a seen query is the first wanted query on the subject within the tolerance that has none. If there is
 -- none within the tolerance and the query goes on with a schedule, its partner is the first one before. Then S is as
@@ -164,12 +173,12 @@ abbrev pub paired : (moment : ℕ) → Terms ℕ → Asked ℕ → CheckingValue
 paired moment terms asked c = paired_if (is_late moment asked c) (near moment c) terms asked c.waiting
 
 -- the check after a query was seen
-unfoldable pub with_seen : (moment : ℕ) → Terms ℕ → (unheld : Option (Terms ℕ)) → CheckingValue → Asked ℕ → CheckingValue
-with_seen moment terms unheld c asked =
+unfoldable pub with_seen : (moment : ℕ) → Terms ℕ → Standing ℕ → CheckingValue → Asked ℕ → CheckingValue
+with_seen moment terms standing c asked =
     let partner = partner_of moment terms asked c in
     record c {
       waiting =
-          with_entry (Seen moment asked terms partner (alone_in moment terms unheld asked c)) (paired moment terms asked c);
+          with_entry (Seen moment asked terms partner (alone_in moment terms standing asked c)) (paired moment terms asked c);
       schedules = schedules_seen moment terms asked (is_some partner) (recent moment c.schedules);
     }
 
@@ -191,7 +200,7 @@ with_general within configured moment terms wanted c =
     let judged =
     with_interval configured moment terms.packet (wrong_interval within configured moment c.phase) c.waiting in
     record c {
-      waiting = with_entry (Seen moment AllGroups terms (Some wanted) (Extra true)) (with_partner OfWanted AllGroups (near moment c) terms judged);
+      waiting = with_entry (Seen moment AllGroups terms (Some wanted) (Extra NoChange)) (with_partner OfWanted AllGroups (near moment c) terms judged);
       phase = phase_behind within configured moment c.phase;
     }
 
@@ -200,7 +209,7 @@ abbrev pub general_compared : (within : ℕ) → (configured : Timing) → (mome
 general_compared within configured moment terms wanted c =
     if is_querier_in c.phase
     then with_general within configured moment terms wanted c
-    else with_seen moment terms None c AllGroups
+    else with_seen moment terms held c AllGroups
 
 abbrev pub general_seen : (within : ℕ) → (configured : Timing) → (moment : ℕ) → (terms wanted : Terms ℕ) → CheckingValue → CheckingValue
 general_seen within configured moment terms wanted c =
@@ -208,12 +217,12 @@ general_seen within configured moment terms wanted c =
     record compared { last_general = Some moment; general = counted_up compared.general }
 
 -- the check after a query for a group or for sources was seen
-abbrev pub one_seen : (moment : ℕ) → Terms ℕ → (unheld : Asked ℕ → Option (Terms ℕ)) → CheckingValue → Asked ℕ → CheckingValue
-one_seen moment terms unheld c asked = with_seen moment terms (unheld asked) c asked
+abbrev pub one_seen : (moment : ℕ) → Terms ℕ → (standing : Asked ℕ → Standing ℕ) → CheckingValue → Asked ℕ → CheckingValue
+one_seen moment terms standing c asked = with_seen moment terms (standing asked) c asked
 
-abbrev pub specific_seen : (moment : ℕ) → Terms ℕ → (unheld : Asked ℕ → Option (Terms ℕ)) → List (Asked ℕ) → CheckingValue → CheckingValue
-specific_seen moment terms unheld asked c =
-    let seen = fold (one_seen moment terms unheld) c asked in
+abbrev pub specific_seen : (moment : ℕ) → Terms ℕ → (standing : Asked ℕ → Standing ℕ) → List (Asked ℕ) → CheckingValue → CheckingValue
+specific_seen moment terms standing asked c =
+    let seen = fold (one_seen moment terms standing) c asked in
     record seen { specific = counted_up seen.specific }
 
 -- the check after these faults were seen in the headers of a packet with a query of the checked querier
@@ -230,7 +239,7 @@ query_came within config link moment packet to query c =
     let terms = terms_of config.family packet to query in
     if is_general query
     then general_seen within config.timing moment terms (general_terms config link.election.timing) c
-    else specific_seen moment terms (unheld config.family link.groups (specific_terms config link.election.timing query)) (asked_in query) c
+    else specific_seen moment terms (standing_in config.family link.groups moment (specific_terms config link.election.timing query)) (asked_in query) c
 
 -- The check after a query that the link sends. A general query is wanted at its moment only if the router becomes
 -- querier again (RFC 3376 section 6.6.2, RFC 3810 section 7.6.2). `packet` is the number of the last packet before. If a

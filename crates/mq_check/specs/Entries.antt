@@ -78,7 +78,7 @@ first_entry test (entry ∷ entries) = if test entry then Some entry else first_
 
 -- the number of queries that may come after a seen one in its schedule
 abbrev pub left_of : Unpaired ℕ → ℕ
-left_of (Extra is_querier) = 0
+left_of (Extra reason) = 0
 left_of (Allowed wanted) = 0
 left_of (Scheduled left) = left
 
@@ -156,7 +156,7 @@ differences_found moment asked seen wanted = differ_at moment seen.packet asked 
 -- The findings of a seen query without a partner. It is extra, or it is allowed and compared with a query of these
 -- terms.
 abbrev pub findings_alone : (moment : ℕ) → Asked ℕ → Terms ℕ → Unpaired ℕ → List (Finding ℕ)
-findings_alone moment asked terms (Extra is_querier) = finding.Extra moment terms.packet asked is_querier ∷ []
+findings_alone moment asked terms (Extra reason) = finding.Extra moment terms.packet asked reason ∷ []
 findings_alone moment asked terms (Allowed wanted) = differences_found moment asked terms wanted
 findings_alone moment asked terms (Scheduled left) = []
 

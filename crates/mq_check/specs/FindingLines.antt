@@ -12,6 +12,8 @@ use Rattle.mq_check.specs.declared.finding.Difference.{Difference}
 use Rattle.mq_check.specs.declared.finding.Difference.TheVariants.{Version, Response, Suppress, Robustness, QueryInterval, Destination}
 use Rattle.mq_check.specs.declared.finding.Finding.{Finding}
 use Rattle.mq_check.specs.declared.finding.Finding.TheVariants.{Missing, Extra, Differs, Interval, Silence, Packet}
+use Rattle.mq_check.specs.declared.finding.ExtraReason.{ExtraReason}
+use Rattle.mq_check.specs.declared.finding.ExtraReason.TheVariants.{NoChange, OlderHost, NotQuerier}
 use Rattle.mq_check.specs.declared.headers.HeaderFault.{HeaderFault}
 use Rattle.mq_check.specs.declared.headers.HeaderFault.TheVariants.{TimeToLive, NoRouterAlert, WrongChecksum, ReservedBits}
 use Rattle.mq_check.specs.declared.querier_address.QuerierAddress.{QuerierAddress}
@@ -56,7 +58,7 @@ header_fault_text number ReservedBits = decimal number ++ codes " reserved"
 
 abbrev pub finding_text : Family → Finding ℕ → List ℕ
 finding_text family (Missing moment packet asked) = at_moment moment (codes " missing ") ++ asked_text family asked
-finding_text family (Extra moment packet asked is_querier) = at_moment moment (codes " extra ") ++ asked_text family asked
+finding_text family (Extra moment packet asked reason) = at_moment moment (codes " extra ") ++ asked_text family asked
 finding_text family (Differs moment packet asked difference) =
     at_moment moment (codes " differs ") ++ asked_text family asked ++ codes ": " ++ difference_text family difference
 finding_text family (Interval moment packet after wanted) =
@@ -78,10 +80,12 @@ sending_section family AllGroups = of_family family (codes "6.6.2") (codes "7.6.
 sending_section family (Group group) = of_family family (codes "6.6.3.1") (codes "7.6.3.1")
 sending_section family (Source group source) = of_family family (codes "6.6.3.2") (codes "7.6.3.2")
 
--- the section of an extra query, which no change requires or which another querier's election forbids
-abbrev pub extra_section : Family → (is_querier : Bool) → Asked ℕ → List ℕ
-extra_section family true asked = sending_section family asked
-extra_section family false asked = of_family family (codes "6.6.2") (codes "7.6.2")
+-- The section of an extra query. If no change asks for it, it is that of sending it. Otherwise it is that of older hosts
+-- (RFC 3376 section 7.3.2, RFC 3810 section 8.3.2), or of the other querier (6.6.2; 7.6.2).
+abbrev pub extra_section : Family → ExtraReason → Asked ℕ → List ℕ
+extra_section family NoChange asked = sending_section family asked
+extra_section family OlderHost asked = of_family family (codes "7.3.2") (codes "8.3.2")
+extra_section family NotQuerier asked = of_family family (codes "6.6.2") (codes "7.6.2")
 
 -- The section of the response. A general query has the Query Response Interval, any other the Last Member (Last
 -- Listener) Query Interval.
@@ -114,7 +118,7 @@ fault_section family ReservedBits = of_family family (codes "4.1.4") (codes "5.1
 -- the section of RFC 3376 or RFC 3810 that a finding violates; for intervals that of the Query Interval
 abbrev pub section_of : Family → Finding ℕ → List ℕ
 section_of family (Missing moment packet asked) = sending_section family asked
-section_of family (Extra moment packet asked is_querier) = extra_section family is_querier asked
+section_of family (Extra moment packet asked reason) = extra_section family reason asked
 section_of family (Differs moment packet asked difference) = field_section family asked difference
 section_of family (Interval moment packet after wanted) = of_family family (codes "8.2") (codes "9.2")
 section_of family (Silence moment after wanted) = of_family family (codes "8.2") (codes "9.2")
@@ -131,7 +135,7 @@ citation_text family true finding =
 -- is 0. A missing query has that of the last packet before it is wanted, and any other finding that of the seen query.
 abbrev pub packet_in : Finding ℕ → ℕ
 packet_in (Missing moment packet asked) = packet
-packet_in (Extra moment packet asked is_querier) = packet
+packet_in (Extra moment packet asked reason) = packet
 packet_in (Differs moment packet asked difference) = packet
 packet_in (Interval moment packet after wanted) = packet
 packet_in (Silence moment after wanted) = 0

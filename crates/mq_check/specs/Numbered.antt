@@ -12,6 +12,7 @@ use Rattle.mq_check.specs.declared.finding.Difference.{Difference}
 use Rattle.mq_check.specs.declared.finding.Difference.TheVariants as difference
 use Rattle.mq_check.specs.declared.finding.Finding.{Finding}
 use Rattle.mq_check.specs.declared.finding.Finding.TheVariants as finding
+use Rattle.mq_check.specs.declared.standing.Standing.{Standing}
 use Rattle.mq_check.specs.declared.terms.Terms.{Terms}
 use Rattle.mq_wire.specs.declared.query.Query.{Query}
 use Rattle.mq_wire.specs.Numbered.{numbered_query}
@@ -50,8 +51,11 @@ abbrev pub numbered_terms_if : {K : Type 0} → (K → ℕ) → Option (Terms K)
 numbered_terms_if number None = None
 numbered_terms_if number (Some terms) = Some (numbered_terms number terms)
 
+abbrev pub numbered_standing : {K : Type 0} → (K → ℕ) → Standing K → Standing ℕ
+numbered_standing number s = record { unheld = numbered_terms_if number s.unheld; is_muted = s.is_muted }
+
 abbrev pub numbered_unpaired : {K : Type 0} → (K → ℕ) → Unpaired K → Unpaired ℕ
-numbered_unpaired number (Extra is_querier) = Extra is_querier
+numbered_unpaired number (Extra reason) = Extra reason
 numbered_unpaired number (Allowed terms) = Allowed (numbered_terms number terms)
 numbered_unpaired number (Scheduled left) = Scheduled left
 
@@ -85,8 +89,8 @@ difference_list number (Some difference) = numbered_difference number difference
 abbrev pub numbered_finding : {K : Type 0} → (K → ℕ) → Finding K → Finding ℕ
 numbered_finding number (finding.Missing moment packet asked) =
     finding.Missing moment packet (numbered_asked number asked)
-numbered_finding number (finding.Extra moment packet asked is_querier) =
-    finding.Extra moment packet (numbered_asked number asked) is_querier
+numbered_finding number (finding.Extra moment packet asked reason) =
+    finding.Extra moment packet (numbered_asked number asked) reason
 numbered_finding number (finding.Differs moment packet asked difference) =
     finding.Differs moment packet (numbered_asked number asked) (numbered_difference number difference)
 numbered_finding number (finding.Interval moment packet after wanted) = finding.Interval moment packet after wanted

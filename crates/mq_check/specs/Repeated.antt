@@ -56,7 +56,7 @@ with_values_in (Source group source) difference last = record last { specific = 
 -- a finding is the last difference of its variable again, in a query of the same kind
 abbrev pub repeats : Finding ℕ → LastDifferences → Bool
 repeats (Missing moment packet asked) last = false
-repeats (Extra moment packet asked is_querier) last = false
+repeats (Extra moment packet asked reason) last = false
 repeats (Differs moment packet asked difference) last = has_values_in asked difference last
 repeats (Interval moment packet after wanted) last = false
 repeats (Silence moment after wanted) last = false
@@ -65,7 +65,7 @@ repeats (Packet moment number fault) last = false
 -- the state after a finding, and after findings in order
 abbrev pub with_finding : Finding ℕ → LastDifferences → LastDifferences
 with_finding (Missing moment packet asked) last = last
-with_finding (Extra moment packet asked is_querier) last = last
+with_finding (Extra moment packet asked reason) last = last
 with_finding (Differs moment packet asked difference) last = with_values_in asked difference last
 with_finding (Interval moment packet after wanted) last = last
 with_finding (Silence moment after wanted) last = last

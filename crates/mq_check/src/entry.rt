@@ -6,6 +6,7 @@ ghost use Rattle.mq_check.specs.Numbered.{numbered_entry, numbered_terms, number
 ghost use Rattle.mq_check.specs.Schedules as schedules;
 
 use crate::asked::Asked;
+use crate::finding::ExtraReason;
 use crate::headers::HeaderFault;
 use crate::terms::Terms;
 use mq_count::Moment;
@@ -29,8 +30,8 @@ pub enum Entry<K: WireKey> {
 /// The verdict on a seen query that finds no partner.
 #[derive(Clone, Copy)]
 pub enum Unpaired<K: WireKey> {
-    /// An extra query. The flag is set if the router was querier then.
-    Extra(bool),
+    /// An extra query, and the reason.
+    Extra(ExtraReason),
     /// A query that the standard's words allow, with these terms.
     Allowed(Terms<K>),
     /// A query of a schedule, after which so many more may come.

@@ -10,8 +10,9 @@ ghost use Rattle.mq_replay.specs.Courses.{report_of};
 ghost use Rattle.mq_check.specs.declared.check_terms.CheckTerms.{CheckTerms};
 ghost use Rattle.mq_check.specs.Check.{check_of};
 ghost use Rattle.mq_check.specs.declared.asked.Asked.TheVariants.{AllGroups, Group};
+ghost use Rattle.mq_check.specs.declared.finding.ExtraReason.TheVariants.{NoChange, NotQuerier, OlderHost};
 ghost use Rattle.mq_check.specs.declared.finding.Finding.TheVariants.{Missing, Extra, Interval};
-ghost use Rattle.mq_check.specs.Examples.{both_schedules, robustness_found, seen_again, seen_first, seen_unheld, third_query, two_general, wanted_first};
+ghost use Rattle.mq_check.specs.Examples.{both_schedules, robustness_found, seen_again, seen_as_host, seen_first, seen_muted, seen_unheld, third_query, two_general, wanted_first};
 ghost use Rattle.mq_check.specs.Checking.{told};
 ghost use Rattle.mq_check.specs.Repeated.{no_differences, reported};
 
@@ -22,7 +23,7 @@ pub fn late_by_the_tolerance()
 
 /// Shows a query that is a millisecond later: the wanted one is missing, and the seen one is extra.
 pub fn late_by_more()
-    ensures { told 100 5000 (wanted_first 1000 1101) ≡ Extra 1101 7 (Group 5) true ∷ [] }
+    ensures { told 100 5000 (wanted_first 1000 1101) ≡ Extra 1101 7 (Group 5) NoChange ∷ [] }
 {}
 
 /// Shows that a query that is early by the tolerance has no finding.
@@ -49,13 +50,19 @@ pub fn a_query_interval_apart()
 /// tolerance, the querier may hold the group since before the capture. A strict check finds it extra.
 pub fn a_group_from_before_the_capture()
     ensures allowed { told 100 300000 (seen_unheld false 260100) ≡ [] }
-    ensures late { told 100 300000 (seen_unheld false 260101) ≡ Extra 260101 7 (Group 5) true ∷ [] }
-    ensures strict { told 100 300000 (seen_unheld true 1000) ≡ Extra 1000 7 (Group 5) true ∷ [] }
+    ensures late { told 100 300000 (seen_unheld false 260101) ≡ Extra 260101 7 (Group 5) NoChange ∷ [] }
+    ensures strict { told 100 300000 (seen_unheld true 1000) ≡ Extra 1000 7 (Group 5) NoChange ∷ [] }
+{}
+
+/// Shows the reason of an extra query: an older host of the group, unless another router was querier.
+pub fn reasons_of_an_extra_query()
+    ensures muted { told 100 5000 (seen_muted 1000) ≡ Extra 1000 7 (Group 5) OlderHost ∷ [] }
+    ensures as_host { told 100 5000 (seen_as_host 1000) ≡ Extra 1000 7 (Group 5) NotQuerier ∷ [] }
 {}
 
 /// Shows that this query is extra if one for the group was wanted before: then the querier has lowered its timer too.
 pub fn a_group_that_was_left()
-    ensures { told 100 300000 (seen_again 1000 3000) ≡ Extra 3000 7 (Group 5) true ∷ [] }
+    ensures { told 100 300000 (seen_again 1000 3000) ≡ Extra 3000 7 (Group 5) NoChange ∷ [] }
 {}
 
 /// Shows queries that are wanted at 1000 and 1400. The retransmission of the first one, at 2000, may go on beside the
@@ -63,14 +70,14 @@ pub fn a_group_that_was_left()
 pub fn a_schedule_that_goes_on()
     ensures on_time { told 100 5000 (both_schedules false 2000) ≡ [] }
     ensures late { told 100 5000 (both_schedules false 2100) ≡ [] }
-    ensures too_late { told 100 5000 (both_schedules false 2101) ≡ Extra 2101 7 (Group 5) true ∷ [] }
-    ensures too_early { told 100 5000 (both_schedules false 1899) ≡ Extra 1899 7 (Group 5) true ∷ [] }
-    ensures strict { told 100 5000 (both_schedules true 2000) ≡ Extra 2000 7 (Group 5) true ∷ [] }
+    ensures too_late { told 100 5000 (both_schedules false 2101) ≡ Extra 2101 7 (Group 5) NoChange ∷ [] }
+    ensures too_early { told 100 5000 (both_schedules false 1899) ≡ Extra 1899 7 (Group 5) NoChange ∷ [] }
+    ensures strict { told 100 5000 (both_schedules true 2000) ≡ Extra 2000 7 (Group 5) NoChange ∷ [] }
 {}
 
 /// Shows that a third query, an interval after the last one of the first schedule, is extra.
 pub fn a_third_query_of_a_schedule()
-    ensures { told 100 5000 third_query ≡ Extra 3000 7 (Group 5) true ∷ [] }
+    ensures { told 100 5000 third_query ≡ Extra 3000 7 (Group 5) NoChange ∷ [] }
 {}
 
 /// Shows queries with QRV 3, 3, 4, 3 and 3 if 2 is wanted. Each change is reported once, and again in queries of the other

@@ -14,8 +14,8 @@ use mq_wire::WireKey;
 pub enum Finding<K: WireKey> {
     /// A missing query: it is wanted at this moment, after this packet, and none was seen.
     Missing(Moment, u64, Asked<K>),
-    /// An extra query: it was seen, and none is wanted. The flag is set if the router was querier then.
-    Extra(Moment, u64, Asked<K>, bool),
+    /// An extra query: it was seen, and none is wanted, for this reason.
+    Extra(Moment, u64, Asked<K>, ExtraReason),
     /// A seen query that differs from the wanted one.
     Differs(Moment, u64, Asked<K>, Difference<K>),
     /// A general query this many milliseconds after the one before it, or after the start of the capture. The last
@@ -41,6 +41,17 @@ impl<K: WireKey> Finding<K> {
             Finding::Silence(..) | Finding::Packet(..) => 0,
         }
     }
+}
+
+/// The reason why a query is extra.
+#[derive(Clone, Copy)]
+pub enum ExtraReason {
+    /// The lack of a change that asks for it.
+    NoChange,
+    /// An older host of the group, which mutes the change (RFC 3376 section 7.3.2, RFC 3810 section 8.3.2).
+    OlderHost,
+    /// Another querier.
+    NotQuerier,
 }
 
 /// A field of a query that differs: the seen value, then the wanted one.

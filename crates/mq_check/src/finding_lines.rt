@@ -8,7 +8,7 @@ ghost use Rattle.mq_check.specs.Numbered.{numbered_asked, numbered_difference, n
 
 use crate::asked::Asked;
 use crate::basis::Basis;
-use crate::finding::{Difference, Finding};
+use crate::finding::{Difference, ExtraReason, Finding};
 use crate::headers::HeaderFault;
 use crate::querier_address::QuerierAddress;
 use crate::totals::Totals;
@@ -196,6 +196,19 @@ fn put_sending_section<K: LineKey>(text: &mut Text, asked: Asked<K>)
     }
 }
 
+/// Appends the section of an extra query.
+fn put_extra_section<K: LineKey>(text: &mut Text, asked: Asked<K>, reason: ExtraReason)
+    requires { array_vec_len text.old + 14 ≤ 4096 }
+    ensures text { text.new.items ≡ text.old.items ++ spec.extra_section K.family reason (numbered_asked K.number asked) }
+    ensures room { array_vec_len text.new ≤ array_vec_len text.old + 14 }
+{
+    match reason {
+        ExtraReason::NoChange => put_sending_section(text, asked),
+        ExtraReason::OlderHost => put_of_family::<K>(text, b"7.3.2", b"8.3.2"),
+        ExtraReason::NotQuerier => put_of_family::<K>(text, b"6.6.2", b"7.6.2"),
+    }
+}
+
 /// Appends the section of the response.
 fn put_response_section<K: LineKey>(text: &mut Text, asked: Asked<K>)
     requires { array_vec_len text.old + 14 ≤ 4096 }
@@ -259,10 +272,8 @@ fn put_section<K: LineKey>(text: &mut Text, finding: Finding<K>)
     ensures room { array_vec_len text.new ≤ array_vec_len text.old + 14 }
 {
     match finding {
-        Finding::Missing(_, _, asked) | Finding::Extra(_, _, asked, true) => {
-            put_sending_section(text, asked)
-        }
-        Finding::Extra(_, _, _, false) => put_of_family::<K>(text, b"6.6.2", b"7.6.2"),
+        Finding::Missing(_, _, asked) => put_sending_section(text, asked),
+        Finding::Extra(_, _, asked, reason) => put_extra_section(text, asked, reason),
         Finding::Differs(_, _, asked, difference) => put_field_section(text, asked, difference),
         Finding::Interval(..) | Finding::Silence(..) => put_of_family::<K>(text, b"8.2", b"9.2"),
         Finding::Packet(_, _, fault) => put_fault_section::<K>(text, fault),

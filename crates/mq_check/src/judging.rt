@@ -121,8 +121,8 @@ where
         told.old told.new (output_of W.contents writer.old) (output_of W.contents writer.new) result }
 {
     match alone {
-        Unpaired::Extra(is_querier) => {
-            let extra = Finding::Extra(moment, terms.packet, asked, *is_querier);
+        Unpaired::Extra(reason) => {
+            let extra = Finding::Extra(moment, terms.packet, asked, *reason);
             tell_finding::<F, W>(extra, told, writer)
         }
         Unpaired::Allowed(wanted) => {

@@ -6,21 +6,23 @@ ghost use Rattle.mq_check.specs.declared.asked.Asked.TheVariants.{Source};
 ghost use Rattle.mq_check.specs.Checking as spec;
 ghost use Rattle.mq_check.specs.declared.headers.HeaderFault.TheVariants.{WrongChecksum};
 ghost use Rattle.mq_check.specs.Headers.{faults_of};
-ghost use Rattle.mq_check.specs.Numbered.{numbered_asked, numbered_terms, numbered_terms_if, numbered_unpaired};
+ghost use Rattle.mq_check.specs.Numbered.{numbered_asked, numbered_standing, numbered_terms, numbered_terms_if, numbered_unpaired};
 ghost use Rattle.mq_check.specs.Queries as queries;
-ghost use Rattle.mq_check.specs.Unheld as unheld;
+ghost use Rattle.mq_check.specs.Standing.{standing_in};
 
 use crate::asked::Asked;
 use crate::checked_family::CheckedFamily;
 use crate::checking::Checking;
 use crate::entry::{Entry, Unpaired};
+use crate::finding::ExtraReason;
 use crate::general::query_interval;
 use crate::headers::{HeaderFault, Headers};
 use crate::schedules::as_seen;
 use crate::since::Since;
 use crate::stamp::Stamp;
+use crate::standing::{Standing, standing_in};
 use crate::terms::{Terms, general_terms, terms_of};
-use crate::unheld::{specific_terms, unheld};
+use crate::unheld::specific_terms;
 use crate::waiting::{Side, Waiting};
 use crate::wanting::{asked_without_sources, is_general, sources_of};
 use mq_count::Moment;
@@ -46,13 +48,26 @@ struct SeenQuery<K: WireKey> {
     wanted: Terms<K>,
 }
 
+/// Returns the reason why a query is extra that is seen while the router is querier.
+fn reason_of(is_muted: bool) -> ExtraReason
+    ensures { result ≡ spec.reason_of is_muted }
+{
+    if is_muted {
+        ExtraReason::OlderHost
+    } else {
+        ExtraReason::NoChange
+    }
+}
+
 /// Returns the verdict on a seen query without a partner, which is allowed if it has terms.
-fn allowed_if<K: WireKey>(is_querier: bool, wanted: Option<Terms<K>>) -> Unpaired<K>
-    ensures { numbered_unpaired K.number result ≡ spec.allowed_if is_querier (numbered_terms_if K.number wanted) }
+fn allowed_if<K: WireKey>(is_querier: bool, is_muted: bool, wanted: Option<Terms<K>>) -> Unpaired<K>
+    ensures { numbered_unpaired K.number result
+        ≡ spec.allowed_if is_querier is_muted (numbered_terms_if K.number wanted) }
 {
     match (is_querier, wanted) {
+        (false, _) => Unpaired::Extra(ExtraReason::NotQuerier),
+        (true, None) => Unpaired::Extra(reason_of(is_muted)),
         (true, Some(wanted)) => Unpaired::Allowed(wanted),
-        _ => Unpaired::Extra(is_querier),
     }
 }
 
@@ -88,21 +103,20 @@ fn put_interval<F: Family, A: Allocator>(
 }
 
 impl<F: Family, A: Allocator> Checking<F, A> {
-    /// Adds a seen query, and pairs it with a wanted query on the subject that has no partner. `unheld` has the terms of such
-    /// a query if the link doesn't hold the subject.
+    /// Adds a seen query, and pairs it with a wanted query on the subject that has no partner.
     fn see(
         &mut self,
         moment: Moment,
         terms: Terms<F::Address>,
-        unheld: Option<Terms<F::Address>>,
+        standing: Standing<F::Address>,
         asked: Asked<F::Address>,
     )
         requires in_range { moment ≤ 2 ^ 53 }
-        ensures { self.new ≡ spec.with_seen moment (numbered_terms F.Address.number terms) (numbered_terms_if F.Address.number unheld) self.old (numbered_asked F.Address.number asked) }
+        ensures { self.new ≡ spec.with_seen moment (numbered_terms F.Address.number terms) (numbered_standing F.Address.number standing) self.old (numbered_asked F.Address.number asked) }
     {
         let from = self.near(moment);
         self.forget(moment);
-        let alone = self.alone(moment, terms, unheld, asked);
+        let alone = self.alone(moment, terms, standing, asked);
         let partner = self.pair(moment, &from, terms, asked);
         let has_partner = partner.is_some();
         self.schedules.see(moment, terms, asked, has_partner);
@@ -149,16 +163,20 @@ impl<F: Family, A: Allocator> Checking<F, A> {
         &self,
         moment: Moment,
         terms: Terms<F::Address>,
-        unheld: Option<Terms<F::Address>>,
+        standing: Standing<F::Address>,
         asked: Asked<F::Address>,
     ) -> Unpaired<F::Address>
         ensures { numbered_unpaired F.Address.number result
-            ≡ spec.alone_after moment (numbered_terms F.Address.number terms) (numbered_terms_if F.Address.number unheld) (numbered_asked F.Address.number asked) self.now }
+            ≡ spec.alone_after moment (numbered_terms F.Address.number terms) (numbered_standing F.Address.number standing) (numbered_asked F.Address.number asked) self.now }
     {
         let is_querier = self.phase.is_querier();
         let is_unknown = self.may_be_unknown(moment, asked);
         let earlier = self.schedules.allowed(moment, terms, asked);
-        allowed_if(is_querier, either_of(is_unknown, unheld, earlier))
+        allowed_if(
+            is_querier,
+            standing.is_muted,
+            either_of(is_unknown, standing.unheld, earlier),
+        )
     }
 
     /// Adds a seen query for each subject of a query.
@@ -169,14 +187,14 @@ impl<F: Family, A: Allocator> Checking<F, A> {
         query: &Query<'_, F::Address>,
     )
         requires in_range { seen.moment ≤ 2 ^ 53 }
-        ensures { self.new ≡ fold (spec.one_seen seen.moment (numbered_terms F.Address.number seen.terms) (unheld.unheld F.FAMILY link.now.state.groups (numbered_terms F.Address.number seen.wanted)))
+        ensures { self.new ≡ fold (spec.one_seen seen.moment (numbered_terms F.Address.number seen.terms) (standing_in F.FAMILY link.now.state.groups seen.moment (numbered_terms F.Address.number seen.wanted)))
             self.old (queries.asked_in (numbered_query F.Address.number query.now)) }
     {
         let sources = sources_of(&query.version);
         if sources.is_empty() {
             let asked = asked_without_sources::<F>(query.group);
-            let held = unheld(link, seen.wanted, asked);
-            self.see(seen.moment, seen.terms, held, asked);
+            let standing = standing_in(link, seen.moment, seen.wanted, asked);
+            self.see(seen.moment, seen.terms, standing, asked);
             return;
         }
         self.see_sources(seen, link, query.group, sources);
@@ -191,13 +209,13 @@ impl<F: Family, A: Allocator> Checking<F, A> {
         sources: Sources<'_, F::Address>,
     )
         requires in_range { seen.moment ≤ 2 ^ 53 }
-        ensures { self.new ≡ fold (spec.one_seen seen.moment (numbered_terms F.Address.number seen.terms) (unheld.unheld F.FAMILY link.now.state.groups (numbered_terms F.Address.number seen.wanted)))
+        ensures { self.new ≡ fold (spec.one_seen seen.moment (numbered_terms F.Address.number seen.terms) (standing_in F.FAMILY link.now.state.groups seen.moment (numbered_terms F.Address.number seen.wanted)))
             self.old (list_map (Source (F.Address.number group)) sources.entry) }
     {
         for source in sources {
             let asked = Asked::Source(group, source);
-            let held = unheld(link, seen.wanted, asked);
-            self.see(seen.moment, seen.terms, held, asked);
+            let standing = standing_in(link, seen.moment, seen.wanted, asked);
+            self.see(seen.moment, seen.terms, standing, asked);
         }
     }
 
@@ -223,7 +241,7 @@ impl<F: Family, A: Allocator> Checking<F, A> {
             Asked::AllGroups,
             terms,
             Some(wanted),
-            Unpaired::Extra(true),
+            Unpaired::Extra(ExtraReason::NoChange),
         ));
     }
 
@@ -242,7 +260,11 @@ impl<F: Family, A: Allocator> Checking<F, A> {
             self.judge_general(within, configured, stamp, terms, wanted);
             return;
         }
-        self.see(stamp.moment(), terms, None, Asked::AllGroups);
+        let standing = Standing {
+            unheld: None,
+            is_muted: false,
+        };
+        self.see(stamp.moment(), terms, standing, Asked::AllGroups);
     }
 
     /// Handles a general query that is seen, and counts it.
@@ -269,7 +291,7 @@ impl<F: Family, A: Allocator> Checking<F, A> {
         query: &Query<'_, F::Address>,
     )
         requires in_range { seen.moment ≤ 2 ^ 53 }
-        ensures { self.new ≡ spec.specific_seen seen.moment (numbered_terms F.Address.number seen.terms) (unheld.unheld F.FAMILY link.now.state.groups (numbered_terms F.Address.number seen.wanted))
+        ensures { self.new ≡ spec.specific_seen seen.moment (numbered_terms F.Address.number seen.terms) (standing_in F.FAMILY link.now.state.groups seen.moment (numbered_terms F.Address.number seen.wanted))
             (queries.asked_in (numbered_query F.Address.number query.now)) self.old }
     {
         self.see_all(seen, link, query);

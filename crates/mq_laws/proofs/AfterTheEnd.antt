@@ -127,7 +127,7 @@ in_time : (now : ℕ) (es : List CheckEvent) (end : ℕ) → AreInOrder now es e
 in_time now [] end order = order
 in_time now (Comes moment ∷ es) end order = let rest = in_time moment es end order.1 in omega (arith, order.0, rest)
 in_time now (Wants is_again terms asked ∷ es) end order = in_time now es end order
-in_time now (Sees terms unheld asked ∷ es) end order = in_time now es end order
+in_time now (Sees terms standing asked ∷ es) end order = in_time now es end order
 in_time now (SeesGeneral terms wanted ∷ es) end order = in_time now es end order
 in_time now (LosesRole ∷ es) end order = in_time now es end order
 in_time now (HasRoleAgain ∷ es) end order = in_time now es end order
@@ -160,7 +160,7 @@ ticks_find_nothing within limit timing now (HasRoleAgain ∷ es) c long far orde
     let same = ap (λ (w : WaitingValue). w.entries) part.waiting in
     let more = ticks_find_nothing within limit timing now es next (rw part.repeats long) far order ticks.1 (rw same are) room in
     record { told = more.told; quiet = more.quiet }
-ticks_find_nothing within limit timing now (Sees terms unheld asked ∷ es) c long far order ticks are room = absurd ticks.0
+ticks_find_nothing within limit timing now (Sees terms standing asked ∷ es) c long far order ticks are room = absurd ticks.0
 ticks_find_nothing within limit timing now (SeesGeneral terms wanted ∷ es) c long far order ticks are room = absurd ticks.0
 ticks_find_nothing within limit timing now (LosesRole ∷ es) c long far order ticks are room = absurd ticks.0
 ticks_find_nothing within limit timing now (SeesFault number fault ∷ es) c long far order ticks are room = absurd ticks.0

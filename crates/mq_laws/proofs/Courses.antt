@@ -9,6 +9,7 @@ use Rattle.mq_check.specs.declared.finding.Finding.{Finding}
 use Rattle.mq_check.specs.declared.phase.Phase.{Phase}
 use Rattle.mq_check.specs.declared.phase.Phase.TheVariants.{Starting, Heard, Returned, NotQuerier}
 use Rattle.mq_check.specs.declared.schedules.Repeats.{Repeats}
+use Rattle.mq_check.specs.declared.standing.Standing.{Standing}
 use Rattle.mq_check.specs.declared.terms.Terms.{Terms}
 use Rattle.mq_check.specs.Checking.{CheckingValue, all_blocked, alone_in, is_querier_in, near, subject_wanted, with_seen, one_seen, with_general}
 use Rattle.mq_check.specs.Checking.{general_compared, general_seen, specific_seen, role_lost, role_returned, settled, told, with_fault}
@@ -155,31 +156,32 @@ pub record SeenAll (within keep now : ℕ) (c after : CheckingValue) (free befor
   pub last : after.last_general ≡ c.last_general
   pub repeats : after.schedules.repeats ≡ c.schedules.repeats
 
-sees_free : (now : ℕ) (terms : Terms ℕ) (unheld : Asked ℕ → Option (Terms ℕ)) (asked : List (Asked ℕ)) (c : CheckingValue) →
-    (fold (one_seen now terms unheld) c asked).waiting.is_full ≡ false → c.waiting.is_full ≡ false
-sees_free now terms unheld [] c free = free
-sees_free now terms unheld (a ∷ more) c free =
-    (seen_part now terms (unheld a) c a (sees_free now terms unheld more (with_seen now terms (unheld a) c a) free)).was
+sees_free : (now : ℕ) (terms : Terms ℕ) (standing : Asked ℕ → Standing ℕ) (asked : List (Asked ℕ)) (c : CheckingValue) →
+    (fold (one_seen now terms standing) c asked).waiting.is_full ≡ false → c.waiting.is_full ≡ false
+sees_free now terms standing [] c free = free
+sees_free now terms standing (a ∷ more) c free =
+    (seen_part now terms (standing a) c a (sees_free now terms standing more (with_seen now terms (standing a) c a) free)).was
 
-sees_all : (within keep now : ℕ) (terms : Terms ℕ) (unheld : Asked ℕ → Option (Terms ℕ)) (asked : List (Asked ℕ)) (c : CheckingValue)
+sees_all : (within keep now : ℕ) (terms : Terms ℕ) (standing : Asked ℕ → Standing ℕ) (asked : List (Asked ℕ)) (c : CheckingValue)
     (free wanted : List Expected) (rest : List Ask)
-    → c.schedules.repeats.within ≡ within → (fold (one_seen now terms unheld) c asked).waiting.is_full ≡ false
+    → c.schedules.repeats.within ≡ within → (fold (one_seen now terms standing) c asked).waiting.is_full ≡ false
     → Stands within keep now c.waiting.entries free wanted (asks_at now terms asked ++ rest)
-    → SeenAll within keep now c (fold (one_seen now terms unheld) c asked) free (free ++ wanted) wanted rest
+    → SeenAll within keep now c (fold (one_seen now terms standing) c asked) free (free ++ wanted) wanted rest
     (all_seen now asked (general_returns within now free c.waiting.entries))
-sees_all within keep now terms unheld [] c free wanted rest within_is room st =
+sees_all within keep now terms standing [] c free wanted rest within_is room st =
     record { step = record { left = free; stands = st; missing = refl; returns_are = refl }; phase = refl; last = refl; repeats = refl }
-sees_all within keep now terms unheld (a ∷ more) c free wanted rest within_is room st =
-    let next = with_seen now terms (unheld a) c a in
-    let part = seen_part now terms (unheld a) c a (sees_free now terms unheld more next room) in
+sees_all within keep now terms standing (a ∷ more) c free wanted rest within_is room st =
+    let next = with_seen now terms (standing a) c a in
+    let part = seen_part now terms (standing a) c a (sees_free now terms standing more next room) in
     let r = general_returns within now free c.waiting.entries in
     let near_is : SameFrom (is_free_wanted a) (near now c) c.waiting.entries =
     near_as within now (is_free_wanted a) c within_is (wanted_near within keep now a terms c.waiting.entries free wanted (asks_at now terms more ++ rest) st) in
     let one : StepsTo within keep now next.waiting.entries (free ++ wanted) wanted (asks_at now terms more ++ rest)
     (if is_same AllGroups a then return_seen now r.due r.early else r) =
     rw (part.entries near_is) (stepped within keep now a (return_seen now) _ _ free (free ++ wanted) wanted (asks_at now terms more ++ rest)
-    (see_one within keep now a terms (alone_in now terms (unheld a) a c) c.waiting.entries free wanted (asks_at now terms more ++ rest) st)) in
-    let all = sees_all within keep now terms unheld more next one.left wanted rest (ap (λ (r : Repeats). r.within) part.repeats ∙ within_is) room one.stands in
+    (see_one within keep now a terms (alone_in now terms (standing a) a c) c.waiting.entries free wanted (asks_at now terms more ++ rest) st)) in
+    let all = sees_all within keep now terms standing more next one.left wanted rest
+    (ap (λ (r : Repeats). r.within) part.repeats ∙ within_is) room one.stands in
     record {
       step = record {
         left = all.step.left;
@@ -200,8 +202,8 @@ all_free within timing now (Comes moment ∷ es) c free = sym (settled_full c.sc
     all_free within timing moment es (settled moment c) free
 all_free within timing now (Wants is_again terms asked ∷ es) c free =
     wants_free now is_again terms asked c (all_free within timing now es (fold (subject_wanted now is_again terms) c asked) free)
-all_free within timing now (Sees terms unheld asked ∷ es) c free =
-    sees_free now terms unheld asked c (all_free within timing now es (specific_seen now terms unheld asked c) free)
+all_free within timing now (Sees terms standing asked ∷ es) c free =
+    sees_free now terms standing asked c (all_free within timing now es (specific_seen now terms standing asked c) free)
 all_free within timing now (SeesGeneral terms wanted ∷ es) c free =
     general_free within timing now terms wanted c (all_free within timing now es (general_seen within timing now terms wanted c) free)
 all_free within timing now (LosesRole ∷ es) c free = lost_free within timing now c (all_free within timing now es (role_lost within timing now c) free)
@@ -241,7 +243,8 @@ wanted-from within timing now (Comes moment ∷ es) c end order =
     later-from now moment _ order.0 (wanted-from within timing moment es (settled moment c) end order.1)
 wanted-from within timing now (Wants is_again terms asked ∷ es) c end order =
     asks_wanted-from now is_again terms asked c _ (wanted-from within timing now es (fold (subject_wanted now is_again terms) c asked) end order)
-wanted-from within timing now (Sees terms unheld asked ∷ es) c end order = wanted-from within timing now es (specific_seen now terms unheld asked c) end order
+wanted-from within timing now (Sees terms standing asked ∷ es) c end order =
+    wanted-from within timing now es (specific_seen now terms standing asked c) end order
 wanted-from within timing now (SeesGeneral terms wanted ∷ es) c end order =
     wanted-from within timing now es (general_seen within timing now terms wanted c) end order
 wanted-from within timing now (LosesRole ∷ es) c end order = wanted-from within timing now es (role_lost within timing now c) end order
@@ -261,7 +264,7 @@ seen-from within q r now [] end order = tt
 seen-from within q r now (Comes moment ∷ es) end order =
     later-from now moment _ order.0 (seen-from within q (record r { due = still_due within moment r.due }) moment es end order.1)
 seen-from within q r now (Wants is_again terms asked ∷ es) end order = seen-from within q (all_wanted now asked r) now es end order
-seen-from within q r now (Sees terms unheld asked ∷ es) end order = asks-from now terms asked _ (seen-from within q (all_seen now asked r) now es end order)
+seen-from within q r now (Sees terms standing asked ∷ es) end order = asks-from now terms asked _ (seen-from within q (all_seen now asked r) now es end order)
 seen-from within q r now (SeesGeneral terms wanted ∷ es) end order =
     general-from q r.due now terms _ (seen-from within q (general_returned q now r.due r.early) now es end order)
 seen-from within q r now (LosesRole ∷ es) end order = seen-from within false r now es end order
@@ -438,13 +441,13 @@ course within timing strict end now (Wants is_again terms asked ∷ es) c free e
     (time_as within timing c.phase next.phase c.last_general next.last_general now es end all.phase all.last general) room
     (seen_as within _ now next.waiting.entries all.step.left all.wanted (is_querier_in c.phase) _ (all_wanted now asked r) _ es
     (ap is_querier_in all.phase) all.step.returns_are all.step.stands))
-course within timing strict end now (Sees terms unheld asked ∷ es) c free expected keeps asks missed order general room st =
-    let next = specific_seen now terms unheld asked c in
+course within timing strict end now (Sees terms standing asked ∷ es) c free expected keeps asks missed order general room st =
+    let next = specific_seen now terms standing asked c in
     let r = general_returns within now free c.waiting.entries in
-    let all = sees_all within (kept_for within timing strict) now terms unheld asked c free expected
+    let all = sees_all within (kept_for within timing strict) now terms standing asked c free expected
     (seen_in within (is_querier_in c.phase) (all_seen now asked r) now es) (ap (λ (r : Repeats). r.within) keeps)
     (all_free within timing now es next room) st in
-    ended_behind within timing strict end now (Sees terms unheld asked) es c (missing_of (free ++ expected))
+    ended_behind within timing strict end now (Sees terms standing asked) es c (missing_of (free ++ expected))
     (missing_of (all.step.left ++ expected)) all.step.missing
     (course within timing strict end now es next all.step.left expected (all.repeats ∙ keeps) asks missed order
     (time_as within timing c.phase next.phase c.last_general next.last_general now es end all.phase all.last general) room

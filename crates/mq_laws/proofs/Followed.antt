@@ -254,11 +254,11 @@ follows-ticks (suc most) config within limit r =
 
 -- a query that was seen
 still-came : (within : ℕ) (config : Configuration) (link : LinkState) (moment packets to : ℕ) (query : Query ℕ) (c : CheckingValue)
-    → IsStill within config.timing moment (event_of config link packets to query ∷ []) c (query_came within config link moment packets to query c)
+    → IsStill within config.timing moment (event_of config link moment packets to query ∷ []) c (query_came within config link moment packets to query c)
 unfolding query_came
 still-came within config link moment packets to query c =
     elim (is_general query) as
-    (λ b. is_general query ≡ b → IsStill within config.timing moment (event_of config link packets to query ∷ []) c
+    (λ b. is_general query ≡ b → IsStill within config.timing moment (event_of config link moment packets to query ∷ []) c
     (query_came within config link moment packets to query c)) [
       | true ↦ λ is. rw is (record { check = refl; told = refl; moment = refl })
       | false ↦ λ is. rw is (record { check = refl; told = refl; moment = refl })
@@ -277,7 +277,7 @@ unfolding received seen_at
 follows-datagram config within moment number to datagram (Some query) faults r =
     let begun = settled moment r.checking in
     let c = faults_seen moment number faults begun in
-    let event = event_of config r.link r.basis.packets to query in
+    let event = event_of config r.link moment r.basis.packets to query in
     follows-still within config.timing moment r.basis.packets r.link (fault_events number faults ++ event ∷ []) r
     (seen_at config within moment to query (with_faults moment number faults (settled_at moment r))) refl refl
     (still-append within config.timing moment (fault_events number faults) (event ∷ []) begun c _ (still-faults within config.timing moment number faults begun)

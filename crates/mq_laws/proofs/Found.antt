@@ -28,7 +28,7 @@ use Rattle.mq_laws.proofs.Courses.{Ended, all_free, course, kept-long}
 -- a finding of what was over before a moment
 abbrev IsBefore : (kept end : ℕ) → Finding ℕ → Type 0
 IsBefore kept end (Missing moment packet asked) = moment + kept < end
-IsBefore kept end (finding.Extra moment packet asked is_querier) = ⊤
+IsBefore kept end (finding.Extra moment packet asked reason) = ⊤
 IsBefore kept end (finding.Differs moment packet asked difference) = ⊤
 IsBefore kept end (finding.Interval moment packet after wanted) = ⊤
 IsBefore kept end (finding.Silence moment after wanted) = ⊤

@@ -51,7 +51,7 @@ order-later : (now later : ℕ) (events : List CheckEvent) (end : ℕ) → now �
 order-later now later [] end before order = omega arith
 order-later now later (Comes moment ∷ es) end before order = (omega (arith, order.0), order.1)
 order-later now later (Wants is_again terms asked ∷ es) end before order = order-later now later es end before order
-order-later now later (Sees terms unheld asked ∷ es) end before order = order-later now later es end before order
+order-later now later (Sees terms standing asked ∷ es) end before order = order-later now later es end before order
 order-later now later (SeesGeneral terms wanted ∷ es) end before order = order-later now later es end before order
 order-later now later (LosesRole ∷ es) end before order = order-later now later es end before order
 order-later now later (HasRoleAgain ∷ es) end before order = order-later now later es end before order
@@ -62,7 +62,7 @@ order-append : (now middle : ℕ) (xs ys : List CheckEvent) (end : ℕ) → AreI
 order-append now middle [] ys end first second = order-later now middle ys end first second
 order-append now middle (Comes moment ∷ es) ys end first second = (first.0, order-append moment middle es ys end first.1 second)
 order-append now middle (Wants is_again terms asked ∷ es) ys end first second = order-append now middle es ys end first second
-order-append now middle (Sees terms unheld asked ∷ es) ys end first second = order-append now middle es ys end first second
+order-append now middle (Sees terms standing asked ∷ es) ys end first second = order-append now middle es ys end first second
 order-append now middle (SeesGeneral terms wanted ∷ es) ys end first second = order-append now middle es ys end first second
 order-append now middle (LosesRole ∷ es) ys end first second = order-append now middle es ys end first second
 order-append now middle (HasRoleAgain ∷ es) ys end first second = order-append now middle es ys end first second
@@ -159,10 +159,10 @@ order-faults now number [] = omega arith
 order-faults now number (fault ∷ faults) = order-faults now number faults
 
 -- a query of the querier
-order-event : (now : ℕ) (config : Configuration) (link : LinkState) (packets to : ℕ) (query : Query ℕ) →
-    AreInOrder now (event_of config link packets to query ∷ []) now
-order-event now config link packets to query =
-    elim (is_general query) as (λ b. is_general query ≡ b → AreInOrder now (event_of config link packets to query ∷ []) now) [
+order-event : (now : ℕ) (config : Configuration) (link : LinkState) (moment packets to : ℕ) (query : Query ℕ) →
+    AreInOrder now (event_of config link moment packets to query ∷ []) now
+order-event now config link moment packets to query =
+    elim (is_general query) as (λ b. is_general query ≡ b → AreInOrder now (event_of config link moment packets to query ∷ []) now) [
       | true ↦ λ is. rw is (omega arith)
       | false ↦ λ is. rw is (omega arith)
     ] refl
@@ -175,8 +175,8 @@ ordered-datagram known config moment number to datagram (Some query) faults pack
     record {
       order = (
         omega arith,
-        order-append moment moment (fault_events number faults) (event_of config link packets to query ∷ []) moment
-            (order-faults moment number faults) (order-event moment config link packets to query),
+        order-append moment moment (fault_events number faults) (event_of config link moment packets to query ∷ []) moment
+            (order-faults moment number faults) (order-event moment config link moment packets to query),
       );
       formed = formed;
       later = later;
@@ -303,7 +303,7 @@ order-until : (now : ℕ) (es : List CheckEvent) (end later : ℕ) → end ≤ l
 order-until now [] end later before order = omega (arith, order, before)
 order-until now (Comes moment ∷ es) end later before order = (order.0, order-until moment es end later before order.1)
 order-until now (Wants is_again terms asked ∷ es) end later before order = order-until now es end later before order
-order-until now (Sees terms unheld asked ∷ es) end later before order = order-until now es end later before order
+order-until now (Sees terms standing asked ∷ es) end later before order = order-until now es end later before order
 order-until now (SeesGeneral terms wanted ∷ es) end later before order = order-until now es end later before order
 order-until now (LosesRole ∷ es) end later before order = order-until now es end later before order
 order-until now (HasRoleAgain ∷ es) end later before order = order-until now es end later before order

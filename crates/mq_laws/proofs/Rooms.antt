@@ -8,6 +8,8 @@ use Rattle.mq_check.specs.declared.asked.Asked.TheVariants.{AllGroups, Group, So
 use Rattle.mq_check.specs.declared.entry.Entry.{Entry}
 use Rattle.mq_check.specs.declared.entry.Entry.TheVariants.{Wanted, Seen}
 use Rattle.mq_check.specs.declared.entry.Unpaired.TheVariants.{Extra}
+use Rattle.mq_check.specs.declared.finding.ExtraReason.TheVariants.{NoChange}
+use Rattle.mq_check.specs.declared.standing.Standing.{Standing}
 use Rattle.mq_check.specs.declared.phase.Phase.TheVariants.{NotQuerier}
 use Rattle.mq_check.specs.declared.terms.Terms.{Terms}
 use Rattle.mq_check.specs.declared.waiting.Side.TheVariants.{OfWanted, OfSeen}
@@ -161,20 +163,20 @@ paired_full now terms asked c = elim (is_late now asked c) as (λ b. is_late now
 ] refl
 
 -- something was seen
-pub record SeenPart (now : ℕ) (terms : Terms ℕ) (unheld : Option (Terms ℕ)) (c : CheckingValue) (asked : Asked ℕ) : Type 0 where
+pub record SeenPart (now : ℕ) (terms : Terms ℕ) (standing : Standing ℕ) (c : CheckingValue) (asked : Asked ℕ) : Type 0 where
   pub was : c.waiting.is_full ≡ false
-  pub phase : (with_seen now terms unheld c asked).phase ≡ c.phase
-  pub last : (with_seen now terms unheld c asked).last_general ≡ c.last_general
-  pub repeats : (with_seen now terms unheld c asked).schedules.repeats ≡ c.schedules.repeats
-  pub entries : SameFrom (is_free_wanted asked) (near now c) c.waiting.entries → (with_seen now terms unheld c asked).waiting.entries
+  pub phase : (with_seen now terms standing c asked).phase ≡ c.phase
+  pub last : (with_seen now terms standing c asked).last_general ≡ c.last_general
+  pub repeats : (with_seen now terms standing c asked).schedules.repeats ≡ c.schedules.repeats
+  pub entries : SameFrom (is_free_wanted asked) (near now c) c.waiting.entries → (with_seen now terms standing c asked).waiting.entries
       ≡ first_joined (is_free_wanted asked) terms c.waiting.entries ++ Seen now asked terms (first_terms (is_free_wanted asked) c.waiting.entries)
-      (alone_in now terms unheld asked c) ∷ []
+      (alone_in now terms standing asked c) ∷ []
 
-pub seen_part : (now : ℕ) (terms : Terms ℕ) (unheld : Option (Terms ℕ)) (c : CheckingValue) (asked : Asked ℕ) →
-    (with_seen now terms unheld c asked).waiting.is_full ≡ false → SeenPart now terms unheld c asked
+pub seen_part : (now : ℕ) (terms : Terms ℕ) (standing : Standing ℕ) (c : CheckingValue) (asked : Asked ℕ) →
+    (with_seen now terms standing c asked).waiting.is_full ≡ false → SeenPart now terms standing c asked
 unfolding with_seen
-seen_part now terms unheld c asked free =
-    let e = Seen now asked terms (partner_of now terms asked c) (alone_in now terms unheld asked c) in
+seen_part now terms standing c asked free =
+    let e = Seen now asked terms (partner_of now terms asked c) (alone_in now terms standing asked c) in
     let put = entered e (paired now terms asked c) free in
     record {
       was = sym (paired_full now terms asked c) ∙ put.was;
@@ -182,7 +184,7 @@ seen_part now terms unheld c asked free =
       last = refl;
       repeats = seen_repeats now terms asked (is_some (partner_of now terms asked c)) (recent now c.schedules) ∙ recent_repeats now c.schedules;
       entries = λ same. put.entries ∙
-          (λ i. paired_is now terms asked c same i ++ Seen now asked terms (partner_is now terms asked c same i) (alone_in now terms unheld asked c) ∷ []);
+          (λ i. paired_is now terms asked c same i ++ Seen now asked terms (partner_is now terms asked c same i) (alone_in now terms standing asked c) ∷ []);
     }
 
 -- a general query was seen in its time, while the router is querier
@@ -191,13 +193,13 @@ pub record GeneralPart (within : ℕ) (timing : Timing) (now : ℕ) (terms wante
   pub phase : (with_general within timing now terms wanted c).phase ≡ phase_behind within timing now c.phase
   pub repeats : (with_general within timing now terms wanted c).schedules.repeats ≡ c.schedules.repeats
   pub entries : (with_general within timing now terms wanted c).waiting.entries
-      ≡ first_joined (is_free OfWanted AllGroups (near now c)) terms c.waiting.entries ++ Seen now AllGroups terms (Some wanted) (Extra true) ∷ []
+      ≡ first_joined (is_free OfWanted AllGroups (near now c)) terms c.waiting.entries ++ Seen now AllGroups terms (Some wanted) (Extra NoChange) ∷ []
 
 pub general_part : (within : ℕ) (timing : Timing) (now : ℕ) (terms wanted : Terms ℕ) (c : CheckingValue) → wrong_interval within timing now c.phase ≡ None
     → (with_general within timing now terms wanted c).waiting.is_full ≡ false → GeneralPart within timing now terms wanted c
 unfolding with_general with_partner
 general_part within timing now terms wanted c in_time free =
-    let e = Seen now AllGroups terms (Some wanted) (Extra true) in
+    let e = Seen now AllGroups terms (Some wanted) (Extra NoChange) in
     let put : Entered e (with_partner OfWanted AllGroups (near now c) terms c.waiting) =
     entered e (with_partner OfWanted AllGroups (near now c) terms c.waiting) (rw in_time at free) in
     record { was = put.was; phase = refl; repeats = refl; entries = rw in_time put.entries }

@@ -8,6 +8,7 @@ use Rattle.mq_check.specs.declared.asked.Asked.TheVariants.{AllGroups}
 use Rattle.mq_check.specs.declared.entry.Entry.{Entry}
 use Rattle.mq_check.specs.declared.entry.Entry.TheVariants.{Wanted, Seen, Interval, Silence, Packet}
 use Rattle.mq_check.specs.declared.entry.Unpaired.TheVariants.{Extra}
+use Rattle.mq_check.specs.declared.finding.ExtraReason.TheVariants.{NoChange}
 use Rattle.mq_check.specs.declared.entry.Unpaired.{Unpaired}
 use Rattle.mq_check.specs.declared.terms.Terms.{Terms}
 use Rattle.mq_check.specs.Entries.{moment_of, first_terms, first_joined, is_free_seen, is_free_wanted, terms_differ}
@@ -500,15 +501,15 @@ pub general_one : (within keep now : ℕ) (terms partner : Terms ℕ) (es : List
     → terms_differ terms partner ≡ [] →
     Stands within keep now es free wanted (general_ask true (still_due within now (moments_wanted (wanted_about AllGroups free))) now terms ++ seen)
     → Stepped within keep now AllGroups (general_returned true now) es (first_joined (test_from (is_free_wanted AllGroups) (now - within)) terms es ++
-    Seen now AllGroups terms (Some partner) (Extra true) ∷ []) free (free ++ wanted) wanted seen
+    Seen now AllGroups terms (Some partner) (Extra NoChange) ∷ []) free (free ++ wanted) wanted seen
 general_one within keep now terms partner es free wanted seen alike st = by_due (still_due within now (moments_wanted (wanted_about AllGroups free))) refl
   where
     by_due : (due : List ℕ) → still_due within now (moments_wanted (wanted_about AllGroups free)) ≡ due
         → Stepped within keep now AllGroups (general_returned true now) es
-        (first_joined (test_from (is_free_wanted AllGroups) (now - within)) terms es ++ Seen now AllGroups terms (Some partner) (Extra true) ∷ [])
+        (first_joined (test_from (is_free_wanted AllGroups) (now - within)) terms es ++ Seen now AllGroups terms (Some partner) (Extra NoChange) ∷ [])
         free (free ++ wanted) wanted seen
     by_due [] none =
-        let e = Seen now AllGroups terms (Some partner) (Extra true) in
+        let e = Seen now AllGroups terms (Some partner) (Extra NoChange) in
         let before : Stands within keep now es free wanted seen =
         subst (λ (l : List ℕ). Stands within keep now es free wanted (general_ask true l now terms ++ seen)) none st in
         let same : free_seen (es ++ e ∷ []) ≡ free_seen es = free_seen-append es (e ∷ []) ∙ append-nil (free_seen es) in
@@ -527,5 +528,5 @@ general_one within keep now terms partner es free wanted seen alike st = by_due 
           | inl none ↦ absurd (let two : [] ≡ d ∷ due = ap (λ (l : List Expected). still_due within now (moments_wanted l)) (sym none.none) ∙ some in cc)
           | inr one ↦ rw (near.joined terms)
               (see_partner (general_returned true now) (λ d due early. refl) within keep now AllGroups terms partner
-              (Extra true) es free wanted seen one (λ w is answers. alike) before)
+              (Extra NoChange) es free wanted seen one (λ w is answers. alike) before)
         ]

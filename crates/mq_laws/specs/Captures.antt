@@ -21,7 +21,8 @@ use Rattle.mq_check.specs.Blocked.{blocked_in}
 use Rattle.mq_check.specs.Check.{destination_in, faults_in}
 use Rattle.mq_check.specs.Checking.{counted_up}
 use Rattle.mq_check.specs.Queries.{asked_in, is_general, terms_of, general_terms, query_seen}
-use Rattle.mq_check.specs.Unheld.{specific_terms, unheld}
+use Rattle.mq_check.specs.Standing.{standing_in}
+use Rattle.mq_check.specs.Unheld.{specific_terms}
 use Rattle.mq_laws.specs.Events.{CheckEvent, Comes, Wants, Sees, SeesGeneral, LosesRole, HasRoleAgain, SeesFault, Blocks}
 
 -- a link after a part of a capture, the number of packets so far, and the events of the check
@@ -94,15 +95,16 @@ abbrev pub fault_events : (number : ℕ) → List HeaderFault → List CheckEven
 fault_events number faults = list_map (SeesFault number) faults
 
 -- A query from the querier's address, or any other datagram, which the link receives. A Report may block sources.
-abbrev pub event_of : Configuration → LinkState → (packets to : ℕ) → Query ℕ → CheckEvent
-event_of config link packets to query =
+abbrev pub event_of : Configuration → LinkState → (moment packets to : ℕ) → Query ℕ → CheckEvent
+event_of config link moment packets to query =
     if is_general query
     then SeesGeneral (terms_of config.family packets to query) (general_terms config link.election.timing)
-    else Sees (terms_of config.family packets to query) (unheld config.family link.groups (specific_terms config link.election.timing query)) (asked_in query)
+    else Sees (terms_of config.family packets to query)
+    (standing_in config.family link.groups moment (specific_terms config link.election.timing query)) (asked_in query)
 
 abbrev pub datagram_passage : Configuration → (moment to : ℕ) → Datagram → Option (Query ℕ) → (faults : List CheckEvent) → (packets : ℕ) → LinkState → Passage
 datagram_passage config moment to datagram (Some query) faults packets link =
-    record { link = link; packets = packets; events = Comes moment ∷ faults ++ event_of config link packets to query ∷ [] }
+    record { link = link; packets = packets; events = Comes moment ∷ faults ++ event_of config link moment packets to query ∷ [] }
 datagram_passage config moment to datagram None faults packets link =
     let step = (receipt_of config datagram.envelope datagram.body moment link).step in
     record {

@@ -1,21 +1,22 @@
 -- The events of a check, in order, and its findings.
-use Rattle.std.specs.Prelude.{◌≡◌, ℕ, Bool, false, List, [], ◌∷◌, ◌++◌, Option, fold}
+use Rattle.std.specs.Prelude.{◌≡◌, ℕ, Bool, false, List, [], ◌∷◌, ◌++◌, fold}
 use Rattle.mq_table.specs.declared.timing.Timing.{Timing}
 use Rattle.mq_check.specs.declared.asked.Asked.{Asked}
 use Rattle.mq_check.specs.declared.finding.Finding.{Finding}
 use Rattle.mq_check.specs.declared.headers.HeaderFault.{HeaderFault}
+use Rattle.mq_check.specs.declared.standing.Standing.{Standing}
 use Rattle.mq_check.specs.declared.terms.Terms.{Terms}
 use Rattle.mq_check.specs.General.{silence_up_to}
 use Rattle.mq_check.specs.Checking.{CheckingValue, checking_at_start, told, settled, subject_wanted, specific_seen, general_seen, with_fault, role_lost, role_returned, all_blocked, told_at_end, with_all_excused}
 
 -- An event of a check. A moment comes, the link sends a query about these things, which is expected, or a query about
--- these was seen. `is_again` is set if a tick of the link sends it again. For a seen query `unheld` has its expected fields for each of them that the link doesn't hold. A general query was
--- seen, with the expected one. The router loses the role of querier, or is querier again. A query's packet has a fault in
--- its headers. A host blocks these sources, or none.
+-- these was seen. `is_again` is set if a tick of the link sends it again. For a seen query `standing` has the standing of
+-- each of them in the link. A general query was seen, with the expected one. The router loses the role of querier, or is
+-- querier again. A query's packet has a fault in its headers. A host blocks these sources, or none.
 pub data CheckEvent : Type 0 where
   Comes : (moment : ℕ) → CheckEvent
   Wants : (is_again : Bool) → Terms ℕ → List (Asked ℕ) → CheckEvent
-  Sees : Terms ℕ → (unheld : Asked ℕ → Option (Terms ℕ)) → List (Asked ℕ) → CheckEvent
+  Sees : Terms ℕ → (standing : Asked ℕ → Standing ℕ) → List (Asked ℕ) → CheckEvent
   SeesGeneral : (terms wanted : Terms ℕ) → CheckEvent
   LosesRole : CheckEvent
   HasRoleAgain : CheckEvent
@@ -26,7 +27,7 @@ pub data CheckEvent : Type 0 where
 abbrev pub moment_behind : (now : ℕ) → CheckEvent → ℕ
 moment_behind now (Comes moment) = moment
 moment_behind now (Wants is_again terms asked) = now
-moment_behind now (Sees terms unheld asked) = now
+moment_behind now (Sees terms standing asked) = now
 moment_behind now (SeesGeneral terms wanted) = now
 moment_behind now LosesRole = now
 moment_behind now HasRoleAgain = now
@@ -37,7 +38,7 @@ moment_behind now (Blocks asked) = now
 abbrev pub check_by : (within : ℕ) → Timing → (now : ℕ) → CheckEvent → CheckingValue → CheckingValue
 check_by within timing now (Comes moment) c = settled moment c
 check_by within timing now (Wants is_again terms asked) c = fold (subject_wanted now is_again terms) c asked
-check_by within timing now (Sees terms unheld asked) c = specific_seen now terms unheld asked c
+check_by within timing now (Sees terms standing asked) c = specific_seen now terms standing asked c
 check_by within timing now (SeesGeneral terms wanted) c = general_seen within timing now terms wanted c
 check_by within timing now LosesRole c = role_lost within timing now c
 check_by within timing now HasRoleAgain c = role_returned within now c
@@ -47,7 +48,7 @@ check_by within timing now (Blocks asked) c = all_blocked now asked c
 abbrev pub told_by : (within : ℕ) → CheckEvent → CheckingValue → List (Finding ℕ)
 told_by within (Comes moment) c = told within moment c
 told_by within (Wants is_again terms asked) c = []
-told_by within (Sees terms unheld asked) c = []
+told_by within (Sees terms standing asked) c = []
 told_by within (SeesGeneral terms wanted) c = []
 told_by within LosesRole c = []
 told_by within HasRoleAgain c = []

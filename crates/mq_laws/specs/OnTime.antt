@@ -16,7 +16,7 @@ abbrev pub AreInOrder : (now : ℕ) → List CheckEvent → (end : ℕ) → Type
 AreInOrder now [] end = now ≤ end
 AreInOrder now (Comes moment ∷ es) end = (now ≤ moment) × AreInOrder moment es end
 AreInOrder now (Wants is_again terms asked ∷ es) end = AreInOrder now es end
-AreInOrder now (Sees terms unheld asked ∷ es) end = AreInOrder now es end
+AreInOrder now (Sees terms standing asked ∷ es) end = AreInOrder now es end
 AreInOrder now (SeesGeneral terms wanted ∷ es) end = AreInOrder now es end
 AreInOrder now (LosesRole ∷ es) end = AreInOrder now es end
 AreInOrder now (HasRoleAgain ∷ es) end = AreInOrder now es end
@@ -27,7 +27,7 @@ AreInOrder now (Blocks asked ∷ es) end = AreInOrder now es end
 abbrev pub IsOfTick : CheckEvent → Type 0
 IsOfTick (Comes moment) = ⊤
 IsOfTick (Wants is_again terms asked) = ⊤
-IsOfTick (Sees terms unheld asked) = ⊥
+IsOfTick (Sees terms standing asked) = ⊥
 IsOfTick (SeesGeneral terms wanted) = ⊥
 IsOfTick LosesRole = ⊥
 IsOfTick HasRoleAgain = ⊤
@@ -50,7 +50,7 @@ abbrev pub AreOnTime : (within : ℕ) → Timing → Phase → (last : Option �
 AreOnTime within timing phase last now [] end = silence_up_to within timing end phase ≡ None
 AreOnTime within timing phase last now (Comes moment ∷ es) end = AreOnTime within timing phase last moment es end
 AreOnTime within timing phase last now (Wants is_again terms asked ∷ es) end = AreOnTime within timing phase last now es end
-AreOnTime within timing phase last now (Sees terms unheld asked ∷ es) end = AreOnTime within timing phase last now es end
+AreOnTime within timing phase last now (Sees terms standing asked ∷ es) end = AreOnTime within timing phase last now es end
 AreOnTime within timing phase last now (SeesGeneral terms wanted ∷ es) end =
     (wrong_interval within timing now phase ≡ None) × IsAsWantedThen (is_querier_in phase) terms wanted
     × AreOnTime within timing (phase_behind within timing now phase) (Some now) now es end

@@ -16,7 +16,7 @@ is_of_variable (Destination seen wanted) = false
 
 abbrev pub may_be_left_out : Finding ℕ → Bool
 may_be_left_out (Missing moment packet asked) = false
-may_be_left_out (Extra moment packet asked is_querier) = false
+may_be_left_out (Extra moment packet asked reason) = false
 may_be_left_out (Differs moment packet asked difference) = is_of_variable difference
 may_be_left_out (Interval moment packet after wanted) = false
 may_be_left_out (Silence moment after wanted) = false

@@ -21,7 +21,7 @@ asks_wanted now is_again terms (a ∷ asked) c =
 abbrev pub asks_by : (now : ℕ) → CheckEvent → CheckingValue → List Ask
 asks_by now (Comes moment) c = []
 asks_by now (Wants is_again terms asked) c = asks_wanted now is_again terms asked c
-asks_by now (Sees terms unheld asked) c = []
+asks_by now (Sees terms standing asked) c = []
 asks_by now (SeesGeneral terms wanted) c = []
 asks_by now LosesRole c = []
 asks_by now HasRoleAgain c = []
@@ -91,7 +91,7 @@ abbrev pub seen_in : (within : ℕ) → (is_querier : Bool) → Returns → (now
 seen_in within is_querier r now [] = []
 seen_in within is_querier r now (Comes moment ∷ es) = seen_in within is_querier (record r { due = still_due within moment r.due }) moment es
 seen_in within is_querier r now (Wants is_again terms asked ∷ es) = seen_in within is_querier (all_wanted now asked r) now es
-seen_in within is_querier r now (Sees terms unheld asked ∷ es) = asks_at now terms asked ++ seen_in within is_querier (all_seen now asked r) now es
+seen_in within is_querier r now (Sees terms standing asked ∷ es) = asks_at now terms asked ++ seen_in within is_querier (all_seen now asked r) now es
 seen_in within is_querier r now (SeesGeneral terms wanted ∷ es) =
     general_ask is_querier r.due now terms ++ seen_in within is_querier (general_returned is_querier now r.due r.early) now es
 seen_in within is_querier r now (LosesRole ∷ es) = seen_in within false r now es

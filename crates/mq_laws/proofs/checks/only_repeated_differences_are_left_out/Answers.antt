@@ -36,7 +36,7 @@ never_has (Destination seen wanted) last none = refl
 
 never_repeats : (f : Finding ℕ) (last : LastDifferences) → may_be_left_out f ≡ false → repeats f last ≡ false
 never_repeats (Missing moment packet asked) last none = refl
-never_repeats (Extra moment packet asked is_querier) last none = refl
+never_repeats (Extra moment packet asked reason) last none = refl
 never_repeats (Differs moment packet AllGroups difference) last none = never_has difference last.general none
 never_repeats (Differs moment packet (Group group) difference) last none = never_has difference last.specific none
 never_repeats (Differs moment packet (Source group source) difference) last none = never_has difference last.specific none
@@ -74,7 +74,7 @@ first_has (Destination seen wanted) = refl
 
 first_is_new : (f : Finding ℕ) → repeats f no_differences ≡ false
 first_is_new (Missing moment packet asked) = refl
-first_is_new (Extra moment packet asked is_querier) = refl
+first_is_new (Extra moment packet asked reason) = refl
 first_is_new (Differs moment packet AllGroups difference) = first_has difference
 first_is_new (Differs moment packet (Group group) difference) = first_has difference
 first_is_new (Differs moment packet (Source group source) difference) = first_has difference

@@ -4,13 +4,15 @@ use Rattle.std.specs.Prelude.{fold, map as list_map}
 use Rattle.mq_check.specs.declared.asked.Asked.TheVariants.{Source}
 use Rattle.mq_check.specs.Checking.{one_seen}
 use Rattle.mq_check.specs.Numbered.{numbered_terms}
-use Rattle.mq_check.specs.Unheld.{unheld}
+use Rattle.mq_check.specs.Standing.{standing_in}
 use Rattle.mq_check.proofs.checking.Checking.see_sources.Given as goal
 
 abbrev pub invariant-loop-source : goal.invariant-loop-source
 invariant-loop-source g l =
     let number = g.F.Address.Key.number in
     fold (one_seen l.seen.moment (numbered_terms number l.seen.terms)
-    (unheld g.F.Family.FAMILY l.fn.link.state.groups (numbered_terms number l.seen.wanted))) l.fn.self (list_map (Source (number l.group)) l.fn.sources)
+    (standing_in g.F.Family.FAMILY l.fn.link.state.groups l.seen.moment (numbered_terms number l.seen.wanted)))
+    l.fn.self (list_map (Source (number l.group)) l.fn.sources)
     ≡ fold (one_seen l.seen.moment (numbered_terms number l.seen.terms)
-    (unheld g.F.Family.FAMILY l.fn.link.state.groups (numbered_terms number l.seen.wanted))) l.self (list_map (Source (number l.group)) l.source-iterator)
+    (standing_in g.F.Family.FAMILY l.fn.link.state.groups l.seen.moment (numbered_terms number l.seen.wanted)))
+    l.self (list_map (Source (number l.group)) l.source-iterator)
