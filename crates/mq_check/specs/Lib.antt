@@ -18,6 +18,7 @@ pub mod Repeated
 pub mod Schedules
 pub mod Sizes
 pub mod Slots
+pub mod Standing
 pub mod Telling
 pub mod Trails
 pub mod Unheld
