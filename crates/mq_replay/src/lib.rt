@@ -29,6 +29,7 @@ mod stamp;
 mod stamps;
 mod ticks;
 mod waiting;
+mod walked;
 mod walking;
 
 pub use asked::Asked;
@@ -39,4 +40,5 @@ pub use numbered_packet::NumberedPacket;
 pub use replaying::{replay, replay_in};
 pub use stamp::Stamp;
 pub use stamps::{Stamps, first_moment};
-pub use walking::{GaplessStep, Step, UpToGap, Walked, walk};
+pub use walked::Walked;
+pub use walking::{GaplessStep, Step, UpToGap, walk};
