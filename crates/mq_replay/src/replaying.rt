@@ -16,9 +16,10 @@ ghost use Rattle.mq_replay.specs.Report.{ended_at, replay_of};
 ghost use Rattle.mq_replay.specs.Steps.{begun_with};
 
 use crate::asked::Asked;
-use crate::capture_fault::{CaptureFault, is_failed_write};
+use crate::capture_fault::CaptureFault;
 use crate::captured_family::CapturedFamily;
 use crate::ending::put_ending;
+use crate::finishing::finish;
 use crate::running_replay::Replay;
 use crate::stamps::first_moment;
 use crate::walked::Walked;
@@ -28,7 +29,6 @@ use mq_count::Watched;
 use mq_lines::LineKey;
 use mq_link::{Config, Counts, Link};
 use mq_pcap::{GREATEST_PACKET, Supply};
-use mq_text::flush;
 use std::alloc::{AllocError, Allocator};
 use std::io::{Read, Write};
 
@@ -129,11 +129,7 @@ where
     ensures no_memory { result ≡ Err CaptureFault.Memory → ⊥ }
 {
     let answer = put_replay(replay, packet, supply, reader, writer);
-    if is_failed_write(&answer) {
-        return answer;
-    }
-    flush(&mut replay.steps.buffer, writer)?;
-    answer
+    finish(answer, &mut replay.steps.buffer, writer)
 }
 
 /// Puts the lines of a capture.
