@@ -11,7 +11,7 @@ use Rattle.mq_pcap.specs.Filling.{InputState, Takes}
 use Rattle.mq_pcap.specs.Frame.{carried_in}
 use Rattle.mq_wire.specs.declared.query.Query.{Query}
 use Rattle.mq_wire.specs.Family.{Family}
-use Rattle.mq_replay.specs.declared.walking.Walked.{Walked}
+use Rattle.mq_replay.specs.declared.walked.Walked.{Walked}
 use Rattle.mq_replay.specs.PlacedPackets.{Place, PlacedPacket, at_first, place_behind}
 use Rattle.mq_replay.specs.Report.{Datagram, datagram_of}
 use Rattle.mq_replay.specs.Walking.{IsBrokenOff, IsEndedByFault, IsStopped, ReadCapture, StepsOver, StepsOverAll, Walks}

@@ -26,7 +26,7 @@ use mq_count::Watched;
 use mq_lines::LineKey;
 use mq_link::{Config, Link};
 use mq_pcap::{GREATEST_PACKET, Supply};
-use mq_replay::{CaptureFault, UpToGap, first_moment, is_failed_write, walk};
+use mq_replay::{CaptureFault, UpToGap, finish, first_moment, walk};
 use std::alloc::{AllocError, Allocator};
 use std::io::{Read, Write};
 
@@ -131,11 +131,7 @@ where
     ensures no_memory { result ≡ Err CaptureFault.Memory → ⊥ }
 {
     let answer = check_file(check, packet, supply, reader, writer);
-    if is_failed_write(&answer) {
-        return answer;
-    }
-    check.steps.told.finish(writer)?;
-    answer
+    finish(answer, &mut check.steps.told.buffer, writer)
 }
 
 /// Checks a capture, from its header to its end.

@@ -1,8 +1,7 @@
 //! The end of a check.
 
-ghost use Rattle.std.specs.Prelude.{◌≡◌, ◌<◌, ◌≤◌, ◌+◌, ◌^◌, ◌||◌, IfOk, IfSome, is_err};
+ghost use Rattle.std.specs.Prelude.{◌≡◌, ◌≤◌, ◌+◌, ◌^◌, ◌||◌, IfOk, IfSome, is_err};
 ghost use Rattle.mq_count.specs.Streams.{inner_of, has_failed};
-ghost use Rattle.mq_pcap.specs.Capture.{endless};
 ghost use Rattle.mq_replay.specs.Faults as spec;
 ghost use Rattle.mq_replay.specs.PuttingReports.{IsRestPut, end_of, rest_at};
 ghost use Rattle.mq_text.specs.Printing.{Puts, output_of};
@@ -39,8 +38,7 @@ where
         walked: Walked,
         writer: &mut Watched<W>,
     ) -> Result<Totals, CaptureFault>
-        requires few { walked.packets < endless }
-        requires in_range { IfSome self.old.terms.until (λ ms. ms ≤ 2 ^ 53) }
+        requires { IfSome self.old.terms.until (λ ms. ms ≤ 2 ^ 53) }
         ensures rest { IsRestPut
             (rest_at (λ end. ended_behind self.old.link.config self.old.terms.within self.old.told end (walked.packets + 1) (checked_in self.old.link self.old.queries))
             (end_of self.old.terms.until walked.last (walked.packets + 1)))

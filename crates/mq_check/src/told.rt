@@ -28,7 +28,7 @@ use std::marker::Model;
 /// The unwritten text of findings, their additions, the last differences, and the number of reported findings.
 #[derive(Drop)]
 pub(crate) struct Told {
-    buffer: Text,
+    pub(crate) buffer: Text,
     additions: Additions,
     last: LastDifferences,
     count: u64,
@@ -242,16 +242,5 @@ impl Told {
             return flush(&mut self.buffer, writer);
         }
         Ok(())
-    }
-
-    /// Writes the buffered text.
-    pub(crate) fn finish<W: Write>(&mut self, writer: &mut Watched<W>) -> Result<(), LineFault>
-        ensures text { Puts
-            (W.contents (inner_of writer.old)) (W.contents (inner_of writer.new))
-            self.old.held self.new.held [] result }
-        ensures empty { IfOk result (λ _. self.new.held ≡ []) }
-        ensures failed { has_failed writer.new ≡ has_failed writer.old || is_err result }
-    {
-        flush(&mut self.buffer, writer)
     }
 }

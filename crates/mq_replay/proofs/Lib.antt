@@ -2,6 +2,7 @@ pub mod ChangeTexts
 pub mod ChangedGroups
 pub mod EndLines
 pub mod EventLines
+pub mod Finished
 pub mod Growing
 pub mod Headers
 pub mod ListedOver

@@ -12,7 +12,7 @@ use Rattle.mq_text.specs.Printing.{Passes}
 use Rattle.mq_text.proofs.Passing.{both_passed, broken_behind, nothing_passed}
 use Rattle.mq_replay.specs.declared.capture_fault.CaptureFault.{CaptureFault}
 use Rattle.mq_replay.specs.declared.capture_fault.CaptureFault.TheVariants as answer
-use Rattle.mq_replay.specs.declared.walking.Walked.{Walked}
+use Rattle.mq_replay.specs.declared.walked.Walked.{Walked}
 use Rattle.mq_replay.specs.Faults.{is_failed_write}
 use Rattle.mq_replay.specs.Listing.{AreLines, IsEndedBy, IsListing, place_text}
 use Rattle.mq_replay.specs.PlacedPackets.{Place, PlacedPacket, at_first, place_behind, placed}

@@ -13,7 +13,7 @@ use Rattle.mq_text.proofs.Passing.{both_passed, broken_behind, nothing_passed}
 use Rattle.mq_replay.specs.declared.asked.Asked.{Asked}
 use Rattle.mq_replay.specs.declared.capture_fault.CaptureFault.{CaptureFault}
 use Rattle.mq_replay.specs.declared.capture_fault.CaptureFault.TheVariants as answer
-use Rattle.mq_replay.specs.declared.walking.Walked.{Walked}
+use Rattle.mq_replay.specs.declared.walked.Walked.{Walked}
 use Rattle.mq_replay.specs.Courses.{Report}
 use Rattle.mq_replay.specs.PlacedPackets.{PlacedPacket}
 use Rattle.mq_replay.specs.PuttingReports.{IsRestPut, PutsReport, end_of, rest_at}

@@ -11,7 +11,7 @@ use Rattle.mq_text.specs.Printing.{GrowsByBeginning, OutputState, Passes}
 use Rattle.mq_text.proofs.Passing.{both_passed, broken_behind, nothing_passed}
 use Rattle.mq_replay.specs.declared.capture_fault.CaptureFault.{CaptureFault}
 use Rattle.mq_replay.specs.declared.capture_fault.CaptureFault.TheVariants as answer
-use Rattle.mq_replay.specs.declared.walking.Walked.{Walked}
+use Rattle.mq_replay.specs.declared.walked.Walked.{Walked}
 use Rattle.mq_replay.specs.Courses.{Course, Report, Work, broken_off, course_of, last_moment, packets_text, report_in, report_of, reported, with_packets}
 use Rattle.mq_replay.specs.Faults.{is_failed_write}
 use Rattle.mq_replay.specs.PlacedPackets.{Place, PlacedPacket, at_first, is_gap, place_behind, placed}

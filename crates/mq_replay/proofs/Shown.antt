@@ -1,33 +1,51 @@
 -- A capture whose header was read, and what `show` comes to.
-use Rattle.std.proofs.Common.{◌≡◌, ℕ, false, List, [], ◌++◌, Option, Some, Result, Ok, Err, refl, subst, append-nil, arith}
+use Rattle.std.proofs.Common.{◌≡◌, ℕ, Bool, true, false, List, [], Option, Some, Result, Ok, Err, refl, sym, subst, inl, inr, arith}
 use Rattle.std.proofs.KnownBytes.{Appends-nil}
 use Rattle.mq_pcap.specs.declared.fault.PcapFault.TheVariants as fault
 use Rattle.mq_pcap.specs.Filling.{InputState}
 use Rattle.mq_pcap.proofs.Filled.{Takes-nil}
-use Rattle.mq_text.specs.Printing.{GrowsByBeginning, Passes}
-use Rattle.mq_text.proofs.Passing.{broken_behind}
+use Rattle.std.specs.Io.KnownBytes.{Appends}
+use Rattle.mq_text.specs.Printing.{OutputState, Passes}
 use Rattle.mq_replay.specs.declared.capture_fault.CaptureFault.{CaptureFault}
 use Rattle.mq_replay.specs.declared.capture_fault.CaptureFault.TheVariants as answer
 use Rattle.mq_replay.specs.Faults.{is_failed_write}
-use Rattle.mq_replay.specs.Listing.{Shows}
+use Rattle.mq_replay.specs.Finishing.{Finishes, FinishesBy}
+use Rattle.mq_replay.specs.Listing.{IsEndedBy, IsWritten, Shows}
 use Rattle.mq_replay.specs.Putting.{IsPut, PutsListing}
+use Rattle.mq_replay.proofs.Finished.{all_written, begun_text}
 use Rattle.mq_replay.proofs.Headers.{cut_header}
 
--- the listing was put, and the rest of it was not written whole
-put_passed : (before after : Option (List ℕ)) (held left text : List ℕ) (r : Result ℕ CaptureFault) → is_failed_write r ≡ false →
-    IsPut before after held left text r → Passes before after held left text
-put_passed before after held left text (Ok count) unlike put = put
-put_passed before after held left text (Err (answer.Pcap f)) unlike put = put
-put_passed before after held left text (Err answer.Write) unlike put = absurd (cc)
-put_passed before after held left text (Err (answer.Gap number)) unlike put = put
-put_passed before after held left text (Err (answer.Waiting number)) unlike put = put
-put_passed before after held left text (Err answer.Memory) unlike put = put
+-- without a failed write, what was put passed, and what is written whole is written
+without_failure : (r : Result ℕ CaptureFault) (before mid after : Option (List ℕ)) (held left text : List ℕ) → is_failed_write r ≡ false
+    → IsPut before mid held left text r → Passes before mid held left text × (Appends before after text → IsWritten before after text r)
+without_failure (Ok count) before mid after held left text unlike put = (put, λ all. all)
+without_failure (Err (answer.Pcap f)) before mid after held left text unlike put = (put, λ all. all)
+without_failure (Err answer.Write) before mid after held left text unlike put = absurd (cc)
+without_failure (Err (answer.Gap number)) before mid after held left text unlike put = (put, λ all. all)
+without_failure (Err (answer.Waiting number)) before mid after held left text unlike put = (put, λ all. all)
+without_failure (Err answer.Memory) before mid after held left text unlike put = (put, λ all. all)
 
-pub not_flushed : (old new : InputState) (before mid after : Option (List ℕ)) (held left : List ℕ) (r : Result ℕ CaptureFault) → held ≡ [] →
-    is_failed_write r ≡ false
-    → PutsListing old new before mid held left r → GrowsByBeginning mid after (left ++ []) → Shows old new before after (Err answer.Write)
-not_flushed old new before mid after held left r none unlike puts begun =
-    record {
+-- a prefix was written where a write failed
+by_failure : (r : Result ℕ CaptureFault) (before after : Option (List ℕ)) (left text : List ℕ) → is_failed_write r ≡ true
+    → IsPut before after [] left text r → IsWritten before after text r
+by_failure (Ok count) before after left text is put = absurd (cc)
+by_failure (Err (answer.Pcap f)) before after left text is put = absurd (cc)
+by_failure (Err answer.Write) before after left text is put = put
+by_failure (Err (answer.Gap number)) before after left text is put = absurd (cc)
+by_failure (Err (answer.Waiting number)) before after left text is put = absurd (cc)
+by_failure (Err answer.Memory) before after left text is put = absurd (cc)
+
+-- the listing was put, and then the rest of it was written unless a write failed
+pub shown : (old new : InputState) (before : Option (List ℕ)) (mid after : OutputState) (held left rest : List ℕ) (r r' : Result ℕ CaptureFault) → held ≡ [] →
+    PutsListing old new before mid.held held left r → Finishes r mid after left rest r' → Shows old new before after.held r'
+shown old new before mid after held left rest r r' none puts ends = by_kind (is_failed_write r) refl ends
+  where
+    put : IsPut before mid.held [] left puts.text r
+    put = subst (λ (h : List ℕ). IsPut before mid.held h left puts.text r) none puts.put
+
+    shows : (x : Result ℕ CaptureFault) → IsEndedBy puts.header puts.packets puts.end puts.bytes old new x → IsWritten before after.held puts.text x →
+        Shows old new before after.held x
+    shows x ended written = record {
       bytes = puts.bytes;
       header = puts.header;
       packets = puts.packets;
@@ -36,10 +54,20 @@ not_flushed old new before mid after held left r none unlike puts begun =
       takes = puts.takes;
       capture = puts.capture;
       listing = puts.listing;
-      ended = tt;
-      written = subst (λ (text : List ℕ). GrowsByBeginning before after text) (rw none (append-nil puts.text))
-          (broken_behind before mid after held left puts.text [] (put_passed before mid held left puts.text r unlike puts.put) begun);
+      ended = ended;
+      written = written;
     }
+
+    by_kind : (b : Bool) → is_failed_write r ≡ b → FinishesBy b r mid after left rest r' → Shows old new before after.held r'
+    by_kind true is (same, unwritten, _) =
+        rw same (shows r puts.ended (subst (λ (o : OutputState). IsWritten before o.held puts.text r) (sym unwritten)
+        (by_failure r before mid.held left puts.text is put)))
+    by_kind false is (inl (same, _, _, written)) =
+        let whole = without_failure r before mid.held after.held [] left puts.text is put in
+        rw same (shows r puts.ended (whole.1 (all_written before mid.held after.held left puts.text whole.0 written)))
+    by_kind false is (inr (fails, _, begun)) =
+        let whole = without_failure r before mid.held after.held [] left puts.text is put in
+        rw fails (shows (Err answer.Write) tt (begun_text before mid.held after.held left puts.text whole.0 begun))
 
 -- nothing was taken and nothing written
 pub nothing_shown : (s : InputState) (before : Option (List ℕ)) → Shows s s before before (Err answer.Memory)

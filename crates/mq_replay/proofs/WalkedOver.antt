@@ -10,13 +10,13 @@ use Rattle.mq_pcap.specs.declared.form.Form.{Form}
 use Rattle.mq_pcap.specs.declared.link_type.LinkType.{LinkType}
 use Rattle.mq_pcap.specs.declared.reader_state.Packet.{Packet}
 use Rattle.mq_pcap.specs.declared.reader_state.PcapReader.{PcapReader}
-use Rattle.mq_pcap.specs.Capture.{Captured, AreRecords, endless, header_of, is_read}
+use Rattle.mq_pcap.specs.Capture.{Captured, AreRecords, header_of, is_read}
 use Rattle.mq_pcap.specs.Filling.{InputState, Takes}
 use Rattle.mq_pcap.specs.Reading.{Opens, Reads, form_of}
 use Rattle.mq_pcap.proofs.FileHeader.{header_of-append}
 use Rattle.mq_pcap.proofs.Filled.{Takes-nil, Takes-trans}
 use Rattle.mq_replay.specs.declared.stamps.Stamps.{Stamps}
-use Rattle.mq_replay.specs.declared.walking.Walked.{Walked}
+use Rattle.mq_replay.specs.declared.walked.Walked.{Walked}
 use Rattle.mq_replay.specs.Listing.{goes_back, moment_of}
 use Rattle.mq_replay.specs.PlacedPackets.{Place, PlacedPacket, at_first, place_behind, placed}
 use Rattle.mq_replay.specs.Walking.{EndsWalk, IsBrokenOff, IsEndedByFault, IsStopped, ReadCapture, StepsOver, Walks, WalksBehind}
@@ -113,11 +113,10 @@ place_as stamps stamps' moment number stamp are is_moment =
 
 module _ {X E : Type 0} (takes : PlacedPacket → X → X → Result Unit E → Type 0) (gives : PcapFault → E → Type 0) where
   -- the input ended
-  pub walked_well : (form : Form) (old mid new : InputState) (x x' : X) (first : Option ℕ) (last packets : ℕ) (buffer : List ℕ)
-      → IsWalkedTo takes form old mid x (record { first = first; before = last; number = packets + 1 }) x' → mid.failed ≡ old.failed →
-      packets < endless → Reads form (packets + 1) mid new buffer (Ok None)
-      → WalksBehind takes gives form old new x x' (Ok (record { packets = packets; last = last }))
-  walked_well form old mid new x x' first last packets buffer walked same few reads =
+  pub walked_well : (form : Form) (old mid new : InputState) (x x' : X) (first : Option ℕ) (w : Walked) (buffer : List ℕ)
+      → IsWalkedTo takes form old mid x (record { first = first; before = w.last; number = w.packets + 1 }) x' → mid.failed ≡ old.failed →
+      Reads form (w.packets + 1) mid new buffer (Ok None) → WalksBehind takes gives form old new x x' (Ok w)
+  walked_well form old mid new x x' first w buffer walked same reads =
       record {
         bytes = walked.bytes ++ reads.bytes;
         packets = walked.packets;
@@ -128,7 +127,6 @@ module _ {X E : Type 0} (takes : PlacedPacket → X → X → Result Unit E → 
           form = form;
           header = refl;
           end = refl;
-          few = few;
           at_end = reads.answers.1;
           failed = reads.failed ∙ or-false mid.failed ∙ same;
           first = first;
@@ -232,7 +230,6 @@ module _ {X E : Type 0} (takes : PlacedPacket → X → X → Result Unit E → 
         form = it.form;
         header = it.header;
         end = it.end;
-        few = it.few;
         at_end = it.at_end;
         failed = it.failed ∙
             same;

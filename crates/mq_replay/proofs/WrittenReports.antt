@@ -1,6 +1,6 @@
 -- The report of work over a capture was put: what the work comes to once what the buffer holds is written, or was not.
-use Rattle.std.proofs.Common.{◌≡◌, ◌⊎◌, ℕ, ◌+◌, Bool, true, false, if◌then◌else◌, List, [], ◌++◌, length, Option, None, Some, Result, Ok, Err, refl}
-use Rattle.std.proofs.Common.{ap, sym, subst, ◌∙◌, append-nil, length-append, inl, inr, arith}
+use Rattle.std.proofs.Common.{◌≡◌, ◌⊎◌, ℕ, ◌+◌, Bool, true, false, if◌then◌else◌, List, [], length, Option, None, Some, Result, Ok, Err, refl}
+use Rattle.std.proofs.Common.{ap, sym, subst, ◌∙◌, length-append, inl, inr, arith}
 use Rattle.std.proofs.KnownBytes.{Appends-nil}
 use Rattle.std.specs.Io.KnownBytes.{Appends, IsAtEnd}
 use Rattle.mq_pcap.specs.declared.fault.PcapFault.{PcapFault}
@@ -8,29 +8,18 @@ use Rattle.mq_pcap.specs.declared.fault.PcapFault.TheVariants as fault
 use Rattle.mq_pcap.specs.Capture.{is_read}
 use Rattle.mq_pcap.specs.Filling.{InputState}
 use Rattle.mq_pcap.proofs.Filled.{Takes-nil}
-use Rattle.mq_text.specs.Printing.{GrowsByBeginning, Passes}
-use Rattle.mq_text.proofs.Passing.{both_passed, broken_behind}
+use Rattle.mq_text.specs.Printing.{GrowsByBeginning, OutputState, Passes}
 use Rattle.mq_replay.specs.declared.capture_fault.CaptureFault.{CaptureFault}
 use Rattle.mq_replay.specs.declared.capture_fault.CaptureFault.TheVariants as answer
 use Rattle.mq_replay.specs.Courses.{Course, Report, Work, broken_off, course_of, last_moment, packets_text, report_in, reported}
 use Rattle.mq_replay.specs.Faults.{is_failed_write}
 use Rattle.mq_replay.specs.PlacedPackets.{is_gap}
-use Rattle.mq_replay.specs.PuttingReports.{IsPutBy, PutsReport, counted}
+use Rattle.mq_replay.specs.Finishing.{Finishes, FinishesBy}
+use Rattle.mq_replay.specs.PuttingReports.{IsPutBy, PutsReport}
 use Rattle.mq_replay.specs.Reports.{IsBrokenOffAt, IsEndedBy, IsEndedByFault, IsWrittenBy, Reports, text_by}
 use Rattle.mq_replay.specs.Walking.{ReadCapture}
+use Rattle.mq_replay.proofs.Finished.{all_written, begun_text}
 use Rattle.mq_replay.proofs.Headers.{cut_header}
-
--- what a buffer that held nothing passed on whole was written, or a beginning of it
-all_written : (before mid after : Option (List ℕ)) (left text : List ℕ) → Passes before mid [] left text → Passes mid after left [] [] →
-    Appends before after text
-all_written before mid after left text first second =
-    let both = both_passed before mid after [] left [] text [] first second in
-    subst (λ (t : List ℕ). Appends before after t) (sym (sym (append-nil text) ∙ both.parts ∙ append-nil both.written)) both.grows
-
-begun_text : (before mid after : Option (List ℕ)) (left text : List ℕ) → Passes before mid [] left text → GrowsByBeginning mid after (left ++ []) →
-    GrowsByBeginning before after text
-begun_text before mid after left text passed begun = subst (λ (t : List ℕ). GrowsByBeginning before after t) (append-nil text)
-    (broken_behind before mid after [] left text [] passed begun)
 
 -- of no text a part is left
 none_begun : (before after : Option (List ℕ)) → GrowsByBeginning before after [] → ⊥
@@ -39,14 +28,6 @@ none_begun before after begun = let some = begun.some_left in let parts = ap len
 
 abbrev one_of : {T : Type 0} → Bool → Report T → Report T → Report T
 one_of b x y = elim b [ true ↦ x | false ↦ y ]
-
-pub counted_write : {S T : Type 0} (value : T) (r : Result S CaptureFault) → is_failed_write (counted value r) ≡ is_failed_write r
-counted_write value (Ok x) = refl
-counted_write value (Err (answer.Pcap f)) = refl
-counted_write value (Err answer.Write) = refl
-counted_write value (Err (answer.Gap number)) = refl
-counted_write value (Err (answer.Waiting number)) = refl
-counted_write value (Err answer.Memory) = refl
 
 module _ {S T : Type 0} (work : Work S T) where
   -- what was put where no write failed
@@ -57,21 +38,20 @@ module _ {S T : Type 0} (work : Work S T) where
       (subst (λ (b : Bool). IsPutBy b work c new before mid held left r) unlike put)
 
   -- the report was put and the rest of it written
-  pub flushed : (old new : InputState) (before mid after : Option (List ℕ)) (held left rest : List ℕ) (r : Result T CaptureFault) → held ≡ [] → rest ≡ [] →
-      is_failed_write r ≡ false → PutsReport work old new before mid held left r → Passes mid after left rest [] → Reports work old new before after r
-  flushed old new before mid after held left rest r none empty unlike puts passed =
+  flushed : (old new : InputState) (before mid after : Option (List ℕ)) (held left : List ℕ) (r : Result T CaptureFault) → held ≡ [] →
+      is_failed_write r ≡ false → PutsReport work old new before mid held left r → Appends mid after left → Reports work old new before after r
+  flushed old new before mid after held left r none unlike puts rest =
       record {
         read = puts.read;
         takes = puts.takes;
         capture = puts.capture;
         ended = puts.ended;
         written = subst (λ (b : Bool). IsWrittenBy b work puts.read new before after r) (sym unlike)
-            (all_written before mid after left _ (put_whole puts.read new before mid held left r none unlike puts.put)
-            (subst (λ (h : List ℕ). Passes mid after left h []) empty passed));
+            (all_written before mid after left _ (put_whole puts.read new before mid held left r none unlike puts.put) rest);
       }
 
   -- a write failed before the end of the report
-  pub not_put : (old new : InputState) (before after : Option (List ℕ)) (held left : List ℕ) (r : Result T CaptureFault) → held ≡ [] →
+  not_put : (old new : InputState) (before after : Option (List ℕ)) (held left : List ℕ) (r : Result T CaptureFault) → held ≡ [] →
       is_failed_write r ≡ true → PutsReport work old new before after held left r → Reports work old new before after r
   not_put old new before after held left r none is puts =
       record {
@@ -163,8 +143,8 @@ module _ {S T : Type 0} (work : Work S T) where
               | inr waits ↦ absurd (cc waits.1)
             ]
 
-    pub not_flushed : (old new : InputState) (before mid after : Option (List ℕ)) (held left : List ℕ) (r : Result T CaptureFault) → held ≡ [] →
-        is_failed_write r ≡ false → PutsReport work old new before mid held left r → GrowsByBeginning mid after (left ++ []) →
+    not_flushed : (old new : InputState) (before mid after : Option (List ℕ)) (held left : List ℕ) (r : Result T CaptureFault) → held ≡ [] →
+        is_failed_write r ≡ false → PutsReport work old new before mid held left r → GrowsByBeginning mid after left →
         Reports work old new before after (Err answer.Write)
     not_flushed old new before mid after held left r none unlike puts begun =
         record {
@@ -175,3 +155,18 @@ module _ {S T : Type 0} (work : Work S T) where
           written = begun_of puts.read old new before after r unlike puts.ended
               (begun_text before mid after left _ (put_whole puts.read new before mid held left r none unlike puts.put) begun);
         }
+
+    -- the report was put, and then the rest of it was written unless a write failed
+    pub finished : (old new : InputState) (before : Option (List ℕ)) (mid after : OutputState) (held left rest : List ℕ) (r r' : Result T CaptureFault)
+        → held ≡ [] → PutsReport work old new before mid.held held left r → Finishes r mid after left rest r' → Reports work old new before after.held r'
+    finished old new before mid after held left rest r r' none puts ends = by_kind (is_failed_write r) refl ends
+      where
+        answered : {x : Result T CaptureFault} → r' ≡ x → Reports work old new before after.held x → Reports work old new before after.held r'
+        answered is = subst (Reports work old new before after.held) (sym is)
+
+        by_kind : (b : Bool) → is_failed_write r ≡ b → FinishesBy b r mid after left rest r' → Reports work old new before after.held r'
+        by_kind true is (same, unwritten, _) =
+            answered same (subst (λ (o : OutputState). Reports work old new before o.held r) (sym unwritten)
+            (not_put old new before mid.held held left r none is puts))
+        by_kind false is (inl (same, _, _, written)) = answered same (flushed old new before mid.held after.held held left r none is puts written)
+        by_kind false is (inr (fails, _, begun)) = answered fails (not_flushed old new before mid.held after.held held left r none is puts begun)

@@ -2,6 +2,7 @@ pub mod ChangeLines
 pub mod Courses
 pub mod Datagrams
 pub mod Faults
+pub mod Finishing
 pub mod Listing
 pub mod NamedSources
 pub mod PlacedPackets

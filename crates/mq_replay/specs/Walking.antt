@@ -1,12 +1,12 @@
 -- Walks over captures: a step receives each packet, in order, with its number and its moment.
-use Rattle.std.specs.Prelude.{◌≡◌, ◌⊎◌, ℕ, ◌+◌, ◌<◌, Bool, true, false, List, [], ◌∷◌, ◌++◌, Option, None, Some, Result, Ok, Err}
+use Rattle.std.specs.Prelude.{◌≡◌, ◌⊎◌, ℕ, ◌+◌, Bool, true, false, List, [], ◌∷◌, ◌++◌, Option, None, Some, Result, Ok, Err}
 use Rattle.std.specs.Io.KnownBytes.{IsAtEnd}
 use Rattle.mq_pcap.specs.declared.fault.PcapFault.{PcapFault}
 use Rattle.mq_pcap.specs.declared.form.Form.{Form}
 use Rattle.mq_pcap.specs.declared.link_type.LinkType.{LinkType}
-use Rattle.mq_pcap.specs.Capture.{Captured, Captures, AreRecords, endless, is_read}
+use Rattle.mq_pcap.specs.Capture.{Captured, Captures, AreRecords, is_read}
 use Rattle.mq_pcap.specs.Filling.{InputState, Takes}
-use Rattle.mq_replay.specs.declared.walking.Walked.{Walked}
+use Rattle.mq_replay.specs.declared.walked.Walked.{Walked}
 use Rattle.mq_replay.specs.declared.capture_fault.CaptureFault.{CaptureFault}
 use Rattle.mq_replay.specs.declared.capture_fault.CaptureFault.TheVariants.{Gap}
 use Rattle.mq_replay.specs.Listing.{IsOfTheFile}
@@ -37,7 +37,6 @@ pub record IsWalked {X E : Type 0} (takes : PlacedPacket → X → X → Result 
   pub form : Form
   pub header : c.header ≡ Ok form
   pub end : c.end ≡ None
-  pub few : w.packets < endless
   pub at_end : IsAtEnd new.ahead
   pub failed : new.failed ≡ old.failed
   pub first : Option ℕ

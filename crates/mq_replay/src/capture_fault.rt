@@ -51,7 +51,7 @@ impl From<LineFault> for CaptureFault {
 }
 
 /// Returns whether work on a capture ended because a write failed.
-pub fn is_failed_write<T>(answer: &Result<T, CaptureFault>) -> bool
+pub(crate) fn is_failed_write<T>(answer: &Result<T, CaptureFault>) -> bool
     ensures { result ≡ spec.is_failed_write answer.now }
 {
     matches!(answer, Err(CaptureFault::Write))

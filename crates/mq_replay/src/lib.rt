@@ -1,7 +1,7 @@
 //! The printed text of captures: their listings, and their replays on a link.
 //!
 //! - The listing of a capture: `show`. Its replay on a link: `replay`, with a request `Asked`.
-//! - The reason why work on a capture ended early: `CaptureFault`, `is_failed_write`.
+//! - The reason why work on a capture ended early: `CaptureFault`. The end of work that writes: `finish`.
 //! - The families whose datagrams captures carry: `CapturedFamily`, `CapturedDatagram`.
 //! - A walk over a capture: `walk`, with a `Step` for each packet. A walk that a gap ends: `UpToGap`, with a `GaplessStep`.
 //! - The packets of a capture: `NumberedPacket`. Their moments: `Stamp`, `Stamps` and `first_moment`.
@@ -14,6 +14,7 @@ mod change_lines;
 mod change_pieces;
 mod ending;
 mod events;
+mod finishing;
 mod group_line;
 mod hexadecimal;
 mod listing;
@@ -29,14 +30,17 @@ mod stamp;
 mod stamps;
 mod ticks;
 mod waiting;
+mod walked;
 mod walking;
 
 pub use asked::Asked;
-pub use capture_fault::{CaptureFault, is_failed_write};
+pub use capture_fault::CaptureFault;
 pub use captured_family::{CapturedDatagram, CapturedFamily};
+pub use finishing::finish;
 pub use listing::{show, show_in};
 pub use numbered_packet::NumberedPacket;
 pub use replaying::{replay, replay_in};
 pub use stamp::Stamp;
 pub use stamps::{Stamps, first_moment};
-pub use walking::{GaplessStep, Step, UpToGap, Walked, walk};
+pub use walked::Walked;
+pub use walking::{GaplessStep, Step, UpToGap, walk};

@@ -12,7 +12,8 @@ ghost use Rattle.mq_replay.specs.Faults as spec;
 ghost use Rattle.mq_replay.specs.Listing.{Shows, place_text};
 ghost use Rattle.mq_replay.specs.Putting.{PutsListing, PutsPacket, PutsSaid};
 
-use crate::capture_fault::{CaptureFault, is_failed_write};
+use crate::capture_fault::CaptureFault;
+use crate::finishing::finish;
 use crate::numbered_packet::NumberedPacket;
 use crate::waiting::write_before_wait;
 use crate::walking::{Step, walk};
@@ -20,7 +21,7 @@ use mq_arena::{OfAllocator, VectorSource, filled};
 use mq_count::Watched;
 use mq_lines::{LineKey, put_address, put_igmp, put_mld};
 use mq_pcap::{GREATEST_PACKET, Inner, Supply, unwrap_frame};
-use mq_text::{LineFault, Text, flush, make_room, put, put_decimal};
+use mq_text::{LineFault, Text, make_room, put, put_decimal};
 use std::alloc::{AllocError, Allocator};
 use std::io::{Read, Write};
 
@@ -84,11 +85,7 @@ fn show_by<S: Supply, R: Read, W: Write>(
         buffer: Text::new(),
     };
     let answer = put_listing(&mut listing, packet, supply, reader, writer);
-    if is_failed_write(&answer) {
-        return answer;
-    }
-    flush(&mut listing.buffer, writer)?;
-    answer
+    finish(answer, &mut listing.buffer, writer)
 }
 
 /// A listing in progress: the text that isn't written yet.

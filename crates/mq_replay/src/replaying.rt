@@ -1,13 +1,13 @@
 //! The replay of a capture.
 
-ghost use Rattle.std.specs.Prelude.{◌≡◌, ◌<◌, ◌≤◌, ◌+◌, ◌^◌, ◌||◌, [], length, IfSome};
+ghost use Rattle.std.specs.Prelude.{◌≡◌, ◌≤◌, ◌+◌, ◌^◌, ◌||◌, [], length, IfSome};
 ghost use Rattle.std.specs.contracts.vec.Vec as page;
 ghost use denote.Builtin.{u16};
 ghost use Rattle.mq_arena.specs.Vectors.{Takes, bytes_for};
 ghost use Rattle.mq_count.specs.Streams.{inner_of, has_failed};
 ghost use Rattle.mq_link.specs.Sizes.{bytes_of_link, bytes_of_workspace};
 ghost use Rattle.mq_link.specs.State.{link_at};
-ghost use Rattle.mq_pcap.specs.Capture.{endless, most_bytes};
+ghost use Rattle.mq_pcap.specs.Capture.{most_bytes};
 ghost use Rattle.mq_pcap.specs.Filling.{input_of};
 ghost use Rattle.mq_replay.specs.Faults as spec;
 ghost use Rattle.mq_replay.specs.PuttingReports.{IsRestPut, PutsReport, counted, end_of, rest_at};
@@ -16,18 +16,19 @@ ghost use Rattle.mq_replay.specs.Report.{ended_at, replay_of};
 ghost use Rattle.mq_replay.specs.Steps.{begun_with};
 
 use crate::asked::Asked;
-use crate::capture_fault::{CaptureFault, is_failed_write};
+use crate::capture_fault::CaptureFault;
 use crate::captured_family::CapturedFamily;
 use crate::ending::put_ending;
+use crate::finishing::finish;
 use crate::running_replay::Replay;
 use crate::stamps::first_moment;
-use crate::walking::{UpToGap, Walked, walk};
+use crate::walked::Walked;
+use crate::walking::{UpToGap, walk};
 use mq_arena::{OfAllocator, VectorSource, filled};
 use mq_count::Watched;
 use mq_lines::LineKey;
 use mq_link::{Config, Counts, Link};
 use mq_pcap::{GREATEST_PACKET, Supply};
-use mq_text::flush;
 use std::alloc::{AllocError, Allocator};
 use std::io::{Read, Write};
 
@@ -128,11 +129,7 @@ where
     ensures no_memory { result ≡ Err CaptureFault.Memory → ⊥ }
 {
     let answer = put_replay(replay, packet, supply, reader, writer);
-    if is_failed_write(&answer) {
-        return answer;
-    }
-    flush(&mut replay.steps.buffer, writer)?;
-    answer
+    finish(answer, &mut replay.steps.buffer, writer)
 }
 
 /// Puts the lines of a capture.
@@ -168,8 +165,7 @@ fn put_rest<F: CapturedFamily, A: Allocator, W: Write>(
 ) -> Result<(), CaptureFault>
 where
     F::Address: LineKey,
-    requires few { walked.packets < endless }
-    requires in_range { IfSome replay.old.asked.until (λ moment. moment ≤ 2 ^ 53) }
+    requires { IfSome replay.old.asked.until (λ moment. moment ≤ 2 ^ 53) }
     ensures rest { IsRestPut
         (rest_at (λ end. ended_at replay.old.link.config end (begun_with replay.old.asked.changes replay.old.link.state))
         (end_of replay.old.asked.until walked.last (walked.packets + 1)))

@@ -1,49 +1,20 @@
 //! Walks over captures.
 
-ghost use Rattle.std.specs.Prelude.{◌≡◌, ◌<◌, ◌≤◌, ◌+◌, ◌^◌, IfSome, length};
+ghost use Rattle.std.specs.Prelude.{◌≡◌, ◌≤◌, length};
 ghost use Rattle.mq_pcap.specs.declared.reader_state.Progress.TheVariants.{Reading};
-ghost use Rattle.mq_pcap.specs.Capture.{endless, most_bytes};
+ghost use Rattle.mq_pcap.specs.Capture.{most_bytes};
 ghost use Rattle.mq_pcap.specs.Filling.{input_of};
 ghost use Rattle.mq_pcap.specs.Reading.{form_of, number_of, progress_of};
-ghost use Rattle.mq_replay.specs.PuttingReports.{end_of};
 ghost use Rattle.mq_replay.specs.Walking.{Walks, WalksBehind};
 
 use crate::capture_fault::CaptureFault;
-use crate::ending::{is_gap, last_moment};
 use crate::numbered_packet::NumberedPacket;
 use crate::stamp::Stamp;
 use crate::stamps::Stamps;
+use crate::walked::Walked;
 use mq_count::Watched;
 use mq_pcap::{PcapFault, PcapReader, Supply};
 use std::io::Read;
-
-/// The end of a walk over a capture.
-#[derive(Clone, Copy)]
-pub struct Walked {
-    /// The number of packets.
-    pub packets: u64,
-    /// The moment of the last packet, or 0.
-    pub last: Stamp,
-}
-
-impl Walked {
-    /// Returns the moment of the end of the work: that of the last packet, or the requested one if it is later. Fails if
-    /// a gap is before it.
-    pub fn end(&self, until: Option<u64>) -> Result<Stamp, CaptureFault>
-        requires few { self.now.packets < endless }
-        requires in_range { IfSome until (λ ms. ms ≤ 2 ^ 53) }
-        ensures { result ≡ end_of until self.now.last (self.now.packets + 1) }
-    {
-        let end = last_moment(until, self.last);
-        let last = self.last.moment();
-        if is_gap(last, end.moment()) {
-            return Err(CaptureFault::Gap {
-                number: self.packets + 1,
-            });
-        }
-        Ok(end)
-    }
-}
 
 /// A receiver of the packets of a capture, in order, with an output.
 pub trait Step<O> {

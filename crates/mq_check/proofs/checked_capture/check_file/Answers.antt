@@ -39,10 +39,7 @@ rest-requires g c =
     let same = kept g.F.Address.LineKey.family
     (λ x. record { link = x.0.link; queries = x.0.queries; terms = x.0.terms; told = x.0.told; output = output_of g.W.Write.contents x.1 })
     (λ y. (y.0.steps, y.1)) _ _ _ _ family c.requires.told c.requires.starts c.in_ok-walked.walked c.in_ok-walked.ensures in
-    record {
-      few = c.in_ok-walked.ensures.ended.few;
-      in_range = subst (λ (t : CheckTerms). IfSome t.until (λ ms. ms ≤ 2 ^ 53)) (sym same.0) c.requires.in_range;
-    }
+    subst (λ (t : CheckTerms). IfSome t.until (λ ms. ms ≤ 2 ^ 53)) (sym same.0) c.requires.in_range
 
 pub returns-clause-puts : goal.returns-clause-puts
 returns-clause-puts g c =

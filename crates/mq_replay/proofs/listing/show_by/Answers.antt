@@ -1,10 +1,13 @@
-use Rattle.std.proofs.Common.{sym, ◌∙◌}
-use Rattle.std.proofs.lemmas.Result.{err_from_is_err_and}
-use Rattle.mq_replay.proofs.Shown.{not_flushed}
+use Rattle.mq_count.specs.Streams.{has_failed}
+use Rattle.mq_replay.proofs.Finished.{failed_end, granted_end}
+use Rattle.mq_replay.proofs.Shown.{shown}
 use Rattle.mq_replay.proofs.listing.show_by.Goals as goal
 
-pub returns-in_err-flush-clause-shows : goal.returns-in_err-flush-clause-shows
-returns-in_err-flush-clause-shows g c =
-    let p = err_from_is_err_and c.from_residual.result c.from_residual.ensures.1 in
-    rw (p.1, p.2) (not_flushed _ _ _ _ _ _ _ _ c.new.ensures (sym c.is_failed_write.ensures ∙ c.if-is_failed_write.false)
-    c.put_listing-answer.ensures.puts c.in_err-flush.ensures.text)
+pub returns-clause-shows : goal.returns-clause-shows
+returns-clause-shows g c = shown _ _ _ _ _ _ _ _ _ _ c.new.ensures c.put_listing-answer.ensures.puts c.finish.ensures
+
+pub returns-clause-failed : goal.returns-clause-failed
+returns-clause-failed g c = failed_end _ _ _ _ _ _ (has_failed c.args.writer.now) c.finish.ensures c.put_listing-answer.ensures.failed
+
+pub returns-clause-no_memory : goal.returns-clause-no_memory
+returns-clause-no_memory g c = granted_end _ _ _ _ _ _ c.finish.ensures c.put_listing-answer.ensures.no_memory

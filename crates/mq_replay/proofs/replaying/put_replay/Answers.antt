@@ -29,11 +29,8 @@ returns-in_err-walked-clause-no_memory g c =
     (λ x. record { link = x.0.link; asked = x.0.asked; held = x.0.buffer.items; output = output_of g.W.Write.contents x.1 })
     (λ y. (y.0.steps, y.1)) _ _ _ _ c.requires.starts _ c.in_err-walked.ensures).2 (ap (fault_or c.in_err-walked.field-0.0) is))
 
-pub put_rest-requires-clause-few : goal.put_rest-requires-clause-few
-put_rest-requires-clause-few g c = c.in_ok-walked.ensures.ended.few
-
-pub put_rest-requires-clause-in_range : goal.put_rest-requires-clause-in_range
-put_rest-requires-clause-in_range g c =
+pub put_rest-requires : goal.put_rest-requires
+put_rest-requires g c =
     let same = kept (λ x. record { link = x.0.link; asked = x.0.asked; held = x.0.buffer.items; output = output_of g.W.Write.contents x.1 })
     (λ y. (y.0.steps, y.1)) _ _ _ _ c.requires.starts c.in_ok-walked.walked c.in_ok-walked.ensures in
     subst (λ (a : Asked). IfSome a.until (λ moment. moment ≤ 2 ^ 53)) (sym same.0) c.requires.in_range

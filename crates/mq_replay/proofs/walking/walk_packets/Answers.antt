@@ -86,8 +86,8 @@ returns g c =
     let now = c.loop-read.invariant in
     let answered = ap Ok (none_left _ c.in_default.not-Some) in
     let read = read_as _ _ _ _ _ _ _ _ _ now.form now.next answered (c.in_ok-read.ensures.reads now.reading) in
-    walked_well _ _ _ _ _ _ _ _ _ _ _ _
+    walked_well _ _ _ _ _ _ _ _ _ _ _
     (subst (λ (m : ℕ). IsWalkedTo g.T.Step.takes (form_of c.args.capture.now) (input_of g.R.Read.remaining c.args.reader.now)
     (input_of g.R.Read.remaining c.loop-read.reader)
     (c.args.steps.now, c.args.output.now) (record { first = c.loop-read.stamps.first; before = m; number = c.loop-read.packets + 1 })
-    (c.loop-read.steps, c.loop-read.output)) (sym now.last) now.walked) now.read now.few read
+    (c.loop-read.steps, c.loop-read.output)) (sym now.last) now.walked) now.read read
