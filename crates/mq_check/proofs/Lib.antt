@@ -2,6 +2,7 @@ pub mod Announcing
 pub mod Bases
 pub mod CheckedOver
 pub mod CheckedPackets
+pub mod CheckedTo
 pub mod EndedChecks
 pub mod Entering
 pub mod Excusing

@@ -11,6 +11,7 @@ pub mod PrintedQueries
 pub mod ReadSoFar
 pub mod ReplayTexts
 pub mod ReplayedOver
+pub mod ReplayedTo
 pub mod ReportedOver
 pub mod Rooms
 pub mod Shown

@@ -4,6 +4,7 @@
 //! - The reason why work on a capture ended early: `CaptureFault`, `is_failed_write`.
 //! - The families whose datagrams captures carry: `CapturedFamily`, `CapturedDatagram`.
 //! - A walk over a capture: `walk`, with a `Step` for each packet. A walk that a gap ends: `UpToGap`, with a `GaplessStep`.
+//! - The ticks between packets: `tick_before`, with a `TickStep` for each tick.
 //! - The packets of a capture: `NumberedPacket`. Their moments: `Stamp`, `Stamps` and `first_moment`.
 #![tactic(auto)]
 
@@ -39,4 +40,5 @@ pub use numbered_packet::NumberedPacket;
 pub use replaying::{replay, replay_in};
 pub use stamp::Stamp;
 pub use stamps::{Stamps, first_moment};
+pub use ticks::{TickStep, tick_before};
 pub use walking::{GaplessStep, Step, UpToGap, Walked, walk};
