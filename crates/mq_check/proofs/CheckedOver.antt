@@ -186,14 +186,10 @@ module _ {X : Type 0} (family : Family) (state : X → CheckState) where
   abbrev held : X → List ℕ
   held x = (state x).told.held
 
-  -- the code has come to an outcome
-  abbrev IsAt : Configuration → CheckTerms → ToldState → OutputState → Outcome → X → Type 0
-  IsAt config terms start before o x = IsCheckedAt family state config terms start before o x
-
   module _ (config : Configuration) (terms : CheckTerms) (start : ToldState) (before : OutputState)
       (is_family : family ≡ config.family) (is_new : start ≡ nothing_told terms.additions) where
-    passed_at : (o : Outcome) (x : X) → IsAt config terms start before o x →
-        IsPassed (check_of config terms) (IsAt config terms start before) out held before start.held o x
+    passed_at : (o : Outcome) (x : X) → IsCheckedAt family state config terms start before o x →
+        IsPassed (check_of config terms) (IsCheckedAt family state config terms start before) out held before start.held o x
     passed_at o x at = (
       lines_passed {E = Unit} config terms family o.found start (state x).told before (out x) is_family (ap (λ (t : ToldState). t.additions) is_new)
           (ap (λ (t : ToldState). t.last) is_new) at.tells,
@@ -204,13 +200,13 @@ module _ {X : Type 0} (family : Family) (state : X → CheckState) where
     abbrev one : PlacedPacket → Configuration → (within : ℕ) → Checked → Outcome
     one packet k within r = with_packet k packet.link within packet.moment packet.number packet.goes_back packet.frame r
 
-    come_there : (packet : PlacedPacket) (o : Outcome) (x x' : X) → IsAt config terms start before o x
+    come_there : (packet : PlacedPacket) (o : Outcome) (x x' : X) → IsCheckedAt family state config terms start before o x
         → ChecksPacket {E = Unit} family packet (state x) (state x') (Ok tt)
-        → IsAt config terms start before ((check_of config terms).step packet o) x'
+        → IsCheckedAt family state config terms start before ((check_of config terms).step packet o) x'
     come_there packet o x x' at step = come_on family state (one packet) config terms start before o x x' at step
 
-    stepped_at : (packet : PlacedPacket) (o : Outcome) (x x' : X) (it : Result Unit CaptureFault) → IsAt config terms start before o x →
-        takes packet x x' it → IsStepped (check_of config terms) (IsAt config terms start before) out held before start.held packet o x' it
+    stepped_at : (packet : PlacedPacket) (o : Outcome) (x x' : X) (it : Result Unit CaptureFault) → IsCheckedAt family state config terms start before o x →
+        takes packet x x' it → IsStepped (check_of config terms) (IsCheckedAt family state config terms start before) out held before start.held packet o x' it
     stepped_at packet o x x' (Ok u) at step =
         let next = come_there packet o x x' at step.0 in (next, ap (λ (r : Checked). r.checking.waiting.is_full) (sym next.checked) ∙ step.1)
     stepped_at packet o x x' (Err (answer.Waiting number)) at step =
@@ -243,7 +239,7 @@ module _ {X : Type 0} (family : Family) (state : X → CheckState) where
     before = out (inner y)
 
     abbrev Is : Outcome → X → Type 0
-    Is o x = IsAt config terms start before o x
+    Is o x = IsCheckedAt family state config terms start before o x
 
     here : Is (quiet (at_the_start config terms.within terms.strict)) (inner y)
     here = record { checked = starts; same_config = refl; same_terms = refl; tells = none_told family start before tt }

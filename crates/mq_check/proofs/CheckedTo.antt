@@ -80,7 +80,7 @@ module _ {X : Type 0} (family : Family) (state : X → CheckState) where
         }
 
   -- the ticks before a limit
-  module _ {E : Type 0} (limit : ℕ) (x x' : X) where
+  module _ (limit : ℕ) (x x' : X) where
     abbrev config : Configuration
     config = (state x).link.config
 
@@ -99,7 +99,7 @@ module _ {X : Type 0} (family : Family) (state : X → CheckState) where
     abbrev next_at : X → ℕ
     next_at y = next_of (state y).link.state
 
-    abbrev ticks : ℕ → X → X → Result Unit E → Type 0
+    abbrev ticks : {E : Type 0} → ℕ → X → X → Result Unit E → Type 0
     ticks moment y y' r = ChecksTick family moment (state y) (state y') r
 
     abbrev one_tick : ℕ → Configuration → (within : ℕ) → Checked → Outcome
@@ -111,8 +111,8 @@ module _ {X : Type 0} (family : Family) (state : X → CheckState) where
     same_next : (o : Outcome) (y : X) → Is o y → next_at y ≡ next_in o
     same_next o y at = ap (λ (r : Checked). next_of r.link) at.checked
 
-    ticked : (o : Outcome) (y y' : X) → Is o y → ticks (next_in o) y y' (Ok tt) → Is (tick o) y'
-    ticked o y y' at to = come_on (one_tick (next_in o)) config terms (state x).told (out x) o y y' at {E = E} to
+    ticked : {E : Type 0} (o : Outcome) (y y' : X) → Is o y → ticks {E = E} (next_in o) y y' (Ok tt) → Is (tick o) y'
+    ticked {E} o y y' at to = come_on (one_tick (next_in o)) config terms (state x).told (out x) o y y' at {E = E} to
 
     -- what is found by all ticks begins with what is found by some of them
     begins : (left : ℕ) (o : Outcome) → ticked_before next_in tick limit first ≡ ticked_within next_in tick left limit o →
@@ -124,10 +124,10 @@ module _ {X : Type 0} (family : Family) (state : X → CheckState) where
           within_behind left config terms.within limit o.found (quiet o.checked)),
     )
 
-    pub ticks_come : (it : Result Unit E) → TicksBefore next_at ticks limit x x' it →
+    pub ticks_come : {E : Type 0} (it : Result Unit E) → TicksBefore next_at ticks limit x x' it →
         ChecksTo family (ticked_before next_in tick limit first) (state x) (state x') it
-    ticks_come (Ok u) all =
-        let at = come_before next_in tick next_at ticks Is same_next ticked limit first x x' here all in
+    ticks_come {E} (Ok u) all =
+        let at = come_before next_in tick next_at (ticks {E = E}) Is same_next ticked limit first x x' here all in
         record {
           same_terms = at.same_terms;
           comes = record {
@@ -136,9 +136,9 @@ module _ {X : Type 0} (family : Family) (state : X → CheckState) where
             tells = told_as family _ (state x).told (state x').told (out x) (out x') at.tells;
           };
         }
-    ticks_come (Err e) some =
-        let stop : StopsBefore next_in tick next_at ticks Is same_next ticked limit first x' e =
-        stop_before next_in tick next_at ticks Is same_next ticked limit first x x' e here some in
+    ticks_come {E} (Err e) some =
+        let stop : StopsBefore next_in tick next_at (ticks {E = E}) Is same_next ticked limit first x' e =
+        stop_before next_in tick next_at (ticks {E = E}) Is same_next ticked limit first x x' e here some in
         let tells = both_told (one_tick (next_in stop.to)) config terms (state x).told (out x) stop.to stop.mid x' stop.is (Err e) stop.stops in
         let more = begins stop.left (tick stop.to) stop.same in
         record {

@@ -57,13 +57,9 @@ module _ {X : Type 0} (state : X → ReplayState) where
   abbrev held : X → List ℕ
   held x = (state x).held
 
-  -- the code has come to a replay
-  abbrev IsAt : Configuration → Asked → OutputState → List ℕ → Replayed → X → Type 0
-  IsAt config asked before first r x = IsReplayedAt state config asked before first r x
-
   module _ (config : Configuration) (asked : Asked) (before : OutputState) (first : List ℕ) where
-    passed_at : (r : Replayed) (x : X) → IsAt config asked before first r x →
-        IsPassed (replay_of config asked) (IsAt config asked before first) out held before first r x
+    passed_at : (r : Replayed) (x : X) → IsReplayedAt state config asked before first r x →
+        IsPassed (replay_of config asked) (IsReplayedAt state config asked before first) out held before first r x
     passed_at r x at = (at.passed, at.failed)
 
     -- the replay after a packet
@@ -73,8 +69,8 @@ module _ {X : Type 0} (state : X → ReplayState) where
     grows : (packet : PlacedPacket) (k : Configuration) (r : Replayed) → one packet k r ≡ behind r.text (one packet k (begun_with r.changes r.link))
     grows packet k r = next_packet k packet.moment packet.number (carried_in packet.link packet.frame) r
 
-    stepped_at : (packet : PlacedPacket) (r : Replayed) (x x' : X) (it : Result Unit CaptureFault) → IsAt config asked before first r x →
-        takes packet x x' it → IsStepped (replay_of config asked) (IsAt config asked before first) out held before first packet r x' it
+    stepped_at : (packet : PlacedPacket) (r : Replayed) (x x' : X) (it : Result Unit CaptureFault) → IsReplayedAt state config asked before first r x →
+        takes packet x x' it → IsStepped (replay_of config asked) (IsReplayedAt state config asked before first) out held before first packet r x' it
     stepped_at packet r x x' (Ok u) at step = (
       come_on state (one packet) (grows packet) config asked before first r x x' at {E = Unit}
           (packet_changes config packet.moment packet.number (carried_in packet.link packet.frame) r) step,
@@ -103,7 +99,7 @@ module _ {X : Type 0} (state : X → ReplayState) where
     first = held (inner y)
 
     abbrev Is : Replayed → X → Type 0
-    Is r x = IsAt config asked before first r x
+    Is r x = IsReplayedAt state config asked before first r x
 
     here : Is (at_the_start config asked.changes) (inner y)
     here = record {

@@ -1,5 +1,5 @@
 -- A replay in the code, and what it comes to by a step and by ticks.
-use Rattle.std.proofs.Common.{◌≡◌, ℕ, ◌<◌, Bool, true, ◌||◌, List, ◌++◌, Option, Result, Ok, Err, IfOk, refl, ap, sym, subst, ◌∙◌}
+use Rattle.std.proofs.Common.{◌≡◌, ℕ, ◌<◌, Bool, true, ◌||◌, List, ◌++◌, Result, Ok, Err, IfOk, refl, ap, sym, subst, ◌∙◌}
 use Rattle.std.proofs.Math.Bool.{or-false}
 use Rattle.mq_link.specs.Configuration.{Configuration}
 use Rattle.mq_link.specs.State.{LinkState}
@@ -74,7 +74,7 @@ module _ {X : Type 0} (state : X → ReplayState) where
     )
 
   -- the ticks before a limit
-  module _ {E : Type 0} (limit : ℕ) (x x' : X) where
+  module _ (limit : ℕ) (x x' : X) where
     abbrev config : Configuration
     config = (state x).link.config
 
@@ -87,7 +87,7 @@ module _ {X : Type 0} (state : X → ReplayState) where
     abbrev next_at : X → ℕ
     next_at y = next_of (state y).link.state
 
-    abbrev ticks : ℕ → X → X → Result Unit E → Type 0
+    abbrev ticks : {E : Type 0} → ℕ → X → X → Result Unit E → Type 0
     ticks moment y y' r = ReplaysTick moment (state y) (state y') r
 
     abbrev tick : ℕ → Configuration → Replayed → Replayed
@@ -99,8 +99,8 @@ module _ {X : Type 0} (state : X → ReplayState) where
     same_next : (r : Replayed) (y : X) → Is r y → next_at y ≡ next_in r
     same_next r y at = ap next_of (sym at.link_is)
 
-    ticked : (r : Replayed) (y y' : X) → Is r y → ticks (next_in r) y y' (Ok tt) → Is (tick_in config r) y'
-    ticked r y y' at to =
+    ticked : {E : Type 0} (r : Replayed) (y y' : X) → Is r y → ticks {E = E} (next_in r) y y' (Ok tt) → Is (tick_in config r) y'
+    ticked {E} r y y' at to =
         come_on (tick (next_in r)) (λ k s. next_tick k (next_in r) s) config (state x).asked (out x) (held x) r y y' at {E = E}
         (ticked_changes config (next_in r) r) to
 
@@ -113,17 +113,18 @@ module _ {X : Type 0} (state : X → ReplayState) where
           within_behind left config limit r.text (begun_with r.changes r.link)),
     )
 
-    pub ticks_put : (it : Result Unit E) → TicksBefore next_at ticks limit x x' it → ReplaysTo (ticked_before config limit start) (state x) (state x') it
-    ticks_put (Ok u) all =
-        let at = come_before next_in (tick_in config) next_at ticks Is same_next ticked limit start x x' here all in
+    pub ticks_put : {E : Type 0} (it : Result Unit E) → TicksBefore next_at ticks limit x x' it →
+        ReplaysTo (ticked_before config limit start) (state x) (state x') it
+    ticks_put {E} (Ok u) all =
+        let at = come_before next_in (tick_in config) next_at (ticks {E = E}) Is same_next ticked limit start x x' here all in
         record {
           same_asked = at.same_asked;
           puts = record { same_config = at.same_config; link = sym at.link_is; text = at.passed };
           failed = at.failed ∙ sym (or-false _);
         }
-    ticks_put (Err e) some =
-        let stop : StopsBefore next_in (tick_in config) next_at ticks Is same_next ticked limit start x' e =
-        stop_before next_in (tick_in config) next_at ticks Is same_next ticked limit start x x' e here some in
+    ticks_put {E} (Err e) some =
+        let stop : StopsBefore next_in (tick_in config) next_at (ticks {E = E}) Is same_next ticked limit start x' e =
+        stop_before next_in (tick_in config) next_at (ticks {E = E}) Is same_next ticked limit start x x' e here some in
         let moment = next_in stop.to in
         let broken = break_off (tick moment) (λ k s. next_tick k moment s) config (state x).asked (out x) (held x) stop.to stop.mid x' stop.is e stop.stops in
         let more = begins stop.left (tick_in config stop.to) stop.same in

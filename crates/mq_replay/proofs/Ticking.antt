@@ -17,16 +17,6 @@ module _ {S : Type 0} (next : S → ℕ) (tick : S → S) where
   one_within most limit s due =
       ap (λ b. elim b [ true ↦ ticked_within next tick most limit (tick s) | false ↦ s ]) (lt-ltb (next s) limit due)
 
-  -- what each tick keeps stays
-  pub kept_within : (P : S → Type 0) → ((s : S) → P s → P (tick s)) → (most limit : ℕ) (s : S) → P s → P (ticked_within next tick most limit s)
-  unfolding ticked_within
-  kept_within P keeps zero limit s is = is
-  kept_within P keeps (suc most) limit s is =
-      elim (nat_lt (next s) limit) as (λ b. P (elim b as (λ _. S) [ true ↦ ticked_within next tick most limit (tick s) | false ↦ s ])) [
-        | true ↦ kept_within P keeps most limit (tick s) (keeps s is)
-        | false ↦ is
-      ]
-
   -- A state has come to another one by ticks before a limit, and there are as many left as may be to come.
   pub record IsTickedTo (limit : ℕ) (from to : S) : Type 0 where
     pub left : ℕ
@@ -53,6 +43,14 @@ through_within next tick next' tick' f same_next same_tick (suc most) limit s =
       | true ↦ ap (ticked_within next' tick' most limit) (same_tick s) ∙ through_within next tick next' tick' f same_next same_tick most limit (tick s)
       | false ↦ refl
     ]
+
+-- what each tick keeps stays
+pub kept_within : {S : Type 0} (next : S → ℕ) (tick : S → S) (P : S → Type 0) → ((s : S) → P s → P (tick s)) → (most limit : ℕ) (s : S) → P s →
+    P (ticked_within next tick most limit s)
+kept_within {S} next tick P keeps most limit s is =
+    let tick' : (u : S) × P u → (u : S) × P u = λ u. (tick u.0, keeps u.0 u.1) in
+    subst P (sym (through_within (λ u. next u.0) tick' next tick (λ u. u.0) (λ u. refl) (λ u. refl) most limit (s, is)))
+    (ticked_within (λ u. next u.0) tick' most limit (s, is)).1
 
 -- Ticks in the code do what a definition says of each, to states that the code has come to.
 module _ {S X E : Type 0} (next : S → ℕ) (tick : S → S) (next_in : X → ℕ) (ticks : ℕ → X → X → Result Unit E → Type 0) (Is : S → X → Type 0)

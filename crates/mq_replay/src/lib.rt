@@ -14,7 +14,6 @@ mod captured_family;
 mod change_lines;
 mod change_pieces;
 mod ending;
-mod events;
 mod group_line;
 mod hexadecimal;
 mod listing;

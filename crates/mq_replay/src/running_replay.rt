@@ -8,9 +8,10 @@ ghost use Rattle.mq_replay.specs.Steps.{PutsReplayed, begun_with};
 use crate::asked::Asked;
 use crate::capture_fault::CaptureFault;
 use crate::captured_family::CapturedFamily;
-use crate::events::tick_at;
+use crate::change_lines::put_changes;
 use crate::numbered_packet::NumberedPacket;
 use crate::one_packet::replay_packet;
+use crate::sent_queries::tick;
 use crate::ticks::{TickStep, tick_before};
 use crate::waiting::write_before_wait;
 use crate::walking::GaplessStep;
@@ -87,9 +88,11 @@ where
     }
 
     fn tick_at(&mut self, moment: Moment, output: &mut Watched<W>) -> Result<(), LineFault> {
+        self.link.config().is_faultless();
         self.link.is_well_formed();
-        tick_at(
-            &mut self.link,
+        tick(&mut self.link, moment, &mut self.buffer, output)?;
+        put_changes(
+            &self.link,
             moment,
             self.asked.changes,
             &mut self.buffer,
