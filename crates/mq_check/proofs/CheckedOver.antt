@@ -20,15 +20,14 @@ use Rattle.mq_check.specs.declared.totals.Totals.{Totals}
 use Rattle.mq_check.specs.Check.{Checked, Outcome, at_the_start, behind, check_of, concluded, ended_at, found_text, looked_ahead, quiet, settled_through}
 use Rattle.mq_check.specs.Check.{totals_of, with_packet}
 use Rattle.mq_check.specs.Checking.{CheckingValue, counted_up, told_at_end}
-use Rattle.mq_check.specs.Coming.{CheckState, ChecksPacket, TakesChecked, checked_in}
+use Rattle.mq_check.specs.Coming.{CheckState, ChecksPacket, Comes, TakesChecked, checked_in}
 use Rattle.mq_check.specs.Ending.{counted_behind, end_text, ended_behind}
 use Rattle.mq_check.specs.FindingLines.{finding_lines, last_lines}
 use Rattle.mq_check.specs.General.{silence_up_to}
 use Rattle.mq_check.specs.Repeated.{all_reported, no_differences, reported, with_findings}
 use Rattle.mq_check.specs.Telling.{ToldState, Tells, counted_times, nothing_told, reported_by}
-use Rattle.mq_check.proofs.CheckedTo.{IsCheckedAt, both_told, come_on}
 use Rattle.mq_check.proofs.Repeating.{reported_of_both}
-use Rattle.mq_check.proofs.Tellings.{lines_of_both, none_told, times_more}
+use Rattle.mq_check.proofs.Tellings.{lines_of_both, none_told, then_told, times_more}
 
 -- counts that go up one by one stay at the greatest
 counted_to : (n : ℕ) → counted_times n 0 ≡ min n (2 ^ 64 - 1)
@@ -186,10 +185,17 @@ module _ {X : Type 0} (family : Family) (state : X → CheckState) where
   abbrev held : X → List ℕ
   held x = (state x).told.held
 
+  -- the code has come to this outcome, whose findings were told after the start
+  pub record IsCheckedAt (config : Configuration) (terms : CheckTerms) (start : ToldState) (before : OutputState) (o : Outcome) (x : X) : Type 0 where
+    pub checked : checked_in (state x).link (state x).queries ≡ o.checked
+    pub same_config : (state x).link.config ≡ config
+    pub same_terms : (state x).terms ≡ terms
+    pub tells : Tells {T = Unit} {E = Unit} family o.found start (state x).told before (out x) (Ok tt)
+
   module _ (config : Configuration) (terms : CheckTerms) (start : ToldState) (before : OutputState)
       (is_family : family ≡ config.family) (is_new : start ≡ nothing_told terms.additions) where
-    passed_at : (o : Outcome) (x : X) → IsCheckedAt family state config terms start before o x →
-        IsPassed (check_of config terms) (IsCheckedAt family state config terms start before) out held before start.held o x
+    passed_at : (o : Outcome) (x : X) → IsCheckedAt config terms start before o x →
+        IsPassed (check_of config terms) (IsCheckedAt config terms start before) out held before start.held o x
     passed_at o x at = (
       lines_passed {E = Unit} config terms family o.found start (state x).told before (out x) is_family (ap (λ (t : ToldState). t.additions) is_new)
           (ap (λ (t : ToldState). t.last) is_new) at.tells,
@@ -197,23 +203,40 @@ module _ {X : Type 0} (family : Family) (state : X → CheckState) where
     )
 
     -- the outcome of a packet
-    abbrev one : PlacedPacket → Configuration → (within : ℕ) → Checked → Outcome
-    one packet k within r = with_packet k packet.link within packet.moment packet.number packet.goes_back packet.frame r
+    abbrev one : PlacedPacket → Outcome → Outcome
+    one packet o = with_packet config packet.link terms.within packet.moment packet.number packet.goes_back packet.frame o.checked
 
-    come_there : (packet : PlacedPacket) (o : Outcome) (x x' : X) → IsCheckedAt family state config terms start before o x
-        → ChecksPacket {E = Unit} family packet (state x) (state x') (Ok tt)
-        → IsCheckedAt family state config terms start before ((check_of config terms).step packet o) x'
-    come_there packet o x x' at step = come_on family state (one packet) config terms start before o x x' at step
+    comes_as : {E : Type 0} (packet : PlacedPacket) (o : Outcome) (x x' : X) (r : Result Unit E) → IsCheckedAt config terms start before o x
+        → ChecksPacket {E = E} family packet (state x) (state x') r
+        → Comes {T = Unit} {E = E} family (one packet o) (state x).link (state x').link (state x').queries (state x).told (state x').told (out x) (out x') r
+    comes_as {E} packet o x x' r at step =
+        subst (λ (p : Outcome). Comes {T = Unit} {E = E} family p (state x).link (state x').link (state x').queries (state x).told (state x').told
+        (out x) (out x') r)
+        (λ i. with_packet (at.same_config i) packet.link (at.same_terms i).within packet.moment packet.number packet.goes_back packet.frame (at.checked i))
+        step.comes
 
-    stepped_at : (packet : PlacedPacket) (o : Outcome) (x x' : X) (it : Result Unit CaptureFault) → IsCheckedAt family state config terms start before o x →
-        takes packet x x' it → IsStepped (check_of config terms) (IsCheckedAt family state config terms start before) out held before start.held packet o x' it
+    come_on : (packet : PlacedPacket) (o : Outcome) (x x' : X) → IsCheckedAt config terms start before o x
+        → ChecksPacket {E = Unit} family packet (state x) (state x') (Ok tt) → IsCheckedAt config terms start before (behind o.found (one packet o)) x'
+    come_on packet o x x' at step =
+        let comes = comes_as {E = Unit} packet o x x' (Ok tt) at step in
+        record {
+          checked = comes.checked;
+          same_config = comes.same_config ∙ at.same_config;
+          same_terms = step.same_terms ∙ at.same_terms;
+          tells = then_told family o.found (one packet o).found start (state x).told (state x').told before (out x) (out x') tt (Ok tt) at.tells comes.tells;
+        }
+
+    stepped_at : (packet : PlacedPacket) (o : Outcome) (x x' : X) (it : Result Unit CaptureFault) → IsCheckedAt config terms start before o x →
+        takes packet x x' it → IsStepped (check_of config terms) (IsCheckedAt config terms start before) out held before start.held packet o x' it
     stepped_at packet o x x' (Ok u) at step =
-        let next = come_there packet o x x' at step.0 in (next, ap (λ (r : Checked). r.checking.waiting.is_full) (sym next.checked) ∙ step.1)
+        let next = come_on packet o x x' at step.0 in (next, ap (λ (r : Checked). r.checking.waiting.is_full) (sym next.checked) ∙ step.1)
     stepped_at packet o x x' (Err (answer.Waiting number)) at step =
-        let next = come_there packet o x x' at step.0 in (next, ap (λ (r : Checked). r.checking.waiting.is_full) (sym next.checked) ∙ step.1, step.2)
+        let next = come_on packet o x x' at step.0 in (next, ap (λ (r : Checked). r.checking.waiting.is_full) (sym next.checked) ∙ step.1, step.2)
     stepped_at packet o x x' (Err answer.Write) at step =
-        let tells = both_told family state (one packet) config terms start before o x x' at {E = Unit} (Err tt) step in (
-          lines_broken {E = Unit} config terms family ((check_of config terms).step packet o).found start (state x').told before (out x') tt is_family
+        let comes = comes_as {E = Unit} packet o x x' (Err tt) at step in
+        let tells = then_told {E = Unit} family o.found (one packet o).found start (state x).told (state x').told before (out x) (out x') tt
+        (Err tt) at.tells comes.tells in (
+          lines_broken {E = Unit} config terms family (o.found ++ (one packet o).found) start (state x').told before (out x') tt is_family
               (ap (λ (t : ToldState). t.additions) is_new) (ap (λ (t : ToldState). t.last) is_new) tells,
           tells.failed,
         )
@@ -239,7 +262,7 @@ module _ {X : Type 0} (family : Family) (state : X → CheckState) where
     before = out (inner y)
 
     abbrev Is : Outcome → X → Type 0
-    Is o x = IsCheckedAt family state config terms start before o x
+    Is o x = IsCheckedAt config terms start before o x
 
     here : Is (quiet (at_the_start config terms.within terms.strict)) (inner y)
     here = record { checked = starts; same_config = refl; same_terms = refl; tells = none_told family start before tt }

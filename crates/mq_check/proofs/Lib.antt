@@ -2,7 +2,6 @@ pub mod Announcing
 pub mod Bases
 pub mod CheckedOver
 pub mod CheckedPackets
-pub mod CheckedTo
 pub mod EndedChecks
 pub mod Entering
 pub mod Excusing
@@ -16,6 +15,7 @@ pub mod SeenQueries
 pub mod Steppings
 pub mod Tellings
 pub mod Texts
+pub mod TickedChecks
 pub mod Waits
 pub mod WalkedChecks
 pub mod WantedMessages

@@ -20,7 +20,7 @@ use Rattle.mq_link.specs.State.{LinkState}
 use Rattle.mq_link.specs.Tick.{tick_of, next_of}
 use Rattle.mq_replay.specs.Report.{Datagram, datagram_of}
 use Rattle.mq_replay.specs.Ticks.{ticked_within}
-use Rattle.mq_replay.proofs.Ticking.{none_within, one_within}
+use Rattle.mq_replay.proofs.Ticking.{none_within}
 use Rattle.mq_check.specs.declared.basis.Basis.{Basis}
 use Rattle.mq_check.specs.declared.finding.Finding.{Finding}
 use Rattle.mq_check.specs.declared.headers.HeaderFault.{HeaderFault}
@@ -31,7 +31,7 @@ use Rattle.mq_check.specs.Check.{seen_or_received, with_datagram, with_faults, w
 use Rattle.mq_check.specs.Checking.{CheckingValue, all_blocked, counted_up, told, settled, faults_seen, with_fault, with_messages}
 use Rattle.mq_check.specs.Checking.{one_wanted, role_after_tick, role_changed, query_came}
 use Rattle.mq_check.specs.Queries.{is_general, query_seen}
-use Rattle.mq_check.proofs.CheckedTo.{next_in, tick_in, within_behind}
+use Rattle.mq_check.proofs.TickedChecks.{next_in, one_ticked, rest_of, tick_in}
 use Rattle.mq_laws.specs.Captures.{Passage, nothing_happens, happening_behind, wanted_for, wanted_of, wanted_by, role_by_tick, role_by_datagram}
 use Rattle.mq_laws.specs.Captures.{tick_passage, ticks_passage, ticks_through, event_of, fault_events, datagram_passage, frame_passage}
 use Rattle.mq_laws.specs.Captures.{packet_passage}
@@ -229,31 +229,18 @@ follows-as : (within : ℕ) (timing : Timing) (p q : Passage) (r : Checked) (o u
     Follows within timing p r o
 follows-as within timing p q r o u same is follows = rw (same, is) follows
 
--- a tick before a limit, and then the others
-one_ticked : (most : ℕ) (config : Configuration) (within limit : ℕ) (r : Checked) → next_of r.link < limit
-    → ticked_within next_in (tick_in config within) (suc most) limit (quiet r) ≡ behind (told within (next_of r.link) r.checking)
-    (ticked_within next_in (tick_in config within) most limit (quiet (ticked config within (next_of r.link) (settled_at (next_of r.link) r))))
-one_ticked most config within limit r due =
-    let found = told within (next_of r.link) r.checking in
-    let next = ticked config within (next_of r.link) (settled_at (next_of r.link) r) in
-    one_within next_in (tick_in config within) most limit (quiet r) due
-    ∙ (λ i. ticked_within next_in (tick_in config within) most limit (record { checked = next; found = sym (append-nil found) i }))
-    ∙ within_behind most config within limit found (quiet next)
-
-pub follows-ticks : (most : ℕ) (config : Configuration) (within limit : ℕ) (r : Checked)
-    → Follows within config.timing (ticks_passage most config limit r.basis.packets r.link) r
-    (ticked_within next_in (tick_in config within) most limit (quiet r))
+pub follows-ticks : (most : ℕ) (config : Configuration) (within limit : ℕ) (r : Checked) →
+    Follows within config.timing (ticks_passage most config limit r.basis.packets r.link) r (rest_of most config within limit r)
 unfolding ticks_passage ticked_within
 follows-ticks zero config within limit r = follows-nothing within config.timing r
 follows-ticks (suc most) config within limit r =
     elim (nat_lt (next_of r.link) limit) as (λ b. nat_lt (next_of r.link) limit ≡ b →
-    Follows within config.timing (ticks_passage (suc most) config limit r.basis.packets r.link) r
-    (ticked_within next_in (tick_in config within) (suc most) limit (quiet r))) [
+    Follows within config.timing (ticks_passage (suc most) config limit r.basis.packets r.link) r (rest_of (suc most) config within limit r)) [
       | true ↦ λ due.
           let before = ltb-true (next_of r.link) limit due in
           let one = follows-tick config within (next_of r.link) r in
           let next = ticked config within (next_of r.link) (settled_at (next_of r.link) r) in
-          let rest = ticked_within next_in (tick_in config within) most limit (quiet next) in
+          let rest = rest_of most config within limit next in
           follows-as within config.timing _ _ r _ _ (one_passes most config limit r.basis.packets r.link before) (one_ticked most config within limit r before)
           (follows-behind within config.timing (tick_passage config (next_of r.link) r.basis.packets r.link) _ r _ _ one
           (subst (λ (n : ℕ). Follows within config.timing

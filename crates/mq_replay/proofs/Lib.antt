@@ -11,10 +11,10 @@ pub mod PrintedQueries
 pub mod ReadSoFar
 pub mod ReplayTexts
 pub mod ReplayedOver
-pub mod ReplayedTo
 pub mod ReportedOver
 pub mod Rooms
 pub mod Shown
+pub mod TickedReplays
 pub mod Ticking
 pub mod WalkedOver
 pub mod WalkedPackets

@@ -19,9 +19,8 @@ use Rattle.mq_replay.specs.PlacedPackets.{PlacedPacket}
 use Rattle.mq_replay.specs.PuttingReports.{IsRestPut, PutsReport, end_of, rest_at}
 use Rattle.mq_replay.specs.Report.{Replayed, at_the_start, ended_at, replay_of, ticked_before, with_packet}
 use Rattle.mq_replay.specs.ReplayLines.{end_lines}
-use Rattle.mq_replay.specs.Steps.{ReplayState, TakesReplayed, begun_with}
+use Rattle.mq_replay.specs.Steps.{PutsReplayed, ReplayState, TakesReplayed, begun_with}
 use Rattle.mq_replay.proofs.Growing.{behind, as_behind, before_behind, next_packet, packet_changes}
-use Rattle.mq_replay.proofs.ReplayedTo.{IsReplayedAt, break_off, come_on}
 use Rattle.mq_replay.proofs.ReportedOver.{IsPassed, IsStepped, Puts, WalksUpToGap, come_to_the_end, report_behind, reported_early, reported_well, rest_joined}
 
 -- the end of a replay behind a text
@@ -47,6 +46,35 @@ pub only_waits : (config : Configuration) (moment number : ℕ) (r : Replayed) (
 unfolding ended_at
 only_waits config moment number r e is = absurd (cc is)
 
+-- a packet behind what was replayed, of a link that has come there
+packet_of : {changes : Bool} (config : Configuration) (moment number : ℕ) (link : LinkValue) (frame : Carried) (r : Replayed) → link.config ≡ config →
+    r.link ≡ link.state → r.changes ≡ changes
+    → with_packet config moment number frame r ≡ behind r.text (with_packet link.config moment number frame (begun_with changes link.state))
+packet_of config moment number link frame r is_config is_link is_asked =
+    next_packet config moment number frame r ∙ (λ i. behind r.text (with_packet (sym is_config i) moment number frame (begun_with (is_asked i) (is_link i))))
+
+-- the lines of a packet were put behind those of the packets before
+next_put : {changes : Bool} {T E : Type 0} (config : Configuration) (moment number : ℕ) (link link' : LinkValue) (frame : Carried)
+    (before now after : Option (List ℕ)) (held more left : List ℕ) (x : T) (r : Replayed)
+    → link.config ≡ config → r.link ≡ link.state → r.changes ≡ changes → Passes before now held more r.text
+    → PutsReplayed {E = E} link link' (with_packet link.config moment number frame (begun_with changes link.state)) now after more left (Ok x)
+    → ((with_packet config moment number frame r).link ≡ link'.state) × Passes before after held left (with_packet config moment number frame r).text
+next_put config moment number link link' frame before now after held more left x r is_config is_link is_asked passed put =
+    let next = packet_of config moment number link frame r is_config is_link is_asked in (
+      ap (λ (p : Replayed). p.link) next ∙ sym put.link,
+      subst (λ (p : Replayed). Passes before after held left p.text) (sym next) (both_passed before now after held more left r.text _ passed put.text),
+    )
+
+-- they were not put whole
+next_broken : {changes : Bool} {T E : Type 0} (config : Configuration) (moment number : ℕ) (link link' : LinkValue) (frame : Carried)
+    (before now after : Option (List ℕ)) (held more left : List ℕ) (e : E) (r : Replayed)
+    → link.config ≡ config → r.link ≡ link.state → r.changes ≡ changes → Passes before now held more r.text
+    → PutsReplayed {T = T} link link' (with_packet link.config moment number frame (begun_with changes link.state)) now after more left (Err e)
+    → GrowsByBeginning before after (held ++ (with_packet config moment number frame r).text)
+next_broken config moment number link link' frame before now after held more left e r is_config is_link is_asked passed put =
+    subst (λ (p : Replayed). GrowsByBeginning before after (held ++ p.text)) (sym (packet_of config moment number link frame r is_config is_link is_asked))
+    (broken_behind before now after held more r.text _ passed put.text)
+
 module _ {X : Type 0} (state : X → ReplayState) where
   abbrev takes : PlacedPacket → X → X → Result Unit CaptureFault → Type 0
   takes packet x x' r = TakesReplayed packet (state x) (state x') r
@@ -57,27 +85,43 @@ module _ {X : Type 0} (state : X → ReplayState) where
   abbrev held : X → List ℕ
   held x = (state x).held
 
+  -- the code has come to this replay, whose text was put behind what was held at the start
+  pub record IsReplayedAt (config : Configuration) (asked : Asked) (before : OutputState) (first : List ℕ) (r : Replayed) (x : X) : Type 0 where
+    pub link_is : r.link ≡ (state x).link.state
+    pub changes_are : r.changes ≡ asked.changes
+    pub same_asked : (state x).asked ≡ asked
+    pub same_config : (state x).link.config ≡ config
+    pub passed : Passes before.held (out x).held first (held x) r.text
+    pub failed : (out x).failed ≡ before.failed
+
   module _ (config : Configuration) (asked : Asked) (before : OutputState) (first : List ℕ) where
-    passed_at : (r : Replayed) (x : X) → IsReplayedAt state config asked before first r x →
-        IsPassed (replay_of config asked) (IsReplayedAt state config asked before first) out held before first r x
+    passed_at : (r : Replayed) (x : X) → IsReplayedAt config asked before first r x →
+        IsPassed (replay_of config asked) (IsReplayedAt config asked before first) out held before first r x
     passed_at r x at = (at.passed, at.failed)
 
-    -- the replay after a packet
-    abbrev one : PlacedPacket → Configuration → Replayed → Replayed
-    one packet k r = with_packet k packet.moment packet.number (carried_in packet.link packet.frame) r
-
-    grows : (packet : PlacedPacket) (k : Configuration) (r : Replayed) → one packet k r ≡ behind r.text (one packet k (begun_with r.changes r.link))
-    grows packet k r = next_packet k packet.moment packet.number (carried_in packet.link packet.frame) r
-
-    stepped_at : (packet : PlacedPacket) (r : Replayed) (x x' : X) (it : Result Unit CaptureFault) → IsReplayedAt state config asked before first r x →
-        takes packet x x' it → IsStepped (replay_of config asked) (IsReplayedAt state config asked before first) out held before first packet r x' it
-    stepped_at packet r x x' (Ok u) at step = (
-      come_on state (one packet) (grows packet) config asked before first r x x' at {E = Unit}
-          (packet_changes config packet.moment packet.number (carried_in packet.link packet.frame) r) step,
-      refl,
-    )
+    stepped_at : (packet : PlacedPacket) (r : Replayed) (x x' : X) (it : Result Unit CaptureFault) → IsReplayedAt config asked before first r x →
+        takes packet x x' it → IsStepped (replay_of config asked) (IsReplayedAt config asked before first) out held before first packet r x' it
+    stepped_at packet r x x' (Ok u) at step =
+        let frame = carried_in packet.link packet.frame in
+        let changes = at.changes_are ∙ ap (λ (a : Asked). a.changes) (sym at.same_asked) in
+        let next = next_put {T = Unit} {E = Unit} config packet.moment packet.number (state x).link (state x').link frame before.held
+        (out x).held (out x').held first (held x) (held x') tt r at.same_config at.link_is changes at.passed step.puts in (
+          record {
+            link_is = next.0;
+            changes_are = packet_changes config packet.moment packet.number frame r ∙ at.changes_are;
+            same_asked = step.same_asked ∙ at.same_asked;
+            same_config = step.puts.same_config ∙ at.same_config;
+            passed = next.1;
+            failed = step.failed ∙ or-false _ ∙ at.failed;
+          },
+          refl,
+        )
     stepped_at packet r x x' (Err answer.Write) at step =
-        break_off state (one packet) (grows packet) config asked before first r x x' at {E = Unit} tt step
+        let changes = at.changes_are ∙ ap (λ (a : Asked). a.changes) (sym at.same_asked) in (
+          next_broken {T = Unit} {E = Unit} config packet.moment packet.number (state x).link (state x').link (carried_in packet.link packet.frame)
+              before.held (out x).held (out x').held first (held x) (held x') tt r at.same_config at.link_is changes at.passed step.puts,
+          step.failed ∙ ap (λ (b : Bool). b || true) at.failed,
+        )
     stepped_at packet r x x' (Err (answer.Gap number)) at step = absurd step
     stepped_at packet r x x' (Err (answer.Waiting number)) at step = absurd step
     stepped_at packet r x x' (Err (answer.Pcap f)) at step = absurd step
@@ -99,7 +143,7 @@ module _ {X : Type 0} (state : X → ReplayState) where
     first = held (inner y)
 
     abbrev Is : Replayed → X → Type 0
-    Is r x = IsReplayedAt state config asked before first r x
+    Is r x = IsReplayedAt config asked before first r x
 
     here : Is (at_the_start config asked.changes) (inner y)
     here = record {

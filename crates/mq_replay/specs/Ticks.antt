@@ -16,14 +16,13 @@ abbrev pub ticked_before : {X : Type 0} → (next : X → ℕ) → (tick : X →
 ticked_before next tick limit x = ticked_within next tick limit limit x
 
 -- `count` ticks happened, each at the next moment of its state, which was before a limit. After each the next moment was
--- later. `ticks` states the effect of a tick at a moment on the states of a step and of its output.
-abbrev pub TicksTo : {X E : Type 0} → (next : X → ℕ) → (ticks : ℕ → X → X → Result Unit E → Type 0) → (limit count : ℕ) → X → X → Type 0
-TicksTo next ticks limit zero old new = new ≡ old
-TicksTo {X} next ticks limit (suc n) old new =
-    (mid : X) × TicksTo next ticks limit n old mid × (next mid < limit) × (next mid < next new) × ticks (next mid) mid new (Ok tt)
+-- later. Then no tick was left before the limit, or the next one failed. `ticks` states the effect of a tick at a moment.
+abbrev pub TicksInTurn : {X E : Type 0} → (next : X → ℕ) → (ticks : ℕ → X → X → Result Unit E → Type 0) → (limit count : ℕ) → X → X → Result Unit E → Type 0
+TicksInTurn next ticks limit zero old new (Ok u) = (new ≡ old) × (limit ≤ next old)
+TicksInTurn next ticks limit zero old new (Err e) = (next old < limit) × ticks (next old) old new (Err e)
+TicksInTurn {X} next ticks limit (suc n) old new r =
+    (mid : X) × (next old < limit) × (next old < next mid) × ticks (next old) old mid (Ok tt) × TicksInTurn next ticks limit n mid new r
 
 -- all ticks before a limit happened, or one of them failed, which was the last
 abbrev pub TicksBefore : {X E : Type 0} → (next : X → ℕ) → (ticks : ℕ → X → X → Result Unit E → Type 0) → (limit : ℕ) → X → X → Result Unit E → Type 0
-TicksBefore next ticks limit old new (Ok u) = (count : ℕ) × TicksTo next ticks limit count old new × (limit ≤ next new)
-TicksBefore {X} next ticks limit old new (Err e) =
-    (mid : X) × (count : ℕ) × TicksTo next ticks limit count old mid × (next mid < limit) × ticks (next mid) mid new (Err e)
+TicksBefore next ticks limit old new r = (count : ℕ) × TicksInTurn next ticks limit count old new r

@@ -38,13 +38,14 @@ where
     ensures failed { has_failed writer.new ≡ has_failed writer.old || is_err result }
 {
     replay.link.config().is_faultless();
+    let changes = replay.asked.changes;
     replay.put_ticks(moment, writer)?;
     match F::datagram(inner) {
         Some(datagram) => hand_over(
             &mut replay.link,
             moment,
             number,
-            replay.asked.changes,
+            changes,
             datagram,
             &mut replay.buffer,
             writer,

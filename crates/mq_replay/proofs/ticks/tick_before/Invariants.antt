@@ -1,12 +1,15 @@
-use Rattle.std.proofs.Common.{◌≡◌, ℕ, ◌-◌}
-use Rattle.mq_replay.specs.Ticks.{TicksTo}
+use Rattle.std.proofs.Common.{◌≡◌, ℕ, ◌-◌, Result}
+use Rattle.mq_text.specs.declared.printing.LineFault.{LineFault}
+use Rattle.mq_replay.specs.Ticks.{TicksBefore, TicksInTurn}
 use Rattle.mq_replay.proofs.ticks.tick_before.Given as goal
 
--- the ticks so far happened
+-- whatever ticks are still to come, they and those so far are all
 abbrev pub invariant-loop-limit : goal.invariant-loop-limit
 invariant-loop-limit g l =
     record {
-      ticked : (count : ℕ) × TicksTo (λ x. g.T.TickStep.next x.0) g.T.TickStep.ticks l.fn.limit count (l.fn.steps, l.fn.output) (l.steps, l.output);
+      ticked : (count : ℕ) (end : g.row.T.Denot × g.row.O.Denot) (r : Result Unit LineFault)
+          → TicksInTurn (λ x. g.T.TickStep.next x.0) g.T.TickStep.ticks l.fn.limit count (l.steps, l.output) end r
+          → TicksBefore (λ x. g.T.TickStep.next x.0) g.T.TickStep.ticks l.fn.limit (l.fn.steps, l.fn.output) end r;
       next : l.next ≡ g.T.TickStep.next l.steps;
     }
 
