@@ -15,6 +15,7 @@ pub mod SeenQueries
 pub mod Steppings
 pub mod Tellings
 pub mod Texts
+pub mod TickedChecks
 pub mod Waits
 pub mod WalkedChecks
 pub mod WantedMessages

@@ -1,8 +1,6 @@
 -- The steps of a check: a tick, a datagram, and the ticks up to a moment.
-use Rattle.std.proofs.Common.{◌≡◌, ℕ, zero, suc, ◌+◌, ◌<◌, ◌≤◌, Bool, true, false, not, List, [], ◌++◌, Result, Ok, Err, refl, ap, sym, subst, ◌∙◌}
-use Rattle.std.proofs.Common.{append_assoc, append-nil, arith}
+use Rattle.std.proofs.Common.{◌≡◌, ℕ, Bool, true, false, not, List, Result, Ok, Err, ap, sym, subst, ◌∙◌}
 use Rattle.std.specs.Prelude.{IfOk}
-use Rattle.std.proofs.lemmas.Bool.{lt-ltb, le-ltb}
 use Rattle.mq_wire.specs.Family.{Family}
 use Rattle.mq_sched.specs.Election.{is_querier}
 use Rattle.mq_link.specs.Configuration.{Configuration}
@@ -11,11 +9,10 @@ use Rattle.mq_link.specs.Link.{LinkValue}
 use Rattle.mq_link.specs.Receive.{receipt_of}
 use Rattle.mq_link.specs.Run.{HandsOut, answered}
 use Rattle.mq_link.specs.Sent.{Outgoing, outgoing_of}
-use Rattle.mq_link.specs.Tick.{Step, tick_of, next_of}
+use Rattle.mq_link.specs.Tick.{Step, tick_of}
 use Rattle.mq_text.specs.Printing.{OutputState}
 use Rattle.mq_replay.specs.Report.{Datagram, all_sent}
-use Rattle.mq_check.specs.declared.finding.Finding.{Finding}
-use Rattle.mq_check.specs.Check.{Checked, Outcome, quiet, behind, settled_at, settled_through, wanted_by, ticked, ticked_through, ticked_within, received}
+use Rattle.mq_check.specs.Check.{Checked, Outcome, settled_at, settled_through, wanted_by, ticked, ticked_through, received}
 use Rattle.mq_check.specs.Basis as basis
 use Rattle.mq_check.specs.Blocked.{blocked_in}
 use Rattle.mq_check.specs.Checking.{all_blocked, settled, told, with_messages, role_after_tick, role_changed}
@@ -96,109 +93,6 @@ received_is family within now datagram before after old noted begun new last mes
 pub received_at : (config : Configuration) (within m n : ℕ) (datagram : Datagram) (r s : Checked) → m ≡ n → s ≡ received config within m datagram r →
     s ≡ received config within n datagram r
 received_at config within m n datagram r s same is = is ∙ ap (λ (k : ℕ). received config within k datagram r) same
-
--- no tick is left, or one is
-pub none_within : (most : ℕ) (config : Configuration) (within limit : ℕ) (r : Checked) → limit ≤ next_of r.link →
-    ticked_within most config within limit r ≡ quiet r
-unfolding ticked_within
-none_within zero config within limit r reached = refl
-none_within (suc most) config within limit r reached =
-    ap (λ b. elim b [
-      | true ↦ behind (told within (next_of r.link) r.checking)
-          (ticked_within most config within limit (ticked config within (next_of r.link) (settled_at (next_of r.link) r)))
-      | false ↦ quiet r
-    ]) (le-ltb (next_of r.link) limit reached)
-
-pub one_within : (most : ℕ) (config : Configuration) (within limit : ℕ) (r : Checked) → next_of r.link < limit
-    → ticked_within (suc most) config within limit r ≡ behind (told within (next_of r.link) r.checking)
-    (ticked_within most config within limit (ticked config within (next_of r.link) (settled_at (next_of r.link) r)))
-unfolding ticked_within
-one_within most config within limit r due =
-    ap (λ b. elim b [
-      | true ↦ behind (told within (next_of r.link) r.checking)
-          (ticked_within most config within limit (ticked config within (next_of r.link) (settled_at (next_of r.link) r)))
-      | false ↦ quiet r
-    ]) (lt-ltb (next_of r.link) limit due)
-
--- A check has come to another one by ticks before a limit, by which this was found, and there are as many left as may be to
--- come.
-pub record IsTickedTo (config : Configuration) (within limit : ℕ) (all : Outcome) (done : List (Finding ℕ)) (to : Checked) : Type 0 where
-  pub left : ℕ
-  pub enough : limit ≤ left + next_of to.link
-  pub same : all ≡ behind done (ticked_within left config within limit to)
-
-pub none_ticked : (config : Configuration) (within limit : ℕ) (from : Checked) →
-    IsTickedTo config within limit (ticked_within limit config within limit from) [] from
-none_ticked config within limit from = record { left = limit; enough = omega arith; same = refl }
-
-pub all_ticked : (config : Configuration) (within limit : ℕ) (all : Outcome) (done : List (Finding ℕ)) (to : Checked) → limit ≤ next_of to.link →
-    IsTickedTo config within limit all done to → all ≡ record { checked = to; found = done }
-all_ticked config within limit all done to reached ticked =
-    ticked.same ∙ ap (behind done) (none_within ticked.left config within limit to reached) ∙ (λ i. record { checked = to; found = append-nil done i })
-
-pub once_more : (config : Configuration) (within limit : ℕ) (all : Outcome) (done : List (Finding ℕ)) (to next : Checked) → next_of to.link < limit →
-    next ≡ ticked config within (next_of to.link) (settled_at (next_of to.link) to)
-    → next_of to.link < next_of next.link → IsTickedTo config within limit all done to →
-    IsTickedTo config within limit all (done ++ told within (next_of to.link) to.checking) next
-once_more config within limit all done to next due is later ticked_to = by_left ticked_to.left ticked_to.enough ticked_to.same
-  where
-    found : List (Finding ℕ)
-    found = told within (next_of to.link) to.checking
-
-    by_left : (left : ℕ) → limit ≤ left + next_of to.link → all ≡ behind done (ticked_within left config within limit to) →
-        IsTickedTo config within limit all (done ++ found) next
-    by_left zero enough same = absurd (omega arith)
-    by_left (suc n) enough same = record {
-      left = n;
-      enough = omega (arith, enough, later);
-      same = same ∙ ap (behind done)
-          (one_within n config within limit to due ∙ ap (λ (r : Checked). behind found (ticked_within n config within limit r)) (sym is))
-          ∙ (λ i. record {
-            checked = (ticked_within n config within limit next).checked;
-            found =
-                sym (append_assoc done found (ticked_within n config within limit next).found) i;
-          });
-    }
-
--- what is found in all begins with what was found so far and is found at the next tick
-pub found_first : (config : Configuration) (within limit : ℕ) (all : Outcome) (done : List (Finding ℕ)) (to : Checked) → next_of to.link < limit →
-    IsTickedTo config within limit all done to
-    → (rest : List (Finding ℕ)) × (all.found ≡ (done ++ told within (next_of to.link) to.checking) ++ rest)
-found_first config within limit all done to due ticked_to = by_left ticked_to.left ticked_to.enough ticked_to.same
-  where
-    found : List (Finding ℕ)
-    found = told within (next_of to.link) to.checking
-
-    by_left : (left : ℕ) → limit ≤ left + next_of to.link → all ≡ behind done (ticked_within left config within limit to) →
-        (rest : List (Finding ℕ)) × (all.found ≡ (done ++ found) ++ rest)
-    by_left zero enough same = absurd (omega arith)
-    by_left (suc n) enough same =
-        let rest = (ticked_within n config within limit (ticked config within (next_of to.link) (settled_at (next_of to.link) to))).found in
-        (rest, ap (λ (o : Outcome). o.found) (same ∙ ap (behind done) (one_within n config within limit to due)) ∙ sym (append_assoc done found rest))
-
--- one tick, in the terms of the code: what is over at its moment is told first
-pub tick_next : (config : Configuration) (within moment : ℕ) (mid after : LinkValue) (queries left new : WantingValue) → mid.config ≡ config →
-    moment ≡ next_of mid.state
-    → left.checking ≡ settled moment queries.checking → left.basis ≡ queries.basis →
-    checked_in after new ≡ ticked mid.config within moment (checked_in mid left)
-    → checked_in after new ≡ ticked config within (next_of mid.state) (settled_at (next_of mid.state) (checked_in mid queries))
-tick_next config within moment mid after queries left new is_config is_next is kept ticks =
-    let settles = is ∙ ap (λ (m : ℕ). settled m queries.checking) is_next in
-    ticks ∙ (λ i. ticked (is_config i) within (is_next i) (record { link = mid.state; checking = settles i; basis = kept i }))
-
--- all ticks were made
-pub ticks_done : {E : Type 0} (family : Family) (config : Configuration) (within limit : ℕ) (all : Outcome) (done : List (Finding ℕ))
-    (before after : LinkValue) (new : WantingValue) (old_told new_told : ToldState) (a b : OutputState)
-    → limit ≤ next_of after.state → after.config ≡ before.config → IsTickedTo config within limit all done (checked_in after new) →
-    Tells {T = Unit} {E = E} family done old_told new_told a b (Ok tt)
-    → Comes {T = Unit} {E = E} family all before after new old_told new_told a b (Ok tt)
-ticks_done family config within limit all done before after new old_told new_told a b reached same_config ticked_to tells =
-    let is = all_ticked config within limit all done (checked_in after new) reached ticked_to in
-    record {
-      same_config = same_config;
-      checked = sym (ap (λ (o : Outcome). o.checked) is);
-      tells = tells_as family _ _ old_told new_told a b (Ok tt) (sym (ap (λ (o : Outcome). o.found) is)) tells;
-    }
 
 -- an outcome that is named otherwise
 pub comes_as : {T E : Type 0} (family : Family) (o p : Outcome) (before after : LinkValue) (new : WantingValue) (old_told new_told : ToldState)

@@ -1,6 +1,6 @@
 -- The check of a capture: a run of a link that has the checked querier's address. Each query that the link sends is
 -- wanted, and compared with the queries from this address.
-use Rattle.std.specs.Prelude.{ℕ, ◌+◌, ◌-◌, ◌^◌, ◌==◌, min, nat_lt, zero, suc, not, Bool, true, false, if◌then◌else◌, length, List, [], ◌++◌, Option, None, Some, Ok, Err, drop}
+use Rattle.std.specs.Prelude.{ℕ, ◌+◌, ◌-◌, ◌^◌, ◌==◌, min, nat_lt, not, Bool, true, false, if◌then◌else◌, length, List, [], ◌++◌, Option, None, Some, Ok, Err, drop}
 use Rattle.byteorder.specs.Endian.{big_number}
 use Rattle.mq_pcap.specs.declared.link_type.LinkType.{LinkType}
 use Rattle.mq_pcap.specs.declared.link_type.LinkType.TheVariants.{Ethernet, RawIp}
@@ -17,6 +17,7 @@ use Rattle.mq_link.specs.Tick.{Step, tick_of, next_of}
 use Rattle.mq_replay.specs.declared.capture_fault.CaptureFault.TheVariants.{Waiting}
 use Rattle.mq_replay.specs.Courses.{Report, Work}
 use Rattle.mq_replay.specs.Report.{Datagram, datagram_of, all_sent}
+use Rattle.mq_replay.specs.Ticks as ticks
 use Rattle.mq_check.specs.declared.basis.Basis.{Basis}
 use Rattle.mq_check.specs.declared.check_terms.Additions.{Additions}
 use Rattle.mq_check.specs.declared.check_terms.CheckTerms.{CheckTerms}
@@ -85,22 +86,18 @@ ticked config within moment r =
           basis.role_after_tick moment (is_querier r.link.election.role) (is_querier step.state.election.role) r.basis;
     }
 
--- The ticks at the link's next moments before a limit, in order, at most `most`. Before each tick the expired entries
--- are reported.
-unfoldable pub ticked_within : (most : ℕ) → Configuration → (within limit : ℕ) → Checked → Outcome
-ticked_within zero config within limit r = quiet r
-ticked_within (suc most) config within limit r =
-    let moment = next_of r.link in
-    elim (nat_lt moment limit) [
-      | true ↦
-          behind (told within moment r.checking)
-          (ticked_within most config within limit (ticked config within moment (settled_at moment r)))
-      | false ↦ quiet r
-    ]
+-- the outcome of a tick at a moment, after the expired entries are reported
+abbrev pub ticked_at : Configuration → (within moment : ℕ) → Checked → Outcome
+ticked_at config within moment r = record {
+  checked = ticked config within moment (settled_at moment r);
+  found = told within moment r.checking;
+}
 
--- All ticks up to and including a moment. After each, the link's next moment is later.
+-- the outcome of all ticks up to and including a moment, at the link's next moments
 abbrev pub ticked_through : Configuration → (within moment : ℕ) → Checked → Outcome
-ticked_through config within moment r = ticked_within (moment + 1) config within (moment + 1) r
+ticked_through config within moment r =
+    ticks.ticked_before (λ (o : Outcome). next_of o.checked.link)
+    (λ (o : Outcome). behind o.found (ticked_at config within (next_of o.checked.link) o.checked)) (moment + 1) (quiet r)
 
 -- all ticks up to and including a moment, and the removal of the entries that have expired then
 abbrev pub settled_through : Configuration → (within moment : ℕ) → Checked → Outcome

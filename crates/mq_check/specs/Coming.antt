@@ -1,5 +1,5 @@
 -- Outcomes of the steps of a check in the code.
-use Rattle.std.specs.Prelude.{◌≡◌, true, false, Result, Ok, Err, IfOk}
+use Rattle.std.specs.Prelude.{◌≡◌, ℕ, true, false, Result, Ok, Err, IfOk}
 use Rattle.mq_wire.specs.Family.{Family}
 use Rattle.mq_link.specs.Link.{LinkValue}
 use Rattle.mq_text.specs.Printing.{OutputState}
@@ -7,7 +7,7 @@ use Rattle.mq_replay.specs.PlacedPackets.{PlacedPacket}
 use Rattle.mq_replay.specs.declared.capture_fault.CaptureFault.{CaptureFault}
 use Rattle.mq_replay.specs.declared.capture_fault.CaptureFault.TheVariants as answer
 use Rattle.mq_check.specs.declared.check_terms.CheckTerms.{CheckTerms}
-use Rattle.mq_check.specs.Check.{Checked, Outcome, with_packet}
+use Rattle.mq_check.specs.Check.{Checked, Outcome, ticked_at, with_packet}
 use Rattle.mq_check.specs.Telling.{ToldState, Tells}
 use Rattle.mq_check.specs.Wanting.{WantingValue}
 
@@ -30,12 +30,21 @@ pub record CheckState : Type 0 where
   pub told : ToldState
   pub output : OutputState
 
--- a packet was checked and its findings were reported, unless a write failed
-pub record ChecksPacket {E : Type 0} (family : Family) (packet : PlacedPacket) (old new : CheckState) (r : Result Unit E) : Type 0 where
+-- the code has come to this outcome and its findings were reported, unless a write failed
+pub record ChecksTo {E : Type 0} (family : Family) (o : Outcome) (old new : CheckState) (r : Result Unit E) : Type 0 where
   pub same_terms : new.terms ≡ old.terms
-  pub comes : Comes family
-      (with_packet old.link.config packet.link old.terms.within packet.moment packet.number packet.goes_back packet.frame (checked_in old.link old.queries))
-      old.link new.link new.queries old.told new.told old.output new.output r
+  pub comes : Comes family o old.link new.link new.queries old.told new.told old.output new.output r
+
+-- the effect of a packet
+abbrev pub ChecksPacket : {E : Type 0} → Family → PlacedPacket → (old new : CheckState) → Result Unit E → Type 0
+ChecksPacket family packet old new r =
+    ChecksTo family (with_packet old.link.config packet.link old.terms.within packet.moment packet.number packet.goes_back packet.frame
+    (checked_in old.link old.queries)) old new r
+
+-- the effect of a tick at a moment
+abbrev pub ChecksTick : {E : Type 0} → Family → (moment : ℕ) → (old new : CheckState) → Result Unit E → Type 0
+ChecksTick family moment old new r =
+    ChecksTo family (ticked_at old.link.config old.terms.within moment (checked_in old.link old.queries)) old new r
 
 -- the effect of a packet without a gap before it on a check, which ends with too many pending entries
 abbrev pub TakesChecked : Family → PlacedPacket → CheckState → CheckState → Result Unit CaptureFault → Type 0

@@ -12,10 +12,11 @@ use crate::checked_family::CheckedFamily;
 use crate::checking::Checking;
 use crate::told::Told;
 use crate::wanted_queries::WantedQueries;
-use mq_count::Watched;
+use mq_count::{Moment, Watched};
 use mq_lines::LineKey;
 use mq_link::Link;
-use mq_replay::{CaptureFault, GaplessStep, NumberedPacket, first_moment};
+use mq_replay::{CaptureFault, GaplessStep, NumberedPacket, TickStep, first_moment};
+use mq_text::LineFault;
 use std::alloc::Allocator;
 use std::io::Write;
 
@@ -54,6 +55,33 @@ where
             terms,
             told: Told::new(terms.additions),
         }
+    }
+}
+
+impl<F: CheckedFamily, A: Allocator, W: Write> TickStep<Watched<W>> for Check<F, A>
+where
+    F::Address: LineKey,
+{
+    ghost use Rattle.mq_link.specs.Tick.{next_of};
+    ghost use Rattle.mq_text.specs.Printing.{output_of};
+    ghost use Rattle.mq_check.specs.Coming.{ChecksTick};
+
+    ghost next = { λ self. next_of self.link.state };
+
+    ghost ticks = { λ moment old new r. ChecksTick F.Address.family moment
+        (record { link = old.0.link; queries = old.0.queries; terms = old.0.terms; told = old.0.told; output = output_of W.contents old.1 })
+        (record { link = new.0.link; queries = new.0.queries; terms = new.0.terms; told = new.0.told; output = output_of W.contents new.1 }) r };
+
+    fn next_moment(&self) -> Moment {
+        self.link.next_deadline()
+    }
+
+    fn tick_at(&mut self, moment: Moment, output: &mut Watched<W>) -> Result<(), LineFault> {
+        self.link.config().is_faultless();
+        self.queries
+            .settle(self.terms.within, moment, &mut self.told, output)?;
+        self.tick(moment);
+        Ok(())
     }
 }
 

@@ -13,11 +13,11 @@ use crate::running_check::Check;
 use crate::seen_queries::{is_broken_query, is_own_query, query_seen};
 use crate::stamp::Stamp;
 use crate::wanted_queries::WantedQueries;
-use mq_count::{Meter, Moment, Span, Watched};
+use mq_count::{Moment, Span, Watched};
 use mq_lines::LineKey;
 use mq_link::Config;
 use mq_pcap::unwrap_frame;
-use mq_replay::{CapturedDatagram, NumberedPacket};
+use mq_replay::{CapturedDatagram, NumberedPacket, tick_before};
 use mq_table::Timing;
 use mq_text::LineFault;
 use std::alloc::Allocator;
@@ -35,7 +35,7 @@ where
     F::Address: LineKey,
 {
     /// Ticks the link at a moment. The queries that it sends are wanted, and the router may become querier again.
-    fn tick(&mut self, now: Moment)
+    pub(crate) fn tick(&mut self, now: Moment)
         requires in_range { now ≤ 2 ^ 53 }
         ensures config { self.new.link.config ≡ self.old.link.config }
         ensures terms { self.new.terms ≡ self.old.terms }
@@ -98,17 +98,7 @@ where
             self.old.link self.new.link self.new.queries self.old.told self.new.told
             (output_of W.contents writer.old) (output_of W.contents writer.new) result }
     {
-        let within = self.terms.within;
-        let limit = moment.after(Span::from_ms(1));
-        let mut next = self.link.next_deadline();
-        while !Meter::new().reached(limit, next) {
-            self.link.is_well_formed();
-            self.link.config().is_faultless();
-            self.queries.settle(within, next, &mut self.told, writer)?;
-            self.tick(next);
-            next = self.link.next_deadline();
-        }
-        Ok(())
+        tick_before(self, moment.after(Span::from_ms(1)), writer)
     }
 
     /// Ticks the link up to and including a moment, and settles the entries that have expired then.

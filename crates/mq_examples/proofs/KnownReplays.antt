@@ -19,8 +19,10 @@ use Rattle.mq_replay.specs.Courses.{Course, Report, Work, broken_off, last_momen
 use Rattle.mq_replay.specs.PlacedPackets.{Place, at_first, is_gap, place_behind, placed}
 use Rattle.mq_replay.specs.ReplayLines.{query_lines, receipt_line, skip_line, end_line, counts_line, timer_text, group_start, older_hosts_text}
 use Rattle.mq_replay.specs.ReplayLines.{group_line, group_lines, end_lines}
-use Rattle.mq_replay.specs.Report.{Replayed, all_sent, after_step, changed_at, those_among, with_changes, ticked_at, ticked_within, Datagram}
+use Rattle.mq_replay.specs.Report.{Replayed, all_sent, after_step, changed_at, those_among, with_changes, ticked_at, Datagram}
 use Rattle.mq_replay.specs.Report.{datagram_of, received_at, replay_of, taken_or_skipped, with_packet, ended_at}
+use Rattle.mq_replay.specs.Ticks.{ticked_within}
+use Rattle.mq_replay.proofs.Ticking.{through_within}
 use Rattle.std.specs.FinMap as map
 
 -- the next moment
@@ -86,25 +88,17 @@ ticked-known config moment k =
     (after_step config moment (tick_of config moment (as_link k.link)) (as_replayed k)).link _
     ∙ ap (λ s. after_step config moment s (as_replayed k)) (tick-known config moment k.link)
 
-unfoldable pub within_known : (most : ℕ) → Configuration → (limit : ℕ) → KnownReplayed → KnownReplayed
-within_known zero config limit k = k
-within_known (suc most) config limit k =
-    elim (nat_lt (next_in k.link) limit) [ true ↦ within_known most config limit (ticked_known config (next_in k.link) k) | false ↦ k ]
+abbrev pub within_known : (most : ℕ) → Configuration → (limit : ℕ) → KnownReplayed → KnownReplayed
+within_known most config limit k =
+    ticked_within (λ (l : KnownReplayed). next_in l.link) (λ (l : KnownReplayed). ticked_known config (next_in l.link) l) most limit k
 
-within-known : (most : ℕ) (config : Configuration) (limit : ℕ) (k : KnownReplayed) → ticked_within most config limit (as_replayed k)
+within-known : (most : ℕ) (config : Configuration) (limit : ℕ) (k : KnownReplayed)
+    → ticked_within (λ (r : Replayed). next_of r.link) (λ (r : Replayed). ticked_at config (next_of r.link) r) most limit (as_replayed k)
     ≡ as_replayed (within_known most config limit k)
-unfolding ticked_within within_known
-within-known zero config limit k = refl
-within-known (suc most) config limit k =
-    ap (λ (n : ℕ). elim (nat_lt n limit) [ true ↦ ticked_within most config limit (ticked_at config n (as_replayed k)) | false ↦ as_replayed k ])
-    (next-known k.link)
-    ∙ elim (nat_lt (next_in k.link) limit) as (λ b.
-    elim b [ true ↦ ticked_within most config limit (ticked_at config (next_in k.link) (as_replayed k)) | false ↦ as_replayed k ]
-    ≡ as_replayed (elim b [ true ↦ within_known most config limit (ticked_known config (next_in k.link) k) | false ↦ k ])) [
-      | true ↦ ap (ticked_within most config limit) (ticked-known config (next_in k.link) k) ∙
-          within-known most config limit (ticked_known config (next_in k.link) k)
-      | false ↦ refl
-    ]
+within-known most config limit k =
+    through_within (λ (l : KnownReplayed). next_in l.link) (λ (l : KnownReplayed). ticked_known config (next_in l.link) l)
+    (λ (r : Replayed). next_of r.link) (λ (r : Replayed). ticked_at config (next_of r.link) r) as_replayed (λ l. next-known l.link)
+    (λ l. ap (λ (n : ℕ). ticked_at config n (as_replayed l)) (next-known l.link) ∙ ticked-known config (next_in l.link) l) most limit k
 
 -- a datagram
 abbrev pub received_known : Configuration → (moment number : ℕ) → Datagram → KnownReplayed → KnownReplayed

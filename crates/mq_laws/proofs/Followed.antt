@@ -19,17 +19,19 @@ use Rattle.mq_link.specs.Sent.{Outgoing, outgoing_of}
 use Rattle.mq_link.specs.State.{LinkState}
 use Rattle.mq_link.specs.Tick.{tick_of, next_of}
 use Rattle.mq_replay.specs.Report.{Datagram, datagram_of}
+use Rattle.mq_replay.specs.Ticks.{ticked_within}
+use Rattle.mq_replay.proofs.Ticking.{none_within}
 use Rattle.mq_check.specs.declared.basis.Basis.{Basis}
 use Rattle.mq_check.specs.declared.finding.Finding.{Finding}
 use Rattle.mq_check.specs.declared.headers.HeaderFault.{HeaderFault}
 use Rattle.mq_check.specs.Basis as basis
 use Rattle.mq_check.specs.Blocked.{blocked_in}
-use Rattle.mq_check.specs.Check.{Checked, Outcome, behind, quiet, settled_at, ticked, ticked_within, ticked_through, received, seen_at}
+use Rattle.mq_check.specs.Check.{Checked, Outcome, behind, quiet, settled_at, ticked, ticked_through, received, seen_at}
 use Rattle.mq_check.specs.Check.{seen_or_received, with_datagram, with_faults, with_packet, destination_in, faults_in, noted}
 use Rattle.mq_check.specs.Checking.{CheckingValue, all_blocked, counted_up, told, settled, faults_seen, with_fault, with_messages}
 use Rattle.mq_check.specs.Checking.{one_wanted, role_after_tick, role_changed, query_came}
 use Rattle.mq_check.specs.Queries.{is_general, query_seen}
-use Rattle.mq_check.proofs.Steppings.{none_within, one_within}
+use Rattle.mq_check.proofs.TickedChecks.{next_in, one_ticked, rest_of, tick_in}
 use Rattle.mq_laws.specs.Captures.{Passage, nothing_happens, happening_behind, wanted_for, wanted_of, wanted_by, role_by_tick, role_by_datagram}
 use Rattle.mq_laws.specs.Captures.{tick_passage, ticks_passage, ticks_through, event_of, fault_events, datagram_passage, frame_passage}
 use Rattle.mq_laws.specs.Captures.{packet_passage}
@@ -228,28 +230,27 @@ follows-as : (within : ℕ) (timing : Timing) (p q : Passage) (r : Checked) (o u
 follows-as within timing p q r o u same is follows = rw (same, is) follows
 
 pub follows-ticks : (most : ℕ) (config : Configuration) (within limit : ℕ) (r : Checked) →
-    Follows within config.timing (ticks_passage most config limit r.basis.packets r.link) r (ticked_within most config within limit r)
+    Follows within config.timing (ticks_passage most config limit r.basis.packets r.link) r (rest_of most config within limit r)
 unfolding ticks_passage ticked_within
 follows-ticks zero config within limit r = follows-nothing within config.timing r
 follows-ticks (suc most) config within limit r =
     elim (nat_lt (next_of r.link) limit) as (λ b. nat_lt (next_of r.link) limit ≡ b →
-    Follows within config.timing (ticks_passage (suc most) config limit r.basis.packets r.link) r (ticked_within (suc most) config within limit r)) [
+    Follows within config.timing (ticks_passage (suc most) config limit r.basis.packets r.link) r (rest_of (suc most) config within limit r)) [
       | true ↦ λ due.
           let before = ltb-true (next_of r.link) limit due in
           let one = follows-tick config within (next_of r.link) r in
           let next = ticked config within (next_of r.link) (settled_at (next_of r.link) r) in
-          follows-as within config.timing _ _ r _ _ (one_passes most config limit r.basis.packets r.link before) (one_within most config within limit r before)
+          let rest = rest_of most config within limit next in
+          follows-as within config.timing _ _ r _ _ (one_passes most config limit r.basis.packets r.link before) (one_ticked most config within limit r before)
           (follows-behind within config.timing (tick_passage config (next_of r.link) r.basis.packets r.link) _ r _ _ one
           (subst (λ (n : ℕ). Follows within config.timing
-          (ticks_passage most config limit n (tick_passage config (next_of r.link) r.basis.packets r.link).link) next
-          (ticked_within most config within limit next)) one.packets
-          (subst (λ (l : LinkState). Follows within config.timing (ticks_passage most config limit next.basis.packets l) next
-          (ticked_within most config within limit next)) one.link
+          (ticks_passage most config limit n (tick_passage config (next_of r.link) r.basis.packets r.link).link) next rest) one.packets
+          (subst (λ (l : LinkState). Follows within config.timing (ticks_passage most config limit next.basis.packets l) next rest) one.link
           (follows-ticks most config within limit next))))
       | false ↦ λ reached.
           let beyond = ltb-false (next_of r.link) limit reached in
           follows-as within config.timing _ _ r _ _ (none_passes (suc most) config limit r.basis.packets r.link beyond)
-          (none_within (suc most) config within limit r beyond) (follows-nothing within config.timing r)
+          (none_within next_in (tick_in config within) (suc most) limit (quiet r) beyond) (follows-nothing within config.timing r)
     ] refl
 
 -- a query that was seen

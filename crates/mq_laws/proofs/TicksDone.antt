@@ -5,7 +5,9 @@ use Rattle.std.proofs.lemmas.Bool.{ltb-false}
 use Rattle.mq_link.specs.Configuration.{Configuration, IsFaultless}
 use Rattle.mq_link.specs.State.{LinkState, IsWellFormed}
 use Rattle.mq_link.specs.Tick.{moment_of, tick_of, next_of}
-use Rattle.mq_replay.specs.Report.{Replayed, ticked_at, ticked_within, ticked_before}
+use Rattle.mq_replay.specs.Report.{Replayed, ticked_at, ticked_before}
+use Rattle.mq_replay.specs.Ticks.{ticked_within}
+use Rattle.mq_replay.proofs.Growing.{next_in, tick_in}
 
 -- what is known of ticks
 abbrev pub KeepsForm : Type 0
@@ -29,16 +31,16 @@ unfolding ticked_at
 later_then later config moment r faultless formed = let after = later config moment r.link faultless formed in omega (arith, after)
 
 none_within : KeepsForm → IsLaterThen → (most : ℕ) (config : Configuration) (limit : ℕ) (r : Replayed) → IsFaultless config → IsWellFormed config r.link
-    → limit ≤ most + next_of r.link → limit ≤ next_of (ticked_within most config limit r).link
+    → limit ≤ most + next_of r.link → limit ≤ next_of (ticked_within next_in (tick_in config) most limit r).link
 unfolding ticked_within
 none_within keeps later zero config limit r faultless formed enough = omega (arith, enough)
 none_within keeps later (suc most) config limit r faultless formed enough =
     elim (nat_lt (next_of r.link) limit) as (λ b.
     nat_lt (next_of r.link) limit ≡ b
-    → limit ≤ next_of (elim b as (λ _. Replayed) [ true ↦ ticked_within most config limit (ticked_at config (next_of r.link) r) | false ↦ r ]).link) [
+    → limit ≤ next_of (elim b as (λ _. Replayed) [ true ↦ ticked_within next_in (tick_in config) most limit (tick_in config r) | false ↦ r ]).link) [
       | true ↦ λ due.
           let after = later_then later config (next_of r.link) r faultless formed in
-          none_within keeps later most config limit (ticked_at config (next_of r.link) r) faultless
+          none_within keeps later most config limit (tick_in config r) faultless
           (formed_then keeps config (next_of r.link) r faultless formed) (omega (arith, enough, after))
       | false ↦ λ reached. ltb-false (next_of r.link) limit reached
     ] refl

@@ -1,8 +1,6 @@
 -- What a replay comes to doesn't depend on the text before: that stays in front.
-use Rattle.std.proofs.Common.{◌≡◌, ℕ, zero, suc, ◌<◌, ◌≤◌, Bool, true, false, refl, List, ◌++◌, Option, None, Some, append_assoc, append-nil, sym, ap, ◌∙◌}
-use Rattle.std.specs.Prelude.{nat_lt}
+use Rattle.std.proofs.Common.{◌≡◌, ℕ, refl, List, ◌++◌, Option, None, Some, append_assoc, append-nil, sym, ap, ◌∙◌}
 use Rattle.std.specs.FinMap as map
-use Rattle.std.proofs.lemmas.Bool.{lt-ltb, le-ltb}
 use Rattle.mq_pcap.specs.Frame.{Carried}
 use Rattle.mq_link.specs.Configuration.{Configuration}
 use Rattle.mq_link.specs.Forwarding.{changed_by_tick}
@@ -11,9 +9,11 @@ use Rattle.mq_link.specs.Sent.{outgoing_of}
 use Rattle.mq_link.specs.Tick.{tick_of, next_of}
 use Rattle.mq_replay.specs.ChangeLines.{change_lines, lines_asked}
 use Rattle.mq_replay.specs.ReplayLines.{query_lines, receipt_line, skip_line}
-use Rattle.mq_replay.specs.Report.{Replayed, after_step, changed_at, ticked_at, those_among, ticked_within, ticked_before, Datagram, datagram_of}
+use Rattle.mq_replay.specs.Report.{Replayed, after_step, changed_at, ticked_at, those_among, ticked_before, Datagram, datagram_of}
 use Rattle.mq_replay.specs.Report.{received_at, taken_or_skipped, with_changes, with_packet}
 use Rattle.mq_replay.specs.Steps.{begun_with}
+use Rattle.mq_replay.specs.Ticks.{ticked_within}
+use Rattle.mq_replay.proofs.Ticking.{kept_within, through_within}
 
 -- a replay behind a text
 abbrev pub behind : List ℕ → Replayed → Replayed
@@ -39,18 +39,17 @@ ticked_behind config moment text r =
     let lines = query_lines config.family moment (outgoing_of config (tick_of config moment r.link)) in
     changes_behind config moment changed text step (append_assoc text r.text lines)
 
-pub within_behind : (most : ℕ) (config : Configuration) (limit : ℕ) (text : List ℕ) (r : Replayed) → ticked_within most config limit (behind text r)
-    ≡ behind text (ticked_within most config limit r)
-unfolding ticked_within
-within_behind zero config limit text r = refl
-within_behind (suc most) config limit text r =
-    elim (nat_lt (next_of r.link) limit) as (λ b.
-    elim b [ true ↦ ticked_within most config limit (ticked_at config (next_of r.link) (behind text r)) | false ↦ behind text r ]
-    ≡ behind text (elim b [ true ↦ ticked_within most config limit (ticked_at config (next_of r.link) r) | false ↦ r ])) [
-      | true ↦ ap (ticked_within most config limit) (ticked_behind config (next_of r.link) text r) ∙
-          within_behind most config limit text (ticked_at config (next_of r.link) r)
-      | false ↦ refl
-    ]
+-- the tick at the next moment
+abbrev pub next_in : Replayed → ℕ
+next_in r = next_of r.link
+
+abbrev pub tick_in : Configuration → Replayed → Replayed
+tick_in config r = ticked_at config (next_in r) r
+
+pub within_behind : (most : ℕ) (config : Configuration) (limit : ℕ) (text : List ℕ) (r : Replayed) →
+    ticked_within next_in (tick_in config) most limit (behind text r) ≡ behind text (ticked_within next_in (tick_in config) most limit r)
+within_behind most config limit text r =
+    through_within next_in (tick_in config) next_in (tick_in config) (behind text) (λ s. refl) (λ s. ticked_behind config (next_in s) text s) most limit r
 
 pub before_behind : (config : Configuration) (limit : ℕ) (text : List ℕ) (r : Replayed) → ticked_before config limit (behind text r)
     ≡ behind text (ticked_before config limit r)
@@ -76,47 +75,24 @@ packet_behind config moment number carried text r =
     ap (taken_or_skipped config moment number carried (datagram_of config.family carried)) (before_behind config moment text r)
     ∙ taken_behind config moment number carried (datagram_of config.family carried) text (ticked_before config moment r)
 
--- a packet behind what was replayed
+-- a tick and a packet behind what was replayed
+pub next_tick : (config : Configuration) (moment : ℕ) (r : Replayed) → ticked_at config moment r
+    ≡ behind r.text (ticked_at config moment (begun_with r.changes r.link))
+next_tick config moment r = ap (ticked_at config moment) (sym (as_behind r)) ∙ ticked_behind config moment r.text (begun_with r.changes r.link)
+
 pub next_packet : (config : Configuration) (moment number : ℕ) (carried : Carried) (r : Replayed) → with_packet config moment number carried r
     ≡ behind r.text (with_packet config moment number carried (begun_with r.changes r.link))
 next_packet config moment number carried r = ap (with_packet config moment number carried) (sym (as_behind r)) ∙
     packet_behind config moment number carried r.text (begun_with r.changes r.link)
 
--- ticks, one after the other: no tick is left where the next moment isn't before the limit
-pub none_within : (most : ℕ) (config : Configuration) (limit : ℕ) (r : Replayed) → limit ≤ next_of r.link → ticked_within most config limit r ≡ r
-unfolding ticked_within
-none_within zero config limit r reached = refl
-none_within (suc most) config limit r reached =
-    ap (λ b. elim b [ true ↦ ticked_within most config limit (ticked_at config (next_of r.link) r) | false ↦ r ]) (le-ltb (next_of r.link) limit reached)
-
-pub one_within : (most : ℕ) (config : Configuration) (limit : ℕ) (r : Replayed) → next_of r.link < limit → ticked_within (suc most) config limit r
-    ≡ ticked_within most config limit (ticked_at config (next_of r.link) r)
-unfolding ticked_within
-one_within most config limit r due =
-    ap (λ b. elim b [ true ↦ ticked_within most config limit (ticked_at config (next_of r.link) r) | false ↦ r ]) (lt-ltb (next_of r.link) limit due)
-
 -- whether the lines of changes are asked for stays as it is
-abbrev one_of : Bool → Replayed → Replayed → Replayed
-one_of b x y = elim b [ true ↦ x | false ↦ y ]
-
-either_changes : (b : Bool) (x y r : Replayed) → x.changes ≡ r.changes → y.changes ≡ r.changes → (one_of b x y).changes ≡ r.changes
-either_changes true x y r first second = first
-either_changes false x y r first second = second
-
-ticked_changes : (config : Configuration) (moment : ℕ) (r : Replayed) → (ticked_at config moment r).changes ≡ r.changes
+pub ticked_changes : (config : Configuration) (moment : ℕ) (r : Replayed) → (ticked_at config moment r).changes ≡ r.changes
 unfolding ticked_at
 ticked_changes config moment r = refl
 
-within_changes : (most : ℕ) (config : Configuration) (limit : ℕ) (r : Replayed) → (ticked_within most config limit r).changes ≡ r.changes
-unfolding ticked_within
-within_changes zero config limit r = refl
-within_changes (suc most) config limit r =
-    let next = ticked_at config (next_of r.link) r in
-    either_changes (nat_lt (next_of r.link) limit) (ticked_within most config limit next) r r
-    (within_changes most config limit next ∙ ticked_changes config (next_of r.link) r) refl
-
 pub before_changes : (config : Configuration) (limit : ℕ) (r : Replayed) → (ticked_before config limit r).changes ≡ r.changes
-before_changes config limit r = within_changes limit config limit r
+before_changes config limit r =
+    kept_within next_in (tick_in config) (λ s. s.changes ≡ r.changes) (λ s is. ticked_changes config (next_in s) s ∙ is) limit limit r refl
 
 taken_changes : (config : Configuration) (moment number : ℕ) (carried : Carried) (datagram : Option Datagram) (r : Replayed) →
     (taken_or_skipped config moment number carried datagram r).changes ≡ r.changes

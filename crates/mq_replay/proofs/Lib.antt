@@ -15,6 +15,7 @@ pub mod ReplayedOver
 pub mod ReportedOver
 pub mod Rooms
 pub mod Shown
+pub mod TickedReplays
 pub mod Ticking
 pub mod WalkedOver
 pub mod WalkedPackets

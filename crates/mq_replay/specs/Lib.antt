@@ -14,4 +14,5 @@ pub mod Replaying
 pub mod Report
 pub mod Reports
 pub mod Steps
+pub mod Ticks
 pub mod Walking

@@ -1,6 +1,6 @@
 -- The text of a replay: a line for each query that the link sends and for each packet. If they are requested, there are
 -- lines for the groups that each event changes. At the end are lines for the state of the link.
-use Rattle.std.specs.Prelude.{ℕ, zero, suc, ◌+◌, nat_lt, Bool, true, false, List, [], ◌∷◌, ◌++◌, filter, map as list_map, Option, None, Some, Result, Ok, Err}
+use Rattle.std.specs.Prelude.{ℕ, ◌+◌, Bool, true, false, List, [], ◌∷◌, ◌++◌, filter, map as list_map, Option, None, Some, Result, Ok, Err}
 use Rattle.std.specs.Ordering.{nat_cmp}
 use Rattle.std.specs.FinMap as map
 use Rattle.mq_pcap.specs.Frame.{Carried, Igmp, Mld, carried_in}
@@ -22,6 +22,7 @@ use Rattle.mq_replay.specs.declared.asked.Asked.{Asked}
 use Rattle.mq_replay.specs.ChangeLines.{change_lines, lines_asked}
 use Rattle.mq_replay.specs.Courses.{Report, Work}
 use Rattle.mq_replay.specs.ReplayLines.{query_lines, receipt_line, skip_line, end_lines}
+use Rattle.mq_replay.specs.Ticks as ticks
 
 -- A replay under way: the link, the text so far, and whether the lines of changed groups are requested.
 pub record Replayed : Type 0 where
@@ -62,19 +63,9 @@ ticked_at config moment r =
     with_changes config.family moment (those_among (changed_by_tick config moment r.link) (map.keys r.link.groups))
     (after_step config moment (tick_of config moment r.link) r)
 
--- The replay after ticks at the link's next moments, while these are before a limit. There are at most `most`.
-unfoldable pub ticked_within : (most : ℕ) → Configuration → (limit : ℕ) → Replayed → Replayed
-ticked_within zero config limit r = r
-ticked_within (suc most) config limit r =
-    elim (nat_lt (next_of r.link) limit) [
-      | true ↦ ticked_within most config limit (ticked_at config (next_of r.link) r)
-      | false ↦ r
-    ]
-
--- The replay after all ticks before a limit. After each the link's next moment is later, so there are at most as many
--- as moments before the limit.
+-- the replay after all ticks before a limit, at the link's next moments
 abbrev pub ticked_before : Configuration → (limit : ℕ) → Replayed → Replayed
-ticked_before config limit r = ticked_within limit config limit r
+ticked_before config limit r = ticks.ticked_before (λ (s : Replayed). next_of s.link) (λ (s : Replayed). ticked_at config (next_of s.link) s) limit r
 
 -- A datagram for the link: its envelope, and its bytes.
 pub record Datagram : Type 0 where

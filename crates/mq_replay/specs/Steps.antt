@@ -8,7 +8,7 @@ use Rattle.mq_replay.specs.declared.asked.Asked.{Asked}
 use Rattle.mq_replay.specs.declared.capture_fault.CaptureFault.{CaptureFault}
 use Rattle.mq_replay.specs.declared.capture_fault.CaptureFault.TheVariants as answer
 use Rattle.mq_replay.specs.PlacedPackets.{PlacedPacket}
-use Rattle.mq_replay.specs.Report.{Replayed, with_packet}
+use Rattle.mq_replay.specs.Report.{Replayed, ticked_at, with_packet}
 
 -- a replay of a link in this state, with nothing written
 abbrev pub begun_with : (changes : Bool) → LinkState → Replayed
@@ -28,13 +28,21 @@ pub record ReplayState : Type 0 where
   pub held : List ℕ
   pub output : OutputState
 
--- a packet was replayed and its lines were put, unless a write failed
-pub record ReplaysPacket {E : Type 0} (packet : PlacedPacket) (old new : ReplayState) (r : Result Unit E) : Type 0 where
+-- the code has come to this replay and its lines were put, unless a write failed
+pub record ReplaysTo {E : Type 0} (replayed : Replayed) (old new : ReplayState) (r : Result Unit E) : Type 0 where
   pub same_asked : new.asked ≡ old.asked
-  pub puts : PutsReplayed old.link new.link
-      (with_packet old.link.config packet.moment packet.number (carried_in packet.link packet.frame) (begun_with old.asked.changes old.link.state))
-      old.output.held new.output.held old.held new.held r
+  pub puts : PutsReplayed old.link new.link replayed old.output.held new.output.held old.held new.held r
   pub failed : new.output.failed ≡ old.output.failed || is_err r
+
+-- the effect of a packet
+abbrev pub ReplaysPacket : {E : Type 0} → PlacedPacket → (old new : ReplayState) → Result Unit E → Type 0
+ReplaysPacket packet old new r =
+    ReplaysTo (with_packet old.link.config packet.moment packet.number (carried_in packet.link packet.frame)
+    (begun_with old.asked.changes old.link.state)) old new r
+
+-- the effect of a tick at a moment
+abbrev pub ReplaysTick : {E : Type 0} → (moment : ℕ) → (old new : ReplayState) → Result Unit E → Type 0
+ReplaysTick moment old new r = ReplaysTo (ticked_at old.link.config moment (begun_with old.asked.changes old.link.state)) old new r
 
 -- the effect of a packet without a gap before it on a replay
 abbrev pub TakesReplayed : PlacedPacket → ReplayState → ReplayState → Result Unit CaptureFault → Type 0

@@ -12,8 +12,8 @@ ghost use Rattle.mq_replay.specs.Steps.{begun_with};
 use crate::captured_family::CapturedFamily;
 use crate::group_line::put_group;
 use crate::replay_lines::{put_counts, put_role};
+use crate::running_replay::Replay;
 use crate::stamp::Stamp;
-use crate::ticks::tick_before;
 use mq_count::{Meter, Moment, Span, Watched};
 use mq_lines::LineKey;
 use mq_link::Link;
@@ -46,10 +46,8 @@ pub(crate) fn last_moment(until: Option<u64>, last: Stamp) -> Stamp
 
 /// Ticks up to and including the end of a replay, and puts the state of the link then.
 pub(crate) fn put_ending<F: CapturedFamily, A: Allocator, W: Write>(
-    link: &mut Link<F, A>,
+    replay: &mut Replay<F, A>,
     end: Moment,
-    changes: bool,
-    buffer: &mut Text,
     writer: &mut Watched<W>,
 ) -> Result<(), LineFault>
 where
@@ -57,16 +55,18 @@ where
     requires { end ≤ 2 ^ 53 }
     ensures text { Puts
         (W.contents (inner_of writer.old)) (W.contents (inner_of writer.new))
-        buffer.old.items buffer.new.items (ended_at link.old.config end (begun_with changes link.old.state)).text result }
+        replay.old.buffer.items replay.new.buffer.items
+        (ended_at replay.old.link.config end (begun_with replay.old.asked.changes replay.old.link.state)).text result }
     ensures answer { IfOk result (λ _.
-        (ended_at link.old.config end (begun_with changes link.old.state)).answer ≡ Ok link.new.state.counters) }
+        (ended_at replay.old.link.config end (begun_with replay.old.asked.changes replay.old.link.state)).answer
+        ≡ Ok replay.new.link.state.counters) }
     ensures failed { has_failed writer.new ≡ has_failed writer.old || is_err result }
 {
-    link.config().is_faultless();
-    tick_before(link, end.after(Span::from_ms(1)), changes, buffer, writer)?;
-    put_role(end, link.is_querier(), buffer, writer)?;
-    put_groups(link, buffer, writer)?;
-    put_counts(link.counts(), buffer, writer)
+    replay.link.config().is_faultless();
+    replay.put_ticks(end.after(Span::from_ms(1)), writer)?;
+    put_role(end, replay.link.is_querier(), &mut replay.buffer, writer)?;
+    put_groups(&replay.link, &mut replay.buffer, writer)?;
+    put_counts(replay.link.counts(), &mut replay.buffer, writer)
 }
 
 /// Puts the lines of the groups that a link holds.

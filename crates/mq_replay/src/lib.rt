@@ -4,6 +4,7 @@
 //! - The reason why work on a capture ended early: `CaptureFault`. The end of work that writes: `finish`.
 //! - The families whose datagrams captures carry: `CapturedFamily`, `CapturedDatagram`.
 //! - A walk over a capture: `walk`, with a `Step` for each packet. A walk that a gap ends: `UpToGap`, with a `GaplessStep`.
+//! - The ticks between packets: `tick_before`, with a `TickStep` for each tick.
 //! - The packets of a capture: `NumberedPacket`. Their moments: `Stamp`, `Stamps` and `first_moment`.
 #![tactic(auto)]
 
@@ -13,7 +14,6 @@ mod captured_family;
 mod change_lines;
 mod change_pieces;
 mod ending;
-mod events;
 mod finishing;
 mod group_line;
 mod hexadecimal;
@@ -42,5 +42,6 @@ pub use numbered_packet::NumberedPacket;
 pub use replaying::{replay, replay_in};
 pub use stamp::Stamp;
 pub use stamps::{Stamps, first_moment};
+pub use ticks::{TickStep, tick_before};
 pub use walked::Walked;
 pub use walking::{GaplessStep, Step, UpToGap, walk};

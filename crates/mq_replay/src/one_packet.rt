@@ -9,8 +9,8 @@ ghost use Rattle.mq_replay.specs.Steps.{PutsReplayed, begun_with};
 use crate::captured_family::{CapturedDatagram, CapturedFamily};
 use crate::change_lines::put_changes;
 use crate::replay_lines::{put_receipt, put_skip};
+use crate::running_replay::Replay;
 use crate::sent_queries::receive;
-use crate::ticks::tick_before;
 use mq_count::{Moment, Watched};
 use mq_lines::LineKey;
 use mq_link::Link;
@@ -21,28 +21,36 @@ use std::io::Write;
 
 /// Ticks before a packet, then gives its datagram to the link or skips it, and puts the lines of all this.
 pub(crate) fn replay_packet<F: CapturedFamily, A: Allocator, W: Write>(
-    link: &mut Link<F, A>,
+    replay: &mut Replay<F, A>,
     moment: Moment,
     number: u64,
-    changes: bool,
     inner: &Inner<'_>,
-    buffer: &mut Text,
     writer: &mut Watched<W>,
 ) -> Result<(), LineFault>
 where
     F::Address: LineKey,
     requires { moment ≤ 2 ^ 53 }
-    ensures puts { PutsReplayed link.old link.new
-        (with_packet link.old.config moment number (carried_of inner.now) (begun_with changes link.old.state))
+    ensures asked { replay.new.asked ≡ replay.old.asked }
+    ensures puts { PutsReplayed replay.old.link replay.new.link
+        (with_packet replay.old.link.config moment number (carried_of inner.now) (begun_with replay.old.asked.changes replay.old.link.state))
         (W.contents (inner_of writer.old)) (W.contents (inner_of writer.new))
-        buffer.old.items buffer.new.items result }
+        replay.old.buffer.items replay.new.buffer.items result }
     ensures failed { has_failed writer.new ≡ has_failed writer.old || is_err result }
 {
-    link.config().is_faultless();
-    tick_before(link, moment, changes, buffer, writer)?;
+    replay.link.config().is_faultless();
+    let changes = replay.asked.changes;
+    replay.put_ticks(moment, writer)?;
     match F::datagram(inner) {
-        Some(datagram) => hand_over(link, moment, number, changes, datagram, buffer, writer),
-        None => put_skip(moment, number, inner, buffer, writer),
+        Some(datagram) => hand_over(
+            &mut replay.link,
+            moment,
+            number,
+            changes,
+            datagram,
+            &mut replay.buffer,
+            writer,
+        ),
+        None => put_skip(moment, number, inner, &mut replay.buffer, writer),
     }
 }
 

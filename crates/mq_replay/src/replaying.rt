@@ -175,12 +175,6 @@ where
     ensures no_memory { result ≡ Err CaptureFault.Memory → ⊥ }
 {
     let end = walked.end(replay.asked.until)?;
-    put_ending(
-        &mut replay.link,
-        end.moment(),
-        replay.asked.changes,
-        &mut replay.buffer,
-        writer,
-    )?;
+    put_ending(replay, end.moment(), writer)?;
     Ok(())
 }

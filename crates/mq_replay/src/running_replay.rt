@@ -1,19 +1,25 @@
 //! A replay in progress, as one object.
 
-ghost use Rattle.std.specs.Prelude.{◌≡◌, []};
+ghost use Rattle.std.specs.Prelude.{◌≡◌, ◌≤◌, ◌+◌, ◌^◌, ◌||◌, [], is_err};
+ghost use Rattle.mq_count.specs.Streams.{inner_of, has_failed};
+ghost use Rattle.mq_replay.specs.Report.{ticked_before};
+ghost use Rattle.mq_replay.specs.Steps.{PutsReplayed, begun_with};
 
 use crate::asked::Asked;
 use crate::capture_fault::CaptureFault;
 use crate::captured_family::CapturedFamily;
+use crate::change_lines::put_changes;
 use crate::numbered_packet::NumberedPacket;
 use crate::one_packet::replay_packet;
+use crate::sent_queries::tick;
+use crate::ticks::{TickStep, tick_before};
 use crate::waiting::write_before_wait;
 use crate::walking::GaplessStep;
-use mq_count::Watched;
+use mq_count::{Moment, Watched};
 use mq_lines::LineKey;
 use mq_link::Link;
 use mq_pcap::unwrap_frame;
-use mq_text::Text;
+use mq_text::{LineFault, Text};
 use std::alloc::Allocator;
 use std::io::Write;
 
@@ -44,6 +50,55 @@ where
             buffer: Text::new(),
         }
     }
+
+    /// Ticks the link at its next moments, while these are before `limit`, and puts their lines.
+    pub(crate) fn put_ticks<W: Write>(
+        &mut self,
+        limit: Moment,
+        writer: &mut Watched<W>,
+    ) -> Result<(), LineFault>
+        requires { limit ≤ 2 ^ 53 + 1 }
+        ensures asked { self.new.asked ≡ self.old.asked }
+        ensures puts { PutsReplayed self.old.link self.new.link
+            (ticked_before self.old.link.config limit (begun_with self.old.asked.changes self.old.link.state))
+            (W.contents (inner_of writer.old)) (W.contents (inner_of writer.new))
+            self.old.buffer.items self.new.buffer.items result }
+        ensures failed { has_failed writer.new ≡ has_failed writer.old || is_err result }
+    {
+        tick_before(self, limit, writer)
+    }
+}
+
+impl<F: CapturedFamily, A: Allocator, W: Write> TickStep<Watched<W>> for Replay<F, A>
+where
+    F::Address: LineKey,
+{
+    ghost use Rattle.mq_link.specs.Tick.{next_of};
+    ghost use Rattle.mq_text.specs.Printing.{output_of};
+    ghost use Rattle.mq_replay.specs.Steps.{ReplaysTick};
+
+    ghost next = { λ self. next_of self.link.state };
+
+    ghost ticks = { λ moment old new r. ReplaysTick moment
+        (record { link = old.0.link; asked = old.0.asked; held = old.0.buffer.items; output = output_of W.contents old.1 })
+        (record { link = new.0.link; asked = new.0.asked; held = new.0.buffer.items; output = output_of W.contents new.1 }) r };
+
+    fn next_moment(&self) -> Moment {
+        self.link.next_deadline()
+    }
+
+    fn tick_at(&mut self, moment: Moment, output: &mut Watched<W>) -> Result<(), LineFault> {
+        self.link.config().is_faultless();
+        self.link.is_well_formed();
+        tick(&mut self.link, moment, &mut self.buffer, output)?;
+        put_changes(
+            &self.link,
+            moment,
+            self.asked.changes,
+            &mut self.buffer,
+            output,
+        )
+    }
 }
 
 impl<F: CapturedFamily, A: Allocator, W: Write> GaplessStep<Watched<W>> for Replay<F, A>
@@ -63,15 +118,7 @@ where
         output: &mut Watched<W>,
     ) -> Result<(), CaptureFault> {
         let inner = unwrap_frame(packet.link, packet.frame);
-        replay_packet(
-            &mut self.link,
-            packet.moment.moment(),
-            packet.number,
-            self.asked.changes,
-            &inner,
-            &mut self.buffer,
-            output,
-        )?;
+        replay_packet(self, packet.moment.moment(), packet.number, &inner, output)?;
         write_before_wait(packet.may_wait, &mut self.buffer, output)?;
         Ok(())
     }

@@ -1,41 +1,46 @@
 //! The ticks between packets.
 
-ghost use Rattle.std.specs.Prelude.{◌≡◌, ◌≤◌, ◌+◌, ◌^◌, ◌||◌, is_err};
-ghost use Rattle.mq_count.specs.Streams.{inner_of, has_failed};
-ghost use Rattle.mq_replay.specs.Report.{ticked_before};
-ghost use Rattle.mq_replay.specs.Steps.{PutsReplayed, begun_with};
+ghost use Rattle.std.specs.Prelude.{◌≡◌, ◌≤◌, ◌+◌, ◌^◌};
+ghost use Rattle.mq_replay.specs.Ticks.{TicksBefore};
 
-use crate::captured_family::CapturedFamily;
-use crate::events::tick_at;
-use mq_count::{Meter, Moment, Watched};
-use mq_lines::LineKey;
-use mq_link::Link;
-use mq_text::{LineFault, Text};
-use std::alloc::Allocator;
-use std::io::Write;
+use mq_count::{Meter, Moment};
+use mq_text::LineFault;
 
-/// Ticks a link at its next moments, while these are before `limit`, and puts their lines.
-pub(crate) fn tick_before<F: CapturedFamily, A: Allocator, W: Write>(
-    link: &mut Link<F, A>,
+/// A receiver of the ticks between packets, with an output.
+pub trait TickStep<O> {
+    ghost use Rattle.std.specs.Prelude.{ℕ, ◌≡◌, ◌<◌, ◌≤◌, ◌^◌, Result, IfOk};
+    ghost use Rattle.mq_text.specs.declared.printing.LineFault.{LineFault};
+
+    // The next moment of a state.
+    ghost next: { Self → ℕ };
+
+    // The effect of a tick at a moment: the states before, the states afterwards, and the result.
+    ghost ticks: { ℕ → Self × O → Self × O → Result Unit LineFault → Type 0 };
+
+    /// Returns the moment of the next tick.
+    fn next_moment(&self) -> Moment
+        ensures { result ≡ next self.now };
+
+    /// Ticks at a moment. Afterwards the next moment is later.
+    fn tick_at(&mut self, moment: Moment, output: &mut O) -> Result<(), LineFault>
+        requires { moment ≤ 2 ^ 53 }
+        ensures effect { ticks moment (self.old, output.old) (self.new, output.new) result }
+        ensures later { IfOk result (λ _. moment < next self.new) };
+}
+
+/// Ticks at the next moments, while these are before `limit`. It ends if a tick fails.
+pub fn tick_before<O, T: TickStep<O>>(
+    steps: &mut T,
     limit: Moment,
-    changes: bool,
-    buffer: &mut Text,
-    writer: &mut Watched<W>,
+    output: &mut O,
 ) -> Result<(), LineFault>
-where
-    F::Address: LineKey,
     requires { limit ≤ 2 ^ 53 + 1 }
-    ensures puts { PutsReplayed link.old link.new
-        (ticked_before link.old.config limit (begun_with changes link.old.state))
-        (W.contents (inner_of writer.old)) (W.contents (inner_of writer.new))
-        buffer.old.items buffer.new.items result }
-    ensures failed { has_failed writer.new ≡ has_failed writer.old || is_err result }
+    ensures { TicksBefore (λ x. T.next x.0) T.ticks limit (steps.old, output.old) (steps.new, output.new) result }
 {
-    let mut next = link.next_deadline();
+    let mut next = steps.next_moment();
     while !Meter::new().reached(limit, next) {
-        link.is_well_formed();
-        tick_at(link, next, changes, buffer, writer)?;
-        next = link.next_deadline();
+        steps.tick_at(next, output)?;
+        next = steps.next_moment();
     }
     Ok(())
 }

@@ -6,11 +6,12 @@ use Rattle.hex.specs.Hex.{encode_with}
 use Rattle.mq_replay.specs.Courses.{with_packets}
 use Rattle.mq_examples.specs.{Links.igmp, Replays.one_report, Replays.totals_of}
 use Rattle.mq_link.specs.Receive.{read_of}
-use Rattle.mq_examples.proofs.{KnownReplays.within_known, KnownReplays.report-known, Captures.the_form, Captures.the_packet}
+use Rattle.mq_replay.specs.Ticks.{ticked_within}
+use Rattle.mq_examples.proofs.{KnownReplays.report-known, Captures.the_form, Captures.the_packet}
 use Rattle.mq_examples.proofs.replays.a_report.Goals as goal
 
 pub returns : goal.returns
-unfolding header_of header_in in_ethernet in_type in_ipv4 read_of fault_of within_known with_packets digits encode_with code_of
+unfolding header_of header_in in_ethernet in_type in_ipv4 read_of fault_of ticked_within with_packets digits encode_with code_of
 returns c =
     let is = report-known igmp None the_form (the_packet ∷ []) None in
     record {

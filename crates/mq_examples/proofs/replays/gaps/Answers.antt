@@ -5,11 +5,12 @@ use Rattle.hex.specs.Hex.{encode_with}
 use Rattle.mq_wire.specs.Codes.{code_of}
 use Rattle.mq_replay.specs.Courses.{with_packets}
 use Rattle.mq_examples.specs.{Links.igmp, Replays.two_packets, Replays.totals_of}
-use Rattle.mq_examples.proofs.{Captures.the_form, KnownReplays.within_known, KnownReplays.report-known}
+use Rattle.mq_replay.specs.Ticks.{ticked_within}
+use Rattle.mq_examples.proofs.{Captures.the_form, KnownReplays.report-known}
 use Rattle.mq_examples.proofs.replays.gaps.Goals as goal
 
 pub returns-clause-packet : goal.returns-clause-packet
-unfolding header_of header_in in_ethernet within_known with_packets digits encode_with code_of
+unfolding header_of header_in in_ethernet ticked_within with_packets digits encode_with code_of
 returns-clause-packet c =
     let first : Captured = record { stamp = 0; bytes = [] } in
     let second : Captured = record { stamp = 86400001; bytes = [] } in
@@ -42,7 +43,7 @@ returns-clause-packet c =
     }
 
 pub returns-clause-until : goal.returns-clause-until
-unfolding header_of header_in within_known with_packets digits encode_with code_of
+unfolding header_of header_in ticked_within with_packets digits encode_with code_of
 returns-clause-until c =
     let is = report-known igmp (Some 86400001) the_form [] None in
     record {

@@ -5,11 +5,12 @@ use Rattle.hex.specs.Hex.{encode_with}
 use Rattle.mq_wire.specs.Codes.{code_of}
 use Rattle.mq_replay.specs.Courses.{with_packets}
 use Rattle.mq_examples.specs.{Links.igmp, Replays.totals_of}
-use Rattle.mq_examples.proofs.{Captures.the_form, KnownReplays.within_known, KnownReplays.report-known}
+use Rattle.mq_replay.specs.Ticks.{ticked_within}
+use Rattle.mq_examples.proofs.{Captures.the_form, KnownReplays.report-known}
 use Rattle.mq_examples.proofs.replays.no_packets.Goals as goal
 
 pub returns : goal.returns
-unfolding header_of header_in within_known with_packets digits encode_with code_of
+unfolding header_of header_in ticked_within with_packets digits encode_with code_of
 returns c = record {
   header =
       let is = report-known igmp None the_form [] None in

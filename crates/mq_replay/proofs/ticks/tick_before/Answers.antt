@@ -1,52 +1,40 @@
-use Rattle.std.proofs.Common.{◌<◌, ◌≤◌, [], refl, ◌∙◌, subst, arith}
+use Rattle.std.proofs.Common.{zero, suc, ◌<◌, ◌≤◌, Ok, Err, refl, subst, arith}
 use Rattle.std.proofs.lemmas.Bool.Decides.{nat_tests}
 use Rattle.std.proofs.lemmas.Result.{err_from_is_err_and}
-use Rattle.std.proofs.Math.Bool.{or-false}
-use Rattle.mq_text.proofs.Passing.{nothing_passed}
-use Rattle.mq_replay.proofs.Ticking.{comes_later, next_broken, next_done, none_ticked, ticks_done}
 use Rattle.mq_replay.proofs.ticks.tick_before.Goals as goal
 
 pub loop-limit-init : goal.loop-limit-init
-loop-limit-init g c =
-    record {
-      ticked = ([], none_ticked _ _ _, nothing_passed _ _);
-      next = c.next_deadline-next.ensures;
-      config = refl;
-      failed = refl;
-    }
+loop-limit-init g c = record { ticked = λ count end r rest. (count, rest); next = c.next_moment-next.ensures }
 
 pub loop-limit-preserved : goal.loop-limit-preserved
 loop-limit-preserved g c =
     let now = c.loop-limit.invariant in
     let due : c.loop-limit.next < c.args.limit = grind (arith, nat_tests) in
     record {
-      ticked = next_done _ _ _ _ _ _ _ _ _ _ _ _ _ now.config now.next due c.is_well_formed.ensures.later now.ticked.1 now.ticked.2
-          c.in_ok-tick_at.ensures.puts;
-      next = c.next_deadline-next-in-loop-limit.ensures;
-      config = c.in_ok-tick_at.ensures.puts.same_config ∙ now.config;
-      failed = c.in_ok-tick_at.ensures.failed ∙ or-false _ ∙ now.failed;
+      ticked = λ count end r rest. now.ticked (suc count) end r (
+        (c.tick_at.new.self, c.tick_at.new.output),
+        subst (λ m. m < c.args.limit) now.next due,
+        subst (λ m. m < g.T.TickStep.next c.tick_at.new.self) now.next c.in_ok-tick_at.ensures.later,
+        subst (λ m. g.T.TickStep.ticks m (c.loop-limit.steps, c.loop-limit.output) (c.tick_at.new.self, c.tick_at.new.output) (Ok tt)) now.next
+            c.in_ok-tick_at.ensures.effect,
+        rest,
+      );
+      next = c.next_moment-next-in-loop-limit.ensures;
     }
 
-pub returns-in_err-tick_at-clause-puts : goal.returns-in_err-tick_at-clause-puts
-returns-in_err-tick_at-clause-puts g c =
+pub returns-in_err-tick_at : goal.returns-in_err-tick_at
+returns-in_err-tick_at g c =
     let p = err_from_is_err_and c.from_residual.result c.from_residual.ensures.1 in
     let now = c.loop-limit.invariant in
     let due : c.loop-limit.next < c.args.limit = grind (arith, nat_tests) in
-    rw p.1 (record {
-      same_config = c.in_err-tick_at.ensures.puts.same_config ∙ now.config;
-      link = tt;
-      text = next_broken _ _ _ _ _ _ _ _ _ _ _ _ _ _ now.config now.next due now.ticked.1 now.ticked.2 c.in_err-tick_at.ensures.puts;
-    })
+    rw (p.1, p.2) (now.ticked zero _ (Err c.in_err-tick_at.field-0.0) (
+      subst (λ m. m < c.args.limit) now.next due,
+      subst (λ m. g.T.TickStep.ticks m (c.loop-limit.steps, c.loop-limit.output) (c.tick_at.new.self, c.tick_at.new.output)
+          (Err c.in_err-tick_at.field-0.0)) now.next c.in_err-tick_at.ensures.effect,
+    ))
 
-pub returns-clause-puts : goal.returns-clause-puts
-returns-clause-puts g c =
+pub returns : goal.returns
+returns g c =
     let now = c.loop-limit.invariant in
     let reached : c.args.limit ≤ c.loop-limit.next = grind (arith, nat_tests) in
-    ticks_done _ _ _ _ _ _ _ _ now.config (subst (λ m. c.args.limit ≤ m) now.next reached) now.ticked.1 now.ticked.2
-
-pub loop-limit-smaller : goal.loop-limit-smaller
-loop-limit-smaller g c =
-    let later = comes_later _ _ _ _ _ c.is_well_formed.ensures.later c.in_ok-tick_at.ensures.puts.link in
-    let next = c.next_deadline-next-in-loop-limit.ensures in
-    let due : c.loop-limit.next < c.args.limit = grind (arith, nat_tests) in
-    omega (arith, later, next, due)
+    now.ticked zero _ (Ok tt) (refl, subst (λ m. c.args.limit ≤ m) now.next reached)

@@ -1,4 +1,4 @@
-use Rattle.std.proofs.Common.{Bool, ◌||◌, true, Result, Ok, Err, ap, refl, sym, ◌∙◌}
+use Rattle.std.proofs.Common.{Bool, ◌||◌, true, Ok, Err, ap, sym, ◌∙◌}
 use Rattle.std.proofs.lemmas.Result.{err_from_is_err_and}
 use Rattle.std.proofs.Math.Bool.{or-false}
 use Rattle.mq_text.specs.declared.printing.LineFault.{LineFault}
@@ -9,20 +9,20 @@ use Rattle.mq_replay.proofs.running_replay.ReplayGaplessStepWatched.packet.Goals
 pub returns-in_err-replay_packet : goal.returns-in_err-replay_packet
 returns-in_err-replay_packet g c =
     let p = err_from_is_err_and c.from_residual.result c.from_residual.ensures.1 in
-    rw (p.1, p.2) (replays_broken _ _ _ _ _ _ refl c.moment.ensures.same
+    rw (p.1, p.2) (replays_broken _ _ _ _ _ _ _ _ c.in_err-replay_packet.ensures.asked c.moment.ensures.same
     c.unwrap_frame-inner.ensures c.in_err-replay_packet.ensures.puts c.in_err-replay_packet.ensures.failed)
 
 pub returns-in_err-write_before_wait : goal.returns-in_err-write_before_wait
 returns-in_err-write_before_wait g c =
     let p = err_from_is_err_and c.from_residual-in_err-write_before_wait.result c.from_residual-in_err-write_before_wait.ensures.1 in
-    rw (p.1, p.2) (replays_broken _ _ _ _ _ _ refl c.moment.ensures.same c.unwrap_frame-inner.ensures
+    rw (p.1, p.2) (replays_broken _ _ _ _ _ _ _ _ c.in_ok-replay_packet.ensures.asked c.moment.ensures.same c.unwrap_frame-inner.ensures
     (replayed_then_nothing (Unit {0}) LineFault _ _ _ _ _ _ _ _ _ _ (Err c.in_err-write_before_wait.field-0.0) c.in_ok-replay_packet.ensures.puts
     c.in_err-write_before_wait.ensures.text)
     (c.in_err-write_before_wait.ensures.failed ∙ ap (λ (b : Bool). b || true) (c.in_ok-replay_packet.ensures.failed ∙ or-false _)))
 
 pub returns : goal.returns
 returns g c =
-    replays_well _ _ _ _ _ refl c.moment.ensures.same c.unwrap_frame-inner.ensures
+    replays_well _ _ _ _ _ _ _ c.in_ok-replay_packet.ensures.asked c.moment.ensures.same c.unwrap_frame-inner.ensures
     (replayed_then_nothing (Unit {0}) LineFault _ _ _ _ _ _ _ _ _ _ (Ok c.in_ok-write_before_wait.field-0) c.in_ok-replay_packet.ensures.puts
     c.in_ok-write_before_wait.ensures.text)
     (both_unfailed _ _ _ c.in_ok-replay_packet.ensures.failed c.in_ok-write_before_wait.ensures.failed ∙ sym (or-false _))
