@@ -25,7 +25,7 @@ use Rattle.mq_check.specs.Ending.{counted_behind, end_text, ended_behind}
 use Rattle.mq_check.specs.FindingLines.{finding_lines, last_lines}
 use Rattle.mq_check.specs.General.{silence_up_to}
 use Rattle.mq_check.specs.Repeated.{all_reported, no_differences, reported, with_findings}
-use Rattle.mq_check.specs.Telling.{ToldState, Tells, counted_times, nothing_told, reported_by}
+use Rattle.mq_check.specs.Telling.{FindingWriterState, Tells, counted_times, nothing_told, reported_by}
 use Rattle.mq_check.proofs.Repeating.{reported_of_both}
 use Rattle.mq_check.proofs.Tellings.{lines_of_both, none_told, then_told, times_more}
 
@@ -42,7 +42,7 @@ totals_are c rests found rest count counts =
     λ i. record { general = c.general; specific = c.specific; findings = findings i; basis = rests }
 
 -- the end of a check behind what was found before
-ended_joined : (config : Configuration) (within : ℕ) (told : ToldState) (moment number : ℕ) (found : List (Finding ℕ)) (r : Checked)
+ended_joined : (config : Configuration) (within : ℕ) (told : FindingWriterState) (moment number : ℕ) (found : List (Finding ℕ)) (r : Checked)
     → told.last ≡ with_findings found no_differences → told.count ≡ counted_times (length (all_reported told.additions found)) 0
     → ended_at config within told.additions moment number found r
     ≡ report_behind (finding_lines config.family told.additions (all_reported told.additions found)) (ended_behind config within told moment number r)
@@ -155,20 +155,20 @@ only_waits config terms moment number o e is = by_room ahead.checked.checking.wa
     by_room false is = absurd (cc is)
 
 -- the lines of what was told first, in the terms of a verdict
-told_lines : (config : Configuration) (terms : CheckTerms) (family : Family) (found : List (Finding ℕ)) (told : ToldState) → family ≡ config.family →
+told_lines : (config : Configuration) (terms : CheckTerms) (family : Family) (found : List (Finding ℕ)) (told : FindingWriterState) → family ≡ config.family →
     told.additions ≡ terms.additions → told.last ≡ no_differences
     → finding_lines family told.additions (reported_by told found) ≡ finding_lines config.family terms.additions (all_reported terms.additions found)
 told_lines config terms family found told is_family is_cite is_new = λ i. finding_lines (is_family i) (is_cite i) (reported (is_cite i).once (is_new i) found)
 
 -- what was told went to the writer as the lines of a verdict
-pub lines_passed : {E : Type 0} (config : Configuration) (terms : CheckTerms) (family : Family) (found : List (Finding ℕ)) (told told' : ToldState)
+pub lines_passed : {E : Type 0} (config : Configuration) (terms : CheckTerms) (family : Family) (found : List (Finding ℕ)) (told told' : FindingWriterState)
     (a b : OutputState) → family ≡ config.family → told.additions ≡ terms.additions → told.last ≡ no_differences
     → Tells {T = Unit} {E = E} family found told told' a b (Ok tt) →
     Passes a.held b.held told.held told'.held (finding_lines config.family terms.additions (all_reported terms.additions found))
 lines_passed config terms family found told told' a b is_family is_cite is_new tells =
     subst (λ (t : List ℕ). Passes a.held b.held told.held told'.held t) (told_lines config terms family found told is_family is_cite is_new) tells.text
 
-pub lines_broken : {E : Type 0} (config : Configuration) (terms : CheckTerms) (family : Family) (found : List (Finding ℕ)) (told told' : ToldState)
+pub lines_broken : {E : Type 0} (config : Configuration) (terms : CheckTerms) (family : Family) (found : List (Finding ℕ)) (told told' : FindingWriterState)
     (a b : OutputState) (e : E) → family ≡ config.family → told.additions ≡ terms.additions → told.last ≡ no_differences
     → Tells {T = Unit} family found told told' a b (Err e) →
     GrowsByBeginning a.held b.held (told.held ++ finding_lines config.family terms.additions (all_reported terms.additions found))
@@ -186,19 +186,19 @@ module _ {X : Type 0} (family : Family) (state : X → CheckState) where
   held x = (state x).told.held
 
   -- the code has come to this outcome, whose findings were told after the start
-  pub record IsCheckedAt (config : Configuration) (terms : CheckTerms) (start : ToldState) (before : OutputState) (o : Outcome) (x : X) : Type 0 where
+  pub record IsCheckedAt (config : Configuration) (terms : CheckTerms) (start : FindingWriterState) (before : OutputState) (o : Outcome) (x : X) : Type 0 where
     pub checked : checked_in (state x).link (state x).queries ≡ o.checked
     pub same_config : (state x).link.config ≡ config
     pub same_terms : (state x).terms ≡ terms
     pub tells : Tells {T = Unit} {E = Unit} family o.found start (state x).told before (out x) (Ok tt)
 
-  module _ (config : Configuration) (terms : CheckTerms) (start : ToldState) (before : OutputState)
+  module _ (config : Configuration) (terms : CheckTerms) (start : FindingWriterState) (before : OutputState)
       (is_family : family ≡ config.family) (is_new : start ≡ nothing_told terms.additions) where
     passed_at : (o : Outcome) (x : X) → IsCheckedAt config terms start before o x →
         IsPassed (check_of config terms) (IsCheckedAt config terms start before) out held before start.held o x
     passed_at o x at = (
-      lines_passed {E = Unit} config terms family o.found start (state x).told before (out x) is_family (ap (λ (t : ToldState). t.additions) is_new)
-          (ap (λ (t : ToldState). t.last) is_new) at.tells,
+      lines_passed {E = Unit} config terms family o.found start (state x).told before (out x) is_family (ap (λ (t : FindingWriterState). t.additions) is_new)
+          (ap (λ (t : FindingWriterState). t.last) is_new) at.tells,
       at.tells.failed ∙ or-false _,
     )
 
@@ -237,7 +237,7 @@ module _ {X : Type 0} (family : Family) (state : X → CheckState) where
         let tells = then_told {E = Unit} family o.found (one packet o).found start (state x).told (state x').told before (out x) (out x') tt
         (Err tt) at.tells comes.tells in (
           lines_broken {E = Unit} config terms family (o.found ++ (one packet o).found) start (state x').told before (out x') tt is_family
-              (ap (λ (t : ToldState). t.additions) is_new) (ap (λ (t : ToldState). t.last) is_new) tells,
+              (ap (λ (t : FindingWriterState). t.additions) is_new) (ap (λ (t : FindingWriterState). t.last) is_new) tells,
           tells.failed,
         )
     stepped_at packet o x x' (Err (answer.Gap number)) at step = absurd step
@@ -255,7 +255,7 @@ module _ {X : Type 0} (family : Family) (state : X → CheckState) where
     abbrev terms : CheckTerms
     terms = (state (inner y)).terms
 
-    abbrev start : ToldState
+    abbrev start : FindingWriterState
     start = (state (inner y)).told
 
     abbrev before : OutputState
@@ -295,8 +295,8 @@ module _ {X : Type 0} (family : Family) (state : X → CheckState) where
           reported_well (check_of config terms) Is out held before start.held inner takes (passed_at config terms start before is_family is_new)
           (stepped_at config terms start before is_family is_new) y here old new y' w walks after left it rest
           (λ o at.
-          let cited : told.additions ≡ terms.additions = at.tells.additions ∙ ap (λ (t : ToldState). t.additions) is_new in
-          let is_last = ap (λ (t : ToldState). t.last) is_new in
+          let cited : told.additions ≡ terms.additions = at.tells.additions ∙ ap (λ (t : FindingWriterState). t.additions) is_new in
+          let is_last = ap (λ (t : FindingWriterState). t.last) is_new in
           let lasts : told.last ≡ with_findings o.found no_differences = at.tells.last ∙ ap (with_findings o.found) is_last in
           let counts : told.count ≡ counted_times (length (all_reported told.additions o.found)) 0 =
           at.tells.count ∙ (λ i. counted_times (length (reported (sym at.tells.additions i).once (is_last i) o.found)) (is_new i).count) in

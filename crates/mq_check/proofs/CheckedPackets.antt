@@ -16,7 +16,7 @@ use Rattle.mq_check.specs.Basis as basis
 use Rattle.mq_check.specs.Checking.{CheckingValue, faults_seen, query_came, settled}
 use Rattle.mq_check.specs.Coming.{Comes, checked_in}
 use Rattle.mq_check.specs.Queries.{query_seen}
-use Rattle.mq_check.specs.Telling.{ToldState}
+use Rattle.mq_check.specs.Telling.{FindingWriterState}
 use Rattle.mq_check.specs.Wanting.{WantingValue}
 use Rattle.mq_check.proofs.Tellings.{none_told, then_told, told_broken, broken_as}
 
@@ -91,7 +91,7 @@ headers_left config config' link m number frame datagram old mid new is_config s
     looks ∙ (λ i. faults_seen m number (faults_in (is_config i) link frame datagram) (settles i))
 
 -- one thing came, and then another, or a write failed by then
-pub both_came : {S T E E' : Type 0} (family : Family) (first second : Outcome) (a b c : LinkValue) (q r : WantingValue) (t u v : ToldState)
+pub both_came : {S T E E' : Type 0} (family : Family) (first second : Outcome) (a b c : LinkValue) (q r : WantingValue) (t u v : FindingWriterState)
     (x y z : OutputState) (s : S) (answer : Result T E)
     → Comes {E = E'} family first a b q t u x y (Ok s) → Comes family second b c r u v y z answer →
     Comes family (behind first.found second) a c r t v x z answer
@@ -103,7 +103,7 @@ both_came family first second a b c q r t u v x y z s answer one other =
     }
 
 pub first_broken : {T E E' : Type 0} (family : Family) (first : Outcome) (rest : List (Finding ℕ)) (checked : Checked) (a b : LinkValue)
-    (q : WantingValue) (t u : ToldState) (x y : OutputState) (e : E) (e' : E')
+    (q : WantingValue) (t u : FindingWriterState) (x y : OutputState) (e : E) (e' : E')
     → Comes {T = T} family first a b q t u x y (Err e) → Comes {T = T} family (record { checked = checked; found = first.found ++ rest }) a b q t u x y (Err e')
 first_broken family first rest checked a b q t u x y e e' one =
     record {
@@ -121,7 +121,8 @@ counted_in family other datagram old new is same = is ∙
 
 -- a packet, behind the ticks up to its moment
 pub packet_came : {S T E E' : Type 0} (family : Family) (config : Configuration) (link : LinkType) (within within' moment number : ℕ) (back : Bool)
-    (frame : List ℕ) (datagram : Option Datagram) (at : Checked) (a b c : LinkValue) (q noting r : WantingValue) (t u v : ToldState) (x y z : OutputState)
+    (frame : List ℕ) (datagram : Option Datagram) (at : Checked) (a b c : LinkValue) (q noting r : WantingValue) (t u v : FindingWriterState)
+    (x y z : OutputState)
     (s : S) (answer : Result T E) → within' ≡ within → config ≡ a.config → datagram ≡ datagram_of config.family (carried_in link frame)
     → Comes {E = E'} family (ticked_through a.config within moment at) a b q t u x y (Ok s)
     → noting ≡ record q { basis = with_frame config.family link frame (carried_in link frame) datagram (basis.with_packet back q.basis) }
@@ -144,14 +145,14 @@ packet_came {S} {T} {E} family config link within within' moment number back fra
     (record { same_config = as_it_is.same_config; checked = as_it_is.checked; tells = as_it_is.tells })
 
 pub packet_broken : {T E E' : Type 0} (family : Family) (link : LinkType) (within moment number : ℕ) (back : Bool) (frame : List ℕ) (at : Checked)
-    (a b : LinkValue) (q : WantingValue) (t u : ToldState) (x y : OutputState) (e : E) (e' : E')
+    (a b : LinkValue) (q : WantingValue) (t u : FindingWriterState) (x y : OutputState) (e : E) (e' : E')
     → Comes {T = T} family (ticked_through a.config within moment at) a b q t u x y (Err e)
     → Comes {T = T} family (with_packet a.config link within moment number back frame at) a b q t u x y (Err e')
 unfolding with_packet
 packet_broken family link within moment number back frame at a b q t u x y e e' one = first_broken family _ _ _ a b q t u x y e e' one
 
 -- the ticks up to a moment that the code names otherwise
-pub ticks_at : {T E : Type 0} (family : Family) (within m n : ℕ) (at : Checked) (a b : LinkValue) (q : WantingValue) (t u : ToldState)
+pub ticks_at : {T E : Type 0} (family : Family) (within m n : ℕ) (at : Checked) (a b : LinkValue) (q : WantingValue) (t u : FindingWriterState)
     (x y : OutputState) (answer : Result T E) → m ≡ n
     → Comes family (ticked_through a.config within m at) a b q t u x y answer → Comes family (ticked_through a.config within n at) a b q t u x y answer
 ticks_at {T} {E} family within m n at a b q t u x y answer same comes =
@@ -159,6 +160,6 @@ ticks_at {T} {E} family within m n at a b q t u x y answer same comes =
 
 -- a packet without a datagram of the family
 pub nothing_came : {E : Type 0} (family : Family) (config : Configuration) (link : LinkType) (within moment number : ℕ) (frame : List ℕ)
-    (a : LinkValue) (p : WantingValue) (t : ToldState) (x : OutputState)
+    (a : LinkValue) (p : WantingValue) (t : FindingWriterState) (x : OutputState)
     → Comes {T = Unit} {E = E} family (with_datagram config link within moment number frame None (checked_in a p)) a a p t t x x (Ok tt)
 nothing_came family config link within moment number frame a p t x = record { same_config = refl; checked = refl; tells = none_told family t x tt }

@@ -19,12 +19,12 @@ use Rattle.mq_check.specs.Ending.{counted_behind, end_behind, end_text, ended_be
 use Rattle.mq_check.specs.FindingLines.{finding_lines, last_lines}
 use Rattle.mq_check.specs.General.{silence_up_to}
 use Rattle.mq_check.specs.Repeated.{reported, with_findings}
-use Rattle.mq_check.specs.Telling.{ToldState, Tells, counted_times, reported_by}
+use Rattle.mq_check.specs.Telling.{FindingWriterState, Tells, counted_times, reported_by}
 use Rattle.mq_check.proofs.Repeating.{reported_of_both}
 use Rattle.mq_check.proofs.Tellings.{lines_of_both, reported_after, tells_as, then_told, times_more, told_broken}
 
 -- the same of a family that is named otherwise
-pub tells_in : {T E : Type 0} (family other : Family) (found : List (Finding ℕ)) (old new : ToldState) (a b : OutputState) (r : Result T E) →
+pub tells_in : {T E : Type 0} (family other : Family) (found : List (Finding ℕ)) (old new : FindingWriterState) (a b : OutputState) (r : Result T E) →
     family ≡ other → Tells family found old new a b r → Tells other found old new a b r
 tells_in {T} {E} family other found old new a b r same tells = subst (λ (f : Family). Tells {T = T} {E = E} f found old new a b r) same tells
 
@@ -34,7 +34,7 @@ pub rest_as : (v w : Report Totals) (before after : Option (List ℕ)) (held lef
 rest_as v w before after held left r same put = subst (λ (x : Report Totals). IsRestPut x before after held left r) same put
 
 -- the totals were put behind the findings, or not whole
-pub end_passed : {S E : Type 0} (family : Family) (found : List (Finding ℕ)) (old mid : ToldState) (a b : OutputState) (c : Option (List ℕ))
+pub end_passed : {S E : Type 0} (family : Family) (found : List (Finding ℕ)) (old mid : FindingWriterState) (a b : OutputState) (c : Option (List ℕ))
     (left : List ℕ) (x : S) (totals other : Totals)
     → Tells {E = E} family found old mid a b (Ok x) → totals ≡ other → Passes b.held c mid.held left (last_lines totals) →
     Passes a.held c old.held left (end_text family old.additions (reported_by old found) other)
@@ -42,7 +42,7 @@ end_passed family found old mid a b c left x totals other tells same put =
     subst (λ (t : Totals). Passes a.held c old.held left (finding_lines family old.additions (reported_by old found) ++ last_lines t)) same
     (both_passed a.held b.held c old.held mid.held left _ _ tells.text put)
 
-pub end_unpassed : {S E : Type 0} (family : Family) (found : List (Finding ℕ)) (old mid : ToldState) (a b : OutputState) (c : Option (List ℕ)) (x : S)
+pub end_unpassed : {S E : Type 0} (family : Family) (found : List (Finding ℕ)) (old mid : FindingWriterState) (a b : OutputState) (c : Option (List ℕ)) (x : S)
     (totals other : Totals)
     → Tells {E = E} family found old mid a b (Ok x) → totals ≡ other → GrowsByBeginning b.held c (mid.held ++ last_lines totals) →
     GrowsByBeginning a.held c (old.held ++ end_text family old.additions (reported_by old found) other)
@@ -51,14 +51,14 @@ end_unpassed family found old mid a b c x totals other tells same begun =
     (broken_behind a.held b.held c old.held mid.held _ _ tells.text begun)
 
 -- a finding was not put whole
-pub end_broken : {T E : Type 0} (family : Family) (found rest : List (Finding ℕ)) (old new : ToldState) (a b : OutputState) (e : E) (totals : Totals)
+pub end_broken : {T E : Type 0} (family : Family) (found rest : List (Finding ℕ)) (old new : FindingWriterState) (a b : OutputState) (e : E) (totals : Totals)
     → Tells {T = T} family found old new a b (Err e) →
     GrowsByBeginning a.held b.held (old.held ++ end_text family old.additions (reported_by old (found ++ rest)) totals)
 end_broken {T} family found rest old new a b e totals tells =
     let told = told_broken {T = T} family found rest old new a b e tells in
     broken_within a.held b.held old.held _ (last_lines totals) told.text
 
-pub all_broken : {T E : Type 0} (family : Family) (found : List (Finding ℕ)) (old new : ToldState) (a b : OutputState) (e : E) (totals : Totals)
+pub all_broken : {T E : Type 0} (family : Family) (found : List (Finding ℕ)) (old new : FindingWriterState) (a b : OutputState) (e : E) (totals : Totals)
     → Tells {T = T} family found old new a b (Err e) → GrowsByBeginning a.held b.held (old.held ++ end_text family old.additions (reported_by old found) totals)
 all_broken family found old new a b e totals tells = broken_within a.held b.held old.held _ (last_lines totals) tells.text
 
@@ -81,7 +81,7 @@ both_texts family additions found last totals =
     ap (λ (t : List ℕ). t ++ last_lines totals) (lines_of_both family additions found last) ∙ append_assoc (finding_lines family additions found)
     (finding_lines family additions last) (last_lines totals)
 
-begins : (family : Family) (told : ToldState) (number : ℕ) (c : CheckingValue) (rests : Basis) (found last : List (Finding ℕ)) → (more : List ℕ) ×
+begins : (family : Family) (told : FindingWriterState) (number : ℕ) (c : CheckingValue) (rests : Basis) (found last : List (Finding ℕ)) → (more : List ℕ) ×
     ((end_behind family told number c rests found last).text ≡ finding_lines family told.additions (reported_by told found) ++ more)
 begins family told number c rests found last =
     let first = reported_by told found in
@@ -102,21 +102,21 @@ begins family told number c rests found last =
 
 -- a finding up to the end was not put whole
 pub ended_broken : {T E : Type 0} (family : Family) (number : ℕ) (c : CheckingValue) (rests : Basis) (found last : List (Finding ℕ))
-    (old new : ToldState) (a b : OutputState) (e : E)
+    (old new : FindingWriterState) (a b : OutputState) (e : E)
     → Tells {T = T} family found old new a b (Err e) → GrowsByBeginning a.held b.held (old.held ++ (end_behind family old number c rests found last).text)
 ended_broken family number c rests found last old new a b e tells =
     let start = begins family old number c rests found last in
     subst (λ (t : List ℕ). GrowsByBeginning a.held b.held (old.held ++ t)) (sym start.1) (broken_within a.held b.held old.held _ start.0 tells.text)
 
 -- too much waits
-pub ended_full : {E : Type 0} (family : Family) (number : ℕ) (c : CheckingValue) (rests : Basis) (found last : List (Finding ℕ)) (old new : ToldState)
+pub ended_full : {E : Type 0} (family : Family) (number : ℕ) (c : CheckingValue) (rests : Basis) (found last : List (Finding ℕ)) (old new : FindingWriterState)
     (a b : OutputState) → c.waiting.is_full ≡ true
     → Tells {T = Unit} {E = E} family found old new a b (Ok tt) →
     IsRestPut (end_behind family old number c rests found last) a.held b.held old.held new.held (Err (answer.Waiting number))
 ended_full family number c rests found last old new a b is tells = rw is (refl, tells.text)
 
 -- what is found at the end was put behind what was found up to it
-ended_open : (family : Family) (told mid : ToldState) (number : ℕ) (c : CheckingValue) (rests : Basis) (found last : List (Finding ℕ)) →
+ended_open : (family : Family) (told mid : FindingWriterState) (number : ℕ) (c : CheckingValue) (rests : Basis) (found last : List (Finding ℕ)) →
     c.waiting.is_full ≡ false
     → mid.additions ≡ told.additions → mid.last ≡ with_findings found told.last → mid.count ≡ counted_times (length (reported_by told found)) told.count
     → end_behind family told number c rests found last
@@ -143,7 +143,7 @@ ended_open family told mid number c rests found last is additions lasts counts =
     })
 
 pub ended_put : {E : Type 0} (family : Family) (number : ℕ) (c : CheckingValue) (rests : Basis) (found last : List (Finding ℕ))
-    (old mid new : ToldState) (x y z : OutputState) (totals : Totals) → c.waiting.is_full ≡ false
+    (old mid new : FindingWriterState) (x y z : OutputState) (totals : Totals) → c.waiting.is_full ≡ false
     → Tells {T = Unit} {E = E} family found old mid x y (Ok tt) → totals ≡ counted_behind mid.count c rests (reported_by mid last)
     → Passes y.held z.held mid.held new.held (end_text family mid.additions (reported_by mid last) (counted_behind mid.count c rests (reported_by mid last)))
     → IsRestPut (end_behind family old number c rests found last) x.held z.held old.held new.held (Ok totals)
@@ -158,7 +158,7 @@ ended_put family number c rests found last old mid new x y z totals is tells cou
     )
 
 pub ended_unput : {E : Type 0} (family : Family) (number : ℕ) (c : CheckingValue) (rests : Basis) (found last : List (Finding ℕ))
-    (old mid : ToldState) (x y z : OutputState) → c.waiting.is_full ≡ false
+    (old mid : FindingWriterState) (x y z : OutputState) → c.waiting.is_full ≡ false
     → Tells {T = Unit} {E = E} family found old mid x y (Ok tt)
     → GrowsByBeginning y.held z.held
     (mid.held ++ end_text family mid.additions (reported_by mid last) (counted_behind mid.count c rests (reported_by mid last)))
@@ -172,13 +172,13 @@ ended_unput family number c rests found last old mid x y z is tells begun =
     (broken_behind x.held y.held z.held old.held mid.held _ _ tells.text cited)
 
 -- the end, from a check at the end and one that has looked ahead
-abbrev end_from : Configuration → (within : ℕ) → ToldState → (moment number : ℕ) → (found : List (Finding ℕ)) → (at left : Checked) → Report Totals
+abbrev end_from : Configuration → (within : ℕ) → FindingWriterState → (moment number : ℕ) → (found : List (Finding ℕ)) → (at left : Checked) → Report Totals
 end_from config within told moment number found at left =
     end_behind config.family told number left.checking at.basis (found ++ (looked_ahead config within moment at).found)
     (told_at_end within config.timing moment (silence_up_to within config.timing moment at.checking.phase) left.checking)
 
 -- the end in the terms of the code: the check at the end, and the one that has looked ahead
-pub ended_as : (config : Configuration) (within : ℕ) (told : ToldState) (moment number : ℕ) (r at left : Checked) →
+pub ended_as : (config : Configuration) (within : ℕ) (told : FindingWriterState) (moment number : ℕ) (r at left : Checked) →
     at ≡ (settled_through config within moment r).checked → left ≡ (looked_ahead config within moment at).checked
     → ended_behind config within told moment number r ≡ end_from config within told moment number (settled_through config within moment r).found at left
 unfolding ended_behind
@@ -188,7 +188,7 @@ ended_as config within told moment number r at left is ahead =
     ∙ ap (λ (k : Checked). end_from config within told moment number found at k) (sym ahead)
 
 -- what was told up to the end, and by the look-ahead
-told_ahead : {S T E E' : Type 0} (config : Configuration) (within end : ℕ) (r at : Checked) (o : Outcome) (family : Family) (old mid new : ToldState)
+told_ahead : {S T E E' : Type 0} (config : Configuration) (within end : ℕ) (r at : Checked) (o : Outcome) (family : Family) (old mid new : FindingWriterState)
     (x y z : OutputState) (s : S) (answered : Result T E) → family ≡ config.family → o ≡ looked_ahead config within end at
     → Tells {E = E'} family (settled_through config within end r).found old mid x y (Ok s) → Tells family o.found mid new y z answered
     → Tells config.family ((settled_through config within end r).found ++ (looked_ahead config within end at).found) old new x z answered
@@ -197,7 +197,7 @@ told_ahead config within end r at o family old mid new x y z s answered is_famil
     (then_told family _ _ old mid new x y z s answered first (tells_as family _ _ mid new y z answered (ap (λ (p : Outcome). p.found) is) second))
 
 -- a write failed up to the end
-pub broken_to_end : {T E : Type 0} (config : Configuration) (within end number : ℕ) (r : Checked) (family : Family) (old new : ToldState)
+pub broken_to_end : {T E : Type 0} (config : Configuration) (within end number : ℕ) (r : Checked) (family : Family) (old new : FindingWriterState)
     (x y : OutputState) (e : E) → family ≡ config.family
     → Tells {T = T} family (settled_through config within end r).found old new x y (Err e) →
     GrowsByBeginning x.held y.held (old.held ++ (ended_behind config within old end number r).text)
@@ -213,7 +213,7 @@ broken_to_end {T} {E} config within end number r family old new x y e is_family 
 
 -- a write failed in the look-ahead
 pub broken_ahead : {S T E E' : Type 0} (config : Configuration) (within end number : ℕ) (r at : Checked) (o : Outcome) (family : Family)
-    (old mid new : ToldState) (x y z : OutputState) (s : S) (e : E) → family ≡ config.family
+    (old mid new : FindingWriterState) (x y z : OutputState) (s : S) (e : E) → family ≡ config.family
     → at ≡ (settled_through config within end r).checked → o ≡ looked_ahead config within end at
     → Tells {E = E'} family (settled_through config within end r).found old mid x y (Ok s) → Tells {T = T} family o.found mid new y z (Err e)
     → GrowsByBeginning x.held z.held (old.held ++ (ended_behind config within old end number r).text)
@@ -225,7 +225,7 @@ broken_ahead {T = T} config within end number r at o family old mid new x y z s 
 
 -- too much waits after the look-ahead
 pub full_at_end : {E E' : Type 0} (config : Configuration) (within end number : ℕ) (r at left : Checked) (o : Outcome) (family : Family)
-    (old mid new : ToldState) (x y z : OutputState) → family ≡ config.family
+    (old mid new : FindingWriterState) (x y z : OutputState) → family ≡ config.family
     → at ≡ (settled_through config within end r).checked → o ≡ looked_ahead config within end at → left ≡ o.checked → left.checking.waiting.is_full ≡ true
     → Tells {T = Unit} {E = E'} family (settled_through config within end r).found old mid x y (Ok tt) →
     Tells {T = Unit} {E = E} family o.found mid new y z (Ok tt)
@@ -238,7 +238,7 @@ full_at_end {E} config within end number r at left o family old mid new x y z is
 
 -- the end was put whole, or not
 pub put_at_end : {E E' : Type 0} (config : Configuration) (within end number : ℕ) (r at left : Checked) (o : Outcome) (rests : Basis)
-    (last : List (Finding ℕ)) (family : Family) (old mid near new : ToldState) (x y z w : OutputState) (totals : Totals) → family ≡ config.family
+    (last : List (Finding ℕ)) (family : Family) (old mid near new : FindingWriterState) (x y z w : OutputState) (totals : Totals) → family ≡ config.family
     → at ≡ (settled_through config within end r).checked → o ≡ looked_ahead config within end at → left ≡ o.checked → rests ≡ at.basis
     → last ≡ told_at_end within config.timing end (silence_up_to within config.timing end at.checking.phase) left.checking →
     left.checking.waiting.is_full ≡ false
@@ -262,7 +262,7 @@ put_at_end {E} config within end number r at left o rests last family old mid ne
     (subst (λ (t : List ℕ). Passes z.held w.held near.held new.held t) text passed))
 
 pub unput_at_end : {E E' : Type 0} (config : Configuration) (within end number : ℕ) (r at left : Checked) (o : Outcome) (rests : Basis)
-    (last : List (Finding ℕ)) (family : Family) (old mid near : ToldState) (x y z w : OutputState) → family ≡ config.family
+    (last : List (Finding ℕ)) (family : Family) (old mid near : FindingWriterState) (x y z w : OutputState) → family ≡ config.family
     → at ≡ (settled_through config within end r).checked → o ≡ looked_ahead config within end at → left ≡ o.checked → rests ≡ at.basis
     → last ≡ told_at_end within config.timing end (silence_up_to within config.timing end at.checking.phase) left.checking →
     left.checking.waiting.is_full ≡ false

@@ -17,7 +17,7 @@ use Rattle.mq_check.specs.Basis as basis
 use Rattle.mq_check.specs.Blocked.{blocked_in}
 use Rattle.mq_check.specs.Checking.{all_blocked, settled, told, with_messages, role_after_tick, role_changed}
 use Rattle.mq_check.specs.Coming.{Comes, checked_in}
-use Rattle.mq_check.specs.Telling.{ToldState, Tells}
+use Rattle.mq_check.specs.Telling.{FindingWriterState, Tells}
 use Rattle.mq_check.specs.Wanting.{WantingValue, TakesMessage}
 use Rattle.mq_check.proofs.Tellings.{broken_as, tells_as, then_told, told_broken}
 use Rattle.mq_check.proofs.WantedMessages.{after_messages, all_wanted, basis_kept, each_sent}
@@ -95,7 +95,7 @@ pub received_at : (config : Configuration) (within m n : ℕ) (datagram : Datagr
 received_at config within m n datagram r s same is = is ∙ ap (λ (k : ℕ). received config within k datagram r) same
 
 -- an outcome that is named otherwise
-pub comes_as : {T E : Type 0} (family : Family) (o p : Outcome) (before after : LinkValue) (new : WantingValue) (old_told new_told : ToldState)
+pub comes_as : {T E : Type 0} (family : Family) (o p : Outcome) (before after : LinkValue) (new : WantingValue) (old_told new_told : FindingWriterState)
     (a b : OutputState) (r : Result T E) → o ≡ p
     → Comes family o before after new old_told new_told a b r → Comes family p before after new old_told new_told a b r
 comes_as {T} {E} family o p before after new old_told new_told a b r same comes =
@@ -112,7 +112,7 @@ settled_there config within within' moment r after queries new (Ok x) same is se
 settled_there config within within' moment r after queries new (Err e) same is settles kept = tt
 
 pub settles_at : {T E E' : Type 0} (family : Family) (within within' m end : ℕ) (before after : LinkValue) (old queries new : WantingValue)
-    (first mid last : ToldState) (x y z : OutputState) (outcome : Result T E) → within' ≡ within → m ≡ end
+    (first mid last : FindingWriterState) (x y z : OutputState) (outcome : Result T E) → within' ≡ within → m ≡ end
     → Comes {T = Unit} {E = E'} family (ticked_through before.config within m (checked_in before old)) before after queries first mid x y (Ok tt)
     → IfOk outcome (λ _. new.checking ≡ settled m queries.checking) → new.basis ≡ queries.basis →
     Tells family (told within' m queries.checking) mid last y z outcome
@@ -128,7 +128,7 @@ settles_at {T} {E} family within within' m end before after old queries new firs
     comes_as family _ _ before after new first last x z outcome (ap (λ (k : ℕ). settled_through before.config within k (checked_in before old)) is_end) there
 
 pub settles_broken : {S T E E' : Type 0} (family : Family) (within m end : ℕ) (before after : LinkValue) (old new : WantingValue)
-    (first last : ToldState) (x y : OutputState) (e : E') (e' : E) → m ≡ end
+    (first last : FindingWriterState) (x y : OutputState) (e : E') (e' : E) → m ≡ end
     → Comes {T = S} family (ticked_through before.config within m (checked_in before old)) before after new first last x y (Err e)
     → Comes {T = T} family (settled_through before.config within end (checked_in before old)) before after new first last x y (Err e')
 settles_broken {S} {T} family within m end before after old new first last x y e e' is_end comes =

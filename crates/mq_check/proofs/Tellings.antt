@@ -17,7 +17,7 @@ use Rattle.mq_check.specs.Entries.{differ_at}
 use Rattle.mq_check.specs.FindingLines.{finding_line, finding_lines}
 use Rattle.mq_check.specs.declared.repeated.LastDifferences.{LastDifferences}
 use Rattle.mq_check.specs.Repeated.{is_left_out, reported, unless, with_finding, with_findings}
-use Rattle.mq_check.specs.Telling.{ToldState, Tells, counted_times, reported_by}
+use Rattle.mq_check.specs.Telling.{FindingWriterState, Tells, counted_times, reported_by}
 use Rattle.mq_check.proofs.Repeating.{last_of_both, reported_of_both}
 
 -- a count that went up so many times, and then so many more
@@ -27,7 +27,7 @@ times_more first (suc n) count =
     let same : first + suc n ≡ suc (first + n) = omega arith in
     ap (λ (k : ℕ). counted_times k count) same ∙ ap counted_up (times_more first n count)
 
-pub none_told : {T E : Type 0} (family : Family) (told : ToldState) (at : OutputState) (x : T) → Tells {E = E} family [] told told at at (Ok x)
+pub none_told : {T E : Type 0} (family : Family) (told : FindingWriterState) (at : OutputState) (x : T) → Tells {E = E} family [] told told at at (Ok x)
 none_told family told at x = record { additions = refl; last = refl; count = refl; text = nothing_passed at.held told.held; failed = sym (or-false at.failed) }
 
 -- the lines of two lists of findings
@@ -36,7 +36,7 @@ pub lines_of_both : (family : Family) (additions : Additions) (xs ys : List (Fin
 lines_of_both family additions xs ys = flat_map-append (finding_line family additions) xs ys
 
 -- the reported ones of two lists, if those of the first one were told
-pub reported_after : (told mid : ToldState) (xs ys : List (Finding ℕ)) → mid.additions ≡ told.additions → mid.last ≡ with_findings xs told.last
+pub reported_after : (told mid : FindingWriterState) (xs ys : List (Finding ℕ)) → mid.additions ≡ told.additions → mid.last ≡ with_findings xs told.last
     → reported_by told (xs ++ ys) ≡ reported_by told xs ++ reported_by mid ys
 reported_after told mid xs ys additions last =
     reported_of_both told.additions.once xs ys told.last ∙ (λ i. reported_by told xs ++ reported (sym additions i).once (sym last i) ys)
@@ -54,7 +54,8 @@ both_counted xs ys all old mid new (Ok x) both first second =
 both_counted xs ys all old mid new (Err e) both first second = tt
 
 -- some were told, and then others
-pub then_told : {S T E E' : Type 0} (family : Family) (xs ys : List (Finding ℕ)) (old mid new : ToldState) (a b c : OutputState) (x : S) (r : Result T E)
+pub then_told : {S T E E' : Type 0} (family : Family) (xs ys : List (Finding ℕ)) (old mid new : FindingWriterState) (a b c : OutputState)
+    (x : S) (r : Result T E)
     → Tells {E = E'} family xs old mid a b (Ok x) → Tells family ys mid new b c r → Tells family (xs ++ ys) old new a c r
 then_told family xs ys old mid new a b c x r first second =
     let both = reported_after old mid xs ys first.additions first.last in
@@ -70,7 +71,7 @@ then_told family xs ys old mid new a b c x r first second =
     }
 
 -- a write failed, and others were not told
-pub told_broken : {T E : Type 0} (family : Family) (xs ys : List (Finding ℕ)) (old new : ToldState) (a b : OutputState) (e : E)
+pub told_broken : {T E : Type 0} (family : Family) (xs ys : List (Finding ℕ)) (old new : FindingWriterState) (a b : OutputState) (e : E)
     → Tells {T = T} family xs old new a b (Err e) → Tells {T = T} family (xs ++ ys) old new a b (Err e)
 told_broken {T} family xs ys old new a b e first =
     let both = reported_of_both old.additions.once xs ys old.last in
@@ -85,7 +86,7 @@ told_broken {T} family xs ys old new a b e first =
     }
 
 -- the same is told whichever fault it is
-pub broken_as : {S T E E' : Type 0} (family : Family) (xs : List (Finding ℕ)) (old new : ToldState) (a b : OutputState) (e : E) (e' : E')
+pub broken_as : {S T E E' : Type 0} (family : Family) (xs : List (Finding ℕ)) (old new : FindingWriterState) (a b : OutputState) (e : E) (e' : E')
     → Tells {T = S} family xs old new a b (Err e) → Tells {T = T} family xs old new a b (Err e')
 broken_as family xs old new a b e e' tells = record { additions = tells.additions; last = tt; count = tt; text = tells.text; failed = tells.failed }
 
@@ -94,7 +95,7 @@ noted : {T E : Type 0} (new last : LastDifferences) (r : Result T E) → new ≡
 noted new last (Ok x) is = is
 noted new last (Err e) is = tt
 
-pub one_told : {T E : Type 0} (family : Family) (x : Finding ℕ) (old new : ToldState) (a b : OutputState) (r : Result T E) →
+pub one_told : {T E : Type 0} (family : Family) (x : Finding ℕ) (old new : FindingWriterState) (a b : OutputState) (r : Result T E) →
     is_left_out old.additions.once old.last x ≡ false → new.additions ≡ old.additions → new.last ≡ with_finding x old.last
     → IfOk r (λ _. new.count ≡ counted_up old.count) → Puts a.held b.held old.held new.held (finding_line family old.additions x) r →
     b.failed ≡ a.failed || is_err r → Tells family (x ∷ []) old new a b r
@@ -110,7 +111,7 @@ one_told family x old new a b r is additions last count text failed =
     }
 
 -- one was left out
-pub one_left_out : {T E : Type 0} (family : Family) (x : Finding ℕ) (old new : ToldState) (at : OutputState) (y : T) →
+pub one_left_out : {T E : Type 0} (family : Family) (x : Finding ℕ) (old new : FindingWriterState) (at : OutputState) (y : T) →
     is_left_out old.additions.once old.last x ≡ true → new ≡ record old { last = with_finding x old.last }
     → Tells {E = E} family (x ∷ []) old new at at (Ok y)
 one_left_out {T} {E} family x old new at y is same =
@@ -123,10 +124,10 @@ one_left_out {T} {E} family x old new at y is same =
           (nothing_passed at.held old.held);
       failed = sym (or-false at.failed);
     } in
-    subst (λ (t : ToldState). Tells {T = T} {E = E} family (x ∷ []) old t at at (Ok y)) (sym same) left
+    subst (λ (t : FindingWriterState). Tells {T = T} {E = E} family (x ∷ []) old t at at (Ok y)) (sym same) left
 
 -- fields that differ were told, and then others; or a write failed and others were not told
-pub fields_told : {S T E E' : Type 0} (family : Family) (moment packet : ℕ) (asked : Asked ℕ) (xs ys : List (Difference ℕ)) (old mid new : ToldState)
+pub fields_told : {S T E E' : Type 0} (family : Family) (moment packet : ℕ) (asked : Asked ℕ) (xs ys : List (Difference ℕ)) (old mid new : FindingWriterState)
     (a b c : OutputState) (x : S) (r : Result T E)
     → Tells {E = E'} family (differ_at moment packet asked xs) old mid a b (Ok x) → Tells family (differ_at moment packet asked ys) mid new b c r →
     Tells family (differ_at moment packet asked (xs ++ ys)) old new a c r
@@ -134,7 +135,7 @@ fields_told {S} {T} {E} family moment packet asked xs ys old mid new a b c x r f
     subst (λ (fs : List (Finding ℕ)). Tells {T = T} {E = E} family fs old new a c r) (sym (map-append (Differs moment packet asked) xs ys))
     (then_told family _ _ old mid new a b c x r first second)
 
-pub fields_broken : {T E : Type 0} (family : Family) (moment packet : ℕ) (asked : Asked ℕ) (xs ys : List (Difference ℕ)) (old new : ToldState)
+pub fields_broken : {T E : Type 0} (family : Family) (moment packet : ℕ) (asked : Asked ℕ) (xs ys : List (Difference ℕ)) (old new : FindingWriterState)
     (a b : OutputState) (e : E)
     → Tells {T = T} family (differ_at moment packet asked xs) old new a b (Err e) →
     Tells {T = T} family (differ_at moment packet asked (xs ++ ys)) old new a b (Err e)
@@ -143,13 +144,13 @@ fields_broken {T} {E} family moment packet asked xs ys old new a b e first =
     (told_broken family _ _ old new a b e first)
 
 -- the same with the fields as they are named otherwise
-pub fields_as : {T E : Type 0} (family : Family) (moment packet : ℕ) (asked : Asked ℕ) (xs ys : List (Difference ℕ)) (old new : ToldState)
+pub fields_as : {T E : Type 0} (family : Family) (moment packet : ℕ) (asked : Asked ℕ) (xs ys : List (Difference ℕ)) (old new : FindingWriterState)
     (a b : OutputState) (r : Result T E)
     → xs ≡ ys → Tells family (differ_at moment packet asked xs) old new a b r → Tells family (differ_at moment packet asked ys) old new a b r
 fields_as {T} {E} family moment packet asked xs ys old new a b r same tells =
     subst (λ (ds : List (Difference ℕ)). Tells {T = T} {E = E} family (differ_at moment packet asked ds) old new a b r) same tells
 
 -- the same with the findings as they are named otherwise
-pub tells_as : {T E : Type 0} (family : Family) (xs ys : List (Finding ℕ)) (old new : ToldState) (a b : OutputState) (r : Result T E) → xs ≡ ys →
+pub tells_as : {T E : Type 0} (family : Family) (xs ys : List (Finding ℕ)) (old new : FindingWriterState) (a b : OutputState) (r : Result T E) → xs ≡ ys →
     Tells family xs old new a b r → Tells family ys old new a b r
 tells_as {T} {E} family xs ys old new a b r same tells = subst (λ (fs : List (Finding ℕ)). Tells {T = T} {E = E} family fs old new a b r) same tells

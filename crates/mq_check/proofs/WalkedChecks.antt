@@ -6,7 +6,7 @@ use Rattle.mq_link.specs.Link.{LinkValue}
 use Rattle.mq_text.specs.Printing.{OutputState, Puts}
 use Rattle.mq_check.specs.Check.{Checked, Outcome}
 use Rattle.mq_check.specs.Coming.{Comes, checked_in}
-use Rattle.mq_check.specs.Telling.{ToldState}
+use Rattle.mq_check.specs.Telling.{FindingWriterState}
 use Rattle.mq_check.specs.Wanting.{WantingValue}
 use Rattle.mq_check.proofs.Tellings.{broken_as}
 use Rattle.mq_check.proofs.WrittenEarly.{then_nothing}
@@ -16,7 +16,7 @@ still_checked checked outcome (Ok x) is = is
 still_checked checked outcome (Err e) is = tt
 
 -- a step of a check, and then no more findings
-pub comes_then : (T E : Type 0) (family : Family) (o : Outcome) (link link' : LinkValue) (queries : WantingValue) (old mid new : ToldState)
+pub comes_then : (T E : Type 0) (family : Family) (o : Outcome) (link link' : LinkValue) (queries : WantingValue) (old mid new : FindingWriterState)
     (a b c : OutputState) (x : T) (r : Result T E)
     → Comes {T = T} {E = E} family o link link' queries old mid a b (Ok x) → Puts b.held c.held mid.held new.held [] r →
     new.additions ≡ mid.additions → new.last ≡ mid.last → new.count ≡ mid.count → c.failed ≡ (b.failed || is_err r)
@@ -28,7 +28,8 @@ comes_then T E family o link link' queries old mid new a b c x r comes put addit
 }
 
 -- the same with another result
-pub comes_well : {E : Type 0} (family : Family) (o : Outcome) (link link' : LinkValue) (queries : WantingValue) (old new : ToldState) (a b : OutputState)
+pub comes_well : {E : Type 0} (family : Family) (o : Outcome) (link link' : LinkValue) (queries : WantingValue) (old new : FindingWriterState)
+    (a b : OutputState)
     → Comes {T = Unit} {E = E} family o link link' queries old new a b (Ok tt) → Comes {T = Unit} {E = Unit} family o link link' queries old new a b (Ok tt)
 comes_well family o link link' queries old new a b comes = record {
   same_config = comes.same_config;
@@ -43,7 +44,7 @@ comes_well family o link link' queries old new a b comes = record {
   };
 }
 
-pub comes_broken : {T E : Type 0} (family : Family) (o : Outcome) (link link' : LinkValue) (queries : WantingValue) (old new : ToldState)
+pub comes_broken : {T E : Type 0} (family : Family) (o : Outcome) (link link' : LinkValue) (queries : WantingValue) (old new : FindingWriterState)
     (a b : OutputState) (e : E)
     → Comes {T = T} family o link link' queries old new a b (Err e) → Comes {T = Unit} {E = Unit} family o link link' queries old new a b (Err tt)
 comes_broken family o link link' queries old new a b e comes = record {

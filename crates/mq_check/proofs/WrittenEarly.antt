@@ -8,7 +8,7 @@ use Rattle.mq_check.specs.declared.finding.Finding.{Finding}
 use Rattle.mq_check.specs.FindingLines.{finding_lines}
 use Rattle.mq_check.specs.declared.repeated.LastDifferences.{LastDifferences}
 use Rattle.mq_check.specs.Repeated.{with_findings}
-use Rattle.mq_check.specs.Telling.{ToldState, Tells, counted_times, reported_by}
+use Rattle.mq_check.specs.Telling.{FindingWriterState, Tells, counted_times, reported_by}
 
 still_counted : {T E : Type 0} (times old mid new : ℕ) (r : Result T E) → mid ≡ counted_times times old → new ≡ mid →
     IfOk r (λ _. new ≡ counted_times times old)
@@ -21,7 +21,7 @@ still_noted xs old mid new (Ok x) noted same = same ∙ noted
 still_noted xs old mid new (Err e) noted same = tt
 
 -- some were told, and then nothing more was put
-pub then_nothing : (T E : Type 0) (family : Family) (xs : List (Finding ℕ)) (old mid new : ToldState) (a b c : OutputState) (x : T) (r : Result T E)
+pub then_nothing : (T E : Type 0) (family : Family) (xs : List (Finding ℕ)) (old mid new : FindingWriterState) (a b c : OutputState) (x : T) (r : Result T E)
     → Tells {T = T} {E = E} family xs old mid a b (Ok x) → Puts b.held c.held mid.held new.held [] r → new.additions ≡ mid.additions →
     new.last ≡ mid.last → new.count ≡ mid.count → c.failed ≡ (b.failed || is_err r)
     → Tells {T = T} {E = E} family xs old new a c r

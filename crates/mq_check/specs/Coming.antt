@@ -8,7 +8,7 @@ use Rattle.mq_replay.specs.declared.capture_fault.CaptureFault.{CaptureFault}
 use Rattle.mq_replay.specs.declared.capture_fault.CaptureFault.TheVariants as answer
 use Rattle.mq_check.specs.declared.check_terms.CheckTerms.{CheckTerms}
 use Rattle.mq_check.specs.Check.{Checked, Outcome, ticked_at, with_packet}
-use Rattle.mq_check.specs.Telling.{ToldState, Tells}
+use Rattle.mq_check.specs.Telling.{FindingWriterState, Tells}
 use Rattle.mq_check.specs.Wanting.{WantingValue}
 
 -- the check of a link and its outlet
@@ -16,7 +16,7 @@ abbrev pub checked_in : LinkValue → WantingValue → Checked
 checked_in link queries = record { link = link.state; checking = queries.checking; basis = queries.basis }
 
 -- The step had this outcome and its findings were reported, or a write failed.
-pub record Comes {T E : Type 0} (family : Family) (o : Outcome) (link link' : LinkValue) (queries' : WantingValue) (told told' : ToldState) (before after : OutputState)
+pub record Comes {T E : Type 0} (family : Family) (o : Outcome) (link link' : LinkValue) (queries' : WantingValue) (told told' : FindingWriterState) (before after : OutputState)
     (r : Result T E) : Type 0 where
   pub same_config : link'.config ≡ link.config
   pub checked : IfOk r (λ _. checked_in link' queries' ≡ o.checked)
@@ -27,7 +27,7 @@ pub record CheckState : Type 0 where
   pub link : LinkValue
   pub queries : WantingValue
   pub terms : CheckTerms
-  pub told : ToldState
+  pub told : FindingWriterState
   pub output : OutputState
 
 -- the code has come to this outcome and its findings were reported, unless a write failed

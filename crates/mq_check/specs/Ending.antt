@@ -12,7 +12,7 @@ use Rattle.mq_check.specs.Check.{Checked, looked_ahead, settled_through}
 use Rattle.mq_check.specs.Checking.{CheckingValue, told_at_end}
 use Rattle.mq_check.specs.FindingLines.{finding_lines, last_lines}
 use Rattle.mq_check.specs.General.{silence_up_to}
-use Rattle.mq_check.specs.Telling.{ToldState, counted_times, reported_by}
+use Rattle.mq_check.specs.Telling.{FindingWriterState, counted_times, reported_by}
 
 -- the totals of a check with these reported findings, after `count` earlier ones
 abbrev pub counted_behind : (count : ℕ) → CheckingValue → Basis → List (Finding ℕ) → Totals
@@ -28,7 +28,7 @@ abbrev pub end_text : Family → (additions : Additions) → List (Finding ℕ) 
 end_text family additions found totals = finding_lines family additions found ++ last_lines totals
 
 -- The verdict up to and including a moment, after earlier findings.
-abbrev pub end_behind : Family → ToldState → (number : ℕ) → CheckingValue → Basis → (found last : List (Finding ℕ)) → Report Totals
+abbrev pub end_behind : Family → FindingWriterState → (number : ℕ) → CheckingValue → Basis → (found last : List (Finding ℕ)) → Report Totals
 end_behind family told number c basis found last =
     let all = reported_by told (found ++ last) in
     if c.waiting.is_full
@@ -38,7 +38,7 @@ end_behind family told number c basis found last =
       answer = Ok (counted_behind told.count c basis all);
     }
 
-unfoldable pub ended_behind : Configuration → (within : ℕ) → ToldState → (moment number : ℕ) → Checked → Report Totals
+unfoldable pub ended_behind : Configuration → (within : ℕ) → FindingWriterState → (moment number : ℕ) → Checked → Report Totals
 ended_behind config within told moment number r =
     let done = settled_through config within moment r in
     let ahead = looked_ahead config within moment done.checked in

@@ -10,18 +10,18 @@ use Rattle.mq_check.specs.FindingLines.{finding_lines}
 use Rattle.mq_check.specs.Repeated.{no_differences, reported, with_findings}
 
 -- the unwritten text, the additions to lines of findings, the last differences, and the number of reported findings
-pub record ToldState : Type 0 where
+pub record FindingWriterState : Type 0 where
   pub held : List ℕ
   pub additions : Additions
   pub last : LastDifferences
   pub count : ℕ
 
 -- the state before the first finding
-abbrev pub nothing_told : Additions → ToldState
+abbrev pub nothing_told : Additions → FindingWriterState
 nothing_told additions = record { held = []; additions = additions; last = no_differences; count = 0 }
 
 -- the reported ones of these findings
-abbrev pub reported_by : ToldState → List (Finding ℕ) → List (Finding ℕ)
+abbrev pub reported_by : FindingWriterState → List (Finding ℕ) → List (Finding ℕ)
 reported_by told findings = reported told.additions.once told.last findings
 
 -- a count after `times` increments
@@ -30,7 +30,7 @@ counted_times zero count = count
 counted_times (suc n) count = counted_up (counted_times n count)
 
 -- the reported ones of these findings were printed in order, or a write failed
-pub record Tells {T E : Type 0} (family : Family) (findings : List (Finding ℕ)) (old new : ToldState) (before after : OutputState) (r : Result T E) : Type 0 where
+pub record Tells {T E : Type 0} (family : Family) (findings : List (Finding ℕ)) (old new : FindingWriterState) (before after : OutputState) (r : Result T E) : Type 0 where
   pub additions : new.additions ≡ old.additions
   pub last : IfOk r (λ _. new.last ≡ with_findings findings old.last)
   pub count : IfOk r (λ _. new.count ≡ counted_times (length (reported_by old findings)) old.count)

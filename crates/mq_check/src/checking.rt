@@ -13,14 +13,14 @@ ghost use Rattle.mq_check.specs.Telling.{Tells};
 
 use crate::asked::Asked;
 use crate::checked_family::CheckedFamily;
+use crate::earliest_partner::EarliestPartner;
 use crate::entry::Entry;
+use crate::finding_writer::FindingWriter;
 use crate::general::query_interval;
 use crate::phase::Phase;
 use crate::schedules::Schedules;
 use crate::settling::{Expiry, settle, tell_rest};
-use crate::since::Since;
 use crate::stamp::Stamp;
-use crate::told::Told;
 use crate::waiting::{Side, Waiting, is_before};
 use mq_arena::VectorSource;
 use mq_count::{Meter, Moment, Span, Watched};
@@ -140,11 +140,11 @@ impl<F: Family, A: Allocator> Checking<F, A> {
     }
 
     /// Returns the earliest moment within the tolerance before another.
-    pub(crate) fn near(&self, moment: Moment) -> Since
+    pub(crate) fn near(&self, moment: Moment) -> EarliestPartner
         requires in_range { moment ≤ 2 ^ 53 }
         ensures { result ≡ spec.near moment self.now }
     {
-        Since::near(self.schedules.within(), moment)
+        EarliestPartner::near(self.schedules.within(), moment)
     }
 
     /// Forgets the schedules in which no query may come any more.
@@ -230,7 +230,7 @@ where
         &mut self,
         within: u32,
         end: Moment,
-        told: &mut Told,
+        told: &mut FindingWriter,
         writer: &mut Watched<W>,
     ) -> Result<(), LineFault>
         requires in_range { end ≤ 2 ^ 53 }
@@ -252,7 +252,7 @@ where
         &mut self,
         within: u32,
         now: Moment,
-        told: &mut Told,
+        told: &mut FindingWriter,
         writer: &mut Watched<W>,
     ) -> Result<(), LineFault>
         requires in_range { now ≤ 2 ^ 53 }

@@ -13,11 +13,11 @@ ghost use Rattle.mq_check.specs.Telling.{Tells, reported_by};
 use crate::basis::Basis;
 use crate::checked_family::CheckedFamily;
 use crate::finding::Finding;
+use crate::finding_writer::FindingWriter;
 use crate::general::query_interval;
 use crate::judging::tell_finding;
 use crate::running_check::Check;
 use crate::stamp::Stamp;
-use crate::told::Told;
 use crate::totals::Totals;
 use mq_count::Watched;
 use mq_lines::LineKey;
@@ -118,7 +118,7 @@ fn tell_silence<F: Family, W: Write>(
     configured: Timing,
     end: Stamp,
     passed: Option<u64>,
-    told: &mut Told,
+    told: &mut FindingWriter,
     writer: &mut Watched<W>,
 ) -> Result<(), LineFault>
 where

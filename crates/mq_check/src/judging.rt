@@ -10,8 +10,8 @@ ghost use Rattle.mq_check.specs.Telling.{Tells};
 use crate::asked::Asked;
 use crate::entry::{Entry, Unpaired};
 use crate::finding::{Difference, Finding};
+use crate::finding_writer::FindingWriter;
 use crate::terms::{QuerierTerms, Terms};
-use crate::told::Told;
 use mq_count::{Meter, Moment, Span, Watched};
 use mq_lines::LineKey;
 use mq_link::Family;
@@ -45,7 +45,7 @@ fn is_near_change(within: Span, moment: Moment, changed: &Option<Moment>) -> boo
 /// Reports one finding.
 pub(crate) fn tell_finding<F: Family, W: Write>(
     finding: Finding<F::Address>,
-    told: &mut Told,
+    told: &mut FindingWriter,
     writer: &mut Watched<W>,
 ) -> Result<(), LineFault>
 where
@@ -61,7 +61,7 @@ pub(crate) fn tell_entry<F: Family, W: Write>(
     entry: &Entry<F::Address>,
     within: Span,
     changed: &Option<Moment>,
-    told: &mut Told,
+    told: &mut FindingWriter,
     writer: &mut Watched<W>,
 ) -> Result<(), LineFault>
 where
@@ -111,7 +111,7 @@ fn tell_alone<F: Family, W: Write>(
     asked: Asked<F::Address>,
     terms: &Terms<F::Address>,
     alone: &Unpaired<F::Address>,
-    told: &mut Told,
+    told: &mut FindingWriter,
     writer: &mut Watched<W>,
 ) -> Result<(), LineFault>
 where
@@ -138,7 +138,7 @@ fn tell_differences<F: Family, W: Write>(
     asked: Asked<F::Address>,
     seen: &Terms<F::Address>,
     wanted: &Terms<F::Address>,
-    told: &mut Told,
+    told: &mut FindingWriter,
     writer: &mut Watched<W>,
 ) -> Result<(), LineFault>
 where
@@ -173,7 +173,7 @@ fn tell_querier_differences<F: Family, W: Write>(
     at: SeenAt<F::Address>,
     seen: Option<QuerierTerms>,
     wanted: Option<QuerierTerms>,
-    told: &mut Told,
+    told: &mut FindingWriter,
     writer: &mut Watched<W>,
 ) -> Result<(), LineFault>
 where
@@ -193,7 +193,7 @@ fn tell_fields<F: Family, W: Write>(
     at: SeenAt<F::Address>,
     seen: QuerierTerms,
     wanted: QuerierTerms,
-    told: &mut Told,
+    told: &mut FindingWriter,
     writer: &mut Watched<W>,
 ) -> Result<(), LineFault>
 where
@@ -211,7 +211,7 @@ where
 fn tell_difference<F: Family, W: Write>(
     at: SeenAt<F::Address>,
     difference: Option<Difference<F::Address>>,
-    told: &mut Told,
+    told: &mut FindingWriter,
     writer: &mut Watched<W>,
 ) -> Result<(), LineFault>
 where

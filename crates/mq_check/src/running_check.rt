@@ -10,7 +10,7 @@ ghost use Rattle.mq_check.specs.Telling.{nothing_told};
 use crate::check_terms::CheckTerms;
 use crate::checked_family::CheckedFamily;
 use crate::checking::Checking;
-use crate::told::Told;
+use crate::finding_writer::FindingWriter;
 use crate::wanted_queries::WantedQueries;
 use mq_count::{Moment, Watched};
 use mq_lines::LineKey;
@@ -30,7 +30,7 @@ where
     pub(crate) link: Link<F, A>,
     pub(crate) queries: WantedQueries<F, A>,
     pub(crate) terms: CheckTerms,
-    pub(crate) told: Told,
+    pub(crate) told: FindingWriter,
 }
 
 impl<F: CheckedFamily, A: Allocator> Check<F, A>
@@ -53,7 +53,7 @@ where
             link,
             queries,
             terms,
-            told: Told::new(terms.additions),
+            told: FindingWriter::new(terms.additions),
         }
     }
 }

@@ -13,12 +13,12 @@ ghost use Rattle.mq_check.specs.Standing.{standing_in};
 use crate::asked::Asked;
 use crate::checked_family::CheckedFamily;
 use crate::checking::Checking;
+use crate::earliest_partner::EarliestPartner;
 use crate::entry::{Entry, Unpaired};
 use crate::finding::ExtraReason;
 use crate::general::query_interval;
 use crate::headers::{HeaderFault, Headers};
 use crate::schedules::as_seen;
-use crate::since::Since;
 use crate::stamp::Stamp;
 use crate::standing::{Standing, standing_in};
 use crate::terms::{Terms, general_terms, terms_of};
@@ -126,7 +126,7 @@ impl<F: Family, A: Allocator> Checking<F, A> {
 
     /// Returns whether the partner of a seen query may be before `from`: no wanted query from then on may be it, and the seen
     /// query goes on with a schedule.
-    fn is_late(&self, moment: Moment, from: &Since, asked: Asked<F::Address>) -> bool
+    fn is_late(&self, moment: Moment, from: &EarliestPartner, asked: Asked<F::Address>) -> bool
         ensures { result ≡ spec.is_late_in from.now moment (numbered_asked F.Address.number asked) self.now.waiting self.now.schedules }
     {
         !self.waiting.has_free(Side::OfWanted, asked, from) && self.schedules.goes_on(moment, asked)
@@ -137,7 +137,7 @@ impl<F: Family, A: Allocator> Checking<F, A> {
     fn pair(
         &mut self,
         moment: Moment,
-        from: &Since,
+        from: &EarliestPartner,
         terms: Terms<F::Address>,
         asked: Asked<F::Address>,
     ) -> Option<Terms<F::Address>>

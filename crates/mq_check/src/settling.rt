@@ -7,9 +7,9 @@ ghost use Rattle.mq_check.specs.Checking.{found_of_last};
 ghost use Rattle.mq_check.specs.Telling.{Tells};
 ghost use Rattle.mq_check.specs.Waiting as waits;
 
+use crate::earliest_partner::is_near;
+use crate::finding_writer::FindingWriter;
 use crate::judging::tell_entry;
-use crate::since::is_near;
-use crate::told::Told;
 use crate::waiting::Waiting;
 use mq_count::{Moment, Span, Watched};
 use mq_lines::LineKey;
@@ -31,7 +31,7 @@ pub(crate) fn settle<F: Family, A: Allocator, W: Write>(
     expiry: &Expiry,
     within: Span,
     changed: &Option<Moment>,
-    told: &mut Told,
+    told: &mut FindingWriter,
     writer: &mut Watched<W>,
 ) -> Result<(), LineFault>
 where
@@ -55,7 +55,7 @@ pub(crate) fn tell_rest<F: Family, A: Allocator, W: Write>(
     within: Span,
     end: Moment,
     changed: &Option<Moment>,
-    told: &mut Told,
+    told: &mut FindingWriter,
     writer: &mut Watched<W>,
 ) -> Result<(), LineFault>
 where

@@ -12,8 +12,8 @@ ghost use Rattle.mq_check.specs.Slots.{AreNoneOf};
 ghost use Rattle.mq_check.specs.Waiting as waits;
 
 use crate::asked::{Asked, is_same};
+use crate::earliest_partner::{EarliestPartner, is_near};
 use crate::entry::Entry;
-use crate::since::{Since, is_near};
 use crate::slots::{SLOTS, last_group_by, slot_in, slot_of, wanted_moment, wanted_slot};
 use crate::stamp::Stamp;
 use crate::terms::Terms;
@@ -42,7 +42,7 @@ pub(crate) struct Waiting<F: Family, A: Allocator> {
     entries: VecDeque<Entry<F::Address>, A>,
     trails: Trails<A>,
     // The latest moment from which an entry was searched.
-    horizon: Since,
+    horizon: EarliestPartner,
     // For each slot, an upper bound of the moments of its wanted queries.
     latest: Vec<Moment, A>,
     // The number of the last wanted query for a group.
@@ -102,7 +102,7 @@ fn is_over(within: Span, moment: Moment, now: Moment) -> bool
 fn is_free<F: Family>(
     side: Side,
     asked: Asked<F::Address>,
-    from: &Since,
+    from: &EarliestPartner,
     entry: &Entry<F::Address>,
 ) -> bool
     ensures { result ≡ waits.is_free side (numbered_asked F.Address.number asked) from.now (numbered_entry F.Address.number entry.now) }
@@ -167,7 +167,7 @@ impl<F: Family, A: Allocator> Waiting<F, A> {
         Ok(Waiting {
             entries: VecDeque::from_vec(memory.with_capacity(ROOM)?),
             trails: Trails::new(memory)?,
-            horizon: Since::start(),
+            horizon: EarliestPartner::start(),
             latest: filled(memory, Stamp::of(0).moment(), SLOTS)?,
             last_group: 0,
             is_full: false,
@@ -205,7 +205,7 @@ impl<F: Family, A: Allocator> Waiting<F, A> {
         &mut self,
         side: Side,
         asked: Asked<F::Address>,
-        from: &Since,
+        from: &EarliestPartner,
         other: Terms<F::Address>,
     ) -> Option<Terms<F::Address>>
         ensures terms { numbered_terms_if F.Address.number result
@@ -222,7 +222,7 @@ impl<F: Family, A: Allocator> Waiting<F, A> {
         &mut self,
         side: Side,
         asked: Asked<F::Address>,
-        from: &Since,
+        from: &EarliestPartner,
         other: Terms<F::Address>,
     ) -> Option<Terms<F::Address>>
         ensures terms { numbered_terms_if F.Address.number result
@@ -249,18 +249,23 @@ impl<F: Family, A: Allocator> Waiting<F, A> {
         ensures joined { self.new
             ≡ waits.with_partner side (numbered_asked F.Address.number asked) 0 (numbered_terms F.Address.number other) self.old }
     {
-        self.join(side, asked, &Since::start(), other)
+        self.join(side, asked, &EarliestPartner::start(), other)
     }
 
     /// Returns whether an entry of a side with this subject has no partner.
     pub(crate) fn has_any(&self, side: Side, asked: Asked<F::Address>) -> bool
         ensures { result ≡ waits.has_free side (numbered_asked F.Address.number asked) 0 self.now }
     {
-        self.has_free(side, asked, &Since::start())
+        self.has_free(side, asked, &EarliestPartner::start())
     }
 
     /// Returns whether an entry of a side with this subject has no partner and isn't before `from`.
-    pub(crate) fn has_free(&self, side: Side, asked: Asked<F::Address>, from: &Since) -> bool
+    pub(crate) fn has_free(
+        &self,
+        side: Side,
+        asked: Asked<F::Address>,
+        from: &EarliestPartner,
+    ) -> bool
         ensures { result ≡ waits.has_free side (numbered_asked F.Address.number asked) from.now self.now }
     {
         match self.place_of(side, asked, from) {
@@ -274,14 +279,14 @@ impl<F: Family, A: Allocator> Waiting<F, A> {
         ensures { numbered_entry_if F.Address.number result
             ≡ spec.first_entry (waits.is_free side (numbered_asked F.Address.number asked) 0) self.now.entries }
     {
-        match self.place_of(side, asked, &Since::start()) {
+        match self.place_of(side, asked, &EarliestPartner::start()) {
             Some(place) => Some(self.entries[place]),
             None => None,
         }
     }
 
     /// Notes that the next searches for this subject are from a moment on. So none passes the same earlier entries again.
-    pub(crate) fn approach(&mut self, side: Side, asked: Asked<F::Address>, from: &Since)
+    pub(crate) fn approach(&mut self, side: Side, asked: Asked<F::Address>, from: &EarliestPartner)
         ensures { self.new ≡ self.old }
     {
         if self.horizon.is_by(from) {
@@ -293,7 +298,7 @@ impl<F: Family, A: Allocator> Waiting<F, A> {
     }
 
     /// Returns the place of the first entry of a slot that isn't before `from`, or that of another entry before it.
-    fn near_place(&self, slot: usize, from: &Since) -> usize
+    fn near_place(&self, slot: usize, from: &EarliestPartner) -> usize
         requires slot { slot < 65522 }
         ensures { AreNoneOf F.Address.WIDTH slot from.now self.now.entries result }
     {
@@ -305,7 +310,7 @@ impl<F: Family, A: Allocator> Waiting<F, A> {
     }
 
     /// Returns a place before which no entry of a slot is free from a moment on.
-    fn start(&self, slot: usize, from: &Since) -> usize
+    fn start(&self, slot: usize, from: &EarliestPartner) -> usize
         requires slot { slot < 65522 }
         ensures { AreNoneOf F.Address.WIDTH slot from.now self.now.entries result }
     {
@@ -317,7 +322,12 @@ impl<F: Family, A: Allocator> Waiting<F, A> {
     }
 
     /// Returns the place of the first entry of a side with this subject that has no partner and isn't before `from`.
-    fn place_of(&self, side: Side, asked: Asked<F::Address>, from: &Since) -> Option<usize>
+    fn place_of(
+        &self,
+        side: Side,
+        asked: Asked<F::Address>,
+        from: &EarliestPartner,
+    ) -> Option<usize>
         ensures none { IfNone result (IsNoneFree side (numbered_asked F.Address.number asked) from.now self.now.entries) }
         ensures some { IfSome result (IsFirstFree side (numbered_asked F.Address.number asked) from.now self.now.entries) }
     {

@@ -14,10 +14,10 @@ ghost use Rattle.mq_check.specs.Telling.{Tells};
 use crate::basis::Basis;
 use crate::checked_family::CheckedFamily;
 use crate::checking::Checking;
+use crate::finding_writer::FindingWriter;
 use crate::headers::Headers;
 use crate::seeing::SeenPacket;
 use crate::stamp::Stamp;
-use crate::told::Told;
 use mq_count::{Moment, Watched};
 use mq_lines::LineKey;
 use mq_link::{Link, QueryOutlet};
@@ -146,7 +146,7 @@ where
         &mut self,
         within: u32,
         now: Moment,
-        told: &mut Told,
+        told: &mut FindingWriter,
         writer: &mut Watched<W>,
     ) -> Result<(), LineFault>
         requires in_range { now ≤ 2 ^ 53 }
@@ -184,7 +184,7 @@ where
         &mut self,
         within: u32,
         end: Moment,
-        told: &mut Told,
+        told: &mut FindingWriter,
         writer: &mut Watched<W>,
     ) -> Result<(), LineFault>
         requires in_range { end ≤ 2 ^ 53 }

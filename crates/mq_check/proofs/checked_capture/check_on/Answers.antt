@@ -2,13 +2,13 @@ use Rattle.std.proofs.Common.{ap}
 use Rattle.mq_count.specs.Streams.{has_failed}
 use Rattle.mq_replay.proofs.Finished.{failed_end, granted_end}
 use Rattle.mq_replay.proofs.WrittenReports.{finished}
-use Rattle.mq_check.specs.Telling.{ToldState}
+use Rattle.mq_check.specs.Telling.{FindingWriterState}
 use Rattle.mq_check.proofs.CheckedOver.{only_waits}
 use Rattle.mq_check.proofs.checked_capture.check_on.Goals as goal
 
 pub returns-clause-checks : goal.returns-clause-checks
 returns-clause-checks g c =
-    finished _ (only_waits _ c.args.check.now.steps.terms) _ _ _ _ _ _ _ _ _ _ (ap (λ (t : ToldState). t.held) c.requires.told)
+    finished _ (only_waits _ c.args.check.now.steps.terms) _ _ _ _ _ _ _ _ _ _ (ap (λ (t : FindingWriterState). t.held) c.requires.told)
     c.check_file-answer.ensures.puts c.finish.ensures
 
 pub returns-clause-failed : goal.returns-clause-failed

@@ -2,12 +2,12 @@
 use Rattle.std.proofs.Common.{[]}
 use Rattle.std.proofs.lemmas.Result.{err_from_is_err_and}
 use Rattle.mq_text.proofs.Passing.{broken_within}
-use Rattle.mq_check.specs.FindingLines.{finding_text}
+use Rattle.mq_check.specs.FindingLines.{additions_text}
 use Rattle.mq_check.specs.Numbered.{numbered_finding}
-use Rattle.mq_check.proofs.told.Told.put_text.Goals as goal
+use Rattle.mq_check.proofs.finding_writer.FindingWriter.put_rest.Goals as goal
 
 pub returns-in_err-make_room-clause-text : goal.returns-in_err-make_room-clause-text
 returns-in_err-make_room-clause-text g c =
     let p = err_from_is_err_and c.from_residual.result c.from_residual.ensures.1 in
-    let text = finding_text g.F.Address.LineKey.family (numbered_finding g.F.Address.Key.number c.args.finding) in
+    let text = additions_text g.F.Address.LineKey.family c.self.inside.additions (numbered_finding g.F.Address.Key.number c.args.finding) in
     rw (p.1, ← c.self.view_is) (broken_within _ _ _ [] text c.in_err-make_room.ensures.text)

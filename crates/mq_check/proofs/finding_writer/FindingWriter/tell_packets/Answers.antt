@@ -2,10 +2,10 @@
 use Rattle.std.proofs.Common.{[]}
 use Rattle.std.proofs.lemmas.Result.{err_from_is_err_and}
 use Rattle.mq_text.proofs.Passing.{broken_within}
-use Rattle.mq_check.specs.FindingLines.{querier_line}
-use Rattle.mq_check.proofs.told.Told.tell_querier.Goals as goal
+use Rattle.mq_check.specs.FindingLines.{packets_line}
+use Rattle.mq_check.proofs.finding_writer.FindingWriter.tell_packets.Goals as goal
 
 pub returns-in_err-make_room-clause-text : goal.returns-in_err-make_room-clause-text
 returns-in_err-make_room-clause-text g c =
     let p = err_from_is_err_and c.from_residual.result c.from_residual.ensures.1 in
-    rw (p.1, ← c.self.view_is) (broken_within _ _ _ [] (querier_line c.args.basis.now) c.in_err-make_room.ensures.text)
+    rw (p.1, ← c.self.view_is) (broken_within _ _ _ [] (packets_line c.args.basis.now) c.in_err-make_room.ensures.text)

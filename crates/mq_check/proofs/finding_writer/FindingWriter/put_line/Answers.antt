@@ -7,8 +7,8 @@ use Rattle.mq_text.proofs.Passing.{both_passed, broken_behind, broken_within}
 use Rattle.mq_check.specs.declared.check_terms.Additions.{Additions}
 use Rattle.mq_check.specs.FindingLines.{additions_text, finding_text}
 use Rattle.mq_check.specs.Numbered.{numbered_finding}
-use Rattle.mq_check.specs.Telling.{ToldState}
-use Rattle.mq_check.proofs.told.Told.put_line.Goals as goal
+use Rattle.mq_check.specs.Telling.{FindingWriterState}
+use Rattle.mq_check.proofs.finding_writer.FindingWriter.put_line.Goals as goal
 
 pub returns-in_err-put_text-clause-text : goal.returns-in_err-put_text-clause-text
 returns-in_err-put_text-clause-text g c =
@@ -39,5 +39,5 @@ returns-clause-text g c =
     let mid = c.put_text.new.self.held in
     let rest = subst (λ (s : Additions). Passes b d mid c.put_rest.new.self.held (additions_text g.F.Address.LineKey.family s finding))
     c.in_ok-put_text.ensures.additions c.in_ok-put_rest.ensures.text in
-    subst (λ (s : ToldState). Passes a d c.args.self.now.held s.held (text ++ more)) (sym c.self.view_is)
+    subst (λ (s : FindingWriterState). Passes a d c.args.self.now.held s.held (text ++ more)) (sym c.self.view_is)
     (both_passed a b d c.args.self.now.held mid c.put_rest.new.self.held text more c.in_ok-put_text.ensures.text rest)

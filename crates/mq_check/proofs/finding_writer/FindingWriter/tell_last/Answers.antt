@@ -3,7 +3,7 @@ use Rattle.std.proofs.Common.{◌++◌}
 use Rattle.std.proofs.lemmas.Result.{err_from_is_err_and}
 use Rattle.mq_check.specs.FindingLines.{packets_line, querier_line, totals_line}
 use Rattle.mq_text.proofs.Passing.{both_passed, broken_behind, broken_within, then_put}
-use Rattle.mq_check.proofs.told.Told.tell_last.Goals as goal
+use Rattle.mq_check.proofs.finding_writer.FindingWriter.tell_last.Goals as goal
 
 pub returns-in_err-tell_totals-clause-text : goal.returns-in_err-tell_totals-clause-text
 returns-in_err-tell_totals-clause-text g c =

@@ -8,12 +8,12 @@ use std::marker::Model;
 
 /// The earliest moment of a partner: any, or a tolerance before a moment.
 #[derive(Drop)]
-pub(crate) struct Since {
+pub(crate) struct EarliestPartner {
     within: Span,
     at: Moment,
 }
 
-impl Model for Since {
+impl Model for EarliestPartner {
     ghost use Rattle.std.specs.Prelude.{ℕ, ◌-◌, ◌≤◌, ◌^◌};
 
     ghost Value = { ℕ };
@@ -31,40 +31,40 @@ pub(crate) fn is_near(within: Span, moment: Moment, now: Moment) -> bool
     !moment.in_range() || Meter::new().reached(now, moment.after(within))
 }
 
-impl Since {
+impl EarliestPartner {
     /// Returns the earliest of all moments.
-    pub(crate) fn start() -> Since
+    pub(crate) fn start() -> EarliestPartner
         ensures { result ≡ 0 }
     {
         let Some(at) = Moment::from_ms(0) else {
             unreachable!()
         };
-        Since {
+        EarliestPartner {
             within: Span::from_ms(0),
             at,
         }
     }
 
     /// Returns the moment that is the tolerance before another.
-    pub(crate) fn near(within: Span, now: Moment) -> Since
+    pub(crate) fn near(within: Span, now: Moment) -> EarliestPartner
         requires in_range { now ≤ 2 ^ 53 }
         ensures { result ≡ now - within }
     {
-        Since { within, at: now }
+        EarliestPartner { within, at: now }
     }
 
     /// Returns a copy.
-    pub(crate) fn copied(&self) -> Since
+    pub(crate) fn copied(&self) -> EarliestPartner
         ensures { result ≡ self.now }
     {
-        Since {
+        EarliestPartner {
             within: self.within,
             at: self.at,
         }
     }
 
     /// Returns whether this moment isn't after another.
-    pub(crate) fn is_by(&self, other: &Since) -> bool
+    pub(crate) fn is_by(&self, other: &EarliestPartner) -> bool
         ensures { result ≡ nat_le self.now other.now }
     {
         let start = Stamp::of(0).moment();

@@ -27,27 +27,27 @@ use std::marker::Model;
 
 /// The unwritten text of findings, their additions, the last differences, and the number of reported findings.
 #[derive(Drop)]
-pub(crate) struct Told {
+pub(crate) struct FindingWriter {
     pub(crate) buffer: Text,
     additions: Additions,
     last: LastDifferences,
     count: u64,
 }
 
-impl Model for Told {
-    ghost use Rattle.mq_check.specs.Telling.{ToldState};
+impl Model for FindingWriter {
+    ghost use Rattle.mq_check.specs.Telling.{FindingWriterState};
 
-    ghost Value = { ToldState };
+    ghost Value = { FindingWriterState };
 
     ghost view = { λ t. record { held = t.buffer.items; additions = t.additions; last = t.last; count = t.count } };
 }
 
-impl Told {
+impl FindingWriter {
     /// Returns a state without text or findings.
-    pub(crate) fn new(additions: Additions) -> Told
+    pub(crate) fn new(additions: Additions) -> FindingWriter
         ensures { result ≡ nothing_told additions }
     {
-        Told {
+        FindingWriter {
             buffer: Text::new(),
             additions,
             last: LastDifferences::new(),
