@@ -3,13 +3,11 @@ use Rattle.std.proofs.Common.{◌≡◌, ◌≤◌, ◌^◌, ◌⊎◌, ◌∙�
 use Rattle.std.proofs.Common.{inr, ⊎_elim}
 use Rattle.std.proofs.lemmas.Bool.{ltb-false}
 use Rattle.std.specs.Prelude.{IfSome}
-use Rattle.std.specs.Io.KnownBytes.{Keeps}
 use Rattle.mq_replay.specs.declared.capture_fault.CaptureFault.{CaptureFault}
 use Rattle.mq_check.specs.declared.check_terms.CheckTerms.{CheckTerms}
 use Rattle.mq_check.specs.declared.totals.Totals.{Totals}
 use Rattle.mq_check.specs.Check.{check_of}
 use Rattle.mq_check.specs.CheckedCaptures.{Checks}
-use Rattle.mq_replay.specs.Faults.{is_failed_write}
 use Rattle.mq_command.specs.declared.Protocol.{Protocol}
 use Rattle.mq_command.specs.declared.Request.TheVariants.{Check}
 use Rattle.mq_command.specs.declared.replay.Settings.{Settings}
@@ -26,7 +24,8 @@ use Rattle.mquerier.specs.Replays.{SpellsAddress, asked_configuration, family_of
 use Rattle.mquerier.specs.Failures.{status_of}
 use Rattle.mquerier.specs.Status.{Concludes, Performs, PerformsCheck, Told}
 use Rattle.mquerier.specs.Working.{ChecksAt, IsConfigured, IsUnwritten, WorksOnCheck}
-use Rattle.mquerier.proofs.Breakings.{reports_kept}
+use Rattle.mquerier.proofs.Breakings.{Ends, IsEndOf, reports_ended}
+use Rattle.mquerier.proofs.Replayed.{refused_for}
 
 -- the moment of the end, where it isn't too large
 pub until_in_range : (until : Option ℕ) → is_too_large until ≡ false → IfSome until (λ ms. ms ≤ 2 ^ 53)
@@ -34,44 +33,26 @@ until_in_range None is = tt
 until_in_range (Some ms) is = ltb-false (2 ^ 53) ms is
 
 -- a check of the configuration that is asked for, behind a flush
-pub flushed_check : (family : Family) (querier : ℕ) (settings : Settings) (terms : CheckTerms) (config : Configuration) (input : Input)
-    (old : OutputState) (mid : Option (List ℕ)) (new : OutputState) (r : Result Totals CaptureFault)
-    → IsConfigured (asked_configuration family querier settings) (Ok config) → Checks config terms input.old input.new old.held mid r →
-    is_failed_write r ≡ false → Keeps mid new.held
-    → IsCheckedAt family querier settings terms input (record { old = old; new = new }) r
-flushed_check family querier settings terms config input old mid new r made checks unlike kept =
-    subst (λ (c : Configuration). Checks c terms input.old input.new old.held new.held r) made.1
-    (reports_kept (check_of config terms) input.old input.new old.held mid new.held r unlike checks kept)
+pub check_ended : (family : Family) (querier : ℕ) (settings : Settings) (terms : CheckTerms) (config : Configuration) (input : Input)
+    (old mid new : OutputState) (r : Result Totals CaptureFault) (r' : Result Totals Failure) → IsEndOf r input old mid new r'
+    → is_too_large terms.until ≡ false → IsConfigured (asked_configuration family querier settings) (Ok config) →
+    Checks config terms input.old input.new old.held mid.held r → ChecksAt family querier settings terms input (record { old = old; new = new }) r'
+check_ended family querier settings terms config input old mid new r r' end small made checks =
+    by_result r' (reports_ended (check_of (asked_configuration family querier settings) terms) input old mid new r r' end
+    (subst (λ (k : Configuration). Checks k terms input.old input.new old.held mid.held r) made.1 checks))
+  where
+    by_result : (r' : Result Totals Failure) → Ends (IsCheckedAt family querier settings terms input (record { old = old; new = new })) input
+        (record { old = old; new = new }) r' → ChecksAt family querier settings terms input (record { old = old; new = new }) r'
+    by_result (Ok totals) it = ((small, made.0), it.0, it.1)
+    by_result (Err failure) it = (λ two. let one = it.0 in absurd (omega (arith, two, one)), λ one. ((small, made.0), it.1))
 
 -- a check at the address that a text spells
 pub checked_for : (protocol : Protocol) (querier : List ℕ) (address : ℕ) (settings : Settings) (terms : CheckTerms) (input : Input) (output : Output)
     (r : Result Totals Failure) → SpellsAddress protocol querier address
     → ChecksAt (family_of protocol) address settings terms input output r → WorksOnCheck protocol querier settings terms input output r
 checked_for protocol querier address settings terms input output (Ok totals) spelled works = (address, spelled, works)
-checked_for protocol querier address settings terms input output (Err NoAddresses) spelled works =
-    (λ e. (address, spelled, works.0 e), λ e. (address, spelled, works.1 e))
-checked_for protocol querier address settings terms input output (Err NotAnAddress) spelled works =
-    (λ e. absurd (works.0 e), λ e. (address, spelled, works.1 e))
-checked_for protocol querier address settings terms input output (Err NotHex) spelled works =
-    (λ e. (address, spelled, works.0 e), λ e. (address, spelled, works.1 e))
-checked_for protocol querier address settings terms input output (Err UntilTooLarge) spelled works =
-    (λ e. (address, spelled, works.0 e), λ e. (address, spelled, works.1 e))
-checked_for protocol querier address settings terms input output (Err (Unconfigured f query_seconds response_interval)) spelled works =
-    (λ e. (address, spelled, works.0 e), λ e. (address, spelled, works.1 e))
-checked_for protocol querier address settings terms input output (Err (Capture f)) spelled works =
-    (λ e. (address, spelled, works.0 e), λ e. (address, spelled, works.1 e))
-checked_for protocol querier address settings terms input output (Err (Gap number)) spelled works =
-    (λ e. (address, spelled, works.0 e), λ e. (address, spelled, works.1 e))
-checked_for protocol querier address settings terms input output (Err (Waiting number)) spelled works =
-    (λ e. (address, spelled, works.0 e), λ e. (address, spelled, works.1 e))
-checked_for protocol querier address settings terms input output (Err (Conversion number f)) spelled works =
-    (λ e. (address, spelled, works.0 e), λ e. (address, spelled, works.1 e))
-checked_for protocol querier address settings terms input output (Err ConversionRead) spelled works =
-    (λ e. (address, spelled, works.0 e), λ e. (address, spelled, works.1 e))
-checked_for protocol querier address settings terms input output (Err Memory) spelled works =
-    (λ e. (address, spelled, works.0 e), λ e. (address, spelled, works.1 e))
-checked_for protocol querier address settings terms input output (Err Write) spelled works =
-    (λ e. (address, spelled, works.0 e), λ e. (address, spelled, works.1 e))
+checked_for protocol querier address settings terms input output (Err failure) spelled works =
+    (λ two. refused_for protocol querier address settings terms.until failure spelled (works.0 two), λ one. (address, spelled, works.1 one))
 
 pub check_performed : (protocol : Protocol) (querier : Bor (List ℕ)) (settings : Settings) (within : Option ℕ) (cite packets strict : Bool)
     (until : Option ℕ) (file : Option (Bor (List ℕ))) (in_words : Bool) (input : Input) (output errors : Output) (status : ℕ)

@@ -1,6 +1,5 @@
 -- What a replay comes to once it is flushed.
-use Rattle.std.proofs.Common.{◌≡◌, subst, false, ℕ, List, Bool, Option, Result, Ok, Err}
-use Rattle.std.specs.Io.KnownBytes.{Keeps}
+use Rattle.std.proofs.Common.{subst, ℕ, List, Bool, Option, Result, Ok, Err}
 use Rattle.mq_command.specs.declared.Protocol.{Protocol}
 use Rattle.mq_command.specs.declared.replay.Settings.{Settings}
 use Rattle.mq_link.specs.Configuration.{Configuration}
@@ -8,7 +7,6 @@ use Rattle.mq_link.specs.Counters.{Counters}
 use Rattle.mq_text.specs.Printing.{OutputState}
 use Rattle.mq_replay.specs.declared.asked.Asked.{Asked}
 use Rattle.mq_replay.specs.declared.capture_fault.CaptureFault.{CaptureFault}
-use Rattle.mq_replay.specs.Faults.{is_failed_write}
 use Rattle.mq_replay.specs.Replaying.{Replays}
 use Rattle.mq_replay.specs.Report.{replay_of}
 use Rattle.mq_wire.specs.Family.{Family}
@@ -16,44 +14,42 @@ use Rattle.mquerier.specs.declared.failure.Failure.{Failure}
 use Rattle.mquerier.specs.declared.failure.Failure.TheVariants.{NoAddresses, NotAnAddress, NotHex, UntilTooLarge, Configuration as Unconfigured}
 use Rattle.mquerier.specs.declared.failure.Failure.TheVariants.{Capture, Gap, Waiting, Conversion, ConversionRead, Memory, Write}
 use Rattle.mquerier.specs.Changes.{Input, Output}
-use Rattle.mquerier.specs.Replays.{IsReplayedAt, SpellsAddress, asked_configuration, family_of}
+use Rattle.mquerier.specs.Replays.{IsRefusedAt, IsReplayedAt, SpellsAddress, asked_configuration, family_of}
+use Rattle.mquerier.specs.Status.{IsRefusedReplay}
 use Rattle.mquerier.specs.Working.{IsConfigured, WorksAt, WorksOnReplay}
-use Rattle.mquerier.proofs.Breakings.{reports_kept}
+use Rattle.mquerier.proofs.Breakings.{Ends, IsEndOf, reports_ended}
 
 -- a replay as it was asked for, behind a flush
-pub flushed_at : (family : Family) (own : ℕ) (settings : Settings) (asked : Asked) (config : Configuration) (input : Input) (old : OutputState)
-    (mid : Option (List ℕ)) (new : OutputState) (r : Result Counters CaptureFault) → IsConfigured (asked_configuration family own settings) (Ok config)
-    → Replays config asked input.old input.new old.held mid r → is_failed_write r ≡ false → Keeps mid new.held
-    → IsReplayedAt family own settings asked input (record { old = old; new = new }) r
-flushed_at family own settings asked config input old mid new r made replays unlike kept =
-    subst (λ (c : Configuration). Replays c asked input.old input.new old.held new.held r) made.1
-    (reports_kept (replay_of config asked) input.old input.new old.held mid new.held r unlike replays kept)
+pub replay_ended : (family : Family) (own : ℕ) (settings : Settings) (asked : Asked) (config : Configuration) (input : Input)
+    (old mid new : OutputState) (r : Result Counters CaptureFault) (r' : Result Counters Failure)
+    → IsEndOf r input old mid new r' → IsConfigured (asked_configuration family own settings) (Ok config) →
+    Replays config asked input.old input.new old.held mid.held r → Ends (IsReplayedAt family own settings asked input (record { old = old; new = new })) input
+    (record { old = old; new = new }) r'
+replay_ended family own settings asked config input old mid new r r' end made replays =
+    reports_ended (replay_of (asked_configuration family own settings) asked) input old mid new r r' end
+    (subst (λ (k : Configuration). Replays k asked input.old input.new old.held mid.held r) made.1 replays)
+
+-- the first fault of a request with the address that a text spells
+pub refused_for : (protocol : Protocol) (own : List ℕ) (address : ℕ) (settings : Settings) (until : Option ℕ) (failure : Failure)
+    → SpellsAddress protocol own address → IsRefusedAt (family_of protocol) address settings until failure →
+    IsRefusedReplay protocol own settings until failure
+refused_for protocol own address settings until NoAddresses spelled refused = (address, spelled, refused)
+refused_for protocol own address settings until NotAnAddress spelled refused = absurd refused
+refused_for protocol own address settings until NotHex spelled refused = (address, spelled, refused)
+refused_for protocol own address settings until UntilTooLarge spelled refused = (address, spelled, refused)
+refused_for protocol own address settings until (Unconfigured f query_seconds response_interval) spelled refused = (address, spelled, refused)
+refused_for protocol own address settings until (Capture f) spelled refused = (address, spelled, refused)
+refused_for protocol own address settings until (Gap number) spelled refused = (address, spelled, refused)
+refused_for protocol own address settings until (Waiting number) spelled refused = (address, spelled, refused)
+refused_for protocol own address settings until (Conversion number f) spelled refused = (address, spelled, refused)
+refused_for protocol own address settings until ConversionRead spelled refused = (address, spelled, refused)
+refused_for protocol own address settings until Memory spelled refused = (address, spelled, refused)
+refused_for protocol own address settings until Write spelled refused = (address, spelled, refused)
 
 -- a replay at the address that a text spells
 pub replayed_for : (protocol : Protocol) (own : List ℕ) (address : ℕ) (settings : Settings) (asked : Asked) (input : Input) (output : Output)
     (r : Result Bool Failure) → SpellsAddress protocol own address
     → WorksAt (family_of protocol) address settings asked input output r → WorksOnReplay protocol own settings asked input output r
 replayed_for protocol own address settings asked input output (Ok flag) spelled works = (address, spelled, works)
-replayed_for protocol own address settings asked input output (Err NoAddresses) spelled works =
-    (λ e. (address, spelled, works.0 e), λ e. (address, spelled, works.1 e))
-replayed_for protocol own address settings asked input output (Err NotAnAddress) spelled works = (λ e. absurd (works.0 e), λ e. (address, spelled, works.1 e))
-replayed_for protocol own address settings asked input output (Err NotHex) spelled works =
-    (λ e. (address, spelled, works.0 e), λ e. (address, spelled, works.1 e))
-replayed_for protocol own address settings asked input output (Err UntilTooLarge) spelled works =
-    (λ e. (address, spelled, works.0 e), λ e. (address, spelled, works.1 e))
-replayed_for protocol own address settings asked input output (Err (Unconfigured f query_seconds response_interval)) spelled works =
-    (λ e. (address, spelled, works.0 e), λ e. (address, spelled, works.1 e))
-replayed_for protocol own address settings asked input output (Err (Capture f)) spelled works =
-    (λ e. (address, spelled, works.0 e), λ e. (address, spelled, works.1 e))
-replayed_for protocol own address settings asked input output (Err (Gap number)) spelled works =
-    (λ e. (address, spelled, works.0 e), λ e. (address, spelled, works.1 e))
-replayed_for protocol own address settings asked input output (Err (Waiting number)) spelled works =
-    (λ e. (address, spelled, works.0 e), λ e. (address, spelled, works.1 e))
-replayed_for protocol own address settings asked input output (Err (Conversion number f)) spelled works =
-    (λ e. (address, spelled, works.0 e), λ e. (address, spelled, works.1 e))
-replayed_for protocol own address settings asked input output (Err ConversionRead) spelled works =
-    (λ e. (address, spelled, works.0 e), λ e. (address, spelled, works.1 e))
-replayed_for protocol own address settings asked input output (Err Memory) spelled works =
-    (λ e. (address, spelled, works.0 e), λ e. (address, spelled, works.1 e))
-replayed_for protocol own address settings asked input output (Err Write) spelled works =
-    (λ e. (address, spelled, works.0 e), λ e. (address, spelled, works.1 e))
+replayed_for protocol own address settings asked input output (Err failure) spelled works =
+    (λ two. refused_for protocol own address settings asked.until failure spelled (works.0 two), λ one. (address, spelled, works.1 one))

@@ -1,5 +1,5 @@
 -- Reasons why a listing, a replay, a check or a conversion ends early.
-use Rattle.std.specs.Prelude.{◌≡◌, ◌⊎◌, Bool, true, Result, Err}
+use Rattle.std.specs.Prelude.{◌≡◌, ◌⊎◌, Bool, true, Result, Ok, Err}
 use Rattle.mq_convert.specs.declared.fault.ConvertFault.{ConvertFault}
 use Rattle.mq_convert.specs.declared.fault.ConvertFault.TheVariants as conversion
 use Rattle.mq_replay.specs.declared.capture_fault.CaptureFault.{CaptureFault}
@@ -28,6 +28,11 @@ abbrev pub IsBrokenBy : CaptureFault → (old new : Bool) → Failure → Type 0
 IsBrokenBy answer.Write old new failure = failure ≡ Write
 IsBrokenBy answer.Memory old new failure = failure ≡ Memory
 IsBrokenBy fault old new failure = ((failure ≡ failure_of fault) × (new ≡ old)) ⊎ ((failure ≡ Write) × (new ≡ true))
+
+-- The result after work with this result. The flush after it may fail too.
+abbrev pub IsEndedBy : {X : Type 0} → Result X CaptureFault → (old new : Bool) → Result X Failure → Type 0
+IsEndedBy (Ok x) old new result = ((result ≡ Ok x) × (new ≡ old)) ⊎ ((result ≡ Err Write) × (new ≡ true))
+IsEndedBy (Err fault) old new result = (failure : Failure) × (result ≡ Err failure) × IsBrokenBy fault old new failure
 
 -- The work on a capture ended early, by its result. With a fault of the capture, a gap or too many pending entries, all
 -- text before it was written. With an allocation failure nothing was read or written. If the output failed, a prefix was

@@ -4,10 +4,9 @@ ghost use Rattle.std.specs.Prelude.{◌≡◌};
 ghost use Rattle.mquerier.specs.Changes.{input_by, output_by};
 ghost use Rattle.mquerier.specs.Working.{ChecksAt, IsUnwritten, WorksOnCheck};
 
-use crate::breaking::broken_off;
+use crate::breaking::ended;
 use crate::failure::Failure;
 use crate::replaying::{configured, moment_asked};
-use crate::work::flush;
 use mq_check::{CheckTerms, CheckedFamily, Totals, check};
 use mq_command::{Protocol, Settings};
 use mq_count::Watched;
@@ -82,11 +81,6 @@ where
 {
     let _end = moment_asked(options.terms.until)?;
     let config = configured::<F>(querier, &options.settings)?;
-    match check(alloc, config, options.terms, supply, input, output) {
-        Ok(totals) => {
-            flush(output)?;
-            Ok(totals)
-        }
-        Err(fault) => Err(broken_off(fault, output)),
-    }
+    let answer = check(alloc, config, options.terms, supply, input, output);
+    ended(answer, output)
 }

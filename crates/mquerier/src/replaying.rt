@@ -5,9 +5,8 @@ ghost use Rattle.mquerier.specs.Changes.{input_by, output_by};
 ghost use Rattle.mquerier.specs.Replays.{asked_configuration, asked_limits, is_too_large};
 ghost use Rattle.mquerier.specs.Working.{IsConfigured, IsUnwritten, WorksAt, WorksOnReplay};
 
-use crate::breaking::broken_off;
+use crate::breaking::ended;
 use crate::failure::Failure;
-use crate::work::flush;
 use mq_command::{Protocol, Settings};
 use mq_count::{Moment, Watched};
 use mq_lines::LineKey;
@@ -88,13 +87,9 @@ where
         until: options.until,
         changes: options.changes,
     };
-    match replay(alloc, config, asked, supply, input, output) {
-        Ok(_counts) => {
-            flush(output)?;
-            Ok(true)
-        }
-        Err(fault) => Err(broken_off(fault, output)),
-    }
+    let answer = replay(alloc, config, asked, supply, input, output);
+    ended(answer, output)?;
+    Ok(true)
 }
 
 /// Returns the moment at this number of milliseconds, if it is given.

@@ -10,7 +10,7 @@ ghost use Rattle.mquerier.specs.Changes.{input_by, output_by};
 ghost use Rattle.mquerier.specs.Status.{IsCheck, IsConversion, IsNoAddress, IsOfMessage};
 ghost use Rattle.mquerier.specs.Working.{IsRefusal, IsUndecoded, IsUnwritten, Works, WorksOnListing, WorksOnMessage};
 
-use crate::breaking::broken_off;
+use crate::breaking::ended;
 use crate::failure::Failure;
 use crate::replaying::{ReplayOptions, replay_capture};
 use hex::FromHexError;
@@ -185,13 +185,9 @@ fn listing<S: Supply, R: Read, W: Write>(
     ensures accepted { IsRefusal result → ⊥ }
     ensures unwritten { IsUnwritten result → output.new ≡ output.old }
 {
-    match show(alloc, supply, input, output) {
-        Ok(_) => {
-            flush(output)?;
-            Ok(true)
-        }
-        Err(fault) => Err(broken_off(fault, output)),
-    }
+    let answer = show(alloc, supply, input, output);
+    ended(answer, output)?;
+    Ok(true)
 }
 
 /// Flushes the output.

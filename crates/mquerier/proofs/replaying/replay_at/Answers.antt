@@ -1,69 +1,39 @@
-use Rattle.std.proofs.Common.{arith, refl, rules, subst, Bool, Ok, Err, ap, ◌∙◌}
-use Rattle.std.proofs.Math.Bool.{or-true}
+use Rattle.std.proofs.Common.{arith, refl, ◌∙◌}
 use Rattle.std.proofs.lemmas.Result.{err_from_is_err_and}
-use Rattle.mq_count.specs.Streams.{inner_of}
-use Rattle.mq_link.specs.Configuration.{Configuration}
-use Rattle.mq_pcap.specs.Filling.{input_of}
-use Rattle.mq_text.specs.Printing.{output_of}
 use Rattle.mq_replay.specs.declared.asked.Asked.{Asked}
-use Rattle.mq_replay.specs.Replaying.{Replays}
-use Rattle.mq_replay.specs.Report.{replay_of}
-use Rattle.mquerier.specs.Changes.{input_by}
-use Rattle.mquerier.specs.Replays.{asked_configuration}
-use Rattle.mquerier.proofs.Breakings.{reports_broke_off, status_by, unflushed_by, unwritten_by}
+use Rattle.mquerier.proofs.Breakings.{end_by, unflushed_by, unwritten_end}
 use Rattle.mquerier.proofs.Checkings.{until_in_range}
-use Rattle.mquerier.proofs.Replayed.{flushed_at}
+use Rattle.mquerier.proofs.Replayed.{replay_ended}
 use Rattle.mquerier.proofs.replaying.replay_at.Goals as goal
 
-pub replay-requires : goal.replay-requires
-replay-requires g c = until_in_range c.args.options.now.until c.in_ok-_end.ensures.1
+pub replay-answer-requires : goal.replay-answer-requires
+replay-answer-requires g c = until_in_range c.args.options.now.until c.in_ok-_end.ensures.1
 
-pub returns-in_err-flush-in-Ok-clause-works : goal.returns-in_err-flush-in-Ok-clause-works
-returns-in_err-flush-in-Ok-clause-works g c =
-    let p = err_from_is_err_and c.from_residual-in_err-flush-in-Ok.result c.from_residual-in_err-flush-in-Ok.ensures.1 in
-    let input = input_by g.R.Read.remaining c.args.input.now c.replay.new.reader in
-    let old = output_of g.W.Write.contents c.args.output.now in
-    let mid = g.W.Write.contents (inner_of c.replay.new.writer) in
-    let new = output_of g.W.Write.contents c.flush.new.output in
-    let r = Ok c.in-Ok._counts in
-    let flushed = flushed_at g.F.Family.FAMILY (g.F.Address.Key.number c.args.own) c.args.options.now.settings _ _ input old mid new r
-    c.in_ok-config.ensures c.in-Ok.ensures.replays refl c.in_err-flush-in-Ok.ensures.bytes in
-    rw (p.1, p.2, c.in_err-flush-in-Ok.ensures.write) (
-      λ e. absurd (omega (arith, e)),
-      λ e. ((c.in_ok-_end.ensures.1, c.in_ok-config.ensures.0), (c.in_err-flush-in-Ok.ensures.failed ∙ or-true _, r, λ e. absurd (cc e), flushed)),
-    )
-
-pub returns-in_ok-flush-in-Ok-clause-works : goal.returns-in_ok-flush-in-Ok-clause-works
-returns-in_ok-flush-in-Ok-clause-works g c =
-    let input = input_by g.R.Read.remaining c.args.input.now c.replay.new.reader in
-    let old = output_of g.W.Write.contents c.args.output.now in
-    let mid = g.W.Write.contents (inner_of c.replay.new.writer) in
-    let new = output_of g.W.Write.contents c.flush.new.output in
-    let flushed = flushed_at g.F.Family.FAMILY (g.F.Address.Key.number c.args.own) c.args.options.now.settings _ _ input old mid new
-    (Ok c.in-Ok._counts) c.in_ok-config.ensures c.in-Ok.ensures.replays refl c.in_ok-flush-in-Ok.ensures.bytes in
-    ((c.in_ok-_end.ensures.1, c.in_ok-config.ensures.0), refl, search rules, c.in-Ok._counts, flushed)
-
-pub returns-in-Err-clause-works : goal.returns-in-Err-clause-works
-returns-in-Err-clause-works g c =
-    let input = input_by g.R.Read.remaining c.args.input.now c.replay.new.reader in
-    let old = output_of g.W.Write.contents c.args.output.now in
-    let mid = output_of g.W.Write.contents c.replay.new.writer in
-    let new = output_of g.W.Write.contents c.broken_off.new.output in
+pub returns-in_err-ended-clause-works : goal.returns-in_err-ended-clause-works
+returns-in_err-ended-clause-works g c =
+    let p = err_from_is_err_and c.from_residual-in_err-ended.result c.from_residual-in_err-ended.ensures.1 in
     let asked : Asked = record { until = c.args.options.now.until; changes = c.args.options.now.changes } in
-    let config = asked_configuration g.F.Family.FAMILY (g.F.Address.Key.number c.args.own) c.args.options.now.settings in
-    let replays = subst (λ (k : Configuration). Replays k asked input.old input.new old.held mid.held (Err c.in-Err.fault)) c.in_ok-config.ensures.1
-    c.in-Err.ensures.replays in
-    let all = reports_broke_off (replay_of config asked) c.in-Err.fault c.broken_off.result input old mid new replays c.in-Err.ensures.failed
-    (λ e. let both = c.in-Err.ensures.memory (ap Err e) in (ap (input_of g.R.Read.remaining) both.0, ap (output_of g.W.Write.contents) both.1))
-    c.broken_off.ensures.bytes c.broken_off.ensures.failure (λ u. ap (output_of g.W.Write.contents) (c.broken_off.ensures.unflushed u)) in
-    let one = status_by c.in-Err.fault c.broken_off.result _ _ c.broken_off.ensures.failure in
-    (λ e. absurd (omega (arith, e, one)), λ e. ((c.in_ok-_end.ensures.1, c.in_ok-config.ensures.0), all))
+    let it = replay_ended g.F.Family.FAMILY (g.F.Address.Key.number c.args.own) c.args.options.now.settings asked _ _ _ _ _ _ _
+    (end_by g.R.Read.remaining g.W.Write.contents _ _ _ _ _ _ _ c.replay-answer.ensures.memory c.in_err-ended.ensures.unflushed c.in_err-ended.ensures.ended
+    c.replay-answer.ensures.failed c.in_err-ended.ensures.bytes) c.in_ok-config.ensures c.replay-answer.ensures.replays in
+    let one = it.0 in
+    rw (p.1, p.2) (λ two. absurd (omega (arith, two, one)), λ e. ((c.in_ok-_end.ensures.1, c.in_ok-config.ensures.0), it.1))
 
-pub returns-in-Err-clause-unread : goal.returns-in-Err-clause-unread
-returns-in-Err-clause-unread g c =
-    λ none. (c.in-Err.ensures.memory (ap Err (unwritten_by Bool c.in-Err.fault c.broken_off.result _ _ c.broken_off.ensures.failure none))).0
+pub returns-clause-works : goal.returns-clause-works
+returns-clause-works g c =
+    let asked : Asked = record { until = c.args.options.now.until; changes = c.args.options.now.changes } in
+    let it = replay_ended g.F.Family.FAMILY (g.F.Address.Key.number c.args.own) c.args.options.now.settings asked _ _ _ _ _ _ _
+    (end_by g.R.Read.remaining g.W.Write.contents _ _ _ _ _ _ _ c.replay-answer.ensures.memory c.in_ok-ended.ensures.unflushed c.in_ok-ended.ensures.ended
+    c.replay-answer.ensures.failed c.in_ok-ended.ensures.bytes) c.in_ok-config.ensures c.replay-answer.ensures.replays in
+    ((c.in_ok-_end.ensures.1, c.in_ok-config.ensures.0), refl, it.0, _, it.1)
 
-pub returns-in-Err-clause-unwritten : goal.returns-in-Err-clause-unwritten
-returns-in-Err-clause-unwritten g c =
-    λ none. let is = unwritten_by Bool c.in-Err.fault c.broken_off.result _ _ c.broken_off.ensures.failure none in
-    c.broken_off.ensures.unflushed (unflushed_by c.in-Err.fault is) ∙ (c.in-Err.ensures.memory (ap Err is)).1
+pub returns-in_err-ended-clause-unread : goal.returns-in_err-ended-clause-unread
+returns-in_err-ended-clause-unread g c =
+    let p = err_from_is_err_and c.from_residual-in_err-ended.result c.from_residual-in_err-ended.ensures.1 in
+    rw (p.1, p.2) (λ none. (c.replay-answer.ensures.memory (unwritten_end c.replay-answer.result _ _ _ c.in_err-ended.ensures.ended none)).0)
+
+pub returns-in_err-ended-clause-unwritten : goal.returns-in_err-ended-clause-unwritten
+returns-in_err-ended-clause-unwritten g c =
+    let p = err_from_is_err_and c.from_residual-in_err-ended.result c.from_residual-in_err-ended.ensures.1 in
+    rw (p.1, p.2) (λ none. let is = unwritten_end c.replay-answer.result _ _ _ c.in_err-ended.ensures.ended none in
+    c.in_err-ended.ensures.unflushed (unflushed_by c.replay-answer.result is) ∙ (c.replay-answer.ensures.memory is).1)

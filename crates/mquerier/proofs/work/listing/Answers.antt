@@ -1,27 +1,32 @@
-use Rattle.std.proofs.Common.{arith, Bool, Err, ap, ◌∙◌}
-use Rattle.mq_pcap.specs.Filling.{input_of}
-use Rattle.mq_text.specs.Printing.{output_of}
-use Rattle.mquerier.specs.Changes.{input_by}
-use Rattle.mquerier.proofs.Breakings.{listing_broke_off, status_by, unflushed_by, unwritten_by}
+use Rattle.std.proofs.Common.{arith, refl, ◌∙◌}
+use Rattle.std.proofs.lemmas.Result.{err_from_is_err_and}
+use Rattle.mquerier.proofs.Breakings.{end_by, listing_ended, status_end, unflushed_by, unwritten_end}
 use Rattle.mquerier.proofs.work.listing.Goals as goal
 
-pub returns-in-Err-clause-works : goal.returns-in-Err-clause-works
-returns-in-Err-clause-works g c =
-    let input = input_by g.R.Read.remaining c.args.input.now c.show.new.reader in
-    let old = output_of g.W.Write.contents c.args.output.now in
-    let mid = output_of g.W.Write.contents c.show.new.writer in
-    let new = output_of g.W.Write.contents c.broken_off.new.output in
-    let all = listing_broke_off c.in-Err.fault c.broken_off.result input old mid new c.in-Err.ensures.shows c.in-Err.ensures.failed
-    (λ e. let both = c.in-Err.ensures.memory (ap Err e) in (ap (input_of g.R.Read.remaining) both.0, ap (output_of g.W.Write.contents) both.1))
-    c.broken_off.ensures.bytes c.broken_off.ensures.failure (λ u. ap (output_of g.W.Write.contents) (c.broken_off.ensures.unflushed u)) in
-    let one = status_by c.in-Err.fault c.broken_off.result _ _ c.broken_off.ensures.failure in
-    (λ e. absurd (omega (arith, e, one)), λ e. all)
+pub returns-in_err-ended-clause-works : goal.returns-in_err-ended-clause-works
+returns-in_err-ended-clause-works g c =
+    let p = err_from_is_err_and c.from_residual.result c.from_residual.ensures.1 in
+    let it = listing_ended _ _ _ _ _ _
+    (end_by g.R.Read.remaining g.W.Write.contents _ _ _ _ _ _ _ c.show-answer.ensures.memory c.in_err-ended.ensures.unflushed c.in_err-ended.ensures.ended
+    c.show-answer.ensures.failed c.in_err-ended.ensures.bytes) c.show-answer.ensures.shows in
+    let one = it.0 in
+    rw (p.1, p.2) (λ two. absurd (omega (arith, two, one)), λ e. it.1)
 
-pub returns-in-Err-clause-accepted : goal.returns-in-Err-clause-accepted
-returns-in-Err-clause-accepted g c =
-    λ e. absurd (let one = status_by c.in-Err.fault c.broken_off.result _ _ c.broken_off.ensures.failure in omega (arith, e, one))
+pub returns-clause-works : goal.returns-clause-works
+returns-clause-works g c =
+    let it = listing_ended _ _ _ _ _ _
+    (end_by g.R.Read.remaining g.W.Write.contents _ _ _ _ _ _ _ c.show-answer.ensures.memory c.in_ok-ended.ensures.unflushed c.in_ok-ended.ensures.ended
+    c.show-answer.ensures.failed c.in_ok-ended.ensures.bytes) c.show-answer.ensures.shows in
+    (refl, it.0, _, it.1)
 
-pub returns-in-Err-clause-unwritten : goal.returns-in-Err-clause-unwritten
-returns-in-Err-clause-unwritten g c =
-    λ none. let is = unwritten_by Bool c.in-Err.fault c.broken_off.result _ _ c.broken_off.ensures.failure none in
-    c.broken_off.ensures.unflushed (unflushed_by c.in-Err.fault is) ∙ (c.in-Err.ensures.memory (ap Err is)).1
+pub returns-in_err-ended-clause-accepted : goal.returns-in_err-ended-clause-accepted
+returns-in_err-ended-clause-accepted g c =
+    let p = err_from_is_err_and c.from_residual.result c.from_residual.ensures.1 in
+    let one = status_end c.show-answer.result _ _ _ c.in_err-ended.ensures.ended in
+    rw (p.1, p.2) (λ two. absurd (omega (arith, two, one)))
+
+pub returns-in_err-ended-clause-unwritten : goal.returns-in_err-ended-clause-unwritten
+returns-in_err-ended-clause-unwritten g c =
+    let p = err_from_is_err_and c.from_residual.result c.from_residual.ensures.1 in
+    rw (p.1, p.2) (λ none. let is = unwritten_end c.show-answer.result _ _ _ c.in_err-ended.ensures.ended none in
+    c.in_err-ended.ensures.unflushed (unflushed_by c.show-answer.result is) ∙ (c.show-answer.ensures.memory is).1)
