@@ -1,7 +1,7 @@
 -- What a replay comes to where the groups of its link are known one by one, for the worked examples.
-use Rattle.std.proofs.Common.{◌≡◌, ℕ, zero, suc, ◌+◌, true, false, refl, List, [], ◌∷◌, ◌++◌, length, Option, None, Some, Ok}
+use Rattle.std.proofs.Common.{◌≡◌, ℕ, ◌+◌, true, false, refl, List, [], ◌∷◌, ◌++◌, length, Option, None, Some, Ok}
 use Rattle.std.proofs.Common.{append-nil, ap, ◌∙◌}
-use Rattle.std.specs.{Prelude.nat_lt, Prelude.map as list_map, List.flat_map, Option.option_to_list}
+use Rattle.std.specs.{Prelude.map as list_map, List.flat_map, Option.option_to_list}
 use Rattle.mq_pcap.specs.declared.{fault.PcapFault.PcapFault, form.Form.Form, link_type.LinkType.LinkType}
 use Rattle.mq_pcap.specs.{Capture.Captured, Frame.Carried, Frame.carried_in}
 use Rattle.mq_wire.specs.Family.{Family}
