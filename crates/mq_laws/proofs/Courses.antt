@@ -17,6 +17,7 @@ use Rattle.mq_check.specs.Entries.{is_free_seen, is_free_wanted, may_be_left_out
 use Rattle.mq_check.specs.General.{wrong_interval, phase_again, phase_behind, silence_up_to}
 use Rattle.mq_check.specs.Queries.{is_same}
 use Rattle.mq_check.specs.Schedules.{repeats_in, terms_wanted}
+use Rattle.mq_check.specs.Standing.{held}
 use Rattle.mq_check.specs.Waiting.{WaitingValue}
 use Rattle.mq_laws.specs.Pairing.{Ask, Expected, Sent, LeftOut, ask_of, asks_of, kept_for, missing_of, wanted_about}
 use Rattle.mq_laws.specs.Events.{CheckEvent, Comes, Wants, Sees, SeesGeneral, LosesRole, HasRoleAgain, SeesFault, Blocks, moment_behind, check_by}
@@ -341,16 +342,16 @@ general_all within keep timing now terms partner c free wanted rest within_is in
           rw same (record { step = one; phase = part.phase; repeats = part.repeats })
       | false ↦ λ is.
           let same = compared_other within timing now terms partner c is in
-          let part = seen_part now terms None c AllGroups (ap (λ (d : CheckingValue). d.waiting.is_full) (sym same) ∙ room) in
+          let part = seen_part now terms held c AllGroups (ap (λ (d : CheckingValue). d.waiting.is_full) (sym same) ∙ room) in
           let before : Stands within keep now c.waiting.entries free wanted (ask now AllGroups terms ∷ rest) =
           subst (λ (b : Bool). Stands within keep now c.waiting.entries free wanted (general_ask b r.due now terms ++ rest)) is st in
           let near_is : SameFrom (is_free_wanted AllGroups) (near now c) c.waiting.entries =
           near_as within now (is_free_wanted AllGroups) c within_is (wanted_near within keep now AllGroups terms c.waiting.entries free wanted rest before) in
-          let one : StepsTo within keep now (with_seen now terms None c AllGroups).waiting.entries (free ++ wanted) wanted rest
+          let one : StepsTo within keep now (with_seen now terms held c AllGroups).waiting.entries (free ++ wanted) wanted rest
           (general_returned false now r.due r.early) =
           rw (part.entries near_is)
           (general_step within keep now (return_seen now) _ _ free (free ++ wanted) wanted rest
-          (see_one within keep now AllGroups terms (alone_in now terms None AllGroups c) c.waiting.entries free wanted rest before)) in
+          (see_one within keep now AllGroups terms (alone_in now terms held AllGroups c) c.waiting.entries free wanted rest before)) in
           rw same (record { step = one; phase = part.phase ∙ sym (no_phase_behind within timing now c.phase is); repeats = part.repeats })
     ] refl
 

@@ -15,6 +15,7 @@ use Rattle.mq_check.specs.declared.terms.Terms.{Terms}
 use Rattle.mq_check.specs.declared.waiting.Side.TheVariants.{OfWanted, OfSeen}
 use Rattle.mq_check.specs.Checking.{CheckingValue, all_blocked, alone_in, is_late, is_querier_in, near, one_blocked, paired, partner_of, with_wanted}
 use Rattle.mq_check.specs.Checking.{with_seen, with_general, general_compared, role_lost, role_returned, with_interval, with_silence}
+use Rattle.mq_check.specs.Standing.{held}
 use Rattle.mq_check.specs.Checking as checking
 use Rattle.mq_check.specs.Entries.{first_terms, first_joined, is_free_seen, is_free_wanted, may_be_left_out}
 use Rattle.mq_check.specs.General.{phase_again, wrong_interval, phase_behind, silence_up_to}
@@ -237,7 +238,7 @@ pub compared_querier : (within : ℕ) (timing : Timing) (now : ℕ) (terms wante
 compared_querier within timing now terms wanted c is = rw is refl
 
 pub compared_other : (within : ℕ) (timing : Timing) (now : ℕ) (terms wanted : Terms ℕ) (c : CheckingValue) → is_querier_in c.phase ≡ false →
-    general_compared within timing now terms wanted c ≡ with_seen now terms None c AllGroups
+    general_compared within timing now terms wanted c ≡ with_seen now terms held c AllGroups
 compared_other within timing now terms wanted c is = rw is refl
 
 pub general_free : (within : ℕ) (timing : Timing) (now : ℕ) (terms wanted : Terms ℕ) (c : CheckingValue) →
@@ -245,7 +246,7 @@ pub general_free : (within : ℕ) (timing : Timing) (now : ℕ) (terms wanted : 
 general_free within timing now terms wanted c free = elim (is_querier_in c.phase) as (λ b. is_querier_in c.phase ≡ b → c.waiting.is_full ≡ false) [
   | true ↦ λ is. with_general_free within timing now terms wanted c
       (ap (λ (d : CheckingValue). d.waiting.is_full) (sym (compared_querier within timing now terms wanted c is)) ∙ free)
-  | false ↦ λ is. (seen_part now terms None c AllGroups
+  | false ↦ λ is. (seen_part now terms held c AllGroups
       (ap (λ (d : CheckingValue). d.waiting.is_full) (sym (compared_other within timing now terms wanted c is)) ∙ free)).was
 ] refl
 

@@ -1,10 +1,11 @@
 -- A check in which a querier sends one of two queries for the group 5, and leaves the other out, or sends both. A host
 -- leaves the group, and another host blocks a source. Afterwards another router has the role for four minutes. The seen
 -- queries are in other packets than those of the expected ones.
-use Rattle.std.specs.Prelude.{◌≡◌, ℕ, ◌+◌, false, true, List, [], ◌∷◌, ◌++◌, None, Some}
+use Rattle.std.specs.Prelude.{◌≡◌, ℕ, ◌+◌, false, true, List, [], ◌∷◌, ◌++◌, Some}
 use Rattle.mq_table.specs.declared.timing.Timing.{Timing}
 use Rattle.mq_check.specs.declared.asked.Asked.TheVariants.{AllGroups, Group, Source}
 use Rattle.mq_check.specs.declared.terms.Terms.{Terms}
+use Rattle.mq_check.specs.Standing.{held}
 use Rattle.mq_laws.specs.Pairing.{Ask, Expected, Sent, LeftOut}
 use Rattle.mq_laws.specs.Events.{CheckEvent, Comes, Wants, Sees, SeesGeneral, LosesRole, HasRoleAgain, Blocks, HasRoom}
 use Rattle.mq_laws.specs.OnTime.{AreInOrder, IsOnTime}
@@ -36,7 +37,7 @@ abbrev pub example_events : (delay : ℕ) → (second : List CheckEvent) → Lis
 example_events delay second =
     Comes 500 ∷ SeesGeneral (general_terms 1) (general_terms 0)
     ∷ Comes 1000 ∷ Blocks [] ∷ Wants false (group_terms 2) (Group 5 ∷ [])
-    ∷ Comes (1000 + delay) ∷ Sees (group_terms 3) (λ asked. None) (Group 5 ∷ [])
+    ∷ Comes (1000 + delay) ∷ Sees (group_terms 3) (λ asked. held) (Group 5 ∷ [])
     ∷ Comes 1200 ∷ Blocks (Source 5 7 ∷ [])
     ∷ Comes 2000 ∷ Wants true (group_terms 4) (Group 5 ∷ []) ∷ second
     ++ Comes 20000 ∷ LosesRole
@@ -49,7 +50,7 @@ abbrev pub one_left_out : (delay : ℕ) → List CheckEvent
 one_left_out delay = example_events delay []
 
 abbrev pub all_answered : (delay : ℕ) → List CheckEvent
-all_answered delay = example_events delay (Comes (2000 + delay) ∷ Sees (group_terms 5) (λ asked. None) (Group 5 ∷ []) ∷ [])
+all_answered delay = example_events delay (Comes (2000 + delay) ∷ Sees (group_terms 5) (λ asked. held) (Group 5 ∷ []) ∷ [])
 
 -- The expected queries. A tick sends the second one again, so it has the packet of the first.
 abbrev pub first_ask : Ask
