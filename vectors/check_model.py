@@ -57,9 +57,12 @@ class Asked:
     def text(self):
         return text_of(self.group) + (f" {text_of(self.source)}" if self.source is not None else "")
 
+    def is_general(self):
+        return not any(self.group) and self.source is None
+
     def sending(self):
         """The sections that say when the query is sent."""
-        if not any(self.group):
+        if self.is_general():
             return ELECTION
         return ("6.6.3.1", "7.6.3.1") if self.source is None else ("6.6.3.2", "7.6.3.2")
 
@@ -74,8 +77,8 @@ class Asked:
         if name in FIELDS:
             return FIELDS[name]
         if name == "response":
-            return ("8.8", "9.8") if any(self.group) else ("8.3", "9.3")
-        return self.sending() if any(self.group) else ("4.1.5", "5.1.7")
+            return ("8.3", "9.3") if self.is_general() else ("8.8", "9.8")
+        return ("4.1.5", "5.1.7") if self.is_general() else self.sending()
 
 
 @dataclasses.dataclass
