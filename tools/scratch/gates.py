@@ -1,5 +1,6 @@
 """Tests of tools/gate: its counts, its end, and the quick gate."""
 
+import re
 import shutil
 import time
 
@@ -60,6 +61,9 @@ def gates(top):
         ended, printed = gate(top, *words)
         want(ended == (wanted[0], f"{wanted[1]} passed, {wanted[2]} failed"), f"the gate of {words}", printed)
     want(run(top, f"{top}/tools/gate")[0] == 2, "a gate of no part passes", "")
+    put(f"{top}/tools/wrong-bodies", "#!/usr/bin/env python3\nimport time\nwhile time.process_time() < 1:\n    pass\nprint('2 passed, 0 failed')\n", 0o755)
+    printed = gate(top, "mutants")[1]
+    want(re.search(r"gate: tools/wrong-bodies: status 0, \d+ s, [123] s of processors\n", printed), "the processor seconds of a command", printed)
     tries_edits_beside(top)
 
 

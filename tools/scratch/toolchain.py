@@ -143,6 +143,8 @@ if "--generated" in words:
     sys.exit()
 if "--only" in words:
     asked = [path.split("::")[-1] for flag, path in zip(words, words[1:]) if flag == "--only"]
+    with open(f"{{TOP}}/checks", "a") as checks:
+        checks.write(f"{{len(asked)}} {{os.path.isdir('out/incremental')}}\\n")
     for it in asked:
         file = next((f for f in (f"proofs/{{it}}/Answers.antt", f"proofs/+{{it}}/Answers.antt") if os.path.exists(f)), None)
         answers = open(file).read() if file else ""

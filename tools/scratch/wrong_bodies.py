@@ -213,7 +213,24 @@ def wrong_bodies_fit(top):
     want(ended[0] == 1 and "low: NOT PROVED as it stands" in said, "a crate that isn't proved", said)
 
 
+def checks(top, *words):
+    """Returns a line for each check of a run: the number of functions, and whether it takes over what an earlier check read."""
+    put(f"{top}/checks", "")
+    tried(top, *words)
+    return taken(f"{top}/checks").splitlines()
+
+
+def wrong_bodies_begin(top):
+    """Checks that several edits begin with a check of their functions, and that all other checks take over what it read."""
+    first, *others = checks(top)
+    is_over = len(others) > 1 and all(it.endswith(" True") for it in others)
+    want(first == f"{len(REFUSED)} False" and is_over, "the checks of several edits", [first, *others])
+    found = checks(top, "low/caller")
+    want(found == ["1 False"], "the check of one edit", found)
+
+
 def all_of_wrong_bodies(top):
     wrong_bodies(top)
+    wrong_bodies_begin(top)
     wrong_bodies_drawn(top)
     wrong_bodies_fit(top)
