@@ -21,10 +21,8 @@ from repository import TOP, said_by, text_of, with_those_below
 # The number of the rule for verdicts. A change of the tools voids no row of tools/passed, since then all edits would have to be tried
 # again. Raise the number if a change requires that.
 RULE = 2
-# The part of a sum for a logic, if the sums in tools/passed began with the whole line of `rt version`.
+# The part of a sum for a logic whose sums in tools/passed begin with the whole line of `rt version`.
 NAMED = {"logic dac8208d650f15bf": "rattle-kit-13f logic dac8208d650f15bf"}
-# The part of a sum that earlier tools used in place of the number, by the toolchain and the rule.
-EARLIER = {("rattle-kit-13f logic dac8208d650f15bf", 1): "6d4204f509bda9b94ab18d04ddde21dc81918936b69c867f4fa5525e4a7a4695"}
 # A constructor or a field of a type, on a line of its own.
 PARTS = re.compile(r"(?m)^ +(?:pub )?([^\s:(]+) :")
 # A lemma or a definition in an attribute.
@@ -267,7 +265,6 @@ def attributes(crate):
     return "\n".join(re.findall(r"(?m)^#!\[.*", all_crates()[crate].sources[roots[0]].whole)) if roots else ""
 
 
-@functools.lru_cache(maxsize=None)
 def parts_of(edit):
     """Returns the texts that decide on the verdict of an edit, without the toolchain and the rule."""
     function, folder = function_of(edit), f"{TOP}/crates/{edit.crate}"
@@ -279,16 +276,6 @@ def parts_of(edit):
 
 
 def sums(edits):
-    """Returns the sums of edits by the current rule."""
+    """Returns the sums of edits."""
     tools = summed(version(), str(RULE))
-    return {it: summed(tools, *parts_of(it)) for it in edits}
-
-
-def earlier_tools():
-    return EARLIER.get((version(), RULE - 1)) or summed(version(), str(RULE - 1))
-
-
-def earlier_sums(edits):
-    """Returns the sums of edits by the previous rule."""
-    tools = earlier_tools()
     return {it: summed(tools, *parts_of(it)) for it in edits}

@@ -107,10 +107,6 @@ class Heard:
         else:
             self.refused.add(of[1])
 
-    def is_anything(self):
-        """True if anything of the function or its answers is not proved, for any reason."""
-        return bool(self.refused or self.open or self.unfit or self.lost or self.is_without_invariants)
-
     def why(self):
         """Returns the first message that decides nothing."""
         said = [*sum(self.unfit.values(), []), *(f"{file}: no goal `{goal}`" for goal, file in self.lost.items()), *self.open.values()]

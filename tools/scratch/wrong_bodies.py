@@ -120,21 +120,24 @@ def answers(says):
 
 
 def wrong_bodies_drawn(top):
-    """Checks that `--drawn` tries all edits after a change, and only a few without a change."""
-    crate, many = f"{top}/crates/low", f"{top}/crates/low/wrong-bodies/callee.edit"
-    for number in range(100):
+    """Checks that `--drawn` tries many edits after a change, and only a few without a change."""
+    crate, many, count = f"{top}/crates/low", f"{top}/crates/low/wrong-bodies/callee.edit", 300
+    for number in range(count):
         shutil.copy(many, many.replace("callee.edit", f"callee_{number}.edit"))
     os.remove(f"{top}/tools/passed")
-    want(tried(top, "--drawn")[0] == (0, f"{len(REFUSED) + 100} passed, 0 failed"), "the edits of a crate that was never tried", "")
     ended, said = tried(top, "--drawn")
-    want(ended[0] == 0 and 0 < said.count("refused by") < 40, "the edits of a crate that didn't change", said)
-    want(tried(top, "--left")[0] == (0, "0 passed, 0 failed"), "the edits that are left where nothing changed", "")
+    want(ended[0] == 0 and 200 <= said.count("refused by") < 260, "the edits of a crate that was never tried", said)
+    rest = len(REFUSED) + count - said.count("refused by")
+    want(tried(top, "--not-passed")[0] == (0, f"{rest} passed, 0 failed"), "the edits that were not drawn", "")
+    ended, said = tried(top, "--drawn")
+    want(ended[0] == 0 and 0 < said.count("refused by") < 80, "the edits of a crate that didn't change", said)
+    want(tried(top, "--not-passed")[0] == (0, "0 passed, 0 failed"), "the edits that have not passed where nothing changed", "")
     put(f"{crate}/proofs/caller/Answers.antt", "-- changed\n")
-    ended, said = tried(top, "--left")
+    ended, said = tried(top, "--not-passed")
     want(ended == (0, "1 passed, 0 failed") and "low/caller" in said, "the edits of a function whose proof changed", said)
-    for number in range(100):
+    for number in range(count):
         os.remove(many.replace("callee.edit", f"callee_{number}.edit"))
-    want("callee" in taken(f"{top}/tools/passed") and tried(top, "--left")[0] == (0, "0 passed, 0 failed"), "what tools/passed says", taken(f"{top}/tools/passed"))
+    want("callee" in taken(f"{top}/tools/passed") and tried(top, "--not-passed")[0] == (0, "0 passed, 0 failed"), "what tools/passed says", taken(f"{top}/tools/passed"))
 
 
 def scratch_edits(top):
@@ -173,7 +176,8 @@ def wrong_bodies(top):
         want(f"wrong-bodies low/{it}: {how}{', with other answers' * (it in MOVED)}" in said, f"the edit of {it}", said)
     want("wrong-bodies low/absent.edit: BAD EDIT" in said, "an edit that can't be applied", said)
     want(tried(top, "low/caller", "low/right")[0] == (1, "1 passed, 2 failed"), "edits that are tried by their names", "")
-    for words in (["low/none"], ["--left", "low/caller"], ["none"], ["--fit", "low"], ["--drawn", "low"]):
+    want(tried(top, "--not-passed")[0] == (1, f"0 passed, {len(SAYS) - len(REFUSED) + 1} failed"), "the edits that did not pass", "")
+    for words in (["low/none"], ["--not-passed", "low/caller"], ["none"], ["--fit", "low"], ["--drawn", "low"]):
         want(tried(top, *words)[0][0] == 2, "words that are none of the tool's", words)
     found = {line.split()[1] for line in taken(f"{top}/tools/passed").splitlines()}
     want(found == {*REFUSED}, "which edits passed", found)
