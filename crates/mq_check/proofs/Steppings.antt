@@ -1,5 +1,5 @@
 -- The steps of a check: a tick, a datagram, and the ticks up to a moment.
-use Rattle.std.proofs.Common.{◌≡◌, ℕ, Bool, true, false, not, List, Result, Ok, Err, ap, sym, subst, ◌∙◌}
+use Rattle.std.proofs.Common.{◌≡◌, ℕ, Bool, true, false, not, List, Result, Ok, Err, ap, subst, ◌∙◌}
 use Rattle.std.specs.Prelude.{IfOk}
 use Rattle.mq_wire.specs.Family.{Family}
 use Rattle.mq_sched.specs.Election.{is_querier}

@@ -7,7 +7,7 @@ use Rattle.mq_wire.specs.declared.message.WireFault.{WireFault}
 use Rattle.mq_wire.specs.declared.query.Query.{Query}
 use Rattle.mq_wire.specs.declared.query.QueryVersion.{QueryVersion}
 use Rattle.mq_wire.specs.declared.query.QueryVersion.TheVariants.{Older, Current}
-use Rattle.mq_wire.specs.Family.{Family, Igmp, Mld}
+use Rattle.mq_wire.specs.Family.{Family}
 use Rattle.mq_wire.specs.RoundTrip.{response_lowered, interval_lowered}
 use Rattle.mq_table.specs.declared.timing.Timing.{Timing}
 use Rattle.mq_link.specs.Family.{general_destination}

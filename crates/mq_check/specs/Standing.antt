@@ -1,5 +1,5 @@
 -- The standing of a subject in the link when a query on it is seen.
-use Rattle.std.specs.Prelude.{ℕ, ◌||◌, Bool, false, Option, None}
+use Rattle.std.specs.Prelude.{ℕ, ◌||◌, Bool, false, None}
 use Rattle.mq_wire.specs.Family.{Family, Igmp, Mld}
 use Rattle.mq_table.specs.declared.older_hosts.Hosts.{Hosts}
 use Rattle.mq_table.specs.OlderHosts.{hosts_of}

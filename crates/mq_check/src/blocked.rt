@@ -1,6 +1,6 @@
 //! The sources that hosts block.
 
-ghost use Rattle.std.specs.Prelude.{◌≡◌, ◌==◌, ◌||◌, flat_map, fold, map as list_map};
+ghost use Rattle.std.specs.Prelude.{◌≡◌, ◌==◌, ◌||◌, flat_map, map as list_map};
 ghost use Rattle.mq_wire.specs.Numbered.{numbered_record};
 ghost use Rattle.mq_check.specs.declared.asked.Asked.TheVariants.{Source};
 ghost use Rattle.mq_check.specs.Blocked.{blocked_by, blocked_in};

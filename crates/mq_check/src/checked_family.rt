@@ -2,7 +2,7 @@
 
 ghost use Rattle.std.specs.Prelude.{◌≡◌};
 ghost use Rattle.mq_wire.specs.RoundTrip.{response_lowered};
-ghost use Rattle.mq_check.specs.Check.{packet_in, destination4_in, destination_in, headers_in};
+ghost use Rattle.mq_check.specs.Check.{packet_in, destination_in, headers_in};
 ghost use Rattle.mq_check.specs.Basis.{named};
 ghost use Rattle.mq_check.specs.Headers.{has_query_type, has_reserved_bits};
 

@@ -1,7 +1,6 @@
 //! The lines of a check.
 
 ghost use Rattle.std.specs.Prelude.{◌≡◌, ◌≤◌, ◌+◌, ◌++◌, length};
-ghost use Rattle.std.specs.Fmt.{decimal};
 ghost use Rattle.arrayvec.specs.ArrayVec.{array_vec_len};
 ghost use Rattle.mq_check.specs.FindingLines as spec;
 ghost use Rattle.mq_check.specs.Numbered.{numbered_asked, numbered_difference, numbered_finding};

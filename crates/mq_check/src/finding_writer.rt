@@ -1,6 +1,6 @@
 //! Buffered output of findings.
 
-ghost use Rattle.std.specs.Prelude.{◌≡◌, ◌+◌, ◌-◌, ◌^◌, ◌||◌, [], ◌∷◌, ◌++◌, IfOk, is_err, min};
+ghost use Rattle.std.specs.Prelude.{◌≡◌, ◌-◌, ◌||◌, [], ◌∷◌, IfOk, is_err};
 ghost use Rattle.mq_count.specs.Streams.{inner_of, has_failed};
 ghost use Rattle.mq_text.specs.Printing.{Puts, output_of};
 ghost use Rattle.mq_check.specs.FindingLines.{additions_text, finding_line, finding_text, last_lines, packets_line, querier_line, totals_line};

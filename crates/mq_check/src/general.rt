@@ -1,6 +1,6 @@
 //! Intervals of general queries.
 
-ghost use Rattle.std.specs.Prelude.{◌≡◌, ◌≤◌};
+ghost use Rattle.std.specs.Prelude.{◌≡◌};
 ghost use Rattle.mq_table.specs.Timing as span;
 ghost use Rattle.mq_check.specs.Entries as entries;
 ghost use Rattle.mq_check.specs.General as spec;

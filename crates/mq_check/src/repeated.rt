@@ -1,7 +1,7 @@
 //! Differences in the querier's variables that repeat earlier ones.
 
 ghost use Rattle.std.specs.Prelude.{◌≡◌};
-ghost use Rattle.mq_check.specs.Numbered.{numbered_asked, numbered_difference, numbered_finding};
+ghost use Rattle.mq_check.specs.Numbered.{numbered_difference, numbered_finding};
 ghost use Rattle.mq_check.specs.Repeated as spec;
 
 use crate::asked::Asked;

@@ -1,6 +1,6 @@
 //! Schedules that a querier may keep beside those of the link.
 
-ghost use Rattle.std.specs.Prelude.{◌≡◌, ◌≤◌, ◌^◌, ◌&&◌, ◌||◌, not, IfOk, is_ok};
+ghost use Rattle.std.specs.Prelude.{◌≡◌, ◌&&◌, ◌||◌, not, IfOk, is_ok};
 ghost use Rattle.mq_arena.specs.Vectors.{Takes};
 ghost use Rattle.mq_check.specs.Numbered.{numbered_asked, numbered_entry_if, numbered_terms, numbered_terms_if};
 ghost use Rattle.mq_check.specs.Checking as checks;

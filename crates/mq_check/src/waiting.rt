@@ -214,22 +214,6 @@ impl<F: Family, A: Allocator> Waiting<F, A> {
             ≡ waits.with_partner side (numbered_asked F.Address.number asked) from.now (numbered_terms F.Address.number other) self.old }
     {
         self.approach(side, asked, from);
-        self.join_first(side, asked, from, other)
-    }
-
-    /// Pairs such an entry, and returns its terms.
-    fn join_first(
-        &mut self,
-        side: Side,
-        asked: Asked<F::Address>,
-        from: &EarliestPartner,
-        other: Terms<F::Address>,
-    ) -> Option<Terms<F::Address>>
-        ensures terms { numbered_terms_if F.Address.number result
-            ≡ spec.first_terms (waits.is_free side (numbered_asked F.Address.number asked) from.now) self.old.entries }
-        ensures joined { self.new
-            ≡ waits.with_partner side (numbered_asked F.Address.number asked) from.now (numbered_terms F.Address.number other) self.old }
-    {
         let place = self.place_of(side, asked, from)?;
         let entry = self.entries[place];
         self.trails.pass(place);

@@ -17,7 +17,7 @@ use Rattle.mq_replay.specs.Faults.{is_failed_write}
 use Rattle.mq_replay.specs.PlacedPackets.{Place, PlacedPacket, at_first, is_gap, place_behind, placed}
 use Rattle.mq_replay.specs.PuttingReports.{IsPutBy, IsRestPut, PutsReport, end_of, rest_at}
 use Rattle.mq_replay.specs.Reports.{IsEndedBy}
-use Rattle.mq_replay.specs.Walking.{IsBrokenOff, IsEndedByFault, IsStopped, IsWalked, ReadCapture, StepsOver, StepsOverAll, TakesUpToGap, Walks}
+use Rattle.mq_replay.specs.Walking.{IsBrokenOff, IsEndedByFault, IsStopped, ReadCapture, StepsOver, StepsOverAll, TakesUpToGap, Walks}
 use Rattle.mq_replay.proofs.WalkedOver.{fault_or, steps_counted}
 
 -- a report behind a text

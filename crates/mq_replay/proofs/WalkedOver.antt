@@ -1,6 +1,6 @@
 -- A walk over a capture: the packets that were read, and how it ends.
 use Rattle.std.proofs.Common.{◌≡◌, ◌⊎◌, ℕ, ◌+◌, ◌<◌, ◌||◌, ◌≤◌, ◌^◌, Bool, true, false, List, [], ◌∷◌, ◌++◌, length, drop, take, Option, None, Some}
-use Rattle.std.proofs.Common.{Result, Ok, Err, unwrap_or, refl, ap, sym, subst, ◌∙◌, append_assoc, append-nil, length-append, inl, inr, arith}
+use Rattle.std.proofs.Common.{Result, Ok, Err, unwrap_or, refl, ap, sym, subst, ◌∙◌, append-nil, inl, inr, arith}
 use Rattle.std.proofs.Math.Bool.{or-false, or-true}
 use Rattle.std.proofs.Math.Seq.{drop-append_seam}
 use Rattle.std.specs.Io.KnownBytes.{IsAtEnd}
@@ -19,7 +19,7 @@ use Rattle.mq_replay.specs.declared.stamps.Stamps.{Stamps}
 use Rattle.mq_replay.specs.declared.walked.Walked.{Walked}
 use Rattle.mq_replay.specs.Listing.{goes_back, moment_of}
 use Rattle.mq_replay.specs.PlacedPackets.{Place, PlacedPacket, at_first, place_behind, placed}
-use Rattle.mq_replay.specs.Walking.{EndsWalk, IsBrokenOff, IsEndedByFault, IsStopped, ReadCapture, StepsOver, Walks, WalksBehind}
+use Rattle.mq_replay.specs.Walking.{EndsWalk, IsEndedByFault, StepsOver, Walks, WalksBehind}
 use Rattle.mq_replay.proofs.Headers.{cut_header}
 use Rattle.mq_replay.proofs.ReadSoFar.{AreRecords-assoc, begun_answer, begun_ends, faulty_answer}
 

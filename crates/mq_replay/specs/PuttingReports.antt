@@ -1,5 +1,5 @@
 -- The results of the parts of work over a capture that go to a writer through a buffer.
-use Rattle.std.specs.Prelude.{◌≡◌, ◌⊎◌, ℕ, Bool, true, false, List, [], ◌++◌, Option, None, Some, Result, Ok, Err}
+use Rattle.std.specs.Prelude.{◌≡◌, ◌⊎◌, ℕ, Bool, true, false, List, [], ◌++◌, Option, None, Result, Ok, Err}
 use Rattle.std.specs.Io.KnownBytes.{IsAtEnd}
 use Rattle.mq_pcap.specs.Capture.{Captures}
 use Rattle.mq_pcap.specs.Filling.{InputState, Takes}

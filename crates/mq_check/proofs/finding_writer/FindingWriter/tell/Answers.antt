@@ -1,6 +1,6 @@
 -- A finding that is left out, or whose line is put.
-use Rattle.std.proofs.Common.{◌≡◌, sym, ◌∙◌}
-use Rattle.mq_check.proofs.Tellings.{one_left_out, one_told}
+use Rattle.std.proofs.Common.{sym, ◌∙◌}
+use Rattle.mq_check.proofs.Tellings.{one_left_out}
 use Rattle.mq_check.proofs.finding_writer.FindingWriter.tell.Goals as goal
 
 pub returns-then-is_left_out : goal.returns-then-is_left_out

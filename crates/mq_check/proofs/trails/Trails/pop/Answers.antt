@@ -1,4 +1,4 @@
-use Rattle.std.proofs.Common.{◌≡◌, ℕ, ◌+◌, ◌<◌, ◌-◌, List, length, drop, sym, ap, subst, arith}
+use Rattle.std.proofs.Common.{◌≡◌, ℕ, ◌+◌, ◌<◌, List, length, drop, sym, ap, subst, arith}
 use Rattle.std.proofs.lemmas.List.{length-drop}
 use Rattle.mq_check.specs.Trails.{TrailsValue, Reaches, AreNumbers, AreLinked}
 use Rattle.mq_check.proofs.LinkedSlots.{linked_popped, numbers_popped, reaches_popped}

@@ -1,4 +1,4 @@
-use Rattle.std.proofs.Common.{Bool, ◌||◌, true, Result, Ok, Err, ap, sym, ◌∙◌}
+use Rattle.std.proofs.Common.{Bool, ◌||◌, true, Ok, Err, ap, sym, ◌∙◌}
 use Rattle.std.proofs.lemmas.Result.{err_from_is_err_and}
 use Rattle.std.proofs.Math.Bool.{or-false}
 use Rattle.mq_text.specs.declared.printing.LineFault.{LineFault}

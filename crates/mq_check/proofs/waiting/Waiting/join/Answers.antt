@@ -2,15 +2,18 @@ use Rattle.std.proofs.Common.{◌≡◌, ◌<◌, ℕ, List, get_or, subst, leng
 use Rattle.std.specs.Prelude.{map as list_map}
 use Rattle.mq_check.specs.declared.entry.Entry.{Entry}
 use Rattle.mq_check.specs.Slots.{AreMarked, AreBounded}
-use Rattle.mq_check.specs.Entries.{terms_in}
-use Rattle.mq_check.specs.Numbered.{numbered_entry}
-use Rattle.mq_check.specs.Waiting.{WaitingValue}
+use Rattle.mq_check.specs.Entries.{first_terms, terms_in}
+use Rattle.mq_check.specs.Numbered.{numbered_asked, numbered_entry, numbered_terms}
+use Rattle.mq_check.specs.Waiting.{WaitingValue, is_free, with_partner}
 use Rattle.mq_check.proofs.MarkedEntries.{made_set, marked_joined, bounded_joined}
 use Rattle.mq_check.proofs.Waits.{made_at, made_long, partner_of_none, partner_joined}
-use Rattle.mq_check.proofs.waiting.Waiting.join_first.Goals as goal
+use Rattle.mq_check.proofs.waiting.Waiting.join.Goals as goal
 
 pub returns-in_err-place-clause-joined : goal.returns-in_err-place-clause-joined
-returns-in_err-place-clause-joined g c = partner_of_none _ _ _ _ _ c.in_err-place.ensures.none
+returns-in_err-place-clause-joined g c =
+    let number = g.F.Address.Key.number in
+    partner_of_none _ _ _ _ c.approach.new.self c.in_err-place.ensures.none ∙
+    ap (with_partner c.args.side (numbered_asked number c.args.asked) c.args.from.now (numbered_terms number c.args.other)) c.approach.ensures
 
 pub returns-clause-terms : goal.returns-clause-terms
 returns-clause-terms g c =
@@ -18,12 +21,16 @@ returns-clause-terms g c =
     let made = ap (λ (w : WaitingValue). w.entries) c.self.view_is in
     let found = c.in_ok-place.ensures.some in
     let here = made_at f _ _ c.in_ok-place.place _ made c.index.ensures in
-    c.terms.ensures ∙ ap terms_in here ∙ sym (found.terms (f c.index.result.now))
+    let asked = numbered_asked g.F.Address.Key.number c.args.asked in
+    c.terms.ensures ∙ ap terms_in here ∙ sym (found.terms (f c.index.result.now)) ∙
+    ap (λ (w : WaitingValue). first_terms (is_free c.args.side asked c.args.from.now) w.entries) c.approach.ensures
 
 pub returns-clause-joined : goal.returns-clause-joined
 returns-clause-joined g c =
-    let f = numbered_entry g.F.Address.Key.number in
-    partner_joined f _ _ _ c.in_ok-place.place c.index.result.now _ _ _ _ _ c.in_ok-place.ensures.some c.self.view_is c.index.ensures c.joined.ensures
+    let number = g.F.Address.Key.number in
+    partner_joined (numbered_entry number) _ _ c.approach.new.self c.in_ok-place.place c.index.result.now _ _ _ _ _
+        c.in_ok-place.ensures.some c.self.view_is c.index.ensures c.joined.ensures
+    ∙ ap (with_partner c.args.side (numbered_asked number c.args.asked) c.args.from.now (numbered_terms number c.args.other)) c.approach.ensures
 
 pub invariant_of-self : goal.invariant_of-self
 invariant_of-self g c =
