@@ -29,7 +29,7 @@ pub returns-clause-joined : goal.returns-clause-joined
 returns-clause-joined g c =
     let number = g.F.Address.Key.number in
     partner_joined (numbered_entry number) _ _ c.approach.new.self c.in_ok-place.place c.index.result.now _ _ _ _ _
-        c.in_ok-place.ensures.some c.self.view_is c.index.ensures c.joined.ensures
+    c.in_ok-place.ensures.some c.self.view_is c.index.ensures c.joined.ensures
     ∙ ap (with_partner c.args.side (numbered_asked number c.args.asked) c.args.from.now (numbered_terms number c.args.other)) c.approach.ensures
 
 pub invariant_of-self : goal.invariant_of-self
