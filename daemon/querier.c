@@ -2,7 +2,9 @@
 #include "querier.h"
 
 #include "faults.h"
+#include "heard.h"
 #include "text.h"
+#include "upstream.h"
 
 #include <arpa/inet.h>
 #include <errno.h>
@@ -73,6 +75,7 @@ void querier_open(struct querier *querier, struct options *options) {
         served->link = (struct link){.family = family, .memory = take(family->link_size, 1)};
         keeper_open(&served->keeper, family->groups);
     }
+    upstream_open(querier);
 }
 
 struct port *querier_port(const struct querier *querier, int index) {
@@ -108,7 +111,29 @@ void querier_remove_entries(struct querier *querier, const struct bridge *bridge
     }
 }
 
-/* Sends a query at a port. A query that fails is lost as on the wire: queries are repeated. */
+void querier_hand_over(struct querier *querier, const struct bridge *bridge, bool is_mld, bool with_sources) {
+    struct place place;
+    for (size_t at = 0; at < querier->room; at++) {
+        struct port *port = querier->ports + at;
+        bool is_its = port->index != 0 && port->bridge == bridge && querier->options->serves[is_mld];
+        if (is_its && querier_place(querier, port, is_mld, &place))
+            keeper_hand_over(&port->served[is_mld].keeper, &place, with_sources);
+    }
+}
+
+void querier_send(struct querier *querier, const struct port *port, bool is_mld, const uint8_t *frame, size_t length) {
+    struct sockaddr_ll at = {.sll_family = AF_PACKET,
+                             .sll_protocol = htons(is_mld ? ETH_P_IPV6 : ETH_P_IP),
+                             .sll_ifindex = port->index,
+                             .sll_halen = MAC};
+    memcpy(at.sll_addr, frame, MAC);
+    if (sendto(querier->ring.packets, frame, length, MSG_DONTWAIT, (struct sockaddr *)&at, sizeof at) < 0)
+        fault(FAULT_UNSENT, port->name, strerror(errno));
+    else
+        querier->sent++;
+}
+
+/* Sends a query at a port. */
 static void send_query(struct querier *querier, const struct port *port, bool is_mld, const mq_query *query, uint64_t now) {
     static uint8_t frame[GREATEST_FRAME];
     static char line[2 * LONGEST_QUERY + 128];
@@ -121,18 +146,10 @@ static void send_query(struct querier *querier, const struct port *port, bool is
         *to++ = '\n';
         fwrite(line, 1, (size_t)(to - line), stdout);
     }
-    if (!port->is_up)
+    if (!port->is_up || upstream_is(querier, port))
         return;
     size_t length = write_frame(is_mld, bridge->mac, bridge->own[is_mld], query->destination, query->message, query->length, frame);
-    struct sockaddr_ll at = {.sll_family = AF_PACKET,
-                             .sll_protocol = htons(is_mld ? ETH_P_IPV6 : ETH_P_IP),
-                             .sll_ifindex = port->index,
-                             .sll_halen = MAC};
-    memcpy(at.sll_addr, frame, MAC);
-    if (sendto(querier->ring.packets, frame, length, MSG_DONTWAIT, (struct sockaddr *)&at, sizeof at) < 0)
-        fault(FAULT_UNSENT, port->name, strerror(errno));
-    else
-        querier->sent++;
+    querier_send(querier, port, is_mld, frame, length);
 }
 
 static void print_address(const struct link *link, const char *before, const uint8_t *address) {
@@ -195,6 +212,7 @@ static void follow(struct querier *querier, struct port *port, bool is_mld, uint
             print_change(querier, port, &served->link, querier->changed[at], filter_of(&served->link, querier->changed[at]), now);
         if (keeps)
             keeper_update(&served->keeper, &served->link, &place, querier->changed[at]);
+        upstream_note(querier, port, is_mld, querier->changed[at], now);
     }
     set_deadline(querier, port, is_mld);
 }
@@ -209,6 +227,14 @@ static uint64_t settling(const struct family *family) {
     return (robustness - 1) * interval + (family->is_mld ? mld->response_interval : igmp->response_interval) + LATE;
 }
 
+uint64_t querier_settling(const struct querier *querier) {
+    uint64_t longest = 0;
+    for (int at = 0; at < 2; at++)
+        if (querier->options->serves[at] && settling(&querier->families[at]) > longest)
+            longest = settling(&querier->families[at]);
+    return longest;
+}
+
 void querier_begin(struct querier *querier, struct port *port, bool is_mld, uint64_t now) {
     struct served *served = &port->served[is_mld];
     print_ends(querier, port, served, now);
@@ -217,7 +243,7 @@ void querier_begin(struct querier *querier, struct port *port, bool is_mld, uint
     memcpy(served->own, port->bridge->own[is_mld], sizeof served->own);
     if (!served->is_on)
         fault(FAULT_MISSING, port->bridge->name, mq_status_text(status));
-    keeper_begin(&served->keeper, now + settling(served->link.family));
+    keeper_begin(&served->keeper, now + settling(served->link.family), querier->options->sets_up);
     set_deadline(querier, port, is_mld);
 }
 
@@ -231,9 +257,11 @@ void querier_forget(struct querier *querier, struct port *port) {
     for (int at = 0; at < 2; at++) {
         print_ends(querier, port, &port->served[at], moment());
         port->served[at].is_on = false;
+        port->served[at].told = 0;
         port->served[at].keeper.rows.count = 0;
         set_deadline(querier, port, at == 1);
     }
+    upstream_note_all(querier, port->bridge, moment());
 }
 
 /* Prints the result of a datagram. */
@@ -268,8 +296,12 @@ static void hear(struct querier *querier, struct port *port, const struct frame 
     bool is_mld = carried == CARRIED_DATAGRAM && datagram.is_ipv6;
     if (carried != CARRIED_DATAGRAM || !port->served[is_mld].is_on)
         return;
+    bool was_querier = link_is_querier(&port->served[is_mld].link);
     mq_answer answer = link_receive(&port->served[is_mld].link, &datagram, now);
     send_queries(querier, port, is_mld, answer, now);
+    heard_tell(port, is_mld, &datagram, answer, was_querier);
+    if (answer.dropped == 0)
+        upstream_hear(querier, port, is_mld, &datagram, now);
     querier->heard++;
     if (querier->options->is_interface)
         print_answer(querier, &port->served[is_mld].link, &datagram, answer, now);
@@ -280,7 +312,7 @@ void querier_hear(struct querier *querier, uint64_t now) {
     struct frame frame;
     for (int count = 0; count < FRAMES && ring_next(&querier->ring, &frame); count++) {
         struct port *port = querier_port(querier, frame.index);
-        if (port != NULL)
+        if (port != NULL && !port->is_blocked)
             hear(querier, port, &frame, now);
     }
 }
@@ -307,10 +339,12 @@ static void tick(struct querier *querier, struct port *port, bool is_mld, uint64
     struct place place;
     send_queries(querier, port, is_mld, link_tick(&served->link, now), now);
     follow(querier, port, is_mld, now);
-    if (served->keeper.settles <= now && querier_place(querier, port, is_mld, &place))
+    if (served->keeper.settles <= now && querier_place(querier, port, is_mld, &place)) {
         keeper_settle(&served->keeper, &served->link, &place);
-    else if (served->keeper.settles <= now)
+        upstream_note_all(querier, port->bridge, now);
+    } else if (served->keeper.settles <= now) {
         served->keeper.settles = MQ_NONE;
+    }
     set_deadline(querier, port, is_mld);
 }
 
@@ -338,6 +372,8 @@ void querier_tick(struct querier *querier, uint64_t now) {
         } else if (first == 2 * querier->room + DEADLINE_REPAIR) {
             querier->is_stale = true;
             deadlines_set(deadlines, first, MQ_NONE); /* the repair sets the next one */
+        } else if (first == 2 * querier->room + DEADLINE_REPORTS) {
+            upstream_tick(querier, now);
         } else {
             count_lost(querier);
             deadlines_set(deadlines, first, now + SECOND);

@@ -2,6 +2,7 @@
 #include "status.h"
 
 #include "faults.h"
+#include "files.h"
 #include "report.h"
 
 #include <errno.h>
@@ -23,7 +24,7 @@ static int readers;
 /* Writes the address of a bridge's socket. Returns false if the name is too long. */
 static bool name_socket(const char *run, const char *bridge, struct sockaddr_un *at) {
     *at = (struct sockaddr_un){.sun_family = AF_UNIX};
-    return (size_t)snprintf(at->sun_path, sizeof at->sun_path, "%s/%s/status", run, bridge) < sizeof at->sun_path;
+    return files_name(at->sun_path, sizeof at->sun_path, run, bridge, "status");
 }
 
 void status_open(struct querier *querier) {
@@ -75,7 +76,7 @@ void status_answer(struct querier *querier, const struct bridge *bridge, uint64_
     if (child == 0)
         serve(querier, bridge, reader, now);
     if (child < 0)
-        fault(FAULT_STATUS, bridge->name, "too many readers of the status");
+        fault(FAULT_STATUS, bridge->name, readers < READERS ? strerror(errno) : "too many readers of the status");
     else
         readers++;
     close(reader);
