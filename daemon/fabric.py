@@ -52,6 +52,18 @@ def run(space, *words, text=None):
     return ran.stdout
 
 
+def waiting(ears):
+    """Returns the frames that arrived at a socket that does not wait."""
+    frames = []
+    while True:
+        try:
+            frame, at = ears.recvfrom(2048)
+        except BlockingIOError:
+            return frames
+        if at[2] != PACKET_OUTGOING:
+            frames.append(frame)
+
+
 def place_of(address):
     """Returns an address as `sockaddr_storage`."""
     if address.version == 4:

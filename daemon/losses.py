@@ -3,7 +3,7 @@
 import socket
 import time
 
-from fabric import FAMILIES, PACKET_OUTGOING, PROTOCOL, Fabric, Host, Stream, inside, run
+from fabric import FAMILIES, PROTOCOL, Fabric, Host, Stream, inside, run, waiting
 from lab import GROUPS, SOURCES, ip, is_true
 
 PAUSE = 3  # seconds without a querier
@@ -149,18 +149,6 @@ def the_tree_moves(root):
         took = time.monotonic() - begin
         print(f"root {root}: {took:.1f} s without data", flush=True)
         is_true(took < 12, f"no data for {took:.1f} s")
-
-
-def waiting(ears):
-    """Returns the frames that arrived."""
-    frames = []
-    while True:
-        try:
-            frame, at = ears.recvfrom(2048)
-        except BlockingIOError:
-            return frames
-        if at[2] != PACKET_OUTGOING:
-            frames.append(frame)
 
 
 def is_query(frame):

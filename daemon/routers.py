@@ -6,8 +6,8 @@ import struct
 import time
 
 import lab
-from fabric import FAMILIES, Fabric, inside, place_of
-from frames import report_frame
+from fabric import FAMILIES, Fabric, inside, place_of, waiting
+from frames import igmp_frame, mld_frame, report_frame, summed
 from lab import GROUPS, MANY, SOURCES, is_true
 
 TO_EX = 4
@@ -51,6 +51,31 @@ def a_router_behind_a_port():
             for router in routers.values():
                 router.process.kill()
                 router.process.wait()
+
+
+def an_older_router_behind_a_port():
+    """A router of IGMPv2 and MLDv1 behind a port gets Reports, Leaves and Dones of its version, and lines tell of its queries."""
+    with Fabric(3, 1) as fabric:
+        querier = fabric.querier("--router-port", "b0p3", "--report")
+        querier.settled()
+        with inside(fabric.far), socket.socket(socket.AF_PACKET, socket.SOCK_RAW, socket.htons(3)) as ears:
+            ears.bind(("b0h3", 3))
+            ears.setblocking(False)
+            for frame in (
+                igmp_frame("10.0.0.200", "224.0.0.1", summed(bytes.fromhex("110a0000 00000000"))),
+                mld_frame("fe80::ffff:1", "ff02::1", bytes.fromhex("82000000 03e80000") + bytes(16)),
+            ):
+                fabric.hosts["b0h3"].put(frame)
+            querier.until(lambda it: it["faults"]["queriers_heard"] >= 2, "two older queries")
+            for word in ("join", "leave"):
+                for family in FAMILIES:
+                    fabric.hosts["b0h1"].do(word, GROUPS[family])
+                time.sleep(0.5)
+            time.sleep(2)
+            frames = waiting(ears)
+            igmp, mld = (ipaddress.ip_address(GROUPS[family]).packed for family in FAMILIES)
+            for start, group in ((b"\x16\x00", igmp), (b"\x17\x00", igmp), (b"\x83\x00", mld), (b"\x84\x00", mld)):
+                is_true(any(start in frame and group in frame for frame in frames), f"no message {start.hex()}")
 
 
 def joined(fabric, group):
@@ -101,4 +126,4 @@ def heard(ear, packed, seconds=2):
     return False
 
 
-CASES = [a_router_behind_a_port, a_router_on_the_machine]
+CASES = [a_router_behind_a_port, an_older_router_behind_a_port, a_router_on_the_machine]
