@@ -32,10 +32,11 @@ static const char HELP[] =
     "  --qi S               Query Interval, 1 to 31744 seconds (125)\n"
     "  --qri MS             Query Response Interval in milliseconds, below the Query Interval (10000)\n"
     "  --lmqi MS            Last Member (Last Listener) Query Interval in milliseconds (1000)\n"
-    "  --groups N           most groups of a link, up to 65535 (4096)\n"
+    "  --groups N           most groups of a link, up to 65535 (4096, interface 1024)\n"
     "  --group-sources N    most sources of a group, up to 1024 (igmp 366, mld 89)\n"
     "  --sources N          most sources of all groups of a link together, up to 65535 (16384)\n"
-    "  --scheduled N        most schedules of specific queries of a link, up to two for each group, up to 65535 (4096)\n"
+    "  --scheduled N        most schedules of specific queries of a link, up to two for each group, up to 65535 (4096,\n"
+    "                       interface 256)\n"
     "  --ssm                keep 232.0.0.0/8, or ff3x::/32, for source-specific multicast\n"
     "  --changes            print a line for each change of what is forwarded of a group\n"
     "\n"
@@ -66,8 +67,8 @@ static const char HELP[] =
     "changes, with the port after T.\n"
     "\n"
     "It does not hear fragments, damaged IPv4 headers, and frames with a VLAN tag (give the VLAN's own interface). SIGTERM\n"
-    "ends it, and it removes what it made in the bridge. A line on standard error says what the kernel rejected, and it goes\n"
-    "on. daemon/README.md has the settings that a bridge needs.\n"
+    "ends it, and leaves its entries to the kernel's snooping. A line on standard error says what the kernel rejected.\n"
+    "daemon/README.md has the settings that a bridge needs.\n"
     "\n"
     "Status: 0 if a signal ended it, 1 if the interface, the bridge, memory or the output failed, 2 if the command line or\n"
     "the configuration is faulty or asks for help.\n";
@@ -84,8 +85,8 @@ static const struct {
     {"sources", PLACE(sources)},       {"scheduled", PLACE(scheduled)},
 };
 enum { COUNT = sizeof NUMBERS / sizeof *NUMBERS };
-/* The default limit of groups and of schedules is what one port may need. */
-enum { NUMBER_GROUPS = 4, NUMBER_SCHEDULED = 7, DEFAULT_GROUPS = 4096 };
+/* The default limit of groups and of schedules is what one port of a bridge may need. */
+enum { NUMBER_GROUPS = 4, NUMBER_SCHEDULED = 7, PORT_GROUPS = 4096 };
 enum {
     OWN = COUNT,
     OWN6,
@@ -291,9 +292,11 @@ const char *options_read(struct options *options, int count, char **words) {
     *options = (struct options){.serves = {true, true}, .ports = 64, .run = "/run/mquerier-live"};
     for (int at = 0; at < 2; at++)
         options->configuration[at] = family_defaults(at == 1, placeholders[at]);
-    set_number(options, NUMBER_GROUPS, DEFAULT_GROUPS);
-    set_number(options, NUMBER_SCHEDULED, DEFAULT_GROUPS);
     options->is_interface = count > 0 && strcmp(words[0], "interface") == 0;
+    if (!options->is_interface) {
+        set_number(options, NUMBER_GROUPS, PORT_GROUPS);
+        set_number(options, NUMBER_SCHEDULED, PORT_GROUPS);
+    }
     if (count > 0 && (strcmp(words[0], "--help") == 0 || strcmp(words[0], "--version") == 0))
         return read_option(options, words[0][2] == 'h' ? ASKED_HELP : VERSION, count, words);
     if (!options->is_interface && (count == 0 || strcmp(words[0], "bridge") != 0))
