@@ -73,12 +73,14 @@ struct filter keeper_filter(const struct keeper *keeper, const struct link *link
     return filter;
 }
 
-void keeper_hand_over(struct keeper *keeper, const struct place *place, bool with_sources) {
-    struct entry entry;
+void keeper_hand_over(struct keeper *keeper, const struct link *link, const struct place *place, bool with_sources) {
     for (size_t at = 0; at < keeper->rows.count; at++) {
         const uint8_t *group = keeper->rows.all[at].group;
-        if (mdb_read(place, group, &entry) == 0 && entry.maker == MAKER_US && entry.filter.mode != MODE_NONE)
-            mdb_hand_over(place, group, with_sources ? &entry.filter : &filter_of_all);
+        struct filter filter = keeper_filter(keeper, link, place, group);
+        if (filter.mode == MODE_NONE)
+            mdb_remove(place, group);
+        else
+            mdb_hand_over(place, group, with_sources && filter.count <= GREATEST_LIST ? &filter : &filter_of_all);
     }
 }
 

@@ -26,8 +26,9 @@ void keeper_update(struct keeper *keeper, const struct link *link, const struct 
 /* Returns what is forwarded of a group: what the link forwards, and what an inherited entry does. `link` is NULL if the link has not
    begun. The sources stand until the next call. */
 struct filter keeper_filter(const struct keeper *keeper, const struct link *link, const struct place *place, const uint8_t *group);
-/* Makes the entries temporary at the end, with their sources or for all sources. The kernel's snooping goes on with them. */
-void keeper_hand_over(struct keeper *keeper, const struct place *place, bool with_sources);
+/* Makes the entries temporary at the end, with their sources or for all sources. The kernel's snooping goes on with them. `link` is
+   as above. */
+void keeper_hand_over(struct keeper *keeper, const struct link *link, const struct place *place, bool with_sources);
 /* Ends inheritance: all entries forward what the link forwards. */
 void keeper_settle(struct keeper *keeper, const struct link *link, const struct place *place);
 

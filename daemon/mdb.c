@@ -236,12 +236,6 @@ bool mdb_set(const struct place *place, const uint8_t *group, const struct filte
     return is_ours || error == 0;
 }
 
-void mdb_hand_over(const struct place *place, const uint8_t *group, const struct filter *filter) {
-    struct answer answer;
-    if (put_entry(place, group, filter, NLM_F_REPLACE, MDB_TEMPORARY, &answer) != 0)
-        mdb_fault(FAULT_REFUSED, place, group, answer.why);
-}
-
 bool mdb_remove(const struct place *place, const uint8_t *group) {
     struct request request;
     struct answer answer;
@@ -250,4 +244,10 @@ bool mdb_remove(const struct place *place, const uint8_t *group) {
     if (error != 0 && error != ENOENT && error != ENODEV)
         mdb_fault(FAULT_REFUSED, place, group, answer.why);
     return error == 0 || error == ENOENT || error == ENODEV;
+}
+
+void mdb_hand_over(const struct place *place, const uint8_t *group, const struct filter *filter) {
+    struct answer answer;
+    if (put_entry(place, group, filter, NLM_F_REPLACE, MDB_TEMPORARY, &answer) != 0)
+        mdb_remove(place, group); /* a port that is down has no temporary entries */
 }

@@ -115,9 +115,10 @@ void querier_hand_over(struct querier *querier, const struct bridge *bridge, boo
     struct place place;
     for (size_t at = 0; at < querier->room; at++) {
         struct port *port = querier->ports + at;
+        struct served *served = &port->served[is_mld];
         bool is_its = port->index != 0 && port->bridge == bridge && querier->options->serves[is_mld];
         if (is_its && querier_place(querier, port, is_mld, &place))
-            keeper_hand_over(&port->served[is_mld].keeper, &place, with_sources);
+            keeper_hand_over(&served->keeper, served->is_on ? &served->link : NULL, &place, with_sources);
     }
 }
 
