@@ -142,17 +142,17 @@ mutants: needs-gate
 
 # A querier on Linux for an interface or for whole bridges, over the library, in C and outside of the proofs. `live-checked` is the
 # same with the compiler's checks of memory and of undefined behaviour, for tests.
-LIVE := $(wildcard daemon/*.c daemon/*.h)
-LIVE_FLAGS := -std=c99 -O2 -Wall -Wextra -Iinclude
+LIVE := $(wildcard daemon/*.c daemon/*.h) examples/frames.c examples/frames.h include/mquerier.h include/mquerier-link.h
+LIVE_FLAGS := -std=c99 -O2 -Wall -Wextra -Iinclude -Iexamples
 LIVE_CHECKS := -g -fno-omit-frame-pointer -fsanitize=address,undefined -fno-sanitize-recover
 live: bin/mquerier-live
 live-checked: bin/mquerier-live-checked
 
-bin/mquerier-live: $(LIVE) include/mquerier.h lib/libmquerier.a | needs-library
+bin/mquerier-live: $(LIVE) lib/libmquerier.a | needs-library
 	@mkdir -p bin
 	$(CC) $(LIVE_FLAGS) $(filter %.c,$^) lib/libmquerier.a -o $@
 
-bin/mquerier-live-checked: $(LIVE) include/mquerier.h lib/libmquerier.a | needs-library
+bin/mquerier-live-checked: $(LIVE) lib/libmquerier.a | needs-library
 	@mkdir -p bin
 	$(CC) $(LIVE_FLAGS) $(LIVE_CHECKS) $(filter %.c,$^) lib/libmquerier.a -o $@
 
@@ -222,7 +222,7 @@ install: bin/mquerier lib/libmquerier.a lib/$(SONAME) $(CAPTURES) bin/mquerier-l
 	install -m 755 bin/mquerier $(DESTDIR)$(PREFIX)/bin/mquerier
 	install -m 644 lib/libmquerier.a lib/$(SONAME) $(CAPTURES) $(DESTDIR)$(PREFIX)/lib
 	ln -sf $(SONAME) $(DESTDIR)$(PREFIX)/lib/libmquerier.so
-	install -m 644 include/mquerier.h $(DESTDIR)$(PREFIX)/include/mquerier.h
+	install -m 644 include/mquerier.h include/mquerier-link.h $(DESTDIR)$(PREFIX)/include
 	sed 's|@PREFIX@|$(PREFIX)|; s|@VERSION@|$(VERSION)|' include/libmquerier.pc.in > $(DESTDIR)$(PREFIX)/lib/pkgconfig/libmquerier.pc
 	install -m 644 man/mquerier.1 $(DESTDIR)$(PREFIX)/share/man/man1/mquerier.1
 	install -m 644 man/libmquerier.3 $(DESTDIR)$(PREFIX)/share/man/man3/libmquerier.3
