@@ -144,17 +144,24 @@ mutants: needs-gate
 # same with the compiler's checks of memory and of undefined behaviour, for tests.
 LIVE := $(wildcard daemon/*.c daemon/*.h) examples/frames.c examples/frames.h include/mquerier.h include/mquerier-link.h
 LIVE_FLAGS := -std=c99 -O2 -Wall -Wextra -Iinclude -Iexamples
+# It reads frames of anybody with privileges, so it is built with the compiler's defences. The flags of the user come last.
+HARDENED := -U_FORTIFY_SOURCE -D_FORTIFY_SOURCE=2 -fstack-protector-strong -fstack-clash-protection -fPIE
+HARDENED_LINKS := -pie -Wl,-z,relro,-z,now,-z,noexecstack
+ifneq ($(filter x86_64%,$(shell $(CC) -dumpmachine)),)
+HARDENED += -fcf-protection
+HARDENED_LINKS += -Wl,-z,shstk
+endif
 LIVE_CHECKS := -g -fno-omit-frame-pointer -fsanitize=address,undefined -fno-sanitize-recover
 live: bin/mquerier-live
 live-checked: bin/mquerier-live-checked
 
 bin/mquerier-live: $(LIVE) lib/libmquerier.a | needs-library
 	@mkdir -p bin
-	$(CC) $(LIVE_FLAGS) $(filter %.c,$^) lib/libmquerier.a -o $@
+	$(CC) $(LIVE_FLAGS) $(HARDENED) $(CPPFLAGS) $(CFLAGS) $(filter %.c,$^) lib/libmquerier.a $(HARDENED_LINKS) $(LDFLAGS) -o $@
 
 bin/mquerier-live-checked: $(LIVE) lib/libmquerier.a | needs-library
 	@mkdir -p bin
-	$(CC) $(LIVE_FLAGS) $(LIVE_CHECKS) $(filter %.c,$^) lib/libmquerier.a -o $@
+	$(CC) $(LIVE_FLAGS) $(LIVE_CHECKS) $(CPPFLAGS) $(CFLAGS) $(filter %.c,$^) lib/libmquerier.a $(LDFLAGS) -o $@
 
 # The examples in C do what docs/EMBEDDING.md says; the querier on an interface serves hosts of the Linux kernel, and does what the
 # vectors say that are played to it, those that end within SECONDS. The last two want to be root, and the last one the program.
