@@ -341,7 +341,7 @@ mod inner {
     fn it() {}
 }
 """,
-    "more.rt": 'impl Count {\n    // fn no() {\n    pub const fn n(&self) -> u64 {\n        0\n    }\n}\nunsafe extern "C" fn call() {}\n',
+    "more.rt": 'impl Count {\n    // fn no() {\n    pub const fn n(&self) -> u64 {\n        0\n    }\n}\nunsafe extern "C" fn call() {}\nimpl Drop for Count {\n    fn drop() {}\n}\n',
 }
 # Their paths, whether they have a body, and whether they call themselves.
 PATHS = {
@@ -351,6 +351,7 @@ PATHS = {
     "free": (True, True),
     "counts::Count::n": (True, False),
     "more::call": (True, False),
+    "more::CountDrop::drop": (True, False),
 }
 READ = "import json, functions; print(json.dumps({it.path: (it.body is not None, it.calls_itself) for it in functions.functions_in('read')}))"
 
