@@ -127,16 +127,16 @@ $(CAPTURES): lib/libmq_page.a include/libmquerier-captures.map | needs-library
 test: needs-test
 	@tools/gate test
 
-# The same of what changed since a commit, and which wrong bodies of that are refused: `make quick SINCE=COMMIT`. Where none is
-# named, it is the last one of origin/main below HEAD.
+# The same of what changed since a commit, and which wrong bodies of that are refused: `make quick SINCE=COMMIT`. If none is named,
+# it is the last one of origin/main below HEAD.
 quick: needs-test
-	@tools/gate quick $(SINCE)
+	@tools/gate quick
 
 # Has `rt ci` prove the crates that changed in the background, for the gate; called again, it says how far that is.
 kept: needs-gate
 	@tools/kept $(CRATES)
 
-# Shows that the contracts are strong: each wrong body of crates/*/wrong-bodies is refused.
+# Shows that the contracts are strong: each wrong body of crates/*/wrong-bodies is refused. After a stop it goes on with the others.
 mutants: needs-gate
 	@tools/gate mutants
 
