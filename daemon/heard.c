@@ -18,13 +18,13 @@ static void tell_refused(const struct port *port, struct served *served, uint32_
     mq_counts counts;
     char why[LINE];
     fault_counts[FAULT_LIMITS] += refused;
-    link_counts(&served->link, &counts);
+    mq_link_counts(&served->link, &counts, sizeof counts);
     for (unsigned at = 0; at < sizeof limits / sizeof *limits; at++) {
         if (counts.refused_by[at] == 0 || (served->told & 1u << at))
             continue;
         served->told |= (uint8_t)(1u << at);
-        snprintf(why, sizeof why, "a record of %s exceeds %s and is refused; more are only counted",
-                 families[served->link.family->is_mld], limits[at]);
+        snprintf(why, sizeof why, "a record of %s exceeds %s and is refused; more are only counted", families[served->link.is_mld],
+                 limits[at]);
         tell(port->name, why);
     }
 }
@@ -40,13 +40,13 @@ unsigned heard_version(bool is_mld, const struct datagram *it) {
 
 /* Prints another querier that takes over, and a query of an older version (RFC 3376 section 7.3.1, RFC 3810 section 8.3.1). */
 static void tell_querier(const struct port *port, bool is_mld, const struct datagram *datagram, bool was_querier) {
-    const struct link *link = &port->served[is_mld].link;
+    const mq_link *link = &port->served[is_mld].link;
     unsigned version = heard_version(is_mld, datagram);
     char why[LINE], address[LONGEST_ADDRESS + 1];
-    bool is_older = version != 0 && version < (is_mld ? 2 : 3), takes_over = was_querier && !link_is_querier(link);
+    bool is_older = version != 0 && version < (is_mld ? 2 : 3), takes_over = was_querier && !mq_link_is_querier(link);
     if (!is_older && !takes_over)
         return;
-    *link_put_address(link, address, datagram->source) = '\0';
+    *link_put_address(link, address, datagram->envelope.source) = '\0';
     snprintf(why, sizeof why, "%s sends queries of %sv%u%s", address, families[is_mld], version,
              is_older ? ", an older version: give all routers there the same" : ", and is querier there now");
     fault(FAULT_QUERIERS, port->name, why);

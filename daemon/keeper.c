@@ -21,8 +21,8 @@ void keeper_begin(struct keeper *keeper, uint64_t settles, bool inherits_others)
 }
 
 /* Returns whether the kernel always forwards a group, and accepts no entry for it: 224.0.0.0/24. */
-static bool is_always_forwarded(const struct link *link, const uint8_t *group) {
-    return !link->family->is_mld && group[0] == 224 && group[1] == 0 && group[2] == 0;
+static bool is_always_forwarded(const mq_link *link, const uint8_t *group) {
+    return !link->is_mld && group[0] == 224 && group[1] == 0 && group[2] == 0;
 }
 
 /* Makes the entry of a group, and its row. */
@@ -35,7 +35,7 @@ static void make_entry(struct keeper *keeper, const struct place *place, const u
         rows_put(&keeper->rows, group)->is_inherited = is_inherited;
 }
 
-void keeper_update(struct keeper *keeper, const struct link *link, const struct place *place, const uint8_t *group) {
+void keeper_update(struct keeper *keeper, const mq_link *link, const struct place *place, const uint8_t *group) {
     struct row *row = rows_find(&keeper->rows, group);
     struct filter filter = filter_of(link, group);
     struct entry entry;
@@ -58,7 +58,7 @@ void keeper_update(struct keeper *keeper, const struct link *link, const struct 
         rows_remove(&keeper->rows, row);
 }
 
-struct filter keeper_filter(const struct keeper *keeper, const struct link *link, const struct place *place, const uint8_t *group) {
+struct filter keeper_filter(const struct keeper *keeper, const mq_link *link, const struct place *place, const uint8_t *group) {
     static uint8_t sources[2 * PAGE_SOURCES][LONG_ADDRESS];
     const struct row *row = rows_find(&keeper->rows, group);
     struct filter filter = {MODE_NONE, 0, NULL};
@@ -73,7 +73,7 @@ struct filter keeper_filter(const struct keeper *keeper, const struct link *link
     return filter;
 }
 
-void keeper_hand_over(struct keeper *keeper, const struct link *link, const struct place *place, bool with_sources) {
+void keeper_hand_over(struct keeper *keeper, const mq_link *link, const struct place *place, bool with_sources) {
     for (size_t at = 0; at < keeper->rows.count; at++) {
         const uint8_t *group = keeper->rows.all[at].group;
         struct filter filter = keeper_filter(keeper, link, place, group);
@@ -84,7 +84,7 @@ void keeper_hand_over(struct keeper *keeper, const struct link *link, const stru
     }
 }
 
-void keeper_settle(struct keeper *keeper, const struct link *link, const struct place *place) {
+void keeper_settle(struct keeper *keeper, const mq_link *link, const struct place *place) {
     keeper->settles = MQ_NONE;
     for (size_t left = keeper->rows.count; left > 0; left--) {
         struct row *row = keeper->rows.all + left - 1; /* from the last one on, because an update may remove a row */
@@ -102,7 +102,7 @@ void keeper_forget_seen(struct keeper *keeper) {
         keeper->rows.all[at].is_seen = false;
 }
 
-void keeper_note(struct keeper *keeper, const struct link *link, const struct entry *entry) {
+void keeper_note(struct keeper *keeper, const mq_link *link, const struct entry *entry) {
     bool is_known = rows_find(&keeper->rows, entry->group) != NULL;
     struct row *row = rows_put(&keeper->rows, entry->group);
     if (row == NULL)
@@ -120,8 +120,8 @@ void keeper_note(struct keeper *keeper, const struct link *link, const struct en
 }
 
 /* Makes the missing entries. */
-static void repair_missing(struct keeper *keeper, const struct link *link, const struct place *place) {
-    struct held groups[PAGE_GROUPS];
+static void repair_missing(struct keeper *keeper, const mq_link *link, const struct place *place) {
+    mq_group groups[PAGE_GROUPS];
     for (size_t first = 0, count = 1; count > 0; first += count) {
         count = link_groups(link, first, groups);
         for (size_t at = 0; at < count; at++)
@@ -130,7 +130,7 @@ static void repair_missing(struct keeper *keeper, const struct link *link, const
     }
 }
 
-void keeper_repair(struct keeper *keeper, const struct link *link, const struct place *place, bool is_whole) {
+void keeper_repair(struct keeper *keeper, const mq_link *link, const struct place *place, bool is_whole) {
     for (size_t left = keeper->rows.count; left > 0; left--) {
         struct row *row = keeper->rows.all + left - 1;
         uint8_t group[LONG_ADDRESS];

@@ -22,21 +22,21 @@ void keeper_open(struct keeper *keeper, size_t groups);
    no new ones. */
 void keeper_begin(struct keeper *keeper, uint64_t settles, bool inherits_others);
 /* Makes the entry of a group forward what the link forwards. */
-void keeper_update(struct keeper *keeper, const struct link *link, const struct place *place, const uint8_t *group);
+void keeper_update(struct keeper *keeper, const mq_link *link, const struct place *place, const uint8_t *group);
 /* Returns what is forwarded of a group: what the link forwards, and what an inherited entry does. `link` is NULL if the link has not
    begun. The sources stand until the next call. */
-struct filter keeper_filter(const struct keeper *keeper, const struct link *link, const struct place *place, const uint8_t *group);
+struct filter keeper_filter(const struct keeper *keeper, const mq_link *link, const struct place *place, const uint8_t *group);
 /* Makes the entries temporary at the end, with their sources or for all sources. The kernel's snooping goes on with them. `link` is
    as above. */
-void keeper_hand_over(struct keeper *keeper, const struct link *link, const struct place *place, bool with_sources);
+void keeper_hand_over(struct keeper *keeper, const mq_link *link, const struct place *place, bool with_sources);
 /* Ends inheritance: all entries forward what the link forwards. */
-void keeper_settle(struct keeper *keeper, const struct link *link, const struct place *place);
+void keeper_settle(struct keeper *keeper, const mq_link *link, const struct place *place);
 
 /* A repair calls `keeper_forget_seen`, then `keeper_note` for each own entry of a dump, then `keeper_repair`, which corrects the
    entries. `is_whole` says that the dump had all entries. `link` is NULL if the link has not begun: then its entries are inherited.
    */
 void keeper_forget_seen(struct keeper *keeper);
-void keeper_note(struct keeper *keeper, const struct link *link, const struct entry *entry);
-void keeper_repair(struct keeper *keeper, const struct link *link, const struct place *place, bool is_whole);
+void keeper_note(struct keeper *keeper, const mq_link *link, const struct entry *entry);
+void keeper_repair(struct keeper *keeper, const mq_link *link, const struct place *place, bool is_whole);
 
 #endif

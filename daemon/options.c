@@ -73,11 +73,10 @@ static const char HELP[] =
     "Status: 0 if a signal ended it, 1 if the interface, the bridge, memory or the output failed, 2 if the command line or\n"
     "the configuration is faulty or asks for help.\n";
 
-#define PLACE(field) \
-    { offsetof(mq_igmp_config, field), offsetof(mq_mld_config, field) }
+#define PLACE(field) offsetof(mq_config, field)
 static const struct {
     const char *name;
-    size_t places[2]; /* its offsets in the configurations of igmp and mld */
+    size_t place; /* its offset in a configuration */
 } NUMBERS[] = {
     {"rv", PLACE(robustness)},         {"qi", PLACE(query_interval)},
     {"qri", PLACE(response_interval)}, {"lmqi", PLACE(last_member_interval)},
@@ -152,7 +151,7 @@ static const char *read_family(struct options *options, const char *text) {
 /* Puts a number into the configurations of both families. */
 static void set_number(struct options *options, int which, uint32_t number) {
     for (int at = 0; at < 2; at++)
-        memcpy((uint8_t *)&options->configuration[at] + NUMBERS[which].places[at], &number, sizeof number);
+        memcpy((uint8_t *)&options->configuration[at] + NUMBERS[which].place, &number, sizeof number);
 }
 
 static const char *read_limit(struct options *options, int which, const char *text) {
@@ -207,7 +206,7 @@ static const char *read_option(struct options *options, int found, int count, ch
     case OWN: return read_address(options, !options->serves[false], optarg);
     case OWN6: return read_address(options, true, optarg);
     case FAMILY: return read_family(options, optarg);
-    case SSM: options->configuration[0].igmp.source_specific = options->configuration[1].mld.source_specific = true; break;
+    case SSM: options->configuration[0].source_specific = options->configuration[1].source_specific = true; break;
     case CHANGES: options->prints_changes = true; break;
     case MDB: return read_database(options, count, words);
     case PORTS: return read_ports(options, optarg);
@@ -291,7 +290,7 @@ const char *options_read(struct options *options, int count, char **words) {
     static const uint8_t placeholders[2][16] = {{192, 0, 2, 1}, {0xfe, 0x80, [15] = 1}}; /* the bridge's address replaces it */
     *options = (struct options){.serves = {true, true}, .ports = 64, .run = "/run/mquerier-live"};
     for (int at = 0; at < 2; at++)
-        options->configuration[at] = family_defaults(at == 1, placeholders[at]);
+        options->configuration[at] = mq_config_defaults(at == 1, placeholders[at]);
     options->is_interface = count > 0 && strcmp(words[0], "interface") == 0;
     if (!options->is_interface) {
         set_number(options, NUMBER_GROUPS, PORT_GROUPS);
@@ -325,11 +324,11 @@ const char *options_read(struct options *options, int count, char **words) {
 static const char *fixed_difference(const struct options *used, const struct options *next) {
     for (int which = NUMBER_GROUPS; which < COUNT; which++)
         for (int at = 0; at < 2; at++)
-            if (memcmp((const uint8_t *)&used->configuration[at] + NUMBERS[which].places[at],
-                       (const uint8_t *)&next->configuration[at] + NUMBERS[which].places[at], sizeof(uint32_t))
+            if (memcmp((const uint8_t *)&used->configuration[at] + NUMBERS[which].place,
+                       (const uint8_t *)&next->configuration[at] + NUMBERS[which].place, sizeof(uint32_t))
                 != 0)
                 return NUMBERS[which].name;
-    if (used->configuration[0].igmp.source_specific != next->configuration[0].igmp.source_specific)
+    if (used->configuration[0].source_specific != next->configuration[0].source_specific)
         return "ssm";
     if (memcmp(used->serves, next->serves, sizeof used->serves) != 0)
         return "family";
@@ -345,8 +344,8 @@ void options_replace(struct options *used, const struct options *next) {
     const char *fixed = fixed_difference(used, next);
     for (int which = 0; which < NUMBER_GROUPS; which++)
         for (int at = 0; at < 2; at++)
-            memcpy((uint8_t *)&used->configuration[at] + NUMBERS[which].places[at],
-                   (const uint8_t *)&next->configuration[at] + NUMBERS[which].places[at], sizeof(uint32_t));
+            memcpy((uint8_t *)&used->configuration[at] + NUMBERS[which].place,
+                   (const uint8_t *)&next->configuration[at] + NUMBERS[which].place, sizeof(uint32_t));
     memcpy(used->own, next->own, sizeof used->own);
     memcpy(used->has_own, next->has_own, sizeof used->has_own);
     memcpy(used->routers, next->routers, sizeof used->routers);

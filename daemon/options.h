@@ -14,8 +14,8 @@ struct options {
     bool is_interface;                   /* the word `interface`, else `bridge` */
     const char *names[GREATEST_BRIDGES]; /* the interface, or the bridges */
     size_t count;
-    bool serves[2];                       /* igmp, mld */
-    union configuration configuration[2]; /* igmp, mld */
+    bool serves[2];             /* igmp, mld */
+    mq_config configuration[2]; /* igmp, mld */
     bool has_own[2];
     uint8_t own[2][16];
     bool prints_changes, sets_up, reports;

@@ -3,6 +3,7 @@
 #define QUERIER_H
 
 #include "deadlines.h"
+#include "frames.h"
 #include "keeper.h"
 #include "link.h"
 #include "netlink.h"
@@ -33,7 +34,8 @@ struct served {
     bool is_on;                /* the link has begun */
     uint8_t told;              /* the limits that a line told of: a bit for each place in `refused_by` */
     uint8_t own[LONG_ADDRESS]; /* the own address that it began with */
-    struct link link;
+    mq_link link;
+    void *memory; /* the memory of `link` */
     struct keeper keeper;
 };
 

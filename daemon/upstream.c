@@ -37,7 +37,7 @@ void upstream_open(struct querier *querier) {
     srandom((unsigned)getpid());
     upstreams = take(2 * querier->room, sizeof *upstreams);
     for (size_t at = 0; at < 2 * querier->room; at++) {
-        size_t room = querier->options->serves[at % 2] ? GROUPS_OF * querier->families[at % 2].groups : 0;
+        size_t room = querier->options->serves[at % 2] ? GROUPS_OF * querier->families[at % 2].configuration.groups : 0;
         upstreams[at] =
             (struct upstream){.all = take(room, sizeof(struct told)), .room = room, .next = MQ_NONE, .answer_due = MQ_NONE};
     }
@@ -133,7 +133,7 @@ static void compare(struct querier *querier, const struct port *at, bool is_mld,
         memcpy(told->group, group, LONG_ADDRESS);
     }
     told->sum = sum;
-    told->left = querier->options->configuration[0].igmp.robustness;
+    told->left = querier->options->configuration[0].robustness;
     told->change_due = now + SOON;
     wake(querier, it, told->change_due);
 }
@@ -161,7 +161,7 @@ void upstream_hear(struct querier *querier, const struct port *port, bool is_mld
     if (version == 0)
         return;
     struct upstream *it = upstream_of(querier, port, is_mld);
-    const mq_igmp_config *timing = &querier->options->configuration[0].igmp;
+    const mq_config *timing = &querier->options->configuration[0];
     uint64_t within = records_response_time(is_mld, version, query), due = now + (uint64_t)random() % (within + 1);
     uint8_t group[LONG_ADDRESS] = {0};
     memcpy(group, query->body + (is_mld ? 8 : 4), is_mld ? 16 : 4);
