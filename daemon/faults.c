@@ -15,7 +15,7 @@ enum { LINES_AT_ONCE = 4, LARGE = 1 << 20 };
 const char *const fault_names[FAULT_KINDS] = {
     [FAULT_LOST] = "frames_lost",           [FAULT_LIMITS] = "records_refused",
     [FAULT_MALFORMED] = "frames_malformed", [FAULT_FRAGMENTS] = "frames_fragmented",
-    [FAULT_QUERIERS] = "queriers_heard",    [FAULT_UNSENT] = "queries_unsent",
+    [FAULT_ROUTERS] = "routers_heard",      [FAULT_UNSENT] = "queries_unsent",
     [FAULT_REFUSED] = "entries_refused",    [FAULT_SOURCES] = "entries_without_sources",
     [FAULT_OTHERS] = "entries_of_others",   [FAULT_ALWAYS] = "groups_forwarded_always",
     [FAULT_OVERRUN] = "netlink_overruns",   [FAULT_NETLINK] = "netlink_refusals",

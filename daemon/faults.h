@@ -12,7 +12,7 @@ enum fault {
     FAULT_LIMITS,    /* records that would exceed a limit */
     FAULT_MALFORMED, /* frames that carry no whole datagram of IGMP or MLD */
     FAULT_FRAGMENTS, /* fragments of IGMP, and first fragments of MLD */
-    FAULT_QUERIERS,  /* other queriers that take over, and queries of older versions */
+    FAULT_ROUTERS,   /* other queriers that take over, queries of older versions, and routers of PIM without --router-port */
     FAULT_UNSENT,    /* queries that could not be sent */
     FAULT_REFUSED,   /* entries of the database that the kernel rejected */
     FAULT_SOURCES,   /* filters of more sources than an entry can have */

@@ -1,12 +1,13 @@
 #include "heard.h"
 
 #include "faults.h"
+#include "hello.h"
 #include "text.h"
 
 #include <inttypes.h>
 #include <stdio.h>
 
-enum { IGMP_QUERY = 0x11, MLD_QUERY = 130, OLDER_IGMP = 8, OLDER_MLD = 24, LINE = 160 };
+enum { IGMP_QUERY = 0x11, MLD_QUERY = 130, OLDER_IGMP = 8, OLDER_MLD = 24, LINE = 160, SECOND = 1000 };
 static const char *const families[2] = {"IGMP", "MLD"};
 
 /* Counts refused records. Prints a line at the first refusal by each limit of a port. */
@@ -49,7 +50,15 @@ static void tell_querier(const struct port *port, bool is_mld, const struct data
     *link_put_address(link, address, datagram->envelope.source) = '\0';
     snprintf(why, sizeof why, "%s sends queries of %sv%u%s", address, families[is_mld], version,
              is_older ? ", an older version: give all routers there the same" : ", and is querier there now");
-    fault(FAULT_QUERIERS, port->name, why);
+    fault(FAULT_ROUTERS, port->name, why);
+}
+
+void heard_hello(const struct querier *querier, struct port *port, const struct datagram *hello, uint64_t now) {
+    bool is_served = querier->options->is_interface || port->keeps_router || options_is_router(querier->options, port->name);
+    if (port->hello_until <= now && !is_served)
+        fault(FAULT_ROUTERS, port->name,
+              "a router of PIM is there: it gets Reports and all groups with --router-port and --report");
+    port->hello_until = now + SECOND * (uint64_t)hello_seconds(hello);
 }
 
 void heard_tell(struct port *port, bool is_mld, const struct datagram *datagram, mq_answer answer, bool was_querier) {

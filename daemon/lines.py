@@ -71,7 +71,7 @@ def settings_have_lines():
         is_true("mcast_router 2 " in shown and any("b0p2: mcast_router is 2 and stays" in line for line in querier.errors), f"{querier.errors}")
         fabric.hosts["b0h3"].put(igmp_frame("9.0.0.1", "224.0.0.1", summed(bytes.fromhex("11640000 00000000"))))
         fabric.hosts["b0h1"].put(igmp_frame("10.0.0.200", "224.0.0.1", summed(bytes.fromhex("11000000 00000000"))))
-        querier.until(lambda it: it["faults"]["queriers_heard"] >= 2, "two queries of older versions")
+        querier.until(lambda it: it["faults"]["routers_heard"] >= 2, "two queries of older versions")
         for text in ("b0p3: 9.0.0.1 sends queries of IGMPv2", "b0p1: 10.0.0.200 sends queries of IGMPv1"):
             is_true(any(text in line for line in querier.errors), f"{text}: {querier.errors}")
 

@@ -31,12 +31,17 @@ def restarts(kernel):
         wanted = members(fabric)
         if kernel:  # it floods no more
             fabric.gets("b0h4", wanted, 10)
-        stream = Stream(fabric, "b0h4", wanted)
-        for pause in (0, PAUSE, 0):
-            querier = started(fabric)
-            is_true(querier.end() == 0 and not querier.errors, f"{querier.errors}")
-            time.sleep(pause)
-        stream.end()
+        with inside(fabric.far), socket.socket(socket.AF_PACKET, socket.SOCK_RAW, socket.htons(3)) as ears:
+            ears.bind(("b0h5", 3))
+            ears.setblocking(False)
+            stream = Stream(fabric, "b0h4", wanted)
+            for pause in (0, PAUSE, 0):
+                querier = started(fabric)
+                is_true(querier.end() == 0 and not querier.errors, f"{querier.errors}")
+                time.sleep(pause)
+            stream.end()
+            asked = sum(is_query(frame) and frame[12:14] == b"\x08\x00" and frame[26:30] == bytes(4) for frame in waiting(ears))
+        is_true(kernel or not asked, f"{asked} queries from 0.0.0.0")
         found = [it for it in fabric.shown() if it.get("protocol") in PROTOCOL.values()]
         is_true(found and all(it["state"] == "temp" for it in found), f"{found}")
         is_true(any("source_list" in it for it in found) == bool(kernel), f"an older version looks at no source: {found}")

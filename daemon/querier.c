@@ -288,7 +288,7 @@ static void hear(struct querier *querier, struct port *port, const struct frame 
     struct datagram datagram;
     enum carried carried = read_frame(frame->bytes, frame->length, &datagram);
     if (is_hello(&datagram))
-        port->hello_until = now + SECOND * (uint64_t)hello_seconds(&datagram);
+        heard_hello(querier, port, &datagram, now);
     else if (carried == CARRIED_NOTHING && !querier->options->is_interface)
         fault(FAULT_MALFORMED, port->name, "a frame without a whole message");
     if (carried == CARRIED_FRAGMENT && !querier->options->is_interface)

@@ -66,7 +66,7 @@ def an_older_router_behind_a_port():
                 mld_frame("fe80::ffff:1", "ff02::1", bytes.fromhex("82000000 03e80000") + bytes(16)),
             ):
                 fabric.hosts["b0h3"].put(frame)
-            querier.until(lambda it: it["faults"]["queriers_heard"] >= 2, "two older queries")
+            querier.until(lambda it: it["faults"]["routers_heard"] >= 2, "two older queries")
             for word in ("join", "leave"):
                 for family in FAMILIES:
                     fabric.hosts["b0h1"].do(word, GROUPS[family])
