@@ -42,6 +42,7 @@ def restarts(kernel):
             stream.end()
             asked = sum(is_query(frame) and frame[12:14] == b"\x08\x00" and frame[26:30] == bytes(4) for frame in waiting(ears))
         is_true(kernel or not asked, f"{asked} queries from 0.0.0.0")
+        ip("-n", fabric.near, "link", "set", "br0", "type", "bridge", "mcast_igmp_version", "3", "mcast_mld_version", "2")  # sources are shown
         found = [it for it in fabric.shown() if it.get("protocol") in PROTOCOL.values()]
         is_true(found and all(it["state"] == "temp" for it in found), f"{found}")
         is_true(any("source_list" in it for it in found) == bool(kernel), f"an older version looks at no source: {found}")
@@ -104,6 +105,28 @@ def without_an_address(kernel):
         stream.end()
         fabric.gets("b0h4", wanted)
         print(f"querier {kernel} before, no address: {stream.rounds} rounds of datagrams, none missed", flush=True)
+
+
+def without_ipv6():
+    """The bridge has no IPv6. IGMP is served, and the kernel stops flooding it. MLD is flooded as before, also while it begins late."""
+    with Fabric(4, 1) as fabric:
+        run(fabric.near, "sh", "-c", "echo 1 > /proc/sys/net/ipv6/conf/br0/disable_ipv6")
+        snooping(fabric, 0)
+        wanted = members(fabric)
+        fabric.ready = lambda: None
+        querier = fabric.querier()
+        querier.settled()
+        igmp = {case: hosts for case, hosts in wanted.items() if case[1] == GROUPS["igmp"]}
+        fabric.gets("b0h4", igmp)
+        fabric.gets("b0h4", {case: hosts if case in igmp else {"b0h1", "b0h2", "b0h3"} for case, hosts in wanted.items()})
+        is_true([port["mld"]["on"] for port in querier.status()["ports"]] == [False] * 4, "MLD began without an address")
+        stream = Stream(fabric, "b0h4", wanted)
+        run(fabric.near, "sh", "-c", "echo 0 > /proc/sys/net/ipv6/conf/br0/disable_ipv6")
+        querier.until(lambda it: all(port["mld"]["on"] for port in it["ports"]), "MLD begun")
+        querier.settled()
+        time.sleep(2.5)
+        stream.end()
+        fabric.gets("b0h4", wanted)
 
 
 def without_an_address_where_the_kernel_asks():
@@ -169,4 +192,4 @@ def the_tree_moves_elsewhere():
 
 
 CASES = [restarts_where_the_kernel_asks, restarts_where_the_kernel_floods, the_tree_moves_here, the_tree_moves_elsewhere]
-CASES += [without_an_address_where_the_kernel_asks, without_an_address_where_the_kernel_floods]
+CASES += [without_an_address_where_the_kernel_asks, without_an_address_where_the_kernel_floods, without_ipv6]

@@ -244,13 +244,18 @@ void ports_watch_topology(struct querier *querier, uint64_t now) {
     }
 }
 
-/* Sets when the links of a bridge know what hosts want, after each served family got an address. */
-static void set_settling(struct querier *querier, struct bridge *bridge, uint64_t now) {
+/* Sets when the links of a bridge know what hosts want, after a family got an address. MLD may lack one, since the kernel floods MLD
+   then in any case. `had` says which families had one before. */
+static void set_settling(struct querier *querier, struct bridge *bridge, const bool had[2], uint64_t now) {
+    const bool *serves = querier->options->serves;
+    bool is_new = bridge->settles == MQ_NONE;
     for (int at = 0; at < 2; at++)
-        if (querier->options->serves[at] && !bridge->has_own[at])
-            return;
-    if (bridge->settles == MQ_NONE)
-        bridge->settles = now + querier_settling(querier);
+        is_new |= serves[at] && bridge->has_own[at] && !had[at];
+    if (!is_new || !bridge->has_own[!serves[false]])
+        return;
+    bridge->settles = now + querier_settling(querier);
+    bridge->is_late |= bridge->is_settled;
+    bridge->is_settled = false;
 }
 
 /* Copies a bridge as the kernel has it, with its addresses and ports. Returns whether the kernel's lists were whole. */
@@ -264,8 +269,9 @@ static bool take_bridge(struct querier *querier, struct bridge *bridge, const st
     bridge->index = found->index;
     if (mac != NULL && attribute_end(mac) - attribute_data(mac) == MAC)
         memcpy(bridge->mac, attribute_data(mac), MAC);
+    const bool had[2] = {bridge->has_own[0], bridge->has_own[1]};
     bool has_all = read_addresses(querier, bridge);
-    set_settling(querier, bridge, now);
+    set_settling(querier, bridge, had, now);
     return read_ports(querier, bridge, now) && has_all;
 }
 

@@ -22,8 +22,9 @@ struct bridge {
     bool has_own[2];
     uint8_t own[2][LONG_ADDRESS]; /* the sources of queries, by family */
     bool is_missed[2];            /* a line said that there is none */
-    uint64_t settles;             /* when its links know what hosts want, or MQ_NONE while a family waits for an address */
+    uint64_t settles;             /* when its links know what hosts want, or MQ_NONE while they wait for an address */
     bool is_settled;              /* that time is over */
+    bool is_late;                 /* a family got an address after that, and the kernel has to flood again */
     uint32_t change[3];           /* flags and a timer of the last change of the spanning tree */
     int before;                   /* the file of the settings before --setup, or -1 */
     int listening;                /* the socket of the status, or -1 */

@@ -156,18 +156,32 @@ static void apply_to_port(struct querier *querier, struct port *port) {
         set(querier, port->index, port->name, true, &router, value);
 }
 
+/* Has the kernel flood again while a late family begins, if it did before --setup. */
+static void flood_again(struct querier *querier, struct bridge *bridge) {
+    if (bridge->is_late && querier->options->sets_up && is_remembered(bridge, 0, &settings[QUERIER]))
+        set(querier, bridge->index, bridge->name, false, &settings[QUERIER], 0);
+    bridge->is_late = false;
+}
+
+/* Returns whether each served family has an address at a bridge. */
+static bool has_addresses(const struct querier *querier, const struct bridge *bridge) {
+    const bool *serves = querier->options->serves;
+    return (bridge->has_own[0] || !serves[0]) && (bridge->has_own[1] || !serves[1]);
+}
+
 void setup_apply(struct querier *querier) {
     static int told[GREATEST_BRIDGES]; /* the bridges whose wrong settings were printed */
     const struct options *options = querier->options;
     for (size_t at = 0; at < querier->bridges_count; at++) {
         struct bridge *bridge = &querier->bridges[at];
         bool tells = told[at] != bridge->index,
-             has_ports = !options->is_interface && (bridge->settles != MQ_NONE || !options->sets_up);
+             has_ports = !options->is_interface && (has_addresses(querier, bridge) || !options->sets_up);
         told[at] = bridge->index;
         if (bridge->index == 0 || (options->is_interface && (!tells || options->bridge == NULL)))
             continue;
         if (options->sets_up) /* first, so that no query of the kernel leaves */
             rules_apply(querier, bridge);
+        flood_again(querier, bridge);
         apply_to_bridge(querier, bridge, options->is_interface ? options->bridge : bridge->name, tells);
         for (size_t port = 0; port < querier->room && has_ports; port++)
             if (querier->ports[port].index != 0 && querier->ports[port].bridge == bridge)
