@@ -166,8 +166,9 @@ bin/mquerier-live-checked: $(LIVE) lib/libmquerier.a | needs-library
 # The examples in C do what docs/EMBEDDING.md says; the querier on an interface serves hosts of the Linux kernel, and does what the
 # vectors say that are played to it, those that end within SECONDS. The last two want to be root, and the last one the program.
 SECONDS := 600
-live-test: needs-live live
+live-test: needs-live live bin/mquerier
 	@examples/check
+	@examples/routed
 	@daemon/test
 	@daemon/switches
 	@conform/vectors --seconds $(SECONDS)
