@@ -2,7 +2,8 @@
 
    A link is one interface of one family. The caller gives it datagrams and the time. The library writes the queries to be sent,
    and says what to forward. It has no clock, no socket, no thread and no state of its own, and it never allocates. This header
-   is in the order of use: make, feed, send, wait, look. docs/EMBEDDING.md has whole programs, and a router's duties.
+   is in the order of use: make, feed, send, wait, look. docs/EMBEDDING.md has whole programs, and a router's duties. mquerier-link.h
+   has one set of calls for both families.
 
    The caller keeps these rules, which nothing checks:
    - A pointer points to as many elements as its prototype or its length says. It is null only where that length is 0.
@@ -34,9 +35,9 @@ extern "C" {
 /* The version of this header. A program checks once that `mq_version`, the version of the archive, returns the same.
    It rises when a compiled program would no longer work. That is when a call, the layout of a struct or the meaning of a number
    changes, or when a size macro below counts too few bytes. Within a version calls and reasons may be added, and `mq_counts` may
-   grow at its end. */
+   grow at its end. MQ_VERSION_TEXT is the version of the sources. */
 #define MQ_VERSION 2
-#define MQ_VERSION_TEXT "2"
+#define MQ_VERSION_TEXT "2.1.0"
 uint32_t mq_version(void);
 
 /* No deadline; and the latest time that a call accepts, 2^53 milliseconds. */
