@@ -18,6 +18,7 @@ static const char HELP[] =
     "Usage: mquerier-live interface INTERFACE igmp|mld --own ADDR [OPTION]..\n"
     "       mquerier-live bridge BRIDGE.. [OPTION]..\n"
     "       mquerier-live status BRIDGE [--json | --metrics] [--run DIR]\n"
+    "       mquerier-live --version\n"
     "\n"
     "A multicast querier on Linux. `interface` serves one link of one family, and prints a line for each message and query.\n"
     "`bridge` serves all ports of these bridges: each bridge forwards to each port what the hosts there want. `status` prints\n"
