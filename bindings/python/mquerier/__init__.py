@@ -7,6 +7,7 @@ and `convert` read captures. Times are whole milliseconds of any clock that does
 from ._arguments import AddressLike
 from ._link import Link, message_line
 from ._types import Address, Answer, Counts, Dropped, Group, Parsed, Query, Refused, Source
+from ._version import __version__
 from .captures import Capture, Converted, Findings, Lines, check, convert, replay, show
 from .faults import CaptureFault, Fault
 from .lines import Basis, Change, End, Event, Finding, Packet, Received, Role, Sent, Skipped, Totals
