@@ -123,7 +123,9 @@ function all_of(file) {
   const capture = readFileSync(file);
   beside(file, capture, "page_show", ["show"]);
   beside(file, capture, "page_convert", ["convert"]);
-  for (const [words, choice] of CHOICES) beside(file, capture, "page_convert_chosen", ["convert", ...words.split(" ")], null, choice);
+  for (const [words, choice] of file.startsWith("samples/") ? CHOICES : CHOICES.slice(0, 1)) {
+    beside(file, capture, "page_convert_chosen", ["convert", ...words.split(" ")], null, choice);
+  }
   interfaces(file, capture);
   for (const [family, { text }] of Object.entries(QUERIERS)) {
     const [replay, check] = [`page_replay_${family}`, `page_check_${family}`];

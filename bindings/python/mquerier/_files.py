@@ -6,7 +6,7 @@ import contextlib
 import dataclasses
 import io
 import os
-from typing import Any, BinaryIO, Callable, ContextManager, Iterator, Optional, Union
+from typing import Any, BinaryIO, Callable, ContextManager, Iterator, Mapping, Union
 
 from ._arguments import octets
 from ._captures_library import Outcome
@@ -22,6 +22,7 @@ KINDS = {
     b"\x1f\x8b": "the file is compressed by gzip",
     b"\x28\xb5\x2f\xfd": "the file is compressed by zstd",
 }
+NOT_CONVERTED = {first: kind for first, kind in KINDS.items() if first != PCAPNG}
 
 
 def file_of(capture: Any) -> ContextManager[Any]:
@@ -52,9 +53,9 @@ def path_of(capture: Capture) -> Iterator[str]:
         yield os.fsdecode(path)
 
 
-def named(capture: Capture, begin: bytes, outcome: Outcome, kinds: Optional[Any] = None) -> Outcome:
+def named(capture: Capture, begin: bytes, outcome: Outcome, kinds: Mapping[bytes, str] = KINDS) -> Outcome:
     """Completes the message of a fault: it begins with the path of a file, and ends with the kind of another file."""
     if outcome.fault is None:
         return outcome
-    found = [kind for first, kind in (KINDS if kinds is None else kinds).items() if begin.startswith(first)]
+    found = [kind for first, kind in kinds.items() if begin.startswith(first)]
     return dataclasses.replace(outcome, fault=": ".join([*path_of(capture), outcome.fault, *found]))

@@ -7,7 +7,7 @@ from typing import Any, ContextManager, Iterator, Mapping, Optional, TypeVar, Un
 from . import _captures_library as library
 from ._arguments import AddressLike, any_address, config_of, family_named, flag, given, moment, within
 from ._captures_library import LONGEST_NAME, NO_END, NO_VLAN, Choice, Outcome, Querier, Settings
-from ._files import KINDS, PCAPNG, Capture, bytes_of, file_of, named, reader_of
+from ._files import NOT_CONVERTED, Capture, bytes_of, file_of, named, reader_of
 from ._library import VARIABLES
 from ._records import captures_in
 from .faults import CaptureFault, Fault
@@ -135,7 +135,7 @@ def convert(
     leaves out packets that come again within 5 ms. Numbers count the interfaces from 0. In Linux cooked captures of version 2 they are the
     indexes in the headers of packets."""
     choice, data = choice_of(interface, vlan, once), bytes_of(capture)
-    outcome = named(capture, data, library.run("convert", data, choice), {it: KINDS[it] for it in KINDS if it != PCAPNG})
+    outcome = named(capture, data, library.run("convert", data, choice), NOT_CONVERTED)
     if outcome.fault:
         raise CaptureFault(outcome.fault, [])
     return Converted(outcome.text, outcome.count)
