@@ -1,4 +1,4 @@
-"""Faults: of an argument, which is named, and of a capture."""
+"""Faults: of an argument, which is named, and of a capture. `Error` is the base of both."""
 
 from __future__ import annotations
 
@@ -23,7 +23,11 @@ FIELDS = [field for field, _ in STATUSES]
 MEMORY, MOMENT = FIELDS.index("memory") + 1, FIELDS.index("now") + 1
 
 
-class Fault(ValueError):
+class Error(Exception):
+    """The base of the exceptions of this package."""
+
+
+class Fault(Error, ValueError):
     """An argument that no link takes. `field` is its name."""
 
     def __init__(self, field: str, why: str) -> None:
@@ -38,7 +42,7 @@ class Fault(ValueError):
         return cls(*STATUSES[status - 1])
 
 
-class CaptureFault(ValueError):
+class CaptureFault(Error, ValueError):
     """The reason why a capture was not read to its end. `lines` has what was read before."""
 
     def __init__(self, why: str, lines: Sequence[Any]) -> None:
