@@ -1,4 +1,4 @@
--- What is seen of a block that was read in parts.
+-- The seen bytes of a block that was read in parts.
 use Rattle.std.proofs.Common.{◌≡◌, ◌≤◌, ◌<◌, ◌+◌, ◌-◌, ◌||◌, ℕ, Bool, true, false, min, List, ◌++◌, length, take, drop, Result, Ok, Err, refl, arith}
 use Rattle.std.proofs.Common.{◌∙◌, ap, sym, length-append, append_assoc}
 use Rattle.std.proofs.lemmas.Bool.{le-ltb, lt-ltb}
@@ -15,7 +15,7 @@ pub all_seen : (block : List ℕ) → length block ≤ most_seen → seen_of blo
 unfolding seen_of
 all_seen block short = let fits = le-ltb most_seen (length block) short in rw fits refl
 
--- of a longer one the first bytes and the last 4
+-- the first bytes and the last 4 of a longer block
 parts_seen : (first mid last : List ℕ) → length first ≡ most_seen - 4 → length last ≡ 4 → 0 < length mid → seen_of ((first ++ mid) ++ last) ≡ first ++ last
 unfolding seen_of
 parts_seen first mid last size four some =

@@ -5,7 +5,7 @@ use Rattle.mq_pcap.specs.Capture.{field}
 use Rattle.mq_pcap.proofs.Walk.{from_place}
 use Rattle.mq_convert.specs.Frames.{Cut, is_tag, behind_tags}
 
--- a tag and what stands behind it
+-- a tag and the bytes after this tag
 pub tag_off : (addresses : List ℕ) (kind : ℕ) (payload : List ℕ) → is_tag kind ≡ true → 4 ≤ length payload
     → behind_tags addresses kind payload ≡ behind_tags addresses (field Big 2 2 payload) (take (length payload - 4) (drop 4 payload))
 tag_off addresses kind (a ∷ (b ∷ (c ∷ (d ∷ rest)))) tag long = rw (tag, from_place 4 (a ∷ (b ∷ (c ∷ (d ∷ rest))))) refl
