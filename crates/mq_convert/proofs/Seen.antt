@@ -63,12 +63,6 @@ first_cut E old new before after from size count long short filled =
       size = filled.size;
     }
 
-pub first_failed : (E : Type 0) (old new : InputState) (before after : List ℕ) (from size : ℕ) (e : E) → most_seen < size
-    → FillsFrom {E = E} old new before after from (most_seen - 4) (Err e) → FillsSeen {E = E} old new before after from size (Err e)
-first_failed E old new before after from size e long filled =
-    let short = filled.fills in
-    record { bytes = filled.bytes; takes = filled.takes; passes = omega (arith, short, long); shows = tt; failed = filled.failed; size = filled.size }
-
 -- the first bytes are there
 pub record IsFirst (old mid : InputState) (before block : List ℕ) (from : ℕ) : Type 0 where
   pub bytes : List ℕ

@@ -66,11 +66,6 @@ pub sifted_none : (sieve : SieveState) (packet : Captured) → sieve.choice.once
 unfolding is_compared
 sifted_none sieve packet is = kept_so sieve (is_compared sieve.choice packet) packet.moment (frame_out packet) (rw is refl)
 
--- nothing came
-pub nothing_sieved : (choice : Choice) (sieve : SieveState) → sieve.choice ≡ choice → sieve.gone ≡ [] → Tallies [] sieve.counts.unread →
-    sieve.counts.repeated ≡ 0 → HasSieved choice [] sieve
-nothing_sieved choice sieve is none tallied zero = record { chosen = is; gone = none; counts = record { unread = tallied; repeated = zero } }
-
 -- no packet came
 pub no_more : (choice : Choice) (packets : List Captured) (sieve : SieveState) → HasSieved choice packets sieve → HasSieved choice (packets ++ []) sieve
 no_more choice packets sieve has = rw (append-nil packets) has
