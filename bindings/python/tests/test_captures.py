@@ -142,11 +142,33 @@ def test_packets_of_a_link_type_that_is_not_read():
 def test_memory_grows_until_it_suffices(monkeypatch):
     wanted = mquerier.check(DATA, "10.9.0.1").text
     monkeypatch.setattr(_captures_library, "LEAST_WORK", 16)
-    monkeypatch.setattr(_captures_library, "LEAST_TEXT", 1 - 4 * len(DATA))
+    monkeypatch.setattr(_captures_library, "LEAST_TEXT", 1)
+    monkeypatch.setattr(_captures_library, "TEXT_A_BYTE", {"check": 0})
     assert mquerier.check(DATA, "10.9.0.1").text == wanted
     monkeypatch.setattr(_captures_library, "MOST_WORK", 16)
     with pytest.raises(CaptureFault, match="out of memory"):
         mquerier.check(DATA, "10.9.0.1")
+
+
+def test_less_memory_than_was_asked_for(monkeypatch):
+    wanted, memory = mquerier.replay(DATA, "10.9.0.1", changes=True).text, _captures_library.Memory
+
+    def limited(size):
+        if size > most:
+            raise OSError(12, "no memory")
+        return memory(size)
+
+    monkeypatch.setattr(_captures_library, "Memory", limited)
+    most = _captures_library.LEAST_WORK + 2 * _captures_library.LEAST_TEXT
+    assert mquerier.replay(DATA, "10.9.0.1", changes=True).text == wanted
+    monkeypatch.setattr(_captures_library, "LEAST_TEXT", 1000)
+    most = _captures_library.LEAST_WORK + 2000
+    with pytest.raises(CaptureFault, match="the text is longer than the memory for it") as fault:
+        mquerier.replay(DATA, "10.9.0.1", changes=True)
+    assert 0 < len(fault.value.lines.text) < len(wanted) and wanted.startswith(fault.value.lines.text)
+    most = 1000
+    with pytest.raises(OSError):
+        mquerier.replay(DATA, "10.9.0.1", changes=True)
 
 
 def test_calls_give_their_memory_back():
