@@ -86,23 +86,7 @@ static const struct {
 enum { COUNT = sizeof NUMBERS / sizeof *NUMBERS };
 /* The default limit of groups and of schedules is what one port of a bridge may need. */
 enum { NUMBER_GROUPS = 4, NUMBER_SCHEDULED = 7, PORT_GROUPS = 4096 };
-enum {
-    OWN = COUNT,
-    OWN6,
-    FAMILY,
-    SSM,
-    CHANGES,
-    MDB,
-    PORTS,
-    SETUP,
-    ROUTER_PORT,
-    REPORT,
-    RUN,
-    FILE_OF,
-    VERSION,
-    ASKED_HELP,
-    OPTIONS
-};
+enum { OWN = COUNT, OWN6, FAMILY, SSM, CHANGES, MDB, PORTS, SETUP, ROUTER_PORT, REPORT, RUN, FILE_OF, ASKED_HELP, OPTIONS };
 static const struct option OTHERS[] = {
     {"own", required_argument, NULL, OWN},
     {"own6", required_argument, NULL, OWN6},
@@ -116,7 +100,6 @@ static const struct option OTHERS[] = {
     {"report", no_argument, NULL, REPORT},
     {"run", required_argument, NULL, RUN},
     {"options", required_argument, NULL, FILE_OF},
-    {"version", no_argument, NULL, VERSION},
     {"help", no_argument, NULL, ASKED_HELP},
 };
 static const char *const FAMILIES[2] = {"igmp", "mld"};
@@ -193,7 +176,7 @@ static const char *read_ports(struct options *options, const char *text) {
 }
 
 static bool is_for_bridge(int found) {
-    return found == OWN6 || found == FAMILY || (found >= PORTS && found < VERSION);
+    return found == OWN6 || found == FAMILY || (found >= PORTS && found < ASKED_HELP);
 }
 
 /* Reads one option, whose value is `optarg`. */
@@ -215,7 +198,6 @@ static const char *read_option(struct options *options, int found, int count, ch
     case REPORT: options->reports = true; break;
     case RUN: return read_run(options, optarg);
     case FILE_OF: options->file = optarg; break;
-    case VERSION: exit(puts("mquerier-live " MQ_VERSION_TEXT) < 0 || fflush(stdout) != 0 ? STATUS_FAILED : 0);
     default: fputs(HELP, stderr); exit(STATUS_USAGE);
     }
     return NULL;
@@ -296,8 +278,8 @@ const char *options_read(struct options *options, int count, char **words) {
         set_number(options, NUMBER_GROUPS, PORT_GROUPS);
         set_number(options, NUMBER_SCHEDULED, PORT_GROUPS);
     }
-    if (count > 0 && (strcmp(words[0], "--help") == 0 || strcmp(words[0], "--version") == 0))
-        return read_option(options, words[0][2] == 'h' ? ASKED_HELP : VERSION, count, words);
+    if (count > 0 && strcmp(words[0], "--help") == 0)
+        return read_option(options, ASKED_HELP, count, words);
     if (!options->is_interface && (count == 0 || strcmp(words[0], "bridge") != 0))
         return wrong("the first word is interface, bridge or status", "");
     if (options->is_interface && count > 1 && words[count - 1] != NULL)
