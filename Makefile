@@ -163,6 +163,7 @@ live-test: needs-live live
 	@examples/check
 	@daemon/test
 	@daemon/switches
+	@daemon/routes
 	@conform/vectors --seconds $(SECONDS)
 
 # So many seconds of random joins and leaves at the ports of two bridges. It wants to be root, and the program.

@@ -2,6 +2,7 @@
 #include "options.h"
 
 #include "faults.h"
+#include "mroute.h"
 #include "ring.h"
 
 #include <arpa/inet.h>
@@ -17,13 +18,18 @@
 static const char HELP[] =
     "Usage: mquerier-live interface INTERFACE igmp|mld --own ADDR [OPTION]..\n"
     "       mquerier-live bridge BRIDGE.. [OPTION]..\n"
+    "       mquerier-live route --upstream INTERFACE INTERFACE.. [OPTION]..\n"
     "       mquerier-live status BRIDGE [--json | --metrics] [--run DIR]\n"
     "\n"
-    "A multicast querier on Linux. `interface` serves one link of one family, and prints a line for each message and query.\n"
-    "`bridge` serves all ports of these bridges: each bridge forwards to each port what the hosts there want. `status` prints\n"
-    "the state of a running `bridge`.\n"
-    "It needs root, or the capability CAP_NET_RAW, with a bridge also CAP_NET_ADMIN. Once its sockets are open it drops its\n"
-    "privileges; with a bridge it keeps CAP_NET_ADMIN alone. This program is not proved. The decisions of its library are.\n"
+    "A multicast querier and router on Linux. `interface` serves one link of one family, and prints a line for each message and "
+    "query.\n"
+    "`bridge` serves all ports of these bridges: each bridge forwards to each port what the hosts there want. `route` is a\n"
+    "multicast router: it serves interfaces, joins upstream what their hosts want, and forwards it. `status` prints the state of "
+    "a\n"
+    "running `bridge` or `route`.\n"
+    "It needs root, or the capability CAP_NET_RAW, except for `interface` without a bridge also CAP_NET_ADMIN. Once its\n"
+    "sockets are open it drops its privileges, or keeps CAP_NET_ADMIN alone. This program is not proved. The decisions of its "
+    "library are.\n"
     "\n"
     "  --own ADDR           source of queries: an address of the interface, for mld a link-local one. By default `bridge`\n"
     "                       takes the first addresses of the bridge\n"
@@ -42,7 +48,14 @@ static const char HELP[] =
     "  --mdb BRIDGE PORT    make the bridge BRIDGE forward to its port PORT what is forwarded of each group, by entries of its\n"
     "                       multicast database. INTERFACE is PORT, or BRIDGE if all hosts are at one port\n"
     "\n"
-    "For `bridge` only:\n"
+    "For `route` only. Interfaces downstream are INTERFACE, `bridge:BRIDGE`, or with variables of its own INTERFACE,qi=60,rv=3:\n"
+    "  --upstream WORDS     INTERFACE, or with commas INTERFACE=PREFIX/LENGTH,..: the interface for groups by the longest prefix\n"
+    "  --scope N            least scope of groups that cross between upstream and downstream, 3 to 14 (14). 239.0.0.0/8 has 8\n"
+    "  --entries N          most forwarding entries, 16 to 65536 (4096)\n"
+    "  --unused S           seconds after which an entry without datagrams ends (180)\n"
+    "  --upcalls N          most new senders a second, 100 to 1000000 (10000)\n"
+    "\n"
+    "For `bridge` and `route`:\n"
     "  --own6 ADDR          link-local source of queries of MLD. Then --own is that of IGMP\n"
     "  --family F           serve only igmp, or only mld\n"
     "  --ports N            most ports of all bridges, up to 1024 (64). Memory is allocated for all of them\n"
@@ -82,7 +95,26 @@ static const struct {
     {"sources", PLACE(sources)},       {"scheduled", PLACE(scheduled)},
 };
 enum { COUNT = sizeof NUMBERS / sizeof *NUMBERS };
-enum { OWN = COUNT, OWN6, FAMILY, SSM, CHANGES, MDB, PORTS, SETUP, ROUTER_PORT, RUN, FILE_OF, ASKED_HELP, OPTIONS };
+enum {
+    OWN = COUNT,
+    UPSTREAM,
+    SCOPE,
+    ENTRIES,
+    UNUSED,
+    UPCALLS,
+    OWN6,
+    FAMILY,
+    SSM,
+    CHANGES,
+    MDB,
+    PORTS,
+    SETUP,
+    ROUTER_PORT,
+    RUN,
+    FILE_OF,
+    ASKED_HELP,
+    OPTIONS
+};
 static const char *const FAMILIES[2] = {"igmp", "mld"};
 
 /* Returns the text of a fault, which stands until the next call. */
@@ -140,6 +172,16 @@ static const char *read_router(struct options *options, const char *port) {
     return NULL;
 }
 
+static const char *read_between(uint32_t *to, const char *text, uint32_t least, uint32_t most) {
+    bool is_read = read_number(text, to) && *to >= least && *to <= most;
+    return is_read ? NULL : wrong("a number is out of its range: ", text);
+}
+
+static const char *read_upstream(struct options *options, const char *words) {
+    const char *why = prefixes_read(&options->upstream, words);
+    return why == NULL ? NULL : wrong("--upstream: ", why);
+}
+
 static const char *read_ports(struct options *options, const char *text) {
     bool is_read = read_number(text, &options->ports) && options->ports >= 1 && options->ports <= GREATEST_PORTS;
     return is_read ? NULL : wrong("--ports is from 1 to 1024, not ", text);
@@ -151,6 +193,11 @@ static const char *read_option(struct options *options, int found, int count, ch
         return read_limit(options, found, optarg);
     switch (found) {
     case OWN: return read_address(options, !options->serves[false], optarg);
+    case UPSTREAM: return read_upstream(options, optarg);
+    case SCOPE: return read_between(&options->scope, optarg, 3, 14);
+    case ENTRIES: return read_between(&options->entries, optarg, 16, 65536);
+    case UNUSED: return read_between(&options->unused, optarg, 1, 86400);
+    case UPCALLS: return read_between(&options->upcalls, optarg, 100, 1000000);
     case OWN6: return read_address(options, true, optarg);
     case FAMILY: return read_family(options, optarg);
     case SSM: options->configuration[0].igmp.source_specific = options->configuration[1].mld.source_specific = true; break;
@@ -170,6 +217,11 @@ static const char *read_option(struct options *options, int found, int count, ch
 static const char *read_words(struct options *options, int count, char **words) {
     static const struct option others[] = {
         {"own", required_argument, NULL, OWN},
+        {"upstream", required_argument, NULL, UPSTREAM},
+        {"scope", required_argument, NULL, SCOPE},
+        {"entries", required_argument, NULL, ENTRIES},
+        {"unused", required_argument, NULL, UNUSED},
+        {"upcalls", required_argument, NULL, UPCALLS},
         {"own6", required_argument, NULL, OWN6},
         {"family", required_argument, NULL, FAMILY},
         {"ssm", no_argument, NULL, SSM},
@@ -242,16 +294,38 @@ static const char *finish_interface(struct options *options) {
     return options->has_own[!options->serves[0]] ? NULL : wrong("--own is needed", "");
 }
 
+/* Checks the words of `route`: interfaces downstream, and --upstream. */
+static const char *finish_route(struct options *options) {
+    for (size_t at = 0; at < options->count; at++) {
+        const char *why = interfaces_read(options->names[at], &options->interfaces[at]);
+        if (why != NULL)
+            return wrong(options->names[at], why);
+        options->names[at] = options->interfaces[at].name;
+    }
+    if (options->count == 0 || options->upstream.names_count == 0)
+        return wrong("route needs --upstream, and an interface downstream", "");
+    if (options->count + options->upstream.names_count > GREATEST_VIFS)
+        return wrong("the kernel routes multicast between 32 interfaces at most", "");
+    return NULL;
+}
+
 const char *options_read(struct options *options, int count, char **words) {
     static const uint8_t placeholders[2][16] = {{192, 0, 2, 1}, {0xfe, 0x80, [15] = 1}}; /* the bridge's address replaces it */
-    *options = (struct options){.serves = {true, true}, .ports = 64, .run = "/run/mquerier-live"};
+    *options = (struct options){.serves = {true, true},
+                                .ports = 64,
+                                .run = "/run/mquerier-live",
+                                .scope = 14,
+                                .entries = 4096,
+                                .unused = 180,
+                                .upcalls = 10000};
     for (int at = 0; at < 2; at++)
         options->configuration[at] = family_defaults(at == 1, placeholders[at]);
     options->is_interface = count > 0 && strcmp(words[0], "interface") == 0;
     if (count > 0 && strcmp(words[0], "--help") == 0)
         return read_option(options, ASKED_HELP, count, words);
-    if (!options->is_interface && (count == 0 || strcmp(words[0], "bridge") != 0))
-        return wrong("the first word is interface, bridge or status", "");
+    options->is_route = count > 0 && strcmp(words[0], "route") == 0;
+    if (!options->is_interface && !options->is_route && (count == 0 || strcmp(words[0], "bridge") != 0))
+        return wrong("the first word is interface, bridge, route or status", "");
     if (options->is_interface && count > 1 && words[count - 1] != NULL)
         for (int at = 1; at < count; at++) /* --own depends on the family, which may come later */
             if (strcmp(words[at], "igmp") == 0 || strcmp(words[at], "mld") == 0)
@@ -267,7 +341,7 @@ const char *options_read(struct options *options, int count, char **words) {
                    : finish_interface(options);
     if (options->bridge != NULL)
         return wrong("--mdb is for an interface", "");
-    return options->count > 0 ? NULL : wrong("a bridge is needed", "");
+    return options->is_route ? finish_route(options) : options->count > 0 ? NULL : wrong("a bridge is needed", "");
 }
 
 bool options_is_router(const struct options *options, const char *port) {

@@ -2,6 +2,7 @@
 #include "querier.h"
 
 #include "faults.h"
+#include "route.h"
 #include "text.h"
 
 #include <arpa/inet.h>
@@ -89,9 +90,8 @@ struct port *querier_port(const struct querier *querier, int index) {
 }
 
 bool querier_place(const struct querier *querier, const struct port *port, bool is_mld, struct place *place) {
-    bool is_interface = querier->options->is_interface;
     *place = (struct place){querier->netlink, port->bridge->index, port->index, is_mld};
-    if (is_interface) {
+    if (port->bridge->is_port) {
         place->bridge = querier->kept_bridge;
         place->port = querier->kept_port;
     }
@@ -189,13 +189,15 @@ static void follow(struct querier *querier, struct port *port, bool is_mld, uint
     struct served *served = &port->served[is_mld];
     struct place place;
     bool keeps = querier_place(querier, port, is_mld, &place), prints = querier->options->prints_changes;
-    size_t count = keeps || prints ? link_changed(&served->link, querier->changed) : 0;
+    size_t count = keeps || prints || querier->route != NULL ? link_changed(&served->link, querier->changed) : 0;
     for (size_t at = 0; at < count; at++) {
         if (prints)
             print_change(querier, port, &served->link, querier->changed[at], filter_of(&served->link, querier->changed[at]), now);
         if (keeps)
             keeper_update(&served->keeper, &served->link, &place, querier->changed[at]);
     }
+    if (querier->route != NULL)
+        route_follow(querier, port, is_mld, count, now);
     set_deadline(querier, port, is_mld);
 }
 
@@ -212,6 +214,10 @@ static uint64_t settling(const struct family *family) {
 void querier_begin(struct querier *querier, struct port *port, bool is_mld, uint64_t now) {
     struct served *served = &port->served[is_mld];
     print_ends(querier, port, served, now);
+    if (querier->route != NULL && served->is_on)
+        route_inherit(querier, port, is_mld);
+    struct family *own = &port->bridge->families[is_mld];
+    served->link.family = own->memory != NULL ? own : &querier->families[is_mld];
     uint32_t status = link_begin(&served->link, port->bridge->own[is_mld], now);
     served->is_on = status == MQ_DONE;
     memcpy(served->own, port->bridge->own[is_mld], sizeof served->own);
@@ -234,6 +240,8 @@ void querier_forget(struct querier *querier, struct port *port) {
         port->served[at].keeper.rows.count = 0;
         set_deadline(querier, port, at == 1);
     }
+    if (querier->route != NULL)
+        route_forget(querier);
 }
 
 /* Prints the result of a datagram. */
@@ -335,6 +343,8 @@ void querier_tick(struct querier *querier, uint64_t now) {
     for (size_t first; deadlines->moments[first = deadlines_first(deadlines)] <= now;) {
         if (first < 2 * querier->room) {
             tick(querier, querier->ports + first / 2, first % 2, now);
+        } else if (first == 2 * querier->room + DEADLINE_ROUTE) {
+            route_tick(querier, now);
         } else if (first == 2 * querier->room + DEADLINE_REPAIR) {
             querier->is_stale = true;
             deadlines_set(deadlines, first, MQ_NONE); /* the repair sets the next one */

@@ -16,11 +16,13 @@
 /* A bridge, or the one interface, which is its own only port. */
 struct bridge {
     const char *name;
-    int index; /* 0 while it cannot be served */
+    bool is_port; /* it is an interface, and its own only port */
+    int index;    /* 0 while it cannot be served */
     uint8_t mac[MAC];
     bool has_own[2];
     uint8_t own[2][LONG_ADDRESS]; /* the sources of queries, by family */
     bool is_missed[2];            /* a line said that there is none */
+    struct family families[2];    /* with variables of its own, or without memory */
     int before;                   /* the file of the settings before --setup, or -1 */
     int listening;                /* the socket of the status, or -1 */
 };
@@ -59,6 +61,7 @@ struct querier {
     size_t ports_count;
     struct deadlines deadlines; /* two for each port, then those below */
     struct ring ring;
+    struct route *route; /* the router, or NULL */
     int netlink, news;
     int kept_bridge, kept_port; /* those of --mdb, or 0 */
     uint8_t (*changed)[LONG_ADDRESS];
@@ -67,7 +70,7 @@ struct querier {
 };
 
 /* The deadlines after those of links. */
-enum { DEADLINE_REPAIR, DEADLINE_SECOND, DEADLINES_BESIDE };
+enum { DEADLINE_REPAIR, DEADLINE_SECOND, DEADLINE_ROUTE, DEADLINES_BESIDE };
 
 /* Returns NULL, or the fault of a served family's configuration as text. */
 const char *querier_fault(const struct options *options);

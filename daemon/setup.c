@@ -146,7 +146,8 @@ void setup_apply(struct querier *querier) {
         struct bridge *bridge = &querier->bridges[at];
         bool tells = told[at] != bridge->index;
         told[at] = bridge->index;
-        if (bridge->index == 0 || (options->is_interface && (!tells || options->bridge == NULL)))
+        if (bridge->index == 0 || (bridge->is_port && !options->is_interface)
+            || (options->is_interface && (!tells || options->bridge == NULL)))
             continue;
         apply_to_bridge(querier, bridge, options->is_interface ? options->bridge : bridge->name, tells);
         for (size_t port = 0; port < querier->room && !options->is_interface; port++)
@@ -198,6 +199,8 @@ void setup_open(struct querier *querier) {
         rules_open();
     for (size_t at = 0; at < querier->bridges_count; at++) {
         struct bridge *bridge = &querier->bridges[at];
+        if (bridge->is_port)
+            continue;
         snprintf(name, sizeof name, "%s/%s/before", querier->options->run, bridge->name);
         bridge->before = open(name, O_RDWR | O_CREAT | O_APPEND | O_CLOEXEC, 0600);
         if (bridge->before < 0)
