@@ -128,15 +128,17 @@ static void take_entry(void *context, const struct nlmsghdr *message) {
     entries_want(&route->entries, entry, entry->kept != 0);
 }
 
+void inherit_read(struct querier *querier, bool is_mld) {
+    struct request request;
+    struct answer answer;
+    struct rtmsg head = {.rtm_family = is_mld ? RTNL_FAMILY_IP6MR : RTNL_FAMILY_IPMR};
+    request_begin(&request, RTM_GETROUTE, 0, &head, sizeof head);
+    if (netlink_dump(querier->netlink, &request, take_entry, querier, &answer) != 0)
+        fault(FAULT_NETLINK, "entries", answer.why);
+}
+
 void inherit_entries(struct querier *querier) {
-    for (int at = 0; at < 2; at++) {
-        struct request request;
-        struct answer answer;
-        struct rtmsg head = {.rtm_family = at == 1 ? RTNL_FAMILY_IP6MR : RTNL_FAMILY_IPMR};
-        if (left.tables[at] < 0)
-            continue;
-        request_begin(&request, RTM_GETROUTE, 0, &head, sizeof head);
-        if (netlink_dump(querier->netlink, &request, take_entry, querier, &answer) != 0)
-            fault(FAULT_NETLINK, "entries", answer.why);
-    }
+    for (int at = 0; at < 2; at++)
+        if (left.tables[at] >= 0)
+            inherit_read(querier, at == 1);
 }

@@ -9,6 +9,8 @@ void inherit_take(struct querier *querier);
 void inherit_hold(struct querier *querier);
 /* Reads the entries of inherited tables. They stay until hosts have answered first queries. */
 void inherit_entries(struct querier *querier);
+/* Reads the entries of a table, inherited or not. */
+void inherit_read(struct querier *querier, bool is_mld);
 /* Ends inherited memberships. */
 void inherit_settle(struct querier *querier);
 
