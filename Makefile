@@ -229,6 +229,8 @@ install: bin/mquerier lib/libmquerier.a lib/$(SONAME) $(CAPTURES) bin/mquerier-l
 	install -m 644 man/libmquerier.3 $(DESTDIR)$(PREFIX)/share/man/man3/libmquerier.3
 	install -m 755 bin/mquerier-live $(DESTDIR)$(PREFIX)/sbin/mquerier-live
 	sed 's|@PREFIX@|$(PREFIX)|; s|@SYSCONFDIR@|$(SYSCONFDIR)|' daemon/mquerier-live@.service.in > $(DESTDIR)$(UNITDIR)/mquerier-live@.service
+	sed 's|@PREFIX@|$(PREFIX)|; s|@SYSCONFDIR@|$(SYSCONFDIR)|' daemon/mquerier-route.service.in > $(DESTDIR)$(UNITDIR)/mquerier-route.service
+	test -e $(DESTDIR)$(SYSCONFDIR)/mquerier-live/route || install -m 644 daemon/route.example $(DESTDIR)$(SYSCONFDIR)/mquerier-live/route
 	test -e $(DESTDIR)$(SYSCONFDIR)/mquerier-live/options || install -m 644 daemon/options.example $(DESTDIR)$(SYSCONFDIR)/mquerier-live/options
 	install -m 644 man/mquerier-live.8 $(DESTDIR)$(PREFIX)/share/man/man8/mquerier-live.8
 

@@ -280,7 +280,7 @@ static const char *read_file(struct options *options) {
         words[count++] = word;
     size_t names = options->count;
     const char *why = read_words(options, count, words);
-    if (why == NULL && options->count != names)
+    if (why == NULL && options->count != names && !options->is_route)
         why = wrong("the file of options has a word that is none: ", options->names[names]);
     return why;
 }
@@ -294,6 +294,19 @@ static const char *finish_interface(struct options *options) {
     return options->has_own[!options->serves[0]] ? NULL : wrong("--own is needed", "");
 }
 
+/* Returns whether an interface downstream is named twice, or is upstream too. */
+static bool has_twice(const struct options *options) {
+    for (size_t at = 0; at < options->count; at++) {
+        for (size_t before = 0; before < at; before++)
+            if (strcmp(options->names[before], options->names[at]) == 0)
+                return true;
+        for (size_t above = 0; above < options->upstream.names_count; above++)
+            if (strcmp(options->upstream.names[above], options->names[at]) == 0)
+                return true;
+    }
+    return false;
+}
+
 /* Checks the words of `route`: interfaces downstream, and --upstream. */
 static const char *finish_route(struct options *options) {
     for (size_t at = 0; at < options->count; at++) {
@@ -302,6 +315,8 @@ static const char *finish_route(struct options *options) {
             return wrong(options->names[at], why);
         options->names[at] = options->interfaces[at].name;
     }
+    if (has_twice(options))
+        return wrong("an interface is named twice", "");
     if (options->count == 0 || options->upstream.names_count == 0)
         return wrong("route needs --upstream, and an interface downstream", "");
     if (options->count + options->upstream.names_count > GREATEST_VIFS)
