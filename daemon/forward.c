@@ -25,24 +25,34 @@ static unsigned parent_of(const struct querier *querier, const struct flow *flow
     return upstream == NO_UPSTREAM ? arrived : (unsigned)(route->downstream + upstream);
 }
 
-/* Returns the interfaces to which a flow from `parent` is forwarded. A router forwards to a link only as its querier. */
-static uint32_t wanted(const struct querier *querier, const struct flow *flow, unsigned parent) {
-    const struct route *route = querier->route;
-    size_t upstream = route_upstream(querier, flow->is_mld, flow->group);
-    bool is_from_upstream = parent >= route->downstream;
-    uint32_t to = 0;
-    if (route_is_of_link(flow->is_mld, flow->group, flow->source) || (is_from_upstream && upstream == NO_VIF))
-        return 0;
+/* Returns whether a flow from `parent` is forwarded to an interface downstream. A router forwards to a link only as its querier. */
+static bool wants(const struct querier *querier, const struct flow *flow, unsigned parent, size_t vif) {
+    bool is_from_upstream = parent >= querier->route->downstream;
+    if (vif == parent || route_is_of_link(flow->is_mld, flow->group, flow->source))
+        return false;
+    if (is_from_upstream && route_upstream(querier, flow->is_mld, flow->group) == NO_VIF)
+        return false;
     for (size_t at = 0; at < querier->room; at++) {
         const struct port *port = querier->ports + at;
         const struct served *served = &port->served[flow->is_mld];
-        if (port->index == 0 || !served->is_on)
-            continue;
-        size_t vif = route_vif_of(querier, port);
-        if (vif != parent && !(to >> vif & 1) && link_is_querier(&served->link) && forwards(&served->link, flow))
-            to |= UINT32_C(1) << vif;
+        if (port->index != 0 && route_vif_of(querier, port) == vif && served->is_on && link_is_querier(&served->link)
+            && forwards(&served->link, flow))
+            return true;
     }
-    return is_from_upstream || upstream == NO_VIF ? to : to | UINT32_C(1) << upstream;
+    return false;
+}
+
+/* Returns the interfaces to which an entry forwards by the links now. */
+static uint32_t wanted(const struct querier *querier, const struct route_entry *entry) {
+    const struct flow *flow = &entry->flow;
+    size_t upstream = route_upstream(querier, flow->is_mld, flow->group);
+    bool is_from_upstream = entry->parent >= querier->route->downstream;
+    uint32_t to = 0;
+    for (size_t vif = 0; vif < querier->route->downstream; vif++)
+        to |= (uint32_t)wants(querier, flow, entry->parent, vif) << vif;
+    if (!is_from_upstream && upstream != NO_VIF && !route_is_of_link(flow->is_mld, flow->group, flow->source))
+        to |= UINT32_C(1) << upstream;
+    return to;
 }
 
 /* Returns the entry's interfaces downstream. */
@@ -76,10 +86,9 @@ static void make_room(struct route *route, uint64_t now) {
     }
 }
 
-/* Makes an entry forward what the links want now. */
-static void correct(struct querier *querier, struct route_entry *entry) {
-    struct route *route = querier->route;
-    uint32_t to = wanted(querier, &entry->flow, entry->parent) | (entry->kept & ~(UINT32_C(1) << entry->parent));
+/* Makes an entry forward to some interfaces, and to those that it keeps. */
+static void direct(struct route *route, struct route_entry *entry, uint32_t to) {
+    to |= entry->kept & ~(UINT32_C(1) << entry->parent);
     if (to == entry->to && !entry->is_lost)
         return;
     int error = mroute_set(&route->tables[entry->flow.is_mld], &entry->flow, entry->parent, to);
@@ -90,13 +99,15 @@ static void correct(struct querier *querier, struct route_entry *entry) {
     entries_want(&route->entries, entry, downstream_of(route, to) != 0);
 }
 
-void forward_group(struct querier *querier, bool is_mld, const uint8_t *group, uint64_t now) {
+void forward_group(struct querier *querier, const struct port *port, bool is_mld, const uint8_t *group, uint64_t now) {
     struct route *route = querier->route;
+    size_t vif = route_vif_of(querier, port);
     struct route_entry *entry;
     for (size_t at = entries_of(&route->entries, is_mld, group); (entry = entries_at(&route->entries, at)) != NULL; at++) {
         if (entry->flow.is_mld != is_mld || memcmp(entry->flow.group, group, FLOW_ADDRESS) != 0)
             break;
-        correct(querier, entry);
+        uint32_t others = entry->to & ~(UINT32_C(1) << vif);
+        direct(route, entry, others | (uint32_t)wants(querier, &entry->flow, entry->parent, vif) << vif);
     }
     make_room(route, now);
 }
@@ -108,7 +119,7 @@ void forward_all(struct querier *querier, bool is_mld, bool is_lost, uint64_t no
         if (entry->flow.is_mld != is_mld)
             continue;
         entry->is_lost |= is_lost;
-        correct(querier, entry);
+        direct(route, entry, wanted(querier, entry));
     }
     make_room(route, now);
 }
@@ -125,7 +136,7 @@ static void meet(struct querier *querier, const struct flow *flow, unsigned arri
     entry->is_lost = true;
     if (entry->parent != arrived)
         fault(FAULT_ELSEWHERE, route->vifs[arrived].name, "a sender is not where the route to it leads");
-    correct(querier, entry);
+    direct(route, entry, wanted(querier, entry));
     is_used(route, entry, now); /* its first datagram is not a use that spares it */
     make_room(route, now);
 }
@@ -164,7 +175,7 @@ void forward_poll(struct querier *querier, size_t count, uint64_t now) {
             drop(route, entry);
             route->polled--;
         } else if (entry->is_lost) {
-            correct(querier, entry);
+            direct(route, entry, wanted(querier, entry));
         }
     }
 }

@@ -236,7 +236,7 @@ void route_follow(struct querier *querier, const struct port *port, bool is_mld,
     bool is_querier = link_is_querier(&port->served[is_mld].link);
     bool *was_querier = &route->was_querier[2 * (size_t)(port - querier->ports) + is_mld];
     for (size_t at = 0; at < count; at++) {
-        forward_group(querier, is_mld, querier->changed[at], now);
+        forward_group(querier, port, is_mld, querier->changed[at], now);
         wishes_update(querier, is_mld, querier->changed[at]);
     }
     if (*was_querier != is_querier)

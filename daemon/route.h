@@ -66,8 +66,8 @@ void wishes_renew(struct querier *querier, bool is_mld);
 void wishes_retry(struct querier *querier);
 void wishes_settle(struct querier *querier, bool is_mld);
 
-/* The entries (forward.c). Corrects the entries of a group, or of a family. */
-void forward_group(struct querier *querier, bool is_mld, const uint8_t *group, uint64_t now);
+/* The entries (forward.c). Corrects where the entries of a group forward to a port's interface; or all entries of a family. */
+void forward_group(struct querier *querier, const struct port *port, bool is_mld, const uint8_t *group, uint64_t now);
 void forward_all(struct querier *querier, bool is_mld, bool is_lost, uint64_t now);
 /* Reads the upcalls of a table. Returns whether some had to be left. */
 bool forward_hear(struct querier *querier, const struct mroute *table, uint64_t now);
