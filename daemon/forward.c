@@ -28,7 +28,7 @@ static unsigned parent_of(const struct querier *querier, const struct flow *flow
 /* Returns whether a flow from `parent` is forwarded to an interface downstream. A router forwards to a link only as its querier. */
 static bool wants(const struct querier *querier, const struct flow *flow, unsigned parent, size_t vif) {
     bool is_from_upstream = parent >= querier->route->downstream;
-    if (vif == parent || route_is_of_link(flow->is_mld, flow->group, flow->source))
+    if (vif == parent || route_is_of_link(flow->is_mld, flow->source))
         return false;
     if (is_from_upstream && route_upstream(querier, flow->is_mld, flow->group) == NO_VIF)
         return false;
@@ -50,7 +50,7 @@ static uint32_t wanted(const struct querier *querier, const struct route_entry *
     uint32_t to = 0;
     for (size_t vif = 0; vif < querier->route->downstream; vif++)
         to |= (uint32_t)wants(querier, flow, entry->parent, vif) << vif;
-    if (!is_from_upstream && upstream != NO_VIF && !route_is_of_link(flow->is_mld, flow->group, flow->source))
+    if (!is_from_upstream && upstream != NO_VIF && !route_is_of_link(flow->is_mld, flow->source))
         to |= UINT32_C(1) << upstream;
     return to;
 }
@@ -68,8 +68,9 @@ static void drop(struct route *route, struct route_entry *entry) {
 /* Reads the usage of an entry, and returns whether it was used since the last time. */
 static bool is_used(struct route *route, struct route_entry *entry, uint64_t now) {
     struct usage usage = entry->usage;
-    entry->is_lost = !mroute_usage(&route->tables[entry->flow.is_mld], &entry->flow, &entry->usage);
-    bool is_other = !entry->is_lost && usage.packets != entry->usage.packets;
+    bool is_there = mroute_usage(&route->tables[entry->flow.is_mld], &entry->flow, &entry->usage);
+    bool is_other = is_there && usage.packets != entry->usage.packets;
+    entry->is_lost |= !is_there;
     if (is_other)
         entries_use(&route->entries, entry, now);
     return is_other;
@@ -95,6 +96,7 @@ static void direct(struct route *route, struct route_entry *entry, uint32_t to) 
     if (error != 0)
         fault(FAULT_ROUTES, "entry", strerror(error));
     entry->is_lost = error != 0;
+    route->is_stale[entry->flow.is_mld] |= error != 0; /* it is tried again in a second */
     entry->to = to;
     entries_want(&route->entries, entry, downstream_of(route, to) != 0);
 }

@@ -55,7 +55,6 @@ const char *route_reload(struct querier *querier, const struct options *options,
     used->unused = options->unused;
     used->upcalls = options->upcalls;
     upstream_read_bounds(&querier->route->upstream);
-    querier->route->is_stale[false] = querier->route->is_stale[true] = true;
-    route_wake(querier, now);
+    route_renew(querier, now);
     return NULL;
 }

@@ -18,7 +18,7 @@
 enum { SECOND_MS = 1000, POLLS = 16 };
 static const char *const family_names[2] = {"IPv4 multicast routing", "IPv6 multicast routing"};
 
-/* Returns the scope of a group: 2 is its link, 14 is everywhere. All of 239.0.0.0/8 has 8. */
+/* Returns the scope of a group: 2 is its link, which the kernel keeps it to, 14 is everywhere. All of 239.0.0.0/8 has 8. */
 static unsigned scope_of(bool is_mld, const uint8_t *group) {
     if (is_mld)
         return group[1] & 15;
@@ -27,15 +27,14 @@ static unsigned scope_of(bool is_mld, const uint8_t *group) {
     return group[0] == 239 ? 8 : 14;
 }
 
-bool route_is_of_link(bool is_mld, const uint8_t *group, const uint8_t *source) {
-    bool is_source = is_mld ? source[0] == 0xfe && (source[1] & 0xc0) == 0x80 : source[0] == 169 && source[1] == 254;
-    return is_source || scope_of(is_mld, group) <= 2;
+bool route_is_of_link(bool is_mld, const uint8_t *source) {
+    return is_mld ? source[0] == 0xfe && (source[1] & 0xc0) == 0x80 : source[0] == 169 && source[1] == 254;
 }
 
 size_t route_upstream(const struct querier *querier, bool is_mld, const uint8_t *group) {
     unsigned scope = scope_of(is_mld, group);
     size_t found = prefixes_find(&querier->options->upstream, is_mld, group);
-    if (found == NO_UPSTREAM || scope <= 2 || scope < querier->options->scope)
+    if (found == NO_UPSTREAM || scope < querier->options->scope)
         return NO_VIF;
     return querier->route->downstream + found;
 }
@@ -44,8 +43,14 @@ size_t route_vif_of(const struct querier *querier, const struct port *port) {
     return (size_t)(port->bridge - querier->bridges);
 }
 
-void route_wake(struct querier *querier, uint64_t at) {
+static void wake(struct querier *querier, uint64_t at) {
     deadlines_set(&querier->deadlines, 2 * querier->room + DEADLINE_ROUTE, at);
+}
+
+void route_renew(struct querier *querier, uint64_t now) {
+    querier->route->is_stale[false] = querier->route->is_stale[true] = true;
+    querier->route->next_second = now;
+    wake(querier, now);
 }
 
 /* Opens the kernel's table of a family. Without it, the family is not served. */
@@ -118,7 +123,7 @@ void route_open(struct querier *querier) {
     route.was_querier = take(2 * querier->room, sizeof *route.was_querier);
     route_refresh(querier);
     inherit_entries(querier);
-    route_wake(querier, moment());
+    wake(querier, moment());
 }
 
 /* Adds an interface to the tables, or removes it, if it came or is gone. */
@@ -195,23 +200,27 @@ static void settle(struct querier *querier, bool is_mld) {
     inherit_settle(querier);
 }
 
+/* Does the duties of each second. */
+static void look_around(struct querier *querier, uint64_t now) {
+    struct route *route = querier->route;
+    route->next_second = now + SECOND_MS;
+    route_refresh(querier);
+    for (int at = 0; at < 2; at++)
+        settle(querier, at == 1);
+    for (int at = 0; at < 2; at++)
+        if (route->is_stale[at])
+            renew(querier, at == 1, now);
+    forward_poll(querier, route->entries.table.count / POLLS + 1, now);
+}
+
 void route_tick(struct querier *querier, uint64_t now) {
     struct route *route = querier->route;
     bool is_left = false;
-    if (now >= route->next_second) {
-        route->next_second = now + SECOND_MS;
-        route_refresh(querier);
-        for (int at = 0; at < 2; at++)
-            settle(querier, at == 1);
-        wishes_retry(querier);
-        forward_poll(querier, route->entries.table.count / POLLS + 1, now);
-    }
-    for (int at = 0; at < 2; at++) {
-        if (route->is_stale[at])
-            renew(querier, at == 1, now);
+    if (now >= route->next_second)
+        look_around(querier, now);
+    for (int at = 0; at < 2; at++)
         is_left |= forward_hear(querier, &route->tables[at], now);
-    }
-    route_wake(querier, is_left ? route->slice_ends : route->next_second);
+    wake(querier, is_left ? route->slice_ends : route->next_second);
 }
 
 bool route_hear(struct querier *querier, int file, uint64_t now) {
@@ -220,7 +229,7 @@ bool route_hear(struct querier *querier, int file, uint64_t now) {
         if (route->tables[at].file != file)
             continue;
         if (forward_hear(querier, &route->tables[at], now))
-            route_wake(querier, route->slice_ends);
+            wake(querier, route->slice_ends);
         return true;
     }
     return false;
@@ -265,6 +274,5 @@ void route_inherit(struct querier *querier, const struct port *port, bool is_mld
 }
 
 void route_forget(struct querier *querier) {
-    querier->route->is_stale[false] = querier->route->is_stale[true] = true;
-    route_wake(querier, moment());
+    route_renew(querier, moment());
 }

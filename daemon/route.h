@@ -45,8 +45,8 @@ void route_refresh(struct querier *querier);
 bool route_hear(struct querier *querier, int file, uint64_t now);
 /* Reads the usage of all entries. */
 void route_count(struct querier *querier, uint64_t now);
-/* Sets the time of the next `route_tick`. */
-void route_wake(struct querier *querier, uint64_t at);
+/* Makes the next `route_tick`, which is due at once, merge all groups again and correct all entries. */
+void route_renew(struct querier *querier, uint64_t now);
 /* Does the duties of each second, and of each slice while upcalls are waiting. */
 void route_tick(struct querier *querier, uint64_t now);
 
@@ -62,8 +62,6 @@ void wishes_merge(const struct querier *querier, bool is_mld, const uint8_t *gro
 void wishes_update(struct querier *querier, bool is_mld, const uint8_t *group);
 /* Merges all groups of a family again. */
 void wishes_renew(struct querier *querier, bool is_mld);
-/* Tries again what the kernel rejected. */
-void wishes_retry(struct querier *querier);
 void wishes_settle(struct querier *querier, bool is_mld);
 
 /* The entries (forward.c). Corrects where the entries of a group forward to a port's interface; or all entries of a family. */
@@ -77,8 +75,8 @@ void forward_poll(struct querier *querier, size_t count, uint64_t now);
 /* Returns the place of an interface upstream for a group, or NO_VIF if the group does not cross there. */
 enum { NO_VIF = GREATEST_VIFS };
 size_t route_upstream(const struct querier *querier, bool is_mld, const uint8_t *group);
-/* Returns whether a group or a source never leaves its link. */
-bool route_is_of_link(bool is_mld, const uint8_t *group, const uint8_t *source);
+/* Returns whether a source is known on its link only, so that nothing from it is forwarded. */
+bool route_is_of_link(bool is_mld, const uint8_t *source);
 size_t route_vif_of(const struct querier *querier, const struct port *port);
 
 #endif

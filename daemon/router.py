@@ -157,7 +157,7 @@ class Sender:
             one.setsockopt(level, socket.IPV6_MULTICAST_IF, index)
             one.setsockopt(level, socket.IPV6_MULTICAST_HOPS, 8)
         if source:
-            one.bind((source, 0))
+            one.bind((source, 0) if family == socket.AF_INET else (source, 0, 0, index))
         return one
 
     def send(self):

@@ -17,7 +17,7 @@
 #include <unistd.h>
 
 /* The settings of a bridge, each with the effect of a wrong value. */
-enum { SNOOPING, IGMP_VERSION, MLD_VERSION, HASH_MAX, QUERIER, ROUTER, SETTINGS };
+enum { SNOOPING, IGMP_VERSION, MLD_VERSION, HASH_MAX, QUERIER, SETTINGS };
 static const struct setting {
     const char *name;
     uint16_t type, width;
@@ -28,7 +28,6 @@ static const struct setting {
     [MLD_VERSION] = {"mcast_mld_version", IFLA_BR_MCAST_MLD_VERSION, 1, "it looks at no source"},
     [HASH_MAX] = {"mcast_hash_max", IFLA_BR_MCAST_HASH_MAX, 4, "with more entries it snoops no more"},
     [QUERIER] = {"mcast_querier", IFLA_BR_MCAST_QUERIER, 1, "it floods until it hears a querier"},
-    [ROUTER] = {"mcast_router", IFLA_BR_MCAST_ROUTER, 1, "it gives no sender at its ports to this router"},
 };
 static const struct setting router = {"mcast_router", IFLA_BRPORT_MULTICAST_ROUTER, 1,
                                       "a query that is heard there brings all groups there"};
@@ -41,7 +40,6 @@ static uint32_t wanted(const struct querier *querier, int which) {
     switch (which) {
     case IGMP_VERSION: return serves[false] ? 3 : 0;
     case MLD_VERSION: return serves[true] ? 2 : 0;
-    case ROUTER: return querier->options->is_route ? ROUTER_ALWAYS : ROUTER_NEVER;
     case QUERIER: return !querier->options->is_interface;
     case HASH_MAX:
         for (int at = 0; at < 2; at++)

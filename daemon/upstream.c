@@ -238,7 +238,7 @@ void upstream_set(struct upstream *it, const struct wish *wish, int index, const
         leave_all(it, join);
     join->index = index;
     int error = index == 0 ? 0 : set_parts(it, join, filter);
-    if (error == ENOBUFS || error == ENOMEM || error == EINVAL)
+    if (filter->count > 0 && (error == ENOBUFS || error == ENOMEM || error == EINVAL))
         error = set_wider(it, join);
     if (error != 0)
         fault(FAULT_JOINS, "upstream", strerror(error));

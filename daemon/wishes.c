@@ -34,8 +34,10 @@ void wishes_update(struct querier *querier, bool is_mld, const uint8_t *group) {
         fault(FAULT_WIDER, "upstream", "links want more sources of a group than memory is for: all are asked for");
     struct filter filter = merge_filter(&merged);
     upstream_set(&route->upstream, &wish, vif == NO_VIF ? 0 : route->vifs[vif].index, &filter);
-    if ((join = upstream_find(&route->upstream, &wish)) != NULL)
-        join->is_seen = true;
+    if ((join = upstream_find(&route->upstream, &wish)) == NULL)
+        return;
+    join->is_seen = true;
+    route->is_stale[is_mld] |= join->is_failed; /* it is tried again in a second */
 }
 
 /* Merges each group that a link has. */
@@ -61,17 +63,6 @@ void wishes_renew(struct querier *querier, bool is_mld) {
         memcpy(group, join->wish.group, sizeof group);
         if (join->wish.is_mld == is_mld && !join->is_seen)
             wishes_update(querier, is_mld, group);
-    }
-}
-
-void wishes_retry(struct querier *querier) {
-    struct table *joins = &querier->route->upstream.joins;
-    for (size_t left = joins->count; left > 0; left--) {
-        struct join *join = table_at(joins, left - 1);
-        uint8_t group[LONG_ADDRESS];
-        memcpy(group, join->wish.group, sizeof group);
-        if (join->is_failed)
-            wishes_update(querier, join->wish.is_mld, group);
     }
 }
 
