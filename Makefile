@@ -127,34 +127,41 @@ $(CAPTURES): lib/libmq_page.a include/libmquerier-captures.map | needs-library
 test: needs-test
 	@tools/gate test
 
-# The same of what changed since a commit, and which wrong bodies of that are refused: `make quick SINCE=COMMIT`. Where none is
-# named, it is the last one of origin/main below HEAD.
+# The same of what changed since a commit, and which wrong bodies of that are refused: `make quick SINCE=COMMIT`. If none is named,
+# it is the last one of origin/main below HEAD.
 quick: needs-test
-	@tools/gate quick $(SINCE)
+	@tools/gate quick
 
 # Has `rt ci` prove the crates that changed in the background, for the gate; called again, it says how far that is.
 kept: needs-gate
 	@tools/kept $(CRATES)
 
-# Shows that the contracts are strong: each wrong body of crates/*/wrong-bodies is refused.
+# Shows that the contracts are strong: each wrong body of crates/*/wrong-bodies is refused. After a stop it goes on with the others.
 mutants: needs-gate
 	@tools/gate mutants
 
 # A querier on Linux for an interface or for whole bridges, over the library, in C and outside of the proofs. `live-checked` is the
 # same with the compiler's checks of memory and of undefined behaviour, for tests.
-LIVE := $(wildcard daemon/*.c daemon/*.h)
-LIVE_FLAGS := -std=c99 -O2 -Wall -Wextra -Iinclude
+LIVE := $(wildcard daemon/*.c daemon/*.h) examples/frames.c examples/frames.h include/mquerier.h include/mquerier-link.h
+LIVE_FLAGS := -std=c99 -O2 -Wall -Wextra -Iinclude -Iexamples
+# It reads frames of anybody with privileges, so it is built with the compiler's defences. The flags of the user come last.
+HARDENED := -U_FORTIFY_SOURCE -D_FORTIFY_SOURCE=2 -fstack-protector-strong -fstack-clash-protection -fPIE
+HARDENED_LINKS := -pie -Wl,-z,relro,-z,now,-z,noexecstack
+ifneq ($(filter x86_64%,$(shell $(CC) -dumpmachine)),)
+HARDENED += -fcf-protection
+HARDENED_LINKS += -Wl,-z,shstk
+endif
 LIVE_CHECKS := -g -fno-omit-frame-pointer -fsanitize=address,undefined -fno-sanitize-recover
 live: bin/mquerier-live
 live-checked: bin/mquerier-live-checked
 
-bin/mquerier-live: $(LIVE) include/mquerier.h lib/libmquerier.a | needs-library
+bin/mquerier-live: $(LIVE) lib/libmquerier.a | needs-library
 	@mkdir -p bin
-	$(CC) $(LIVE_FLAGS) $(filter %.c,$^) lib/libmquerier.a -o $@
+	$(CC) $(LIVE_FLAGS) $(HARDENED) $(CPPFLAGS) $(CFLAGS) $(filter %.c,$^) lib/libmquerier.a $(HARDENED_LINKS) $(LDFLAGS) -o $@
 
-bin/mquerier-live-checked: $(LIVE) include/mquerier.h lib/libmquerier.a | needs-library
+bin/mquerier-live-checked: $(LIVE) lib/libmquerier.a | needs-library
 	@mkdir -p bin
-	$(CC) $(LIVE_FLAGS) $(LIVE_CHECKS) $(filter %.c,$^) lib/libmquerier.a -o $@
+	$(CC) $(LIVE_FLAGS) $(LIVE_CHECKS) $(CPPFLAGS) $(CFLAGS) $(filter %.c,$^) lib/libmquerier.a $(LDFLAGS) -o $@
 
 # The examples in C do what docs/EMBEDDING.md says; the querier on an interface serves hosts of the Linux kernel, and does what the
 # vectors say that are played to it, those that end within SECONDS. The last two want to be root, and the last one the program.
@@ -223,7 +230,7 @@ install: bin/mquerier lib/libmquerier.a lib/$(SONAME) $(CAPTURES) bin/mquerier-l
 	install -m 755 bin/mquerier $(DESTDIR)$(PREFIX)/bin/mquerier
 	install -m 644 lib/libmquerier.a lib/$(SONAME) $(CAPTURES) $(DESTDIR)$(PREFIX)/lib
 	ln -sf $(SONAME) $(DESTDIR)$(PREFIX)/lib/libmquerier.so
-	install -m 644 include/mquerier.h $(DESTDIR)$(PREFIX)/include/mquerier.h
+	install -m 644 include/mquerier.h include/mquerier-link.h $(DESTDIR)$(PREFIX)/include
 	sed 's|@PREFIX@|$(PREFIX)|; s|@VERSION@|$(VERSION)|' include/libmquerier.pc.in > $(DESTDIR)$(PREFIX)/lib/pkgconfig/libmquerier.pc
 	install -m 644 man/mquerier.1 $(DESTDIR)$(PREFIX)/share/man/man1/mquerier.1
 	install -m 644 man/libmquerier.3 $(DESTDIR)$(PREFIX)/share/man/man3/libmquerier.3

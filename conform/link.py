@@ -83,7 +83,7 @@ class Recording:
         while not self.is_over:
             try:
                 frame, told, _, source = self.packets.recvmsg(65600, 64)
-            except TimeoutError:
+            except socket.timeout:
                 continue
             except OSError:
                 self.is_over = True
@@ -133,14 +133,14 @@ class Sender:
         self.socket.bind((interface, 0))
 
     def play(self, wanted, began, is_over=lambda: False):
-        """Sends frames, each at its nanoseconds after `began` (of the monotonic clock); what can be called is called."""
+        """Sends frames, each at its nanoseconds after `began` (of the monotonic clock). It calls a function, and waits for None."""
         for moment, what in wanted:
             time.sleep(max(0, began + moment - time.monotonic_ns()) / 10**9)
             if is_over():
                 return
             if callable(what):
                 what()
-            else:
+            elif what:
                 self.socket.send(what)
 
     def burst(self, frames, rate, seconds):

@@ -2,10 +2,10 @@
 
 #include <string.h>
 
-struct filter filter_of(const struct link *link, const uint8_t *address) {
+struct filter filter_of(const mq_link *link, const uint8_t *address) {
     static uint8_t filtered[PAGE_SOURCES][LONG_ADDRESS];
     struct filter filter = {MODE_NONE, 0, (const uint8_t(*)[LONG_ADDRESS])filtered};
-    struct held group;
+    mq_group group;
     if (!link_group_at(link, address, &group))
         return filter;
     bool is_include = group.deadline == MQ_NONE;

@@ -22,7 +22,7 @@ struct filter {
 };
 
 /* Returns the filter of a group after the last call on a link. Its sources stand until the next call. */
-struct filter filter_of(const struct link *link, const uint8_t *group);
+struct filter filter_of(const mq_link *link, const uint8_t *group);
 /* Returns the filter that forwards what either of two filters forwards. Its sources stand until the next call. The two have at most
    PAGE_SOURCES sources together. */
 struct filter filter_join(const struct filter *one, const struct filter *other);

@@ -8,11 +8,6 @@
 /* An upcall is read in slices of time, so that a flood of senders leaves time for hosts. */
 enum { SLICE_MS = 10, SLICES = 1000 / SLICE_MS, TRIES = 64 };
 
-static bool forwards(const struct link *link, const struct flow *flow) {
-    return link->family->is_mld ? mq_mld_forwards(&link->mld, flow->group, flow->source)
-                                : mq_igmp_forwards(&link->igmp, flow->group, flow->source);
-}
-
 /* Returns the interface from which a flow is forwarded: that of the route to its source if it is downstream, else the upstream one of
    its group. */
 static unsigned parent_of(const struct querier *querier, const struct flow *flow, unsigned arrived) {
@@ -35,8 +30,8 @@ static bool wants(const struct querier *querier, const struct flow *flow, unsign
     for (size_t at = 0; at < querier->room; at++) {
         const struct port *port = querier->ports + at;
         const struct served *served = &port->served[flow->is_mld];
-        if (port->index != 0 && route_vif_of(querier, port) == vif && served->is_on && link_is_querier(&served->link)
-            && forwards(&served->link, flow))
+        if (port->index != 0 && route_vif_of(querier, port) == vif && served->is_on && mq_link_is_querier(&served->link)
+            && mq_link_forwards(&served->link, flow->group, flow->source))
             return true;
     }
     return false;

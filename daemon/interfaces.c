@@ -39,14 +39,10 @@ const char *interfaces_read(const char *words, struct interface_words *it) {
     return why;
 }
 
-void interfaces_configure(const struct interface_words *it, bool is_mld, union configuration *configuration) {
-    mq_igmp_config *igmp = &configuration->igmp;
-    mq_mld_config *mld = &configuration->mld;
-    uint32_t *const places[2][VARIABLES] = {
-        {&igmp->robustness, &igmp->query_interval, &igmp->response_interval, &igmp->last_member_interval},
-        {&mld->robustness, &mld->query_interval, &mld->response_interval, &mld->last_member_interval},
-    };
+void interfaces_configure(const struct interface_words *it, mq_config *configuration) {
+    uint32_t *const places[VARIABLES] = {&configuration->robustness, &configuration->query_interval,
+                                         &configuration->response_interval, &configuration->last_member_interval};
     for (int at = 0; at < VARIABLES; at++)
         if (it->variables[at] != 0)
-            *places[is_mld][at] = it->variables[at];
+            *places[at] = it->variables[at];
 }

@@ -19,6 +19,6 @@ struct interface_words {
 /* Reads the words. Returns NULL, or the reason why they are wrong. */
 const char *interfaces_read(const char *words, struct interface_words *interface);
 /* Puts an interface's own variables into a configuration. */
-void interfaces_configure(const struct interface_words *interface, bool is_mld, union configuration *configuration);
+void interfaces_configure(const struct interface_words *interface, mq_config *configuration);
 
 #endif

@@ -20,11 +20,11 @@ void keeper_begin(struct keeper *keeper, uint64_t settles) {
 }
 
 /* Returns whether the kernel always forwards a group, and accepts no entry for it: 224.0.0.0/24. */
-static bool is_always_forwarded(const struct link *link, const uint8_t *group) {
-    return !link->family->is_mld && group[0] == 224 && group[1] == 0 && group[2] == 0;
+static bool is_always_forwarded(const mq_link *link, const uint8_t *group) {
+    return !link->is_mld && group[0] == 224 && group[1] == 0 && group[2] == 0;
 }
 
-void keeper_update(struct keeper *keeper, const struct link *link, const struct place *place, const uint8_t *group) {
+void keeper_update(struct keeper *keeper, const mq_link *link, const struct place *place, const uint8_t *group) {
     struct row *row = rows_find(&keeper->rows, group);
     struct filter filter = filter_of(link, group);
     struct entry entry;
@@ -48,7 +48,7 @@ void keeper_update(struct keeper *keeper, const struct link *link, const struct 
     }
 }
 
-void keeper_settle(struct keeper *keeper, const struct link *link, const struct place *place) {
+void keeper_settle(struct keeper *keeper, const mq_link *link, const struct place *place) {
     keeper->settles = MQ_NONE;
     for (size_t left = keeper->rows.count; left > 0; left--) {
         struct row *row = keeper->rows.all + left - 1; /* from the last one on, because an update may remove a row */
@@ -66,7 +66,7 @@ void keeper_forget_seen(struct keeper *keeper) {
         keeper->rows.all[at].is_seen = false;
 }
 
-void keeper_note(struct keeper *keeper, const struct link *link, const struct entry *entry) {
+void keeper_note(struct keeper *keeper, const mq_link *link, const struct entry *entry) {
     bool is_known = rows_find(&keeper->rows, entry->group) != NULL;
     struct row *row = rows_put(&keeper->rows, entry->group);
     if (row == NULL)
@@ -83,8 +83,8 @@ void keeper_note(struct keeper *keeper, const struct link *link, const struct en
 }
 
 /* Makes the missing entries. */
-static void repair_missing(struct keeper *keeper, const struct link *link, const struct place *place) {
-    struct held groups[PAGE_GROUPS];
+static void repair_missing(struct keeper *keeper, const mq_link *link, const struct place *place) {
+    mq_group groups[PAGE_GROUPS];
     for (size_t first = 0, count = 1; count > 0; first += count) {
         count = link_groups(link, first, groups);
         for (size_t at = 0; at < count; at++)
@@ -93,7 +93,7 @@ static void repair_missing(struct keeper *keeper, const struct link *link, const
     }
 }
 
-void keeper_repair(struct keeper *keeper, const struct link *link, const struct place *place, bool is_whole) {
+void keeper_repair(struct keeper *keeper, const mq_link *link, const struct place *place, bool is_whole) {
     for (size_t left = keeper->rows.count; left > 0; left--) {
         struct row *row = keeper->rows.all + left - 1;
         uint8_t group[LONG_ADDRESS];

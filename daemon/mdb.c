@@ -11,8 +11,14 @@
 #include <linux/rtnetlink.h>
 #include <net/if.h>
 #include <netinet/in.h>
+#include <stdio.h>
 #include <stdlib.h>
 #include <string.h>
+#include <sys/utsname.h>
+
+#ifndef NLM_F_BULK /* headers before Linux 5.19 lack it */
+#define NLM_F_BULK 0x200
+#endif
 
 /* Numbers of attributes that older versions of <linux/if_bridge.h> lack. */
 enum { BESIDE_SOURCES = 2, BESIDE_MODE = 3, BESIDE_PROTOCOL = 4, LISTED_SOURCE = 1, SOURCE_ADDRESS = 1 };
@@ -77,6 +83,14 @@ static void put_beside(const struct place *place, struct request *request, const
     request_end_nest(request, beside);
 }
 
+static bool is_kernel_before(int major, int minor) {
+    struct utsname kernel;
+    int its_major, its_minor;
+    if (uname(&kernel) < 0 || sscanf(kernel.release, "%d.%d", &its_major, &its_minor) != 2)
+        return false;
+    return its_major < major || (its_major == major && its_minor < minor);
+}
+
 void mdb_try(int netlink, int bridge, const char *name) {
     struct request request;
     struct answer answer;
@@ -86,8 +100,11 @@ void mdb_try(int netlink, int bridge, const char *name) {
     size_t beside = request_begin_nest(&request, MDBA_SET_ENTRY_ATTRS);
     request_put(&request, BESIDE_PROTOCOL, &protocol, sizeof protocol);
     request_end_nest(&request, beside);
-    if (netlink_ask(netlink, &request, &answer) != 0)
-        fail(STATUS_FAILED, name, answer.why);
+    if (netlink_ask(netlink, &request, &answer) == 0)
+        return;
+    char why[LONGEST_WHY + 64];
+    snprintf(why, sizeof why, "%s%s", answer.why, is_kernel_before(6, 8) ? "; a bridge needs Linux 6.8 or later" : "");
+    fail(STATUS_FAILED, name, why);
 }
 
 void mdb_remove_all(const struct place *place) {

@@ -83,11 +83,10 @@ static const char HELP[] =
     "Status: 0 if a signal ended it, 1 if the interface, the bridge, memory or the output failed, 2 if the command line or\n"
     "the configuration is faulty or asks for help.\n";
 
-#define PLACE(field) \
-    { offsetof(mq_igmp_config, field), offsetof(mq_mld_config, field) }
+#define PLACE(field) offsetof(mq_config, field)
 static const struct {
     const char *name;
-    size_t places[2]; /* its offsets in the configurations of igmp and mld */
+    size_t place; /* its offset in a configuration */
 } NUMBERS[] = {
     {"rv", PLACE(robustness)},         {"qi", PLACE(query_interval)},
     {"qri", PLACE(response_interval)}, {"lmqi", PLACE(last_member_interval)},
@@ -150,7 +149,7 @@ static const char *read_limit(struct options *options, int which, const char *te
     if (!read_number(text, &number))
         return wrong("not a number below 2^32: ", text);
     for (int at = 0; at < 2; at++)
-        memcpy((uint8_t *)&options->configuration[at] + NUMBERS[which].places[at], &number, sizeof number);
+        memcpy((uint8_t *)&options->configuration[at] + NUMBERS[which].place, &number, sizeof number);
     return NULL;
 }
 
@@ -200,7 +199,7 @@ static const char *read_option(struct options *options, int found, int count, ch
     case UPCALLS: return read_between(&options->upcalls, optarg, 100, 1000000);
     case OWN6: return read_address(options, true, optarg);
     case FAMILY: return read_family(options, optarg);
-    case SSM: options->configuration[0].igmp.source_specific = options->configuration[1].mld.source_specific = true; break;
+    case SSM: options->configuration[0].source_specific = options->configuration[1].source_specific = true; break;
     case CHANGES: options->prints_changes = true; break;
     case MDB: return read_database(options, count, words);
     case PORTS: return read_ports(options, optarg);
@@ -334,7 +333,7 @@ const char *options_read(struct options *options, int count, char **words) {
                                 .unused = 180,
                                 .upcalls = 10000};
     for (int at = 0; at < 2; at++)
-        options->configuration[at] = family_defaults(at == 1, placeholders[at]);
+        options->configuration[at] = mq_config_defaults(at == 1, placeholders[at]);
     options->is_interface = count > 0 && strcmp(words[0], "interface") == 0;
     if (count > 0 && strcmp(words[0], "--help") == 0)
         return read_option(options, ASKED_HELP, count, words);

@@ -18,8 +18,8 @@ struct options {
     const char *names[GREATEST_BRIDGES];                 /* the interface, the bridges, or the interfaces and bridges downstream */
     struct interface_words interfaces[GREATEST_BRIDGES]; /* the words of `names`, for `route` */
     size_t count;
-    bool serves[2];                       /* igmp, mld */
-    union configuration configuration[2]; /* igmp, mld */
+    bool serves[2];             /* igmp, mld */
+    mq_config configuration[2]; /* igmp, mld */
     bool has_own[2];
     uint8_t own[2][16];
     bool prints_changes, sets_up;

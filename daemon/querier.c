@@ -2,6 +2,7 @@
 #include "querier.h"
 
 #include "faults.h"
+#include "hello.h"
 #include "route.h"
 #include "text.h"
 
@@ -31,18 +32,16 @@ uint64_t moment(void) {
 }
 
 /* Returns the configuration of a family, with the own address of the options if there is one. */
-static union configuration configured(const struct options *options, bool is_mld) {
-    union configuration configuration = options->configuration[is_mld];
-    if (options->has_own[is_mld] && is_mld)
-        memcpy(configuration.mld.own, options->own[is_mld], sizeof configuration.mld.own);
-    else if (options->has_own[is_mld])
-        memcpy(configuration.igmp.own, options->own[is_mld], sizeof configuration.igmp.own);
+static mq_config configured(const struct options *options, bool is_mld) {
+    mq_config configuration = options->configuration[is_mld];
+    if (options->has_own[is_mld])
+        memcpy(configuration.own, options->own[is_mld], sizeof configuration.own);
     return configuration;
 }
 
 const char *querier_fault(const struct options *options) {
     for (int at = 0; at < 2; at++) {
-        uint32_t status = options->serves[at] ? family_check(at == 1, configured(options, at == 1)) : MQ_DONE;
+        uint32_t status = options->serves[at] ? mq_config_status(configured(options, at == 1)) : MQ_DONE;
         if (status != MQ_DONE)
             return mq_status_text(status);
     }
@@ -58,9 +57,9 @@ void querier_open(struct querier *querier, struct options *options) {
     for (int at = 0; at < 2; at++) {
         if (!options->serves[at])
             continue;
-        family_open(&querier->families[at], at == 1, configured(options, at == 1));
-        if (groups < querier->families[at].groups)
-            groups = querier->families[at].groups;
+        family_open(&querier->families[at], configured(options, at == 1));
+        if (groups < querier->families[at].configuration.groups)
+            groups = querier->families[at].configuration.groups;
     }
     querier->changed = take(2 * groups, LONG_ADDRESS); /* all groups may end in one call, and as many begin */
     querier->ports = take(querier->room, sizeof *querier->ports);
@@ -71,8 +70,8 @@ void querier_open(struct querier *querier, struct options *options) {
         struct served *served = &querier->ports[at / 2].served[at % 2];
         if (!options->serves[at % 2])
             continue;
-        served->link = (struct link){.family = family, .memory = take(family->link_size, 1)};
-        keeper_open(&served->keeper, family->groups);
+        served->memory = take(family->link_size, 1);
+        keeper_open(&served->keeper, family->configuration.groups);
     }
 }
 
@@ -135,14 +134,14 @@ static void send_query(struct querier *querier, const struct port *port, bool is
         querier->sent++;
 }
 
-static void print_address(const struct link *link, const char *before, const uint8_t *address) {
+static void print_address(const mq_link *link, const char *before, const uint8_t *address) {
     char text[LONGEST_ADDRESS];
     fputs(before, stdout);
     fwrite(text, 1, (size_t)(link_put_address(link, text, address) - text), stdout);
 }
 
 /* Prints `T change G none`, `T change G include S ..` or `T change G exclude !S ..`. For bridges the port follows T. */
-static void print_change(const struct querier *querier, const struct port *port, const struct link *link, const uint8_t *group,
+static void print_change(const struct querier *querier, const struct port *port, const mq_link *link, const uint8_t *group,
                          struct filter filter, uint64_t now) {
     static const char *const modes[] = {[MODE_NONE] = " none", [MODE_INCLUDE] = " include", [MODE_EXCLUDE] = " exclude"};
     printf("%" PRIu64, now);
@@ -157,7 +156,7 @@ static void print_change(const struct querier *querier, const struct port *port,
 
 /* Prints for each group of a link that nothing is forwarded any longer. The link ends or begins again. */
 static void print_ends(const struct querier *querier, const struct port *port, const struct served *served, uint64_t now) {
-    struct held groups[PAGE_GROUPS];
+    mq_group groups[PAGE_GROUPS];
     if (!querier->options->prints_changes || !served->is_on)
         return;
     for (size_t first = 0, count = 1; count > 0; first += count) {
@@ -170,7 +169,7 @@ static void print_ends(const struct querier *querier, const struct port *port, c
 /* Sets the next deadline of a link. */
 static void set_deadline(struct querier *querier, const struct port *port, bool is_mld) {
     const struct served *served = &port->served[is_mld];
-    uint64_t next = served->is_on ? link_next_deadline(&served->link) : MQ_NONE;
+    uint64_t next = served->is_on ? mq_link_next_deadline(&served->link) : MQ_NONE;
     if (served->is_on && served->keeper.settles < next)
         next = served->keeper.settles;
     deadlines_set(&querier->deadlines, 2 * (size_t)(port - querier->ports) + is_mld, next);
@@ -178,9 +177,9 @@ static void set_deadline(struct querier *querier, const struct port *port, bool 
 
 /* Sends the queries that a call on a link wrote. */
 static void send_queries(struct querier *querier, struct port *port, bool is_mld, mq_answer answer, uint64_t now) {
-    const struct link *link = &port->served[is_mld].link;
+    const mq_link *link = &port->served[is_mld].link;
     mq_query query;
-    for (const uint8_t *at = link->family->queries; link_next_query(link, &at, answer, &query);)
+    for (size_t at = 0; mq_link_next_query(link, answer, &at, &query);)
         send_query(querier, port, is_mld, &query, now);
 }
 
@@ -203,27 +202,26 @@ static void follow(struct querier *querier, struct port *port, bool is_mld, uint
 
 /* Returns the milliseconds after which a link knows what hosts want. They have answered a startup query then, even if all but the
    last were lost (RFC 3376 sections 8.6 and 8.7, RFC 3810 sections 9.6 and 9.7). */
-static uint64_t settling(const struct family *family) {
-    const mq_igmp_config *igmp = &family->configuration.igmp;
-    const mq_mld_config *mld = &family->configuration.mld;
-    uint64_t robustness = family->is_mld ? mld->robustness : igmp->robustness;
-    uint64_t interval = SECOND * (uint64_t)(family->is_mld ? mld->query_interval : igmp->query_interval) / 4;
-    return (robustness - 1) * interval + (family->is_mld ? mld->response_interval : igmp->response_interval) + LATE;
+static uint64_t settling(const mq_config *it) {
+    uint64_t interval = SECOND * (uint64_t)it->query_interval / 4;
+    return (it->robustness - 1) * interval + it->response_interval + LATE;
 }
 
 void querier_begin(struct querier *querier, struct port *port, bool is_mld, uint64_t now) {
     struct served *served = &port->served[is_mld];
+    struct family *family = &querier->families[is_mld];
+    const struct bridge *bridge = port->bridge;
+    mq_config configuration = bridge->is_configured[is_mld] ? bridge->configuration[is_mld] : family->configuration;
     print_ends(querier, port, served, now);
     if (querier->route != NULL && served->is_on)
         route_inherit(querier, port, is_mld);
-    struct family *own = &port->bridge->families[is_mld];
-    served->link.family = own->memory != NULL ? own : &querier->families[is_mld];
-    uint32_t status = link_begin(&served->link, port->bridge->own[is_mld], now);
+    memcpy(configuration.own, port->bridge->own[is_mld], sizeof configuration.own);
+    uint32_t status = mq_link_init(configuration, now, served->memory, family->link_size, &family->workspace, &served->link);
     served->is_on = status == MQ_DONE;
     memcpy(served->own, port->bridge->own[is_mld], sizeof served->own);
     if (!served->is_on)
         fault(FAULT_MISSING, port->bridge->name, mq_status_text(status));
-    keeper_begin(&served->keeper, now + settling(served->link.family));
+    keeper_begin(&served->keeper, now + settling(&configuration));
     set_deadline(querier, port, is_mld);
 }
 
@@ -245,11 +243,11 @@ void querier_forget(struct querier *querier, struct port *port) {
 }
 
 /* Prints the result of a datagram. */
-static void print_answer(const struct querier *querier, const struct link *link, const struct datagram *datagram, mq_answer answer,
+static void print_answer(const struct querier *querier, const mq_link *link, const struct datagram *datagram, mq_answer answer,
                          uint64_t now) {
     char line[256], *to = put_number(put_text(put_number(line, now), " receive "), querier->heard);
     *to++ = ' ';
-    to = link_put_address(link, to, datagram->source);
+    to = link_put_address(link, to, datagram->envelope.source);
     if (answer.dropped != 0) {
         to = put_number(put_text(to, " dropped "), answer.dropped);
     } else {
@@ -267,16 +265,16 @@ static void print_answer(const struct querier *querier, const struct link *link,
 static void hear(struct querier *querier, struct port *port, const struct frame *frame, uint64_t now) {
     struct datagram datagram;
     enum carried carried = read_frame(frame->bytes, frame->length, &datagram);
-    if (carried == CARRIED_HELLO)
+    if (is_hello(&datagram))
         port->hello_until = now + SECOND * (uint64_t)hello_seconds(&datagram);
-    if (carried == CARRIED_NOTHING && !querier->options->is_interface)
+    else if (carried == CARRIED_NOTHING && !querier->options->is_interface)
         fault(FAULT_MALFORMED, port->name, "a frame without a whole message");
     if (carried == CARRIED_FRAGMENT && !querier->options->is_interface)
         fault(FAULT_FRAGMENTS, port->name, "a fragment of a message, which is not put together");
     bool is_mld = carried == CARRIED_DATAGRAM && datagram.is_ipv6;
     if (carried != CARRIED_DATAGRAM || !port->served[is_mld].is_on)
         return;
-    mq_answer answer = link_receive(&port->served[is_mld].link, &datagram, now);
+    mq_answer answer = mq_link_receive(&port->served[is_mld].link, &datagram.envelope, datagram.body, datagram.length, now);
     send_queries(querier, port, is_mld, answer, now);
     querier->heard++;
     if (querier->options->is_interface)
@@ -295,7 +293,7 @@ void querier_hear(struct querier *querier, uint64_t now) {
 
 /* Returns the Query Interval in milliseconds. Both families have the same. */
 static uint64_t query_interval(const struct querier *querier) {
-    return SECOND * (uint64_t)querier->options->configuration[false].igmp.query_interval;
+    return SECOND * (uint64_t)querier->options->configuration[false].query_interval;
 }
 
 void querier_watch_clock(struct querier *querier, uint64_t now) {
@@ -313,7 +311,7 @@ void querier_watch_clock(struct querier *querier, uint64_t now) {
 static void tick(struct querier *querier, struct port *port, bool is_mld, uint64_t now) {
     struct served *served = &port->served[is_mld];
     struct place place;
-    send_queries(querier, port, is_mld, link_tick(&served->link, now), now);
+    send_queries(querier, port, is_mld, mq_link_tick(&served->link, now), now);
     follow(querier, port, is_mld, now);
     if (served->keeper.settles <= now && querier_place(querier, port, is_mld, &place))
         keeper_settle(&served->keeper, &served->link, &place);

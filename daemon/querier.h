@@ -3,6 +3,7 @@
 #define QUERIER_H
 
 #include "deadlines.h"
+#include "frames.h"
 #include "keeper.h"
 #include "link.h"
 #include "netlink.h"
@@ -22,16 +23,18 @@ struct bridge {
     bool has_own[2];
     uint8_t own[2][LONG_ADDRESS]; /* the sources of queries, by family */
     bool is_missed[2];            /* a line said that there is none */
-    struct family families[2];    /* with variables of its own, or without memory */
-    int before;                   /* the file of the settings before --setup, or -1 */
-    int listening;                /* the socket of the status, or -1 */
+    bool is_configured[2];        /* it has a configuration of its own */
+    mq_config configuration[2];
+    int before;    /* the file of the settings before --setup, or -1 */
+    int listening; /* the socket of the status, or -1 */
 };
 
 /* A link of a port. */
 struct served {
     bool is_on;                /* the link has begun */
     uint8_t own[LONG_ADDRESS]; /* the own address that it began with */
-    struct link link;
+    mq_link link;
+    void *memory; /* the memory of `link` */
     struct keeper keeper;
 };
 

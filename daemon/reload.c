@@ -4,34 +4,37 @@
 #include <string.h>
 
 /* Returns the configuration of an interface. */
-static union configuration configured(const struct options *options, size_t at, bool is_mld) {
-    union configuration configuration = options->configuration[is_mld];
-    interfaces_configure(&options->interfaces[at], is_mld, &configuration);
+static mq_config configured(const struct options *options, size_t at, bool is_mld) {
+    mq_config configuration = options->configuration[is_mld];
+    interfaces_configure(&options->interfaces[at], &configuration);
     return configuration;
 }
 
 /* Returns the first fault of a configuration as text, or NULL. */
 static const char *fault_of(const struct options *options) {
     for (size_t at = 0; at < 2 * options->count; at++) {
-        uint32_t status = options->serves[at % 2] ? family_check(at % 2, configured(options, at / 2, at % 2)) : MQ_DONE;
+        uint32_t status = options->serves[at % 2] ? mq_config_status(configured(options, at / 2, at % 2)) : MQ_DONE;
         if (status != MQ_DONE)
             return mq_status_text(status);
     }
     return NULL;
 }
 
+/* Takes over the configuration of an interface. Returns whether its links have to begin again. */
+static bool take_over(struct bridge *bridge, bool is_mld, const mq_config *next) {
+    struct family family = {.configuration = bridge->configuration[is_mld]};
+    bool was_configured = bridge->is_configured[is_mld], is_other = family_retime(&family, next); /* the limits stay */
+    bridge->configuration[is_mld] = was_configured ? family.configuration : *next;
+    bridge->is_configured[is_mld] = true;
+    return was_configured && is_other;
+}
+
 const char *route_configure(struct querier *querier, const struct options *options, uint64_t now) {
     const char *why = fault_of(options);
     for (size_t at = 0; at < 2 * querier->bridges_count && why == NULL; at++) {
         struct bridge *bridge = &querier->bridges[at / 2];
-        struct family *family = &bridge->families[at % 2];
-        union configuration next = configured(options, at / 2, at % 2);
-        bool is_new = family->memory == NULL;
-        if (!querier->options->serves[at % 2])
-            continue;
-        if (is_new)
-            *family = querier->families[at % 2]; /* it shares the memory of calls */
-        if (!family_retime(family, &next) || is_new)
+        mq_config next = configured(options, at / 2, at % 2);
+        if (!querier->options->serves[at % 2] || !take_over(bridge, at % 2, &next))
             continue;
         for (size_t port = 0; port < querier->room; port++)
             if (querier->ports[port].bridge == bridge && querier->ports[port].served[at % 2].is_on)

@@ -13,15 +13,15 @@ static const char *const family_names[2] = {"igmp", "mld"};
 enum { COUNTERS = 7 };
 static const char *const counter_names[COUNTERS] = {"received", "dropped", "applied", "ignored", "refused", "sent", "unsent"};
 
-static void counters_of(const struct link *link, uint64_t counters[COUNTERS]) {
+static void counters_of(const mq_link *link, uint64_t counters[COUNTERS]) {
     mq_counts counts;
-    link_counts(link, &counts);
+    mq_link_counts(link, &counts, sizeof counts);
     const uint64_t found[COUNTERS] = {counts.received, counts.dropped, counts.applied, counts.ignored,
                                       counts.refused,  counts.sent,    counts.unsent};
     memcpy(counters, found, sizeof found);
 }
 
-static const char *address_text(const struct link *link, const uint8_t *address) {
+static const char *address_text(const mq_link *link, const uint8_t *address) {
     static char text[LONGEST_ADDRESS + 1];
     *link_put_address(link, text, address) = '\0';
     return text;
@@ -33,9 +33,9 @@ static uint64_t left(uint64_t deadline, uint64_t now) {
 }
 
 /* Calls `each` for each group of a link, and returns how many there are. */
-static size_t walk_groups(const struct link *link, void (*each)(const struct link *, const struct held *, size_t, uint64_t, FILE *),
+static size_t walk_groups(const mq_link *link, void (*each)(const mq_link *, const mq_group *, size_t, uint64_t, FILE *),
                           uint64_t now, FILE *to) {
-    struct held groups[PAGE_GROUPS];
+    mq_group groups[PAGE_GROUPS];
     size_t first = 0;
     for (size_t count = 1; count > 0; first += count) {
         count = link_groups(link, first, groups);
@@ -59,16 +59,16 @@ static const char *name_of(const struct querier *querier, const struct bridge *b
 }
 
 /* Prints who is querier on a link. */
-static void text_role(const struct link *link, uint64_t now, FILE *to) {
+static void text_role(const mq_link *link, uint64_t now, FILE *to) {
     uint8_t address[LONG_ADDRESS] = {0};
-    uint64_t until = link_other_querier(link, address);
-    if (link_is_querier(link) || until == MQ_NONE)
+    uint64_t until = mq_link_other_querier(link, address);
+    if (mq_link_is_querier(link) || until == MQ_NONE)
         fputs("querier", to);
     else
         fprintf(to, "other querier %s for %" PRIu64 " ms", address_text(link, address), left(until, now));
 }
 
-static void text_group(const struct link *link, const struct held *group, size_t number, uint64_t now, FILE *to) {
+static void text_group(const mq_link *link, const mq_group *group, size_t number, uint64_t now, FILE *to) {
     (void)number;
     fprintf(to, "    %s", address_text(link, group->address));
     if (group->deadline == MQ_NONE)
@@ -107,11 +107,11 @@ static void text_link(const struct port *port, bool is_mld, uint64_t now, FILE *
 }
 
 static void text_timing(const struct querier *querier, FILE *to) {
-    const union configuration *it = querier->options->configuration; /* both families have the same timing */
+    const mq_config *it = querier->options->configuration; /* both families have the same timing */
     fprintf(to,
             "robustness %" PRIu32 ", query interval %" PRIu32 " s, response interval %" PRIu32 " ms, last member interval %" PRIu32
             " ms\n",
-            it->igmp.robustness, it->igmp.query_interval, it->igmp.response_interval, it->igmp.last_member_interval);
+            it->robustness, it->query_interval, it->response_interval, it->last_member_interval);
 }
 
 static void report_text(const struct querier *querier, const struct bridge *bridge, uint64_t now, FILE *to) {
@@ -143,7 +143,7 @@ static void json_moment(const char *name, uint64_t deadline, uint64_t now, FILE 
         fprintf(to, ",\"%s\":%" PRIu64, name, left(deadline, now));
 }
 
-static void json_group(const struct link *link, const struct held *group, size_t number, uint64_t now, FILE *to) {
+static void json_group(const mq_link *link, const mq_group *group, size_t number, uint64_t now, FILE *to) {
     fprintf(to, "%s\n{\"group\":\"%s\",\"mode\":\"%s\"", number > 0 ? "," : "", address_text(link, group->address),
             group->deadline == MQ_NONE ? "include" : "exclude");
     json_moment("left", group->deadline, now, to);
@@ -164,8 +164,8 @@ static void json_link(const struct port *port, bool is_mld, uint64_t now, FILE *
     uint64_t counters[COUNTERS];
     fprintf(to, "\"%s\":{\"on\":%s", family_names[is_mld], served->is_on ? "true" : "false");
     if (served->is_on) {
-        uint64_t other = link_other_querier(&served->link, address);
-        const char *is_querier = link_is_querier(&served->link) ? "true" : "false";
+        uint64_t other = mq_link_other_querier(&served->link, address);
+        const char *is_querier = mq_link_is_querier(&served->link) ? "true" : "false";
         fprintf(to, ",\"own\":\"%s\",\"querier\":%s,\"entries\":%zu", address_text(&served->link, served->own), is_querier,
                 served->keeper.rows.count);
         json_moment("settles", served->keeper.settles, now, to);
@@ -196,7 +196,7 @@ static void json_port(const struct querier *querier, const struct port *port, bo
 }
 
 static void report_json(const struct querier *querier, const struct bridge *bridge, uint64_t now, FILE *to) {
-    const mq_igmp_config *it = &querier->options->configuration[0].igmp;
+    const mq_config *it = querier->options->configuration;
     bool is_first = true;
     fprintf(to,
             "{\"%s\":\"%s\",\"now\":%" PRIu64 ",\"robustness\":%" PRIu32 ",\"query_interval\":%" PRIu32
@@ -219,7 +219,7 @@ static void report_json(const struct querier *querier, const struct bridge *brid
     fputs("}\n", to);
 }
 
-static void count_group(const struct link *link, const struct held *group, size_t number, uint64_t now, FILE *to) {
+static void count_group(const mq_link *link, const mq_group *group, size_t number, uint64_t now, FILE *to) {
     (void)link, (void)group, (void)number, (void)now, (void)to;
 }
 
@@ -231,7 +231,7 @@ static uint64_t metric_of(const struct served *served, int which, FILE *to) {
     switch (which) {
     case GROUPS: return walk_groups(&served->link, count_group, 0, to);
     case ENTRIES: return served->keeper.rows.count;
-    case IS_QUERIER: return link_is_querier(&served->link);
+    case IS_QUERIER: return mq_link_is_querier(&served->link);
     default: counters_of(&served->link, counters); return counters[which];
     }
 }

@@ -82,7 +82,7 @@ static size_t open_tables(struct querier *querier) {
     for (int at = 0; at < 2; at++) {
         if (serves[at])
             open_table(querier, at == 1);
-        groups += serves[at] ? querier->families[at].groups * querier->room : 0;
+        groups += serves[at] ? querier->families[at].configuration.groups * querier->room : 0;
     }
     if (!serves[0] && !serves[1])
         fail(STATUS_FAILED, "route", "the kernel routes multicast of neither family");
@@ -242,7 +242,7 @@ void route_count(struct querier *querier, uint64_t now) {
 
 void route_follow(struct querier *querier, const struct port *port, bool is_mld, size_t count, uint64_t now) {
     struct route *route = querier->route;
-    bool is_querier = link_is_querier(&port->served[is_mld].link);
+    bool is_querier = mq_link_is_querier(&port->served[is_mld].link);
     bool *was_querier = &route->was_querier[2 * (size_t)(port - querier->ports) + is_mld];
     for (size_t at = 0; at < count; at++) {
         forward_group(querier, port, is_mld, querier->changed[at], now);
@@ -255,7 +255,7 @@ void route_follow(struct querier *querier, const struct port *port, bool is_mld,
 
 void route_inherit(struct querier *querier, const struct port *port, bool is_mld) {
     struct route *route = querier->route;
-    struct held groups[PAGE_GROUPS];
+    mq_group groups[PAGE_GROUPS];
     struct wish wish = {.is_mld = is_mld};
     struct route_entry *entry;
     for (size_t first = 0, count = 1; count > 0; first += count) {

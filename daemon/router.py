@@ -180,8 +180,12 @@ class Running:
     """A running process in a namespace, whose lines on standard error are kept."""
 
     def __init__(self, space, *words):
+        words = ["ip", "netns", "exec", space, *words]
+        # with LD_PRELOAD, a program with the compiler's checks has another library first
+        environment = {**os.environ, "ASAN_OPTIONS": "verify_asan_link_order=0"}
+        how = {"stdout": subprocess.DEVNULL, "stderr": subprocess.PIPE, "text": True, "env": environment}
         # pylint: disable-next=consider-using-with
-        self.process = subprocess.Popen(["ip", "netns", "exec", space, *words], stdout=subprocess.DEVNULL, stderr=subprocess.PIPE, text=True)
+        self.process = subprocess.Popen(words, **how)
         self.errors = []
         self.thread = threading.Thread(target=lambda: self.errors.extend(self.process.stderr), daemon=True)
         self.thread.start()

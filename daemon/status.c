@@ -12,6 +12,7 @@
 #include <string.h>
 #include <sys/socket.h>
 #include <sys/stat.h>
+#include <sys/syscall.h>
 #include <sys/un.h>
 #include <sys/wait.h>
 #include <unistd.h>
@@ -56,7 +57,7 @@ static void serve(struct querier *querier, const struct bridge *bridge, int read
     char form = 't';
     sigset_t none;
     dup2(reader, STDIN_FILENO);
-    close_range(STDERR_FILENO + 1, ~0U, 0); /* closes the querier's files */
+    syscall(__NR_close_range, STDERR_FILENO + 1, ~0U, 0); /* closes the querier's files */
     sigemptyset(&none);
     sigprocmask(SIG_SETMASK, &none, NULL);
     signal(SIGPIPE, SIG_DFL);

@@ -41,12 +41,12 @@ void wishes_update(struct querier *querier, bool is_mld, const uint8_t *group) {
 }
 
 /* Merges each group that a link has. */
-static void renew_link(struct querier *querier, const struct link *link) {
-    struct held groups[PAGE_GROUPS];
+static void renew_link(struct querier *querier, const mq_link *link) {
+    mq_group groups[PAGE_GROUPS];
     for (size_t first = 0, count = 1; count > 0; first += count) {
         count = link_groups(link, first, groups);
         for (size_t at = 0; at < count; at++)
-            wishes_update(querier, link->family->is_mld, groups[at].address);
+            wishes_update(querier, link->is_mld, groups[at].address);
     }
 }
 

@@ -1,26 +1,13 @@
 """Edits of functions: where each stands, and the ways in which it is tried."""
 
 import copy
-import functools
 import glob
 import os
-import re
 
 from answers import MOST_WAYS, answers_in, is_only_order, turned, turns, ways
-from closure import function_of
+from functions import functions_in
 from repository import TOP, put, text_of
 from verdicts import HOLDS, REFUSED, UNDECIDED, Heard
-
-FUNCTION = re.compile(r"\bfn (\w+)")
-
-
-def first_line(text, head):
-    """Returns the line in which a function begins. Attributes and comments right above the function belong to it."""
-    lines = text[: head.start()].split("\n")
-    at = len(lines)
-    while at > 1 and lines[at - 2].strip().startswith(("#[", "//")):
-        at -= 1
-    return at
 
 
 def read_edit(path):
@@ -40,21 +27,20 @@ def once(text, pairs):
 
 
 class Edit:
-    """An edit of one function: the crate, the file, the texts, and the lines of the function."""
+    """An edit of one function: the crate, the file, the texts, the function, and its lines and path in the checker."""
 
     def __init__(self, crate, path):
         self.crate, self.path, self.is_right = crate, os.path.relpath(path, TOP), "/right-bodies/" in path
         self.name = f"{crate}/{os.path.basename(path).removesuffix('.edit')}"
         self.file, self.pairs = read_edit(path)
         text = text_of(f"{TOP}/crates/{crate}/{self.file}")
-        heads = list(FUNCTION.finditer(text))
-        changed = {sum(it.start() <= left.find(old) for it in FUNCTION.finditer(left)) - 1 for left, old in once(text, self.pairs)}
-        if len(changed) != 1 or -1 in changed:
+        places = [left.count("\n", 0, left.find(old)) + 1 for left, old in once(text, self.pairs)]
+        heads = [it for it in functions_in(crate) if it.file == self.file]
+        found = {sum(it.at <= place for it in heads) - 1 for place in places}
+        if len(found) != 1 or -1 in found:
             raise ValueError("it changes no function, or more than one")
-        (at,) = changed
-        begins = [*(first_line(text, it) for it in heads), text.count("\n") + 2]
-        self.function, self.lines = heads[at][1], range(begins[at], begins[at + 1])
-        self.text = "\n".join(text.split("\n")[begins[at] - 1 : begins[at + 1] - 1]).strip()
+        self.of = heads[found.pop()]
+        self.function, self.lines, self.function_path = self.of.name, self.of.lines, f"{crate}::{self.of.path}"
         self.begin()
 
     def of_nothing(self):
@@ -63,11 +49,6 @@ class Edit:
         made.begin()
         made.name, made.pairs, made.is_right = f"{self.crate}/{self.function} as it stands", [], True
         return made
-
-    @functools.cached_property
-    def function_path(self):
-        """Returns the path of the function in the checker."""
-        return f"{self.crate}::{function_of(self).path}"
 
     def is_of_its_proof(self, file):
         """True if a file belongs to the function's proof. If the function calls itself, its folder has a plus before the name."""

@@ -184,25 +184,22 @@ class Kit:
         text = text_of(f"{self.kept.place(crate, tests, key)}/made.json") if self.kept.at else None
         return None if text is None else [tuple(it) for it in json.loads(text)["files"]]
 
-    def run_in(self, place, words):
-        """Runs `rattle` in a folder with the lowest priority; returns its status and output."""
-        how = {"stdin": subprocess.DEVNULL, "stdout": subprocess.PIPE, "stderr": subprocess.STDOUT, "errors": "replace"}
-        ran = subprocess.run([*self.guard, "nice", "-n", "10", self.rt.rtlib.RATTLE, *words], cwd=place, text=True, check=False, **how)
-        return ran.returncode, ran.stdout
-
-    def call(self, crate, words, told=None, later=False):
-        """Runs `rattle` in a crate's folder, and passes each line of its output to `told`. Returns its status and its lines."""
-        how = {"stdin": subprocess.DEVNULL, "stdout": subprocess.PIPE, "stderr": subprocess.STDOUT, "errors": "replace"}
-        before = [*self.guard, *(["nice", "-n", "10"] if later else [])]
-        ran, lines = subprocess.Popen([*before, self.rt.rtlib.RATTLE, *words], cwd=crate.folder, text=True, **how), []
+    def call(self, folder, words, told=None, later=False):
+        """Runs a command in a folder, with the lowest priority if `later`, and passes each line of its output to `told`. Returns its status and
+        its lines."""
+        how = {"stdin": subprocess.DEVNULL, "stdout": subprocess.PIPE, "stderr": subprocess.STDOUT, "text": True, "errors": "replace"}
+        ran, lines = subprocess.Popen([*self.guard, *(["nice", "-n", "10"] if later else []), *words], cwd=folder, **how), []
         for line in ran.stdout:
             lines.append(line.rstrip("\n"))
             if told:
                 told(line)
         _, status, used = os.wait4(ran.pid, 0)
-        ran.returncode = os.waitstatus_to_exitcode(status)
-        self.spent[crate.name] = self.spent.get(crate.name, 0) + used.ru_utime + used.ru_stime
+        ran.returncode, name = os.waitstatus_to_exitcode(status), os.path.basename(folder)
+        self.spent[name] = self.spent.get(name, 0) + used.ru_utime + used.ru_stime
         return ran.returncode, lines
+
+    def rattle(self, crate, words, told=None, later=False):
+        return self.call(crate.folder, [self.rt.rtlib.RATTLE, *words], told, later)
 
     def library(self, name, jobs, told=None, later=False):
         """Proves a library and builds it, unless that is done. Returns the status and the output."""
@@ -225,12 +222,12 @@ class Kit:
     def proved_library(self, crate, rlib, jobs, told, later):
         words = crate.words(["--jobs", str(jobs)])
         if self.has_kept_work(crate.name):
-            return self.call(crate, ["build", *words, *CARRIES_ON, "-o", rlib], told, later)
+            return self.rattle(crate, ["build", *words, *CARRIES_ON, "-o", rlib], told, later)
         checked = f"{crate.folder}/out/checked"
-        status, lines = self.call(crate, ["check", *words, "--progress", "--statements", "-o", checked], told, later)
+        status, lines = self.rattle(crate, ["check", *words, "--progress", "--statements", "-o", checked], told, later)
         if not status:
             words = without(words, "--logic-built", "--jobs")
-            status, more = self.call(crate, ["build", *words, "--crate-checked", checked, "-o", rlib], told, later)
+            status, more = self.rattle(crate, ["build", *words, "--crate-checked", checked, "-o", rlib], told, later)
             lines = [*lines, *more] if status else lines
         shutil.rmtree(checked, ignore_errors=True)
         return status, lines
@@ -251,24 +248,19 @@ class Kit:
         words, checked = crate.words(["--jobs", str(jobs)]), f"{crate.folder}/out/checked"
         toolchain = ["--toolchain", f"{self.rt.KIT}/toolchain", "--backend", "llvm"]
         if self.has_kept_work(crate.name):
-            status, lines = self.call(crate, ["build", *words, *CARRIES_ON, *toolchain, "-o", f"{file}.o"], told, later)
+            status, lines = self.rattle(crate, ["build", *words, *CARRIES_ON, *toolchain, "-o", f"{file}.o"], told, later)
         else:
-            status, lines = self.call(crate, ["check", *words, "--progress", "-o", checked], told, later)
+            status, lines = self.rattle(crate, ["check", *words, "--progress", "-o", checked], told, later)
             if not status:
                 words = [*without(words, "--logic-built", "--jobs"), "--crate-checked", checked]
-                status, more = self.call(crate, ["build", *words, *toolchain, "-o", f"{file}.o"], told, later)
+                status, more = self.rattle(crate, ["build", *words, *toolchain, "-o", f"{file}.o"], told, later)
                 lines = [*lines, *more] if status else lines
         shutil.rmtree(checked, ignore_errors=True)
         return (crate.link(f"out/{crate.name}.o", f"out/{crate.name}") if not status else status), lines
 
     def tests(self, name, told=None, later=False):
         """Proves and runs the tests of a crate. Returns the status and the output."""
-        how = {"stdin": subprocess.DEVNULL, "stdout": subprocess.PIPE, "stderr": subprocess.STDOUT, "errors": "replace"}
-        words = [*self.guard, *(["nice", "-n", "10"] if later else []), "rt", "test"]
-        ran = subprocess.run(words, cwd=self.crates[name].folder, text=True, check=False, **how)
-        for line in ran.stdout.splitlines(True) if told else ():
-            told(line)
-        return ran.returncode, ran.stdout.splitlines()
+        return self.call(self.crates[name].folder, ["rt", "test"], told, later)
 
     def archive(self, name, target, jobs, told=None, later=False):
         """Proves a static library and compiles it for a processor into out/libNAME.a, unless that is done. The next processor uses the same
@@ -277,10 +269,7 @@ class Kit:
         file = f"{self.out(name)}/lib{name}.a"
         if self.is_made(file, key):
             return 0, []
-        os.makedirs(self.out(name), exist_ok=True)
-        words = [*crate.words(["--jobs", str(jobs), "--target", target]), *CARRIES_ON]
-        toolchain = ["--toolchain", f"{self.rt.KIT}/toolchain", "--backend", "llvm"]
-        status, lines = self.call(crate, ["build", *words, *toolchain, "-o", file], told, later)
+        status, lines = self.call(crate.folder, ["rt", "lib", "--jobs", str(jobs), "--target", target], told, later)
         if not status:
             self.made(file, key)
         return status, lines

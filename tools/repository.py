@@ -9,6 +9,8 @@ import subprocess
 TOP = os.path.dirname(os.path.dirname(os.path.abspath(__file__)))
 PROGRAM, LIBRARY, PAGE = "mquerier", "mq_c", "mq_page"
 PARTS = ("src", "specs", "proofs")
+# The commits that landed last are at most so many hours older than HEAD.
+HOURS = 8
 
 
 def text_of(file):
@@ -91,11 +93,19 @@ def files_changed_since(commit):
 
 
 def commit_before():
-    """Returns the last commit of origin/main below HEAD. If nothing changed since, or there is none, it is the one before HEAD."""
+    """Returns the commit that SINCE names, or else the last one of origin/main below HEAD. If nothing changed since, as in a fresh clone of
+    main, it is the last commit before the HOURS hours before HEAD, or the first commit."""
+    if named := os.environ.get("SINCE"):
+        found = git("rev-parse", "--verify", "--quiet", f"{named}^{{commit}}")
+        if not found:
+            raise ValueError(f"git knows no commit {named}")
+        return found.strip()
     base = (git("merge-base", "HEAD", "origin/main") or "").strip()
     if base and files_changed_since(base):
         return base
-    return (git("rev-parse", "HEAD~1") or git("rev-parse", "HEAD") or "").strip()
+    before = int(git("log", "-1", "--format=%ct") or 0) - 3600 * HOURS
+    older = git("rev-list", "-1", "--first-parent", f"--before={before}", "HEAD")
+    return (older or git("rev-list", "--max-parents=0", "HEAD") or "HEAD").split()[0]
 
 
 def text_in(commit, file):

@@ -3,8 +3,7 @@ The contracts stay, and the edited functions need no more of them."""
 
 import os
 
-from closure import function_of
-from items import all_crates, words
+from functions import functions_in
 from repository import put
 
 STUB = """use Rattle.{crate}.proofs.{path}.Statement.{{statement}}
@@ -14,23 +13,13 @@ pub {name}_spec : {{M : Type 1}} → statement M
 """
 
 
-def functions_of(crate):
-    """Returns the functions of a crate that have bodies, by their paths in the checker. The value is True if the function calls itself."""
-    return {f"{crate}::{it.path}": it.name in words(it.rest) for it in all_crates()[crate].functions() if it.rest.strip()}
-
-
-def path_of(edit):
-    """Returns the path of an edit's function in the checker."""
-    return f"{edit.crate}::{function_of(edit).path}"
-
-
-def stub(folder, crate, functions, but):
-    """Leaves out the proofs of a crate's functions in a copy of the crate, except those of `but`. A function that calls itself keeps its
-    proof, which covers a whole cycle."""
-    for path, calls_itself in functions.items():
-        if path in but or calls_itself:
+def stub(folder, crate, but):
+    """Leaves out the proofs of a crate's functions in a copy of the crate, except those of the paths `but`. A function that calls itself
+    keeps its proof, which covers a whole cycle."""
+    for it in functions_in(crate):
+        if it.body is None or it.calls_itself or f"{crate}::{it.path}" in but:
             continue
-        steps = path.split("::")[1:]
+        steps = it.path.split("::")
         at = f"{folder}/proofs/{'/'.join(steps)}"
         for file in os.listdir(at) if os.path.isdir(at) else []:
             if file.endswith(".antt"):

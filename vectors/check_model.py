@@ -5,6 +5,8 @@ the two at the end. It walks through the events of each group or source apart, a
 capture, and `check_taking` that about the querier which the capture names.
 """
 
+from __future__ import annotations
+
 import copy
 import dataclasses
 

@@ -2,6 +2,8 @@
 choices of docs/DECISIONS.md. `replay` gives the text of a capture. It is slow and plain: maps, sets, no order of search.
 """
 
+from __future__ import annotations
+
 import dataclasses
 
 from wire import IGMP, CaptureFault, Fault, address, code_of, moments, opened, query, read, text_of, unwrap, with_checksum

@@ -3,6 +3,8 @@
 Addresses are `bytes`, 4 of them in IGMP and 16 in MLD; moments and spans are milliseconds.
 """
 
+from __future__ import annotations
+
 import dataclasses
 import functools
 import ipaddress

@@ -3,7 +3,7 @@
    length in two bytes. Sequence numbers of netlink are corrected. */
 #define _GNU_SOURCE
 #include "faults.h"
-#include "frames.h"
+#include "hello.h"
 #include "inherit.h"
 #include "ports.h"
 
@@ -53,7 +53,7 @@ static void read_as_frame(void) {
     uint8_t *frame = copy + sizeof copy - (end - at); /* it ends where the memory ends */
     memcpy(frame, input + at, end - at);
     enum carried carried = read_frame(frame, end - at, &datagram);
-    if (carried == CARRIED_HELLO)
+    if (is_hello(&datagram))
         hello_seconds(&datagram);
     if (carried == CARRIED_DATAGRAM && datagram.length > 0)
         memcpy(copy, datagram.body, datagram.length);

@@ -9,7 +9,7 @@
 #include <string.h>
 
 /* No link is tried here: filters are made. */
-bool link_group_at(const struct link *link, const uint8_t *address, struct held *group) {
+bool link_group_at(const mq_link *link, const uint8_t *address, mq_group *group) {
     (void)link, (void)address, (void)group;
     return false;
 }

@@ -31,9 +31,8 @@ def tries(top):
 
 def ended(top):
     """Waits for the end of the last run in the background."""
-    for _ in range(100):
-        if "at work" not in run(top, f"{top}/tools/kept")[1]:
-            return
+    process = f"/proc/{taken(f'{top}/bin/kept.pid').strip()}/cmdline"
+    while os.path.exists(process) and taken(process):
         time.sleep(0.1)
 
 
@@ -48,11 +47,8 @@ def keeps(top):
     put(f"{top}/said", "rt: FAILED: low\n6 passed, 1 failed\n")
     put(f"{top}/status", "1")
     run(top, f"{top}/tools/kept", "low")
-    for _ in range(100):
-        status, said = run(top, f"{top}/tools/kept", "low")
-        if status:
-            break
-        time.sleep(0.1)
+    ended(top)
+    status, said = run(top, f"{top}/tools/kept", "low")
     want(status == 1 and "the last run failed" in said, "a run that fails", said)
     want(run(top, f"{top}/tools/kept", "no-such-crate")[0] == 2, "a crate that isn't there", "")
     module = taken(f"{top}/kit/bin/rt")

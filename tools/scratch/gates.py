@@ -76,7 +76,7 @@ def tries_edits_beside(top):
     both, printed = gate(top, "test", "drawn")
     count = lambda it: int(it[1].split()[0])
     want((both[0], count(both)) == (0, count(alone) + 2), "the edits beside the proofs are not counted", printed)
-    want(taken(f"{top}/runs").count("beside --drawn ") == 1, "edits are tried once, beside `rt ci`", taken(f"{top}/runs"))
+    want(taken(f"{top}/runs").count("beside --drawn HEAD ") == 1, "edits are tried once, beside `rt ci`", taken(f"{top}/runs"))
     put(f"{top}/status", "1")
     put(f"{top}/said", "6 passed, 1 failed\n")
     put(f"{top}/tools/wrong-bodies", '#!/bin/sh\n[ "$1" = --fit ] || sleep 30\necho 2 passed, 0 failed\n', 0o755)
@@ -89,7 +89,7 @@ def tries_edits_beside(top):
 def quick_gate(top, *words):
     """Returns the status of a quick gate, its proofs and its runs of the program."""
     put(f"{top}/order", "")
-    status, said = run(top, f"{top}/tools/gate", "quick", *words)
+    status, said = run(top, "env", *words, f"{top}/tools/gate", "quick")
     return status, sorted(taken(f"{top}/order").splitlines()), said
 
 
@@ -117,21 +117,43 @@ def quick_gates(top):
         want(ended[:2] == (0, order), f"a quick gate where {name} changed", ended)
         is_run = "make\n" in taken(f"{top}/runs")
         want(is_run == (name != "beside"), f"the runs of the program where {name} changed", ended)
-        ended = quick_gate(top, "HEAD")
+        ended = quick_gate(top, "SINCE=HEAD")
         want(ended[:2] == (0, []), f"a quick gate over what the last one proved, where {name} changed", ended)
         run(top, f"{top}/tools/build", "--crates", "mquerier")
         committed(top)
     put(f"{top}/runs", "")
-    ended = quick_gate(top, "HEAD")
+    ended = quick_gate(top, "SINCE=HEAD")
     want(ended[:2] == (0, []) and "make\n" not in taken(f"{top}/runs"), "a quick gate where nothing changed", ended)
     shutil.rmtree(f"{top}/crates/beside/out")
     put(f"{top}/crates/beside/wrong-bodies/it.edit", "")
     committed(top)
     put(f"{top}/runs", "")
-    ended = quick_gate(top, "HEAD")
+    ended = quick_gate(top, "SINCE=HEAD")
     want(ended[:2] == (0, ["beside build", "beside check"]), "a quick gate where nothing was left of a crate", ended)
     want("tools/compiled\n" not in taken(f"{top}/runs"), "edits are compiled where nothing changed", ended)
     put(f"{top}/crates/right/fails", "")
     put(f"{top}/crates/right/src/lib.rt", "fn h() {}\n")
-    want(quick_gate(top, "HEAD")[0] == 1, "a quick gate where a crate isn't proved", "")
-    want(quick_gate(top, "no-such-commit")[0] == 2, "a quick gate since no commit", "")
+    want(quick_gate(top, "SINCE=HEAD")[0] == 1, "a quick gate where a crate isn't proved", "")
+    want(quick_gate(top, "SINCE=no-such-commit")[0] == 2, "a quick gate since no commit", "")
+
+
+def commit_of_a_quick_gate(top):
+    """Checks the commit of a quick gate in a repository with commits that are 20 hours, 10 hours and an hour old."""
+    clone, now, made = f"{top}/clone", int(time.time()), []
+    put(f"{clone}/tools/repository.py", taken(f"{TOOLS}/repository.py"))
+    git(clone, "init", "--quiet")
+    for hours in (20, 10, 1):
+        put(f"{clone}/file", f"{hours}\n")
+        git(clone, "add", "--all")
+        date = f"GIT_COMMITTER_DATE=@{now - 3600 * hours}"
+        run(top, "env", date, "git", "-C", clone, "-c", "user.name=it", "-c", "user.email=it@localhost", "commit", "--quiet", "--message", "it")
+        made.append(run(top, "git", "-C", clone, "rev-parse", "HEAD")[1].strip())
+    call = ["python3", "-B", "-c", f"import sys; sys.path.insert(0, '{clone}/tools'); import repository; print(repository.commit_before())"]
+    for main, words, wanted in ((None, [], 1), (2, [], 1), (1, [], 1), (0, [], 0), (0, [f"SINCE={made[1][:9]}"], 1)):
+        if main is not None:
+            git(clone, "update-ref", "refs/remotes/origin/main", made[main])
+        status, said = run(top, "env", *words, *call)
+        want((status, said.strip()) == (0, made[wanted]), f"the commit of a quick gate with {words} over {main}", said)
+    git(clone, "checkout", "--quiet", made[0])
+    git(clone, "update-ref", "refs/remotes/origin/main", made[0])
+    want(run(top, *call)[1].strip() == made[0], "the commit of a quick gate without an older one", "")

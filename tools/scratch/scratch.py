@@ -34,7 +34,8 @@ def copy_tools(top, *names):
 
 def run(top, *command):
     """Returns the status and the whole output of a command that runs with the scratch toolchain."""
-    path = {"PATH": f"{top}/path:{os.environ['PATH']}"}
+    # The gate that runs this may have a commit of its own.
+    path = {"PATH": f"{top}/path:{os.environ['PATH']}", "SINCE": ""}
     how = {"stdin": subprocess.DEVNULL, "stdout": subprocess.PIPE, "stderr": subprocess.STDOUT, "text": True}
     ran = subprocess.run(command, env={**os.environ, **path}, check=False, **how)
     return ran.returncode, ran.stdout

@@ -14,6 +14,11 @@ ci)
 doc) echo '{top}/kit/START-HERE.md' ;;
 version) echo 'a toolchain' ;;
 try) echo "$*" ;;
+lib)
+    shift
+    name=$(basename "$PWD")
+    exec {top}/kit/bin/rattle build --crate-name "$name" "$@" -o "out/lib$name.a"
+    ;;
 test)
     echo "$(basename "$PWD") test" >> {top}/order
     echo 'test result: ok.'

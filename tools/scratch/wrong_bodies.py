@@ -1,9 +1,10 @@
 """Tests of tools/wrong-bodies: the edits that it tries, and the reasons why they are refused."""
 
+import json
 import os
 import shutil
 
-from scratch import copy_tools, put, run, taken, want
+from scratch import committed, copy_tools, put, run, taken, want
 
 PATH = "./proofs/{}/Answers.antt:3:1: error: "
 CITES = "./proofs/renamed/Answers.antt:9:5: error: 1 declaration that depends on `cell-requires`, which was rejected, was not checked: returns\n"
@@ -105,7 +106,7 @@ BODIES = {it: (f"{it} body", f"{it} wrong") for it in SAYS} | {
 }
 # The edits that change several texts.
 PAIRS = {"order": [("f(1);", "f(2) ;"), ("f(2);", "f(1);")]}
-OF_EDITS = "wrong-bodies", "edits.py", "answers.py", "verdicts.py", "stubs.py", "items.py", "closure.py", "passing.py"
+OF_EDITS = "wrong-bodies", "changes.py", "edits.py", "answers.py", "verdicts.py", "stubs.py", "functions.py"
 # The edits that a contract refuses, those that it lets through, and the refused ones whose answers are first renamed or moved.
 REFUSED = "callee", "caller", "single", "held", "renamed", "early_false", "searched", "fields", "places", "calls_false"
 HOLDS = "right", "moved", "turned", "early_holds", "early_first", "fields_fit", "sides", "calls"
@@ -119,32 +120,113 @@ def answers(says):
     return of.removesuffix("refl\n\n") + " + ".join(["it", *(f"c.{it}" for it in fields)]) + "\n"
 
 
+# A function with a contract, and the definitions that it names directly, by another definition, and by a module.
+CONTRACT = """ghost use Rattle.low.specs.Words.{named, ◌⊓◌, far as near};
+ghost use Rattle.low.specs.Words as words;
+/// A comment.
+fn single()
+    ensures { result ≡ named (1 ⊓ 2) near words.whole }
+{
+    single body
+}
+"""
+WORDS = """use Rattle.std.specs.Prelude.{ℕ}
+
+abbrev pub named : ℕ → ℕ
+named n = indirect n
+
+indirect : ℕ → ℕ
+indirect n = n
+
+infixl 40 ◌⊓◌
+abbrev pub ◌⊓◌ : ℕ → ℕ → ℕ
+left ⊓ right = left
+
+record pub Far : Type 0 where
+  pub far : ℕ
+
+abbrev pub whole : ℕ
+whole =
+    -- a comment
+    3
+"""
+# The changes of a file, and whether the edit of that function has to be tried again.
+CHANGES = [
+    ("specs/Words.antt", "named n = indirect n", "named n = n", True),
+    ("specs/Words.antt", "indirect n = n", "indirect n = 0", False),
+    ("specs/Words.antt", "left ⊓ right = left", "left ⊓ right = right", True),
+    ("specs/Words.antt", "pub far : ℕ", "pub far : Bool", True),
+    ("specs/Words.antt", "    3", "    4", True),
+    ("specs/Words.antt", "-- a comment", "-- another comment", False),
+    ("src/lib.rt", "result ≡ named", "result ≤ named", True),
+    ("src/lib.rt", "/// A comment.", "/// Another comment.", False),
+    ("src/lib.rt", "    single body", "    single body;", True),
+    ("src/lib.rt", "callee body", "callee body;", False),
+    ("proofs/single/Answers.antt", "-- as it was", "-- otherwise", True),
+    ("proofs/caller/Answers.antt", "fields", "other fields", False),
+    ("wrong-bodies/single.edit", "single wrong", "single is wrong", True),
+]
+
+
+def wrong_bodies_of_changes(top):
+    """Makes each change since a commit alone, and checks whether `--since` finds the edit."""
+    crate = f"{top}/crates/low"
+    text = taken(f"{crate}/src/lib.rt")
+    put(f"{crate}/src/lib.rt", CONTRACT + text.replace("fn single() {\n    single body\n}\n", ""))
+    put(f"{crate}/specs/Words.antt", WORDS)
+    put(f"{crate}/proofs/single/Answers.antt", "-- as it was\n")
+    put(f"{crate}/proofs/caller/Answers.antt", "-- fields\n")
+    committed(top)
+    for file, old, new, is_due in CHANGES:
+        was = taken(f"{crate}/{file}")
+        want(was.count(old) == 1, f"{file} has such a text", old)
+        put(f"{crate}/{file}", was.replace(old, new))
+        said = tried(top, "--since", "HEAD")[1]
+        want(("low/single" in said) == is_due, f"the edit of a function after {new!r} in {file}", said)
+        put(f"{crate}/{file}", was)
+    want(tried(top, "--since", "HEAD")[0] == (0, "0 passed, 0 failed"), "the edits since a commit without changes", "")
+    put(f"{crate}/src/lib.rt", text)
+    committed(top)
+
+
 def wrong_bodies_drawn(top):
-    """Checks that `--drawn` tries many edits after a change, and only a few without a change."""
-    crate, many, count = f"{top}/crates/low", f"{top}/crates/low/wrong-bodies/callee.edit", 300
+    """Checks that at most 120 edits of changed functions are tried, and 40 others if they are requested, each once."""
+    crate, of, count = f"{top}/crates/low", f"{top}/crates/low/wrong-bodies/callee.edit", 200
     for number in range(count):
-        shutil.copy(many, many.replace("callee.edit", f"callee_{number}.edit"))
-    os.remove(f"{top}/tools/passed")
-    ended, said = tried(top, "--drawn")
-    want(ended[0] == 0 and 200 <= said.count("refused by") < 260, "the edits of a crate that was never tried", said)
-    rest = len(REFUSED) + count - said.count("refused by")
-    want(tried(top, "--not-passed")[0] == (0, f"{rest} passed, 0 failed"), "the edits that were not drawn", "")
-    ended, said = tried(top, "--drawn")
-    want(ended[0] == 0 and 0 < said.count("refused by") < 80, "the edits of a crate that didn't change", said)
-    want(tried(top, "--not-passed")[0] == (0, "0 passed, 0 failed"), "the edits that have not passed where nothing changed", "")
-    put(f"{crate}/proofs/caller/Answers.antt", "-- changed\n")
-    ended, said = tried(top, "--not-passed")
-    want(ended == (0, "1 passed, 0 failed") and "low/caller" in said, "the edits of a function whose proof changed", said)
+        shutil.copy(of, of.replace("callee.edit", f"callee_{number}.edit"))
+    ended, said = tried(top, "--since", "HEAD")
+    want((ended[0], said.count("refused by")) == (0, 120), "the edits of a function that changed", said)
+    committed(top)
+    ended, said = tried(top, "--drawn", "HEAD")
+    want(ended == (0, "40 passed, 0 failed") and 0 < said.count("refused by") < 40, "edits that are drawn, some of which passed before", said)
+    put(f"{crate}/wrong-bodies/caller.edit", taken(f"{crate}/wrong-bodies/caller.edit") + "\n")
+    ended, said = tried(top, "--drawn", "HEAD")
+    want(ended == (0, "41 passed, 0 failed") and "low/caller" in said, "an edit that changed, and others", said)
     for number in range(count):
-        os.remove(many.replace("callee.edit", f"callee_{number}.edit"))
-    want("callee" in taken(f"{top}/tools/passed") and tried(top, "--not-passed")[0] == (0, "0 passed, 0 failed"), "what tools/passed says", taken(f"{top}/tools/passed"))
+        os.remove(of.replace("callee.edit", f"callee_{number}.edit"))
+    committed(top)
+
+
+def wrong_bodies_go_on(top):
+    """Checks that a run of all edits passes over those that passed before, until the crate, the rule or the toolchain changes."""
+    rule, kit = f"{top}/tools/verdicts.py", f"{top}/path/rt"
+    tried(top, "low/caller")
+    put(f"{top}/bin/tried", "".join(it for it in taken(f"{top}/bin/tried").splitlines(True) if "/caller." in it))
+    ended, said = tried(top)
+    want((ended, said.count("refused by")) == ((0, f"{len(REFUSED)} passed, 0 failed"), len(REFUSED) - 1), "a run after a stop", said)
+    want("refused by" not in tried(top)[1], "a run where nothing changed", "")
+    want("refused by" in tried(top, "low/caller")[1], "an edit that is named is tried again", "")
+    for file, text in ((rule, "# changed\n"), (kit, "# changed\n"), (f"{top}/crates/low/specs/Words.antt", "-- changed\n")):
+        was = taken(file)
+        put(file, was + text, 0o755)
+        want(tried(top)[1].count("refused by") == len(REFUSED), f"a run after a change of {file}", "")
+        put(file, was, 0o755)
 
 
 def scratch_edits(top):
     """Makes a crate with a function and a wrong body for each entry of SAYS, and an edit that can't be applied."""
     shutil.rmtree(f"{top}/crates")
     copy_tools(top, *OF_EDITS)
-    put(f"{top}/tools/reads.py", "def missed(edit, folder):\n    return []\n")
     put(f"{top}/crates.txt", "low:\n")
     crate = f"{top}/crates/low"
     put(f"{crate}/src/lib.rt", "#[inline]\n" + "".join(f"fn {it}() {{\n    {BODIES[it][0]}\n}}\n" for it in FUNCTIONS))
@@ -176,10 +258,9 @@ def wrong_bodies(top):
         want(f"wrong-bodies low/{it}: {how}{', with other answers' * (it in MOVED)}" in said, f"the edit of {it}", said)
     want("wrong-bodies low/absent.edit: BAD EDIT" in said, "an edit that can't be applied", said)
     want(tried(top, "low/caller", "low/right")[0] == (1, "1 passed, 2 failed"), "edits that are tried by their names", "")
-    want(tried(top, "--not-passed")[0] == (1, f"0 passed, {len(SAYS) - len(REFUSED) + 1} failed"), "the edits that did not pass", "")
-    for words in (["low/none"], ["--not-passed", "low/caller"], ["none"], ["--fit", "low"], ["--drawn", "low"]):
+    for words in (["low/none"], ["--since"], ["--since", "HEAD", "1"], ["--drawn", "none"], ["none"], ["--fit", "low"]):
         want(tried(top, *words)[0][0] == 2, "words that are none of the tool's", words)
-    found = {line.split()[1] for line in taken(f"{top}/tools/passed").splitlines()}
+    found = {os.path.basename(line.split()[0]).removesuffix(".edit") for line in taken(f"{top}/bin/tried").splitlines()}
     want(found == {*REFUSED}, "which edits passed", found)
     wrong_and_right_bodies(top, crate)
 
@@ -199,19 +280,16 @@ def wrong_and_right_bodies(top, crate):
 
 
 def wrong_bodies_fit(top):
-    """Checks `--fit`, `--clean`, an edit whose proof read more than its sum covers, and a crate that isn't proved."""
+    """Checks `--fit`, `--clean`, and a crate that isn't proved."""
     crate = f"{top}/crates/low"
     want(tried(top, "--fit")[0] == (0, f"{len(REFUSED)} passed, 0 failed"), "edits that fit", "")
-    before = taken(f"{top}/tools/passed")
+    before = taken(f"{top}/bin/tried")
     ended, said = tried(top, "--clean")
     want(ended == (0, f"{len(REFUSED)} passed, 0 failed") and "low/caller as it stands: right" in said, "functions as they stand", said)
-    want(taken(f"{top}/tools/passed") == before, "functions as they stand are written down as edits", "")
+    want(taken(f"{top}/bin/tried") == before, "functions as they stand are written down as edits", "")
     put(f"{crate}/must-fail/absent.edit", "file: src/lib.rt\nold: no such text\nnew:\n")
     want(tried(top, "--fit")[0] == (1, f"{len(REFUSED)} passed, 1 failed"), "an edit that doesn't fit", "")
     os.remove(f"{crate}/must-fail/absent.edit")
-    put(f"{top}/tools/reads.py", "def missed(edit, folder):\n    return ['Lemmas.secret'] if edit.function == 'caller' else []\n")
-    ended, said = tried(top)
-    want(ended == (1, f"{len(REFUSED) - 1} passed, 1 failed") and "low/caller: READ MORE than its sum is of: Lemmas.secret" in said, "a proof that read more", said)
     put(f"{crate}/src/lib.rt", taken(f"{crate}/src/lib.rt") + "// fails\n")
     ended, said = tried(top)
     want(ended[0] == 1 and "low: NOT PROVED as it stands" in said, "a crate that isn't proved", said)
@@ -226,15 +304,72 @@ def checks(top, *words):
 
 def wrong_bodies_begin(top):
     """Checks that several edits begin with a check of their functions, and that all other checks take over what it read."""
-    first, *others = checks(top)
+    first, *others = checks(top, "low")
     is_over = len(others) > 1 and all(it.endswith(" True") for it in others)
     want(first == f"{len(REFUSED)} False" and is_over, "the checks of several edits", [first, *others])
     found = checks(top, "low/caller")
     want(found == ["1 False"], "the check of one edit", found)
 
 
+FUNCTIONS_READ = {
+    "lib.rt": "pub fn free(\n    a: u64,\n) -> u64\n    ensures { result ≡ record {\n      a = 1;\n    } }\n{\n    free(a)\n}\n\nmod counts;\n",
+    "counts.rt": """struct Count;
+
+macro_rules! made {
+    () => {
+        fn of_a_macro() {}
+    };
+}
+
+impl<A: Held> Held<A> for Count
+where
+    A: Copy,
+{
+    ghost held = { λ c. c };
+
+    fn hold(&self) -> u64 {
+        0
+    }
+}
+
+trait Held<A> {
+    fn hold(&self) -> u64
+        ensures { result ≡ 0 };
+}
+
+mod inner {
+    fn it() {}
+}
+""",
+    "more.rt": 'impl Count {\n    // fn no() {\n    pub const fn n(&self) -> u64 {\n        0\n    }\n}\nunsafe extern "C" fn call() {}\nimpl Drop for Count {\n    fn drop() {}\n}\n',
+}
+# Their paths, whether they have a body, and whether they call themselves.
+PATHS = {
+    "counts::CountHeld::hold": (True, False),
+    "counts::Held::hold": (False, False),
+    "counts::inner::it": (True, False),
+    "free": (True, True),
+    "counts::Count::n": (True, False),
+    "more::call": (True, False),
+    "more::CountDrop::drop": (True, False),
+}
+READ = "import json, functions; print(json.dumps({it.path: (it.body is not None, it.calls_itself) for it in functions.functions_in('read')}))"
+
+
+def functions_are_read(top):
+    """Checks the paths of functions in the checker."""
+    for file, text in FUNCTIONS_READ.items():
+        put(f"{top}/crates/read/src/{file}", text)
+    status, said = run(top, "env", f"PYTHONPATH={top}/tools", "PYTHONDONTWRITEBYTECODE=1", "python3", "-c", READ)
+    want(status == 0 and json.loads(said) == {path: [*it] for path, it in PATHS.items()}, "the functions of a crate", said)
+    shutil.rmtree(f"{top}/crates/read")
+
+
 def all_of_wrong_bodies(top):
     wrong_bodies(top)
     wrong_bodies_begin(top)
+    wrong_bodies_of_changes(top)
+    wrong_bodies_go_on(top)
     wrong_bodies_drawn(top)
     wrong_bodies_fit(top)
+    functions_are_read(top)

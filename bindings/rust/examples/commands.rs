@@ -8,46 +8,21 @@ use mquerier::{Answer, Config, Envelope, Family, Group, Igmp, Link, Mld, Source,
 use std::fmt::Write;
 use std::io::{BufRead, Write as _};
 
-/// What the families differ in here.
-trait Played: Family + Sized {
-    fn text(address: Self::Address) -> String;
-    fn address(bytes: Vec<u8>) -> Self::Address;
-    fn receive<'q>(it: &mut Player<Self>, words: &[&str], room: &'q mut [u8]) -> Answer<'q, Self>;
-}
-
-impl Played for Igmp {
-    fn text(address: [u8; 4]) -> String {
-        std::net::Ipv4Addr::from(address).to_string()
-    }
-    fn address(bytes: Vec<u8>) -> [u8; 4] {
-        bytes.try_into().unwrap()
-    }
-    fn receive<'q>(it: &mut Player<Igmp>, words: &[&str], room: &'q mut [u8]) -> Answer<'q, Igmp> {
-        let source = Igmp::address(bytes(words[1]));
-        it.link.receive(&mut it.workspace, source, &bytes(words[5]), number(words[0]), room).unwrap()
-    }
-}
-
-impl Played for Mld {
-    fn text(address: [u8; 16]) -> String {
-        std::net::Ipv6Addr::from(address).to_string()
-    }
-    fn address(bytes: Vec<u8>) -> [u8; 16] {
-        bytes.try_into().unwrap()
-    }
-    fn receive<'q>(it: &mut Player<Mld>, words: &[&str], room: &'q mut [u8]) -> Answer<'q, Mld> {
-        let (source, destination) = (Mld::address(bytes(words[1])), Mld::address(bytes(words[2])));
-        let envelope = Envelope { source, destination, hop_limit: number(words[3]) as u8, alert: words[4] == "1" };
-        it.link.receive(&mut it.workspace, &envelope, &bytes(words[5]), number(words[0]), room).unwrap()
-    }
-}
-
 fn number(word: &str) -> u64 {
     word.parse().unwrap()
 }
 
 fn bytes(word: &str) -> Vec<u8> {
     (1..word.len()).step_by(2).map(|at| u8::from_str_radix(&word[at..at + 2], 16).unwrap()).collect()
+}
+
+/// Returns an address of so many bytes in hexadecimal.
+fn address<F: Family>(word: &str) -> F::Address {
+    F::Address::try_from(&bytes(word)).ok().unwrap()
+}
+
+fn shown<F: Family>(address: F::Address) -> String {
+    F::Ip::from(address).to_string()
 }
 
 struct Player<F: Family> {
@@ -57,10 +32,10 @@ struct Player<F: Family> {
     now: u64,
 }
 
-impl<F: Played> Player<F> {
+impl<F: Family> Player<F> {
     fn made(words: &[&str]) -> Self {
         let v: Vec<u32> = words[1..].iter().map(|it| number(it) as u32).collect();
-        let config = Config::<F>::new(F::address(bytes(words[0])));
+        let config = Config::<F>::new(address::<F>(words[0]));
         let config = config.robustness(v[0]).query_interval(v[1]).response_interval(v[2]).last_member_interval(v[3]);
         let config = config.groups(v[4]).group_sources(v[5]).sources(v[6]).scheduled(v[7]).source_specific(v[8] != 0);
         let (link, workspace) = (Link::new(&config, 0).unwrap(), Workspace::new(&config).unwrap());
@@ -78,7 +53,7 @@ impl<F: Played> Player<F> {
                         panic!("the deadline is another one: {words:?}")
                     }
                     "tick" => self.link.tick(&mut self.workspace, number(words[1]), &mut room).unwrap(),
-                    _ => F::receive(self, &words[1..], &mut room),
+                    _ => self.receive(&words[1..], &mut room),
                 };
                 self.answered(&answer, verb == "tick")
             }
@@ -87,12 +62,18 @@ impl<F: Played> Player<F> {
         text
     }
 
+    fn receive<'q>(&mut self, words: &[&str], room: &'q mut [u8]) -> Answer<'q, F> {
+        let (source, destination) = (address::<F>(words[1]), address::<F>(words[2]));
+        let envelope = Envelope { source, destination, hop_limit: number(words[3]) as u8, alert: words[4] == "1" };
+        self.link.receive(&mut self.workspace, envelope, &bytes(words[5]), number(words[0]), room).unwrap()
+    }
+
     /// The queries of an answer, what became of the datagram, and the groups that changed.
     fn answered(&self, answer: &Answer<F>, is_tick: bool) -> String {
         let mut text = String::new();
         for query in answer.queries() {
             let message: String = query.message.iter().map(|it| format!("{it:02x}")).collect();
-            writeln!(text, "{} send {} {message}", self.now, F::text(query.destination)).unwrap();
+            writeln!(text, "{} send {} {message}", self.now, shown::<F>(query.destination)).unwrap();
         }
         match answer.dropped {
             Some(reason) => writeln!(text, "dropped {}", reason as u32).unwrap(),
@@ -101,7 +82,7 @@ impl<F: Played> Player<F> {
         }
         for group in self.workspace.changed() {
             let filter = self.link.group(group).map_or("none".into(), |it| filter(&it));
-            writeln!(text, "{} change {} {filter}", self.now, F::text(group)).unwrap();
+            writeln!(text, "{} change {} {filter}", self.now, shown::<F>(group)).unwrap();
         }
         text
     }
@@ -112,9 +93,9 @@ impl<F: Played> Player<F> {
         assert_eq!(self.link.is_querier(), self.link.other_querier().is_none());
         for (group, sources) in self.link.groups() {
             let mode = group.deadline().map_or("include".into(), |until| format!("exclude {until}"));
-            write!(text, "group {} {mode}", F::text(group.address())).unwrap();
+            write!(text, "group {} {mode}", shown::<F>(group.address())).unwrap();
             for it in sources {
-                let address = F::text(it.address());
+                let address = shown::<F>(it.address());
                 text += &it.deadline().map_or(format!(" !{address}"), |until| format!(" {address}={until}"));
             }
             text += &group.v1().map_or(String::new(), |until| format!(" v1 {until}"));
@@ -133,11 +114,11 @@ impl<F: Played> Player<F> {
 }
 
 /// What is forwarded of a group, as a line has it.
-fn filter<F: Played>((group, sources): &(Group<F>, Vec<Source<F>>)) -> String {
+fn filter<F: Family>((group, sources): &(Group<F>, Vec<Source<F>>)) -> String {
     let is_exclude = group.deadline().is_some();
     let (word, mark) = if is_exclude { ("exclude", " !") } else { ("include", " ") };
     let named = sources.iter().filter(|it| it.deadline().is_none() == is_exclude);
-    word.to_string() + &named.map(|it| format!("{mark}{}", F::text(it.address()))).collect::<String>()
+    word.to_string() + &named.map(|it| format!("{mark}{}", shown::<F>(it.address()))).collect::<String>()
 }
 
 fn main() {

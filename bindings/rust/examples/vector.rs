@@ -17,7 +17,7 @@ fn number(data: &[u8], at: usize) -> usize {
 
 fn main() -> Result<(), Box<dyn std::error::Error>> {
     let data = std::fs::read(std::env::args().nth(1).ok_or("usage: vector FILE")?)?;
-    let config = Config::<Igmp>::new([10, 0, 0, 9]);
+    let config = Config::<Igmp>::new(Ipv4Addr::new(10, 0, 0, 9));
     let (mut link, mut workspace) = (Link::new(&config, 0)?, Workspace::new(&config)?);
     let mut queries = vec![0; config.outlet_bytes(1480)];
 

@@ -5,6 +5,7 @@ use core::fmt;
 use core::marker::PhantomData;
 
 /// What a call did.
+#[must_use = "an answer has the queries to be sent"]
 pub struct Answer<'q, F: Family> {
     /// Why the datagram was dropped, if it was: the lowest reason that holds.
     pub dropped: Option<Dropped>,

@@ -1,7 +1,7 @@
 //! The configuration of a link.
 
 use crate::raw::{self, mq_version, VERSION};
-use crate::Family;
+use crate::{Family, IntoAddress};
 
 /// The configuration of a link: the standards' defaults, unless a call of the builder sets another value. What is out of range is
 /// reported when a link is made.
@@ -38,7 +38,8 @@ impl<F: Family> Config<F> {
     /// # Panics
     ///
     /// If the archive has another version than this crate is for.
-    pub fn new(own: F::Address) -> Self {
+    pub fn new(own: impl IntoAddress<F>) -> Self {
+        let own = own.into_address();
         // All other calls need a configuration, so here "a program checks once that `mq_version`, that of the archive, returns the same".
         // SAFETY: "A pointer points to as many elements as its prototype or its length says": `own` is one address.
         let (version, raw) = unsafe { (mq_version(), (F::CALLS.defaults)(&own)) };

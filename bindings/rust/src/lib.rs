@@ -10,6 +10,7 @@ extern crate std;
 mod answer;
 mod config;
 mod counts;
+mod envelope;
 mod family;
 mod fault;
 mod groups;
@@ -24,11 +25,12 @@ mod workspace;
 pub use answer::{Answer, Dropped, Queries, Query};
 pub use config::Config;
 pub use counts::{Counts, Parsed, Refused};
-pub use family::{Family, Igmp, Mld};
+pub use envelope::Envelope;
+pub use family::{Family, Igmp, IntoAddress, Mld};
 pub use fault::Fault;
 pub use groups::{Group, Source};
 pub use lines::{igmp_line, mld_line};
-pub use link::{Envelope, Link};
+pub use link::Link;
 pub use workspace::{Changed, Workspace};
 
 /// The latest time that a call takes, 2^53 milliseconds.

@@ -1,6 +1,6 @@
 //! Messages as lines for logs.
 
-use crate::raw;
+use crate::{raw, IntoAddress, Mld};
 use core::str;
 
 /// Writes a message of IGMP as a line, or the line of its fault. The line is truncated if `room` is too small.
@@ -12,7 +12,13 @@ pub fn igmp_line<'l>(body: &[u8], room: &'l mut [u8]) -> &'l str {
 }
 
 /// Writes a message of MLD as a line, or the line of its fault; the addresses are those of its packet.
-pub fn mld_line<'l>(source: [u8; 16], destination: [u8; 16], body: &[u8], room: &'l mut [u8]) -> &'l str {
+pub fn mld_line<'l>(
+    source: impl IntoAddress<Mld>,
+    destination: impl IntoAddress<Mld>,
+    body: &[u8],
+    room: &'l mut [u8],
+) -> &'l str {
+    let (source, destination) = (source.into_address(), destination.into_address());
     let (at, to, length) = (body.as_ptr(), room.as_mut_ptr(), room.len());
     // SAFETY: "A pointer points to as many elements as its prototype or its length says": these are two addresses and
     // slices. "Memory that a call writes overlaps no other argument": `room` is `&mut`.

@@ -1,8 +1,8 @@
 //! Links.
 
 use crate::memory::{self, Block};
-use crate::raw::{self, Handle, Units, COUNTERS, NONE};
-use crate::{Answer, Config, Counts, Family, Fault, Group, Igmp, Mld, Source, Workspace, LATEST};
+use crate::raw::{Handle, Units, COUNTERS, NONE};
+use crate::{Answer, Config, Counts, Envelope, Family, Fault, Group, IntoAddress, Source, Workspace, LATEST};
 use core::fmt;
 use core::marker::PhantomData;
 use core::ptr;
@@ -39,6 +39,20 @@ impl<'m, F: Family> Link<'m, F> {
         Ok(Link { raw, _block: block, family: PhantomData })
     }
 
+    /// Takes a datagram that came at `now`: what its IP packet says, and the bytes after its IP header, options and extension headers. First
+    /// it does what a tick does.
+    pub fn receive<'q>(
+        &mut self,
+        workspace: &mut Workspace<'_, F>,
+        envelope: impl Into<Envelope<F::Address>>,
+        body: &[u8],
+        now: u64,
+        queries: &'q mut [u8],
+    ) -> Result<Answer<'q, F>, Fault> {
+        let raw = F::receive(&mut self.raw, &mut workspace.raw, &envelope.into(), body, now, queries);
+        Answer::of(raw, queries)
+    }
+
     /// Does what is due at `now` or before, and writes the queries to be sent into `queries`. A query that does not fit is lost.
     pub fn tick<'q>(
         &mut self,
@@ -61,14 +75,15 @@ impl<'m, F: Family> Link<'m, F> {
     }
 
     /// Returns whether traffic from a source to a group is forwarded, as of the last call.
-    pub fn forwards(&self, group: F::Address, source: F::Address) -> bool {
+    pub fn forwards(&self, group: impl IntoAddress<F>, source: impl IntoAddress<F>) -> bool {
+        let (group, source) = (group.into_address(), source.into_address());
         // SAFETY: "A pointer points to as many elements as its prototype or its length says": each is one address.
         unsafe { (F::CALLS.forwards)(&self.raw, &group, &source) }
     }
 
     /// Returns a group, and writes its sources in ascending order to the front of `sources` if all of them fit.
-    pub fn group_into(&self, address: F::Address, sources: &mut [Source<F>]) -> Option<Group<F>> {
-        let mut group = Group::default();
+    pub fn group_into(&self, address: impl IntoAddress<F>, sources: &mut [Source<F>]) -> Option<Group<F>> {
+        let (address, mut group) = (address.into_address(), Group::default());
         // SAFETY: "A pointer points to as many elements as its prototype or its length says": an address, a group, and a slice.
         // "Memory that a call writes overlaps no other argument": `group` and `sources` are `&mut`.
         let page = unsafe {
@@ -124,60 +139,6 @@ impl<'m, F: Family> Link<'m, F> {
     }
 }
 
-impl Link<'_, Igmp> {
-    /// Takes a datagram that came at `now`: the source of its packet, and the bytes after its IP header with options. First it does
-    /// what a tick does.
-    pub fn receive<'q>(
-        &mut self,
-        workspace: &mut Workspace<'_, Igmp>,
-        source: [u8; 4],
-        body: &[u8],
-        now: u64,
-        queries: &'q mut [u8],
-    ) -> Result<Answer<'q, Igmp>, Fault> {
-        let (link, work, to, room) = (&mut self.raw, &mut workspace.raw, queries.as_mut_ptr(), queries.len());
-        let (at, length) = (body.as_ptr(), body.len());
-        // SAFETY: "Memory that a call writes overlaps no other argument": as of `tick`, and `body` is shared.
-        // "A pointer points to as many elements as its prototype or its length says": these are slices and addresses.
-        let raw = unsafe { raw::igmp::receive(link, work, &source, at, length, now, to, room) };
-        Answer::of(raw, queries)
-    }
-}
-
-/// What a datagram of MLD says before its message.
-#[derive(Clone, Copy, Debug)]
-pub struct Envelope {
-    /// The source of the packet.
-    pub source: [u8; 16],
-    /// The destination of the packet, which the checksum covers.
-    pub destination: [u8; 16],
-    /// The hop limit of the packet.
-    pub hop_limit: u8,
-    /// Whether the packet has the Router Alert option.
-    pub alert: bool,
-}
-
-impl Link<'_, Mld> {
-    /// Takes a datagram that came at `now`: its envelope, and the bytes after its IP header and extension headers. First it does what a
-    /// tick does.
-    pub fn receive<'q>(
-        &mut self,
-        workspace: &mut Workspace<'_, Mld>,
-        envelope: &Envelope,
-        body: &[u8],
-        now: u64,
-        queries: &'q mut [u8],
-    ) -> Result<Answer<'q, Mld>, Fault> {
-        let (link, work, to, room) = (&mut self.raw, &mut workspace.raw, queries.as_mut_ptr(), queries.len());
-        let Envelope { source, destination, hop_limit: hops, alert } = *envelope;
-        let (at, length, ends) = (body.as_ptr(), body.len(), (&source, &destination));
-        // SAFETY: "Memory that a call writes overlaps no other argument": as of `tick`, and `body` is shared.
-        // "A pointer points to as many elements as its prototype or its length says": these are slices and addresses.
-        let raw = unsafe { raw::mld::receive(link, work, ends.0, ends.1, hops, alert, at, length, now, to, room) };
-        Answer::of(raw, queries)
-    }
-}
-
 #[cfg(feature = "alloc")]
 impl<F: Family> Link<'static, F> {
     /// Makes a link on the heap.
@@ -190,7 +151,8 @@ impl<F: Family> Link<'static, F> {
 #[cfg(feature = "alloc")]
 impl<F: Family> Link<'_, F> {
     /// Returns a group with its sources in ascending order.
-    pub fn group(&self, address: F::Address) -> Option<(Group<F>, alloc::vec::Vec<Source<F>>)> {
+    pub fn group(&self, address: impl IntoAddress<F>) -> Option<(Group<F>, alloc::vec::Vec<Source<F>>)> {
+        let address = address.into_address();
         let mut sources = alloc::vec![Source::default(); self.group_into(address, &mut [])?.sources()];
         Some((self.group_into(address, &mut sources)?, sources))
     }

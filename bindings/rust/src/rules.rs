@@ -52,8 +52,23 @@
 //! let (mut link, mut workspace) = (Link::new(&config, 0).unwrap(), Workspace::new(&config).unwrap());
 //! let mut queries = [0; 2048];
 //! let answer = link.tick(&mut workspace, 0, &mut queries).unwrap();
-//! link.tick(&mut workspace, 1, &mut queries).unwrap();
-//! answer.queries().count();
+//! let other = link.tick(&mut workspace, 1, &mut queries).unwrap();
+//! answer.queries().count() + other.queries().count();
+//! ```
+//! No answer is thrown away unseen, since its queries would be lost:
+//! ```
+//! #![deny(unused_must_use)]
+//! use mquerier::{Config, Igmp, Link, Workspace};
+//! let config = Config::<Igmp>::new([10, 0, 0, 9]);
+//! let (mut link, mut workspace) = (Link::new(&config, 0).unwrap(), Workspace::new(&config).unwrap());
+//! let _ = link.tick(&mut workspace, 0, &mut []).unwrap();
+//! ```
+//! ```compile_fail
+//! #![deny(unused_must_use)]
+//! use mquerier::{Config, Igmp, Link, Workspace};
+//! let config = Config::<Igmp>::new([10, 0, 0, 9]);
+//! let (mut link, mut workspace) = (Link::new(&config, 0).unwrap(), Workspace::new(&config).unwrap());
+//! link.tick(&mut workspace, 0, &mut []).unwrap();
 //! ```
 //! A family's link works in a workspace of that family:
 //! ```compile_fail,E0308

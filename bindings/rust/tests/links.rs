@@ -3,6 +3,7 @@
 use mquerier::{
     Config, Counts, Dropped, Envelope, Fault, Group, Igmp, Link, Mld, Parsed, Refused, Source, Workspace, LATEST,
 };
+use std::net::{Ipv4Addr, Ipv6Addr};
 
 const OWN: [u8; 4] = [10, 0, 0, 9];
 const HOST: [u8; 4] = [10, 0, 0, 1];
@@ -38,7 +39,8 @@ fn groups_and_counts() {
     assert_eq!(link.groups_into(usize::MAX, &mut groups, &mut []), (0, 0));
     assert_eq!(link.group_into(GROUP, &mut []).unwrap().sources(), 1);
 
-    link.receive(&mut workspace, HOST, &JOIN[..7], 50, &mut []).unwrap();
+    let answer = link.receive(&mut workspace, HOST, &JOIN[..7], 50, &mut []).unwrap();
+    assert_eq!(answer.dropped, Some(Dropped::Checksum));
     let counts: Counts = link.counts();
     assert_eq!((counts.received, counts.dropped, counts.applied, counts.unsent), (2, 1, 2, 1));
     assert_eq!((counts.dropped_by(Dropped::Checksum), counts.dropped_by(Dropped::Other)), (1, 0));
@@ -50,9 +52,27 @@ fn another_querier() {
     let (mut link, mut workspace) = made();
     let query = [0x11, 0x64, 0xec, 0x1e, 0, 0, 0, 0, 2, 125, 0, 0];
     assert!(link.is_querier() && link.other_querier().is_none());
-    link.receive(&mut workspace, [10, 0, 0, 2], &query, 5, &mut []).unwrap();
-    assert!(!link.is_querier());
+    let answer = link.receive(&mut workspace, [10, 0, 0, 2], &query, 5, &mut []).unwrap();
+    assert!(answer.dropped.is_none() && !link.is_querier());
     assert_eq!(link.other_querier(), Some(([10, 0, 0, 2], 255_005)));
+}
+
+#[test]
+fn addresses_of_the_standard_library() {
+    let (own, host, group) = (Ipv4Addr::from(OWN), Ipv4Addr::from(HOST), Ipv4Addr::from(GROUP));
+    let config = Config::<Igmp>::new(own);
+    let (mut link, mut workspace) = (Link::new(&config, 0).unwrap(), Workspace::new(&config).unwrap());
+    assert_eq!(link.receive(&mut workspace, host, &JOIN, 0, &mut []).unwrap().applied, 1);
+    let envelope = Envelope { source: host, destination: group, hop_limit: 1, alert: true };
+    assert_eq!(link.receive(&mut workspace, envelope, &JOIN, 1, &mut []).unwrap().applied, 1);
+    assert!(link.forwards(group, HOST) && link.group(group).is_some() && workspace.changed().next().is_none());
+
+    let own: Ipv6Addr = "fe80::9".parse().unwrap();
+    let config = Config::<Mld>::new(own);
+    let (mut link, mut workspace) = (Link::new(&config, 0).unwrap(), Workspace::new(&config).unwrap());
+    let envelope = Envelope { source: own, destination: own, hop_limit: 1, alert: true };
+    assert_eq!(link.receive(&mut workspace, envelope, &[131], 0, &mut []).unwrap().dropped, Some(Dropped::Truncated));
+    assert_eq!(mquerier::mld_line(own, own, &[131], &mut [0; 100]), "fault 1 truncated at 1");
 }
 
 #[test]

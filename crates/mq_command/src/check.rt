@@ -1,14 +1,19 @@
 //! The command `check`: its options and its request.
 
-use crate::replay::{settings_in, ssm, until, with_limits, with_variables};
-use crate::{Request, address, family, file, protocol_named};
-use clap::{Arg, ArgAction, ArgMatches, Command, value_parser};
-use std::alloc::{AllocError, Global};
+ghost use Rattle.std.specs.Prelude.{IfSome};
+ghost use Rattle.mq_command.specs.Requests.{IsCheckOf};
+
+use crate::arguments::{Argument, FILE, Form, Kind};
+use crate::replay::{QUERIER, settings_in};
+use crate::{Request, protocol_in};
+use clap::ArgMatches;
 
 /// Returns the request of the command's words.
-pub(crate) fn request_in<'a>(words: &ArgMatches<'a>) -> Option<Request<'a>> {
+pub(crate) fn request_in<'a>(words: &ArgMatches<'a>) -> Option<Request<'a>>
+    ensures { IfSome result (IsCheckOf words.now) }
+{
     Some(Request::Check {
-        protocol: protocol_named(words.get_str("FAMILY")),
+        protocol: protocol_in(words),
         querier: words.get_str("querier")?,
         settings: settings_in(words),
         within: words.get_one::<u32>("within"),
@@ -20,8 +25,34 @@ pub(crate) fn request_in<'a>(words: &ArgMatches<'a>) -> Option<Request<'a>> {
     })
 }
 
-const ABOUT: &str =
-    "Compares the queries of a querier in a capture with those that the standards want";
+pub(crate) static FORM: Form = Form {
+    name: "check",
+    about: "Compares the queries of a querier in a capture with those that the standards want",
+    after_help: AFTER_HELP,
+    arguments: &[ARGUMENTS, QUERIER],
+};
+
+const ARGUMENTS: &[Argument] = &[
+    ("FAMILY", Kind::Family, "The querier's protocol"),
+    FILE,
+    ("querier", Kind::NeededText("ADDR"), QUERIER_HELP),
+    ("within", Kind::Number("MS"), WITHIN_HELP),
+    ("cite", Kind::Flag, CITE_HELP),
+    ("packets", Kind::Flag, PACKETS_HELP),
+    ("strict", Kind::Flag, STRICT_HELP),
+];
+
+const QUERIER_HELP: &str = "\
+The address of the querier; for mld a link-local one, in fe80::/10. auto takes
+it and the variables that aren't given from the capture, which has to be a FILE";
+
+const WITHIN_HELP: &str = "How many milliseconds earlier or later a query may be [default: 100]";
+
+const CITE_HELP: &str = "Print after each line the section of the standard";
+
+const PACKETS_HELP: &str = "Print after each line the number of the packet";
+
+const STRICT_HELP: &str = "Also report what only another reading of the standard allows";
 
 const AFTER_HELP: &str = "\
 Examples:
@@ -97,59 +128,3 @@ So it is with \"mquerier: gap before record N\": this packet, or the end, comes 
 before it. And with \"mquerier: too many wait at record N\": more than 65536 queries wait for their partners.
 
 docs/FORMATS.md of the sources, \"Checks\", explains every line. docs/READINGS.md has what the standards leave open.";
-
-/// The command with its options.
-pub(crate) fn command<'a>(alloc: Global) -> Result<Command<'a>, AllocError> {
-    let command = Command::new(alloc, "check")
-        .about(ABOUT)
-        .after_help(AFTER_HELP)
-        .arg(family(alloc).help("The querier's protocol"))?
-        .arg(file(alloc))?
-        .arg(querier(alloc))?
-        .arg(within(alloc))?
-        .arg(cite(alloc))?
-        .arg(packets(alloc))?
-        .arg(strict(alloc))?;
-    with_limits(alloc, with_variables(alloc, command)?)?
-        .arg(ssm(alloc))?
-        .arg(until(alloc))
-}
-
-fn querier<'a>(alloc: Global) -> Arg<'a> {
-    address(alloc, "querier", "querier")
-        .required(true)
-        .help(QUERIER_HELP)
-}
-
-const QUERIER_HELP: &str = "\
-The address of the querier; for mld a link-local one, in fe80::/10. auto takes
-it and the variables that aren't given from the capture, which has to be a FILE";
-
-fn within<'a>(alloc: Global) -> Arg<'a> {
-    Arg::new(alloc, "within")
-        .long("within")
-        .value_name("MS")
-        .value_parser(value_parser!(u32))
-        .help("How many milliseconds earlier or later a query may be [default: 100]")
-}
-
-fn cite<'a>(alloc: Global) -> Arg<'a> {
-    Arg::new(alloc, "cite")
-        .long("cite")
-        .action(ArgAction::SetTrue)
-        .help("Print after each line the section of the standard")
-}
-
-fn packets<'a>(alloc: Global) -> Arg<'a> {
-    Arg::new(alloc, "packets")
-        .long("packets")
-        .action(ArgAction::SetTrue)
-        .help("Print after each line the number of the packet")
-}
-
-fn strict<'a>(alloc: Global) -> Arg<'a> {
-    Arg::new(alloc, "strict")
-        .long("strict")
-        .action(ArgAction::SetTrue)
-        .help("Also report what only another reading of the standard allows")
-}

@@ -1,11 +1,17 @@
 //! The command `convert`: its options and its request.
 
-use crate::{Interface, Request, file};
-use clap::{Arg, ArgAction, ArgMatches, Command, value_parser};
-use std::alloc::{AllocError, Global};
+ghost use Rattle.std.specs.Prelude.{codes};
+ghost use Rattle.clap.specs.Matches.{found_of, first_value};
+ghost use Rattle.mq_command.specs.Requests.{IsConvertOf, IsInterface};
+
+use crate::arguments::{FILE, Form, Kind};
+use crate::{Interface, Request};
+use clap::ArgMatches;
 
 /// Returns the request of the command's words.
-pub(crate) fn request_in<'a>(words: &ArgMatches<'a>) -> Request<'a> {
+pub(crate) fn request_in<'a>(words: &ArgMatches<'a>) -> Request<'a>
+    ensures { IsConvertOf words.now result }
+{
     Request::Convert {
         interface: interface_in(words),
         vlan: words.get_one::<u64>("vlan"),
@@ -15,7 +21,9 @@ pub(crate) fn request_in<'a>(words: &ArgMatches<'a>) -> Request<'a> {
 }
 
 /// The requested interface. A text that is a number is never read as a name.
-fn interface_in<'a>(words: &ArgMatches<'a>) -> Option<Interface<'a>> {
+fn interface_in<'a>(words: &ArgMatches<'a>) -> Option<Interface<'a>>
+    ensures { IsInterface (first_value (found_of words.now) (codes "interface")) result }
+{
     let text = words.get_str("interface")?;
     match text.parse::<u64>() {
         Ok(number) => Some(Interface::Number(number)),
@@ -23,7 +31,33 @@ fn interface_in<'a>(words: &ArgMatches<'a>) -> Option<Interface<'a>> {
     }
 }
 
-const ABOUT: &str = "Writes a capture as a classic one of Ethernet, as show and replay read it";
+pub(crate) static FORM: Form = Form {
+    name: "convert",
+    about: "Writes a capture as a classic one of Ethernet, as show and replay read it",
+    after_help: AFTER_HELP,
+    arguments: &[&[
+        ("interface", Kind::Text("WHICH"), INTERFACE_HELP),
+        ("vlan", Kind::Long("ID"), VLAN_HELP),
+        ("once", Kind::Flag, ONCE_HELP),
+        FILE,
+    ]],
+};
+
+const INTERFACE_HELP: &str = "\
+Write only the packets of this interface. A number counts interfaces from 0
+in the order in which the file describes them; for Linux cooked captures of
+version 2 (276) it is the index in the header of each packet, as ip link
+shows it. Other text is a name of at most 16 bytes, which a pcapng file gives
+to its interfaces [default: all]";
+
+const VLAN_HELP: &str =
+    "Write only packets whose outermost tag names this network, 0 to 4095 [default: all]";
+
+const ONCE_HELP: &str = "\
+Leave out a packet whose frame was already written, at a time at most 5 ms
+earlier or later, whatever its interface, direction and tags are. It is
+compared with the last 256 packets written. It is always written if bytes of
+it are missing, or if its frame exceeds 2048 bytes";
 
 const AFTER_HELP: &str = "\
 Examples:
@@ -60,49 +94,3 @@ packets before it are written, and the status is 1:
 Blocks are counted from 0, the header of the file. In a classic capture block N is packet N.
 
 docs/FORMATS.md of the sources, \"Captures that are converted\", has the rest.";
-
-/// The command with its options.
-pub(crate) fn command<'a>(alloc: Global) -> Result<Command<'a>, AllocError> {
-    Command::new(alloc, "convert")
-        .about(ABOUT)
-        .after_help(AFTER_HELP)
-        .arg(interface(alloc))?
-        .arg(vlan(alloc))?
-        .arg(once(alloc))?
-        .arg(file(alloc))
-}
-
-fn interface<'a>(alloc: Global) -> Arg<'a> {
-    Arg::new(alloc, "interface")
-        .long("interface")
-        .value_name("WHICH")
-        .help(INTERFACE_HELP)
-}
-
-const INTERFACE_HELP: &str = "\
-Write only the packets of this interface. A number counts interfaces from 0
-in the order in which the file describes them; for Linux cooked captures of
-version 2 (276) it is the index in the header of each packet, as ip link
-shows it. Other text is a name of at most 16 bytes, which a pcapng file gives
-to its interfaces [default: all]";
-
-fn vlan<'a>(alloc: Global) -> Arg<'a> {
-    Arg::new(alloc, "vlan")
-        .long("vlan")
-        .value_name("ID")
-        .value_parser(value_parser!(u64))
-        .help("Write only packets whose outermost tag names this network, 0 to 4095 [default: all]")
-}
-
-fn once<'a>(alloc: Global) -> Arg<'a> {
-    Arg::new(alloc, "once")
-        .long("once")
-        .action(ArgAction::SetTrue)
-        .help(ONCE_HELP)
-}
-
-const ONCE_HELP: &str = "\
-Leave out a packet whose frame was already written, at a time at most 5 ms
-earlier or later, whatever its interface, direction and tags are. It is
-compared with the last 256 packets written. It is always written if bytes of
-it are missing, or if its frame exceeds 2048 bytes";

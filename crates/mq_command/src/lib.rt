@@ -1,13 +1,17 @@
 //! The command line of `mquerier`, parsed by `clap`: its requests and its help.
 #![tactic(auto)]
 
+ghost use Rattle.std.specs.Prelude.{IfSome};
+ghost use Rattle.mq_command.specs.Requests.{IsMessageOf, IsFamily};
+
+mod arguments;
 mod check;
 mod convert;
 mod replay;
 
-use clap::builder::ValueParser;
+use arguments::{FILE, Form, Kind, command_of};
 use clap::error::ErrorKind;
-use clap::{Arg, ArgMatches, Command, Error};
+use clap::{ArgMatches, Command, Error};
 pub use replay::Settings;
 use std::alloc::{AllocError, Global};
 use std::convert::AsStr;
@@ -118,7 +122,10 @@ pub enum Protocol {
 
 /// Parses a command line, whose first word is the program's name. Its errors are those of `clap`.
 pub fn request_of<'a, S: AsStr>(alloc: Global, words: &'a [S]) -> Result<Request<'a>, Error> {
-    let mut command = command(alloc)?;
+    let mut command = command(
+        alloc,
+        [&MESSAGE, &convert::FORM, &SHOW, &replay::FORM, &check::FORM],
+    )?;
     asked(&mut command, words)
 }
 
@@ -144,18 +151,22 @@ fn request_in<'a>(matches: &ArgMatches<'a>) -> Option<Request<'a>> {
     }
 }
 
-fn message_in<'a>(words: &ArgMatches<'a>) -> Option<Request<'a>> {
+fn message_in<'a>(words: &ArgMatches<'a>) -> Option<Request<'a>>
+    ensures { IfSome result (IsMessageOf words.now) }
+{
     Some(Request::Message {
-        protocol: protocol_named(words.get_str("FAMILY")),
+        protocol: protocol_in(words),
         hex: words.get_str("HEX")?,
-        from: words.get_str("FROM"),
-        to: words.get_str("TO"),
+        from: words.get_str("from"),
+        to: words.get_str("to"),
     })
 }
 
-/// The protocol of a name. `clap` rejects every name that isn't listed.
-fn protocol_named(name: Option<&str>) -> Protocol {
-    match name {
+/// Returns the protocol. `clap` rejects every name that isn't listed.
+fn protocol_in(words: &ArgMatches<'_>) -> Protocol
+    ensures { IsFamily words.now result }
+{
+    match words.get_str("FAMILY") {
         Some("mld") => Protocol::Mld,
         _ => Protocol::Igmp,
     }
@@ -187,21 +198,36 @@ Status:
 
 docs/FORMATS.md of the sources explains every line and every status.";
 
-fn command<'a>(alloc: Global) -> Result<Command<'a>, AllocError> {
-    Command::new(alloc, "mquerier")
+fn command<'a>(alloc: Global, forms: [&'static Form; 5]) -> Result<Command<'a>, AllocError> {
+    let mut command = Command::new(alloc, "mquerier")
         .version(VERSION)
         .about(ABOUT)
         .after_help(AFTER_HELP)
         .subcommand_required(true)
-        .arg_required_else_help(true)
-        .subcommand(message(alloc)?)?
-        .subcommand(convert::command(alloc)?)?
-        .subcommand(show(alloc)?)?
-        .subcommand(replay::command(alloc)?)?
-        .subcommand(check::command(alloc)?)
+        .arg_required_else_help(true);
+    for form in forms {
+        command = command.subcommand(command_of(alloc, form)?)?;
+    }
+    Ok(command)
 }
 
-const MESSAGE_ABOUT: &str = "Prints what one message says, or its first fault";
+static MESSAGE: Form = Form {
+    name: "message",
+    about: "Prints what one message says, or its first fault",
+    after_help: MESSAGE_AFTER_HELP,
+    arguments: &[&[
+        ("FAMILY", Kind::Family, "The protocol of the message"),
+        ("HEX", Kind::NeededWord, HEX_HELP),
+        ("from", Kind::Text("ADDR"), FROM_HELP),
+        ("to", Kind::Text("ADDR"), TO_HELP),
+    ]],
+};
+
+const HEX_HELP: &str = "The message in hexadecimal, without the IP header";
+
+const FROM_HELP: &str = "The source of the message's packet";
+
+const TO_HELP: &str = "The destination of the message's packet";
 
 const MESSAGE_AFTER_HELP: &str = "\
 Examples:
@@ -228,36 +254,12 @@ The line of a fault goes to standard output too, and the status is 1:
 
 docs/FORMATS.md of the sources, \"Lines of messages\", explains every line.";
 
-fn message<'a>(alloc: Global) -> Result<Command<'a>, AllocError> {
-    Command::new(alloc, "message")
-        .about(MESSAGE_ABOUT)
-        .after_help(MESSAGE_AFTER_HELP)
-        .arg(family(alloc).help("The protocol of the message"))?
-        .arg(hex(alloc))?
-        .arg(address(alloc, "FROM", "from").help("The source of the message's packet"))?
-        .arg(address(alloc, "TO", "to").help("The destination of the message's packet"))
-}
-
-/// An option with an address.
-fn address<'a>(alloc: Global, id: &'a str, name: &'a str) -> Arg<'a> {
-    Arg::new(alloc, id).long(name).value_name("ADDR")
-}
-
-fn family<'a>(alloc: Global) -> Arg<'a> {
-    Arg::new(alloc, "FAMILY")
-        .required(true)
-        .value_parser(ValueParser::Names(FAMILIES.as_slice()))
-}
-
-static FAMILIES: [&str; 2] = ["igmp", "mld"];
-
-fn hex<'a>(alloc: Global) -> Arg<'a> {
-    Arg::new(alloc, "HEX")
-        .required(true)
-        .help("The message in hexadecimal, without the IP header")
-}
-
-const SHOW_ABOUT: &str = "Prints a line for each packet of a capture";
+static SHOW: Form = Form {
+    name: "show",
+    about: "Prints a line for each packet of a capture",
+    after_help: SHOW_AFTER_HELP,
+    arguments: &[&[FILE]],
+};
 
 const SHOW_AFTER_HELP: &str = "\
 Example:
@@ -286,15 +288,3 @@ A fault of the capture is one line on standard error, \"mquerier: capture fault 
   8 the file has more than 4294967295 packets
 
 docs/FORMATS.md of the sources, \"Lines of captures\", explains every line.";
-
-fn show<'a>(alloc: Global) -> Result<Command<'a>, AllocError> {
-    Command::new(alloc, "show")
-        .about(SHOW_ABOUT)
-        .after_help(SHOW_AFTER_HELP)
-        .arg(file(alloc))
-}
-
-/// The file that a capture is in.
-fn file<'a>(alloc: Global) -> Arg<'a> {
-    Arg::new(alloc, "FILE").help("The capture; - or none is standard input")
-}

@@ -1,8 +1,11 @@
 //! The command `replay`: its options and its request.
 
-use crate::{Request, address, family, file, protocol_named};
-use clap::{Arg, ArgAction, ArgMatches, Command, value_parser};
-use std::alloc::{AllocError, Global};
+ghost use Rattle.std.specs.Prelude.{IfSome};
+ghost use Rattle.mq_command.specs.Requests.{IsReplayOf, IsSettingsOf};
+
+use crate::arguments::{Argument, FILE, Form, Kind};
+use crate::{Request, protocol_in};
+use clap::ArgMatches;
 
 /// The variables and limits of a querier, each if given.
 #[derive(Clone, Copy)]
@@ -28,9 +31,11 @@ pub struct Settings {
 }
 
 /// Returns the request of the command's words.
-pub(crate) fn request_in<'a>(words: &ArgMatches<'a>) -> Option<Request<'a>> {
+pub(crate) fn request_in<'a>(words: &ArgMatches<'a>) -> Option<Request<'a>>
+    ensures { IfSome result (IsReplayOf words.now) }
+{
     Some(Request::Replay {
-        protocol: protocol_named(words.get_str("FAMILY")),
+        protocol: protocol_in(words),
         own: words.get_str("own")?,
         settings: settings_in(words),
         until: words.get_one::<u64>("until"),
@@ -39,7 +44,9 @@ pub(crate) fn request_in<'a>(words: &ArgMatches<'a>) -> Option<Request<'a>> {
     })
 }
 
-pub(crate) fn settings_in(words: &ArgMatches<'_>) -> Settings {
+pub(crate) fn settings_in(words: &ArgMatches<'_>) -> Settings
+    ensures { IsSettingsOf words.now result }
+{
     Settings {
         robustness: words.get_one::<u32>("rv"),
         query_seconds: words.get_one::<u32>("qi"),
@@ -53,7 +60,69 @@ pub(crate) fn settings_in(words: &ArgMatches<'_>) -> Settings {
     }
 }
 
-const ABOUT: &str = "Runs a querier over a capture, and prints what it does";
+pub(crate) static FORM: Form = Form {
+    name: "replay",
+    about: "Runs a querier over a capture, and prints what it does",
+    after_help: AFTER_HELP,
+    arguments: &[
+        &[
+            ("FAMILY", Kind::Family, "The querier's protocol"),
+            FILE,
+            ("own", Kind::NeededText("ADDR"), OWN_HELP),
+        ],
+        QUERIER,
+        &[("changes", Kind::Flag, CHANGES_HELP)],
+    ],
+};
+
+const OWN_HELP: &str = "The querier's own address; for mld a link-local one, in fe80::/10";
+
+const CHANGES_HELP: &str = "Print a line for each group that is forwarded differently from then on";
+
+/// The settings of a querier, and how long it runs.
+pub(crate) const QUERIER: &[Argument] = &[
+    ("rv", Kind::Number("N"), RV_HELP),
+    ("qi", Kind::Number("S"), QI_HELP),
+    ("qri", Kind::Number("MS"), QRI_HELP),
+    ("lmqi", Kind::Number("MS"), LMQI_HELP),
+    ("groups", Kind::Number("N"), GROUPS_HELP),
+    ("group-sources", Kind::Number("N"), GROUP_SOURCES_HELP),
+    ("sources", Kind::Number("N"), SOURCES_HELP),
+    ("scheduled", Kind::Number("N"), SCHEDULED_HELP),
+    ("ssm", Kind::Flag, SSM_HELP),
+    ("until", Kind::Long("MS"), UNTIL_HELP),
+];
+
+const RV_HELP: &str = "Robustness Variable, 1 to 7 [default: 2]";
+
+const QI_HELP: &str = "Query Interval in seconds, 1 to 31744 [default: 125]";
+
+const QRI_HELP: &str = "\
+Query Response Interval in milliseconds, below --qi; with --qi of 10 or less
+give --qri too; 100 to 3174400 for igmp, 1 to 8387584 for mld
+[default: 10000]";
+
+const LMQI_HELP: &str = "\
+Last Member (mld: Last Listener) Query Interval in milliseconds; 100 to
+3174400 for igmp, 1 to 8387584 for mld [default: 1000]";
+
+const GROUPS_HELP: &str = "Limit of the groups, 1 to 65535 [default: 1024]";
+
+const GROUP_SOURCES_HELP: &str = "\
+Limit of a group's sources, 1 to 1024 [default: 366 for igmp, 89 for mld]";
+
+const SOURCES_HELP: &str = "\
+Limit of all groups' sources together, 1 to 65535 [default: 16384]";
+
+const SCHEDULED_HELP: &str = "\
+Limit of the schedules of specific queries, of which a group has up to two,
+1 to 65535 [default: 256]";
+
+const SSM_HELP: &str = "\
+Keep 232.0.0.0/8 (igmp) or ff3x::/32 (mld) for source-specific multicast:
+EXCLUDE and older messages for groups there are ignored";
+
+const UNTIL_HELP: &str = "Run at least to this moment, at most 2^53 [default: the last packet's]";
 
 const AFTER_HELP: &str = "\
 Example:
@@ -128,104 +197,3 @@ So it is with \"mquerier: gap before record N\": this packet, or the end, comes 
 before it. Cut such a capture in two.
 
 docs/FORMATS.md of the sources, \"Replays\", explains every line.";
-
-/// The command with its options.
-pub(crate) fn command<'a>(alloc: Global) -> Result<Command<'a>, AllocError> {
-    let command = Command::new(alloc, "replay")
-        .about(ABOUT)
-        .after_help(AFTER_HELP)
-        .arg(family(alloc).help("The querier's protocol"))?
-        .arg(file(alloc))?
-        .arg(own(alloc))?;
-    with_limits(alloc, with_variables(alloc, command)?)?
-        .arg(ssm(alloc))?
-        .arg(until(alloc))?
-        .arg(changes(alloc))
-}
-
-fn changes<'a>(alloc: Global) -> Arg<'a> {
-    Arg::new(alloc, "changes")
-        .long("changes")
-        .action(ArgAction::SetTrue)
-        .help("Print a line for each group that is forwarded differently from then on")
-}
-
-fn own<'a>(alloc: Global) -> Arg<'a> {
-    address(alloc, "own", "own").required(true).help(
-        "The querier's own address; for mld a link-local one, in fe80::/10",
-    )
-}
-
-pub(crate) fn with_variables<'a>(
-    alloc: Global,
-    command: Command<'a>,
-) -> Result<Command<'a>, AllocError> {
-    command
-        .arg(number(alloc, "rv", "N").help(RV_HELP))?
-        .arg(number(alloc, "qi", "S").help(QI_HELP))?
-        .arg(number(alloc, "qri", "MS").help(QRI_HELP))?
-        .arg(number(alloc, "lmqi", "MS").help(LMQI_HELP))
-}
-
-const RV_HELP: &str = "Robustness Variable, 1 to 7 [default: 2]";
-
-const QI_HELP: &str = "Query Interval in seconds, 1 to 31744 [default: 125]";
-
-const QRI_HELP: &str = "\
-Query Response Interval in milliseconds, below --qi; with --qi of 10 or less
-give --qri too; 100 to 3174400 for igmp, 1 to 8387584 for mld
-[default: 10000]";
-
-const LMQI_HELP: &str = "\
-Last Member (mld: Last Listener) Query Interval in milliseconds; 100 to
-3174400 for igmp, 1 to 8387584 for mld [default: 1000]";
-
-pub(crate) fn with_limits<'a>(
-    alloc: Global,
-    command: Command<'a>,
-) -> Result<Command<'a>, AllocError> {
-    command
-        .arg(number(alloc, "groups", "N").help(GROUPS_HELP))?
-        .arg(number(alloc, "group-sources", "N").help(GROUP_SOURCES_HELP))?
-        .arg(number(alloc, "sources", "N").help(SOURCES_HELP))?
-        .arg(number(alloc, "scheduled", "N").help(SCHEDULED_HELP))
-}
-
-const GROUPS_HELP: &str = "Limit of the groups, 1 to 65535 [default: 1024]";
-
-const GROUP_SOURCES_HELP: &str = "\
-Limit of a group's sources, 1 to 1024 [default: 366 for igmp, 89 for mld]";
-
-const SOURCES_HELP: &str = "\
-Limit of all groups' sources together, 1 to 65535 [default: 16384]";
-
-const SCHEDULED_HELP: &str = "\
-Limit of the schedules of specific queries, of which a group has up to two,
-1 to 65535 [default: 256]";
-
-/// An option with a number, whose id is its name.
-fn number<'a>(alloc: Global, name: &'a str, unit: &'a str) -> Arg<'a> {
-    Arg::new(alloc, name)
-        .long(name)
-        .value_name(unit)
-        .value_parser(value_parser!(u32))
-}
-
-pub(crate) fn ssm<'a>(alloc: Global) -> Arg<'a> {
-    Arg::new(alloc, "ssm")
-        .long("ssm")
-        .action(ArgAction::SetTrue)
-        .help(SSM_HELP)
-}
-
-const SSM_HELP: &str = "\
-Keep 232.0.0.0/8 (igmp) or ff3x::/32 (mld) for source-specific multicast:
-EXCLUDE and older messages for groups there are ignored";
-
-pub(crate) fn until<'a>(alloc: Global) -> Arg<'a> {
-    Arg::new(alloc, "until")
-        .long("until")
-        .value_name("MS")
-        .value_parser(value_parser!(u64))
-        .help("Run at least to this moment, at most 2^53 [default: the last packet's]")
-}

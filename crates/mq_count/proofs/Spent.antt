@@ -20,7 +20,7 @@ pub Spends-join_within : {a b c d old mid new : ℕ} (lower higher : ℕ) → Sp
 Spends-join_within lower higher first second below above =
     Spends-within lower higher (Spends-join first second) below above
 
--- what was counted: the growth of a meter that has room, and else the lower bound
+-- the count: the growth of a meter that has room, and else the lower bound
 pub spending_is_a_number : SpendingIsANumber
 spending_is_a_number low high old new ordered counted =
     (max low (new - old), (omega arith, omega arith, omega arith))

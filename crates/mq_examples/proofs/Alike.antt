@@ -68,7 +68,7 @@ entries_by-none : (rule : ℕ → Option SourceTimer) (ss : List ℕ) → Each (
 entries_by-none rule [] each = refl
 entries_by-none rule (s ∷ ss) each = λ i. with_entry s (the_first s ss each i) (entries_by-none rule ss (the_rest s ss each) i)
 
--- what is done to each
+-- a change of each
 pub kept-each : (f : ℕ → SourceTimer → Option SourceTimer) (before after : SourceTimer) (ss : List ℕ) → Ascend ss →
     Each (λ s. f s before ≡ Some after) ss → kept_in f (each_as before ss) ≡ each_as after ss
 kept-each f before after ss ascend each =
@@ -81,7 +81,7 @@ kept-none f before ss ascend each =
     ap (entries_by (λ s. option_and_then (f s) (find nat_cmp s (each_as before ss)))) (ascending-each before ss ascend)
     ∙ entries_by-none _ ss (λ s is. ap (option_and_then (f s)) (timer-each before ss s is) ∙ each s is)
 
--- what a rule makes of them, where a record names them all
+-- a rule's results, if a record names them all
 same_named : (ss : List ℕ) (s : ℕ) → named_in (ss ++ ss) s ≡ named_in ss s
 same_named ss s = list_any-append (eq_by_cmp nat_cmp s) ss ss ∙ twice (named_in ss s)
   where

@@ -1,4 +1,4 @@
--- Groups whose sources all have one timer: what a record, a round and the end of timers make of them.
+-- Groups whose sources all have one timer, after a record, a round and the end of timers.
 use Rattle.std.proofs.Common.{◌≡◌, ℕ, ◌+◌, ◌-◌, Bool, true, false, cond, not, ◌&&◌, refl, List, [], ◌∷◌, ◌++◌, length, Option, None, Some, ap, ◌∙◌}
 use Rattle.std.proofs.Common.{ltb, leb, eqb, suc, arith}
 use Rattle.std.specs.{Prelude.filter, Ordering.nat_cmp, List.list_any, FinMap.find}
@@ -26,7 +26,7 @@ all_as timer due ss = record {
   schedule = record { group_query = None; sources_due = due };
 }
 
--- whether one of them has a sending to go
+-- the test for a sending left
 pub any_sending-each : (deadline sendings s : ℕ) (ss : List ℕ) → Ascend (s ∷ ss) →
     (let es = each_as (Running deadline sendings) (s ∷ ss) in any_sending (ascending es) (timer_in es) ≡ ltb 0 sendings)
 any_sending-each deadline sendings s ss ascend = by_test (ltb 0 sendings) refl
@@ -135,7 +135,7 @@ counts now deadline sendings due s ss ascend is_due =
       schedule = record { group_query = None; sources_due = cond (any_sending (ascending es) (timer_in es)) (Some (now + 1000)) None };
     }
 
--- what a querier asks of a group that a change has left
+-- the group that a change has left, once a querier has asked
 asked_after : ℕ → (query : Set) → Entries SourceTimer → Known
 asked_after now query es =
     asked_in default_timing now query (record { mode = Include; sources = es; v1 = None; v2 = None; schedule = settled_in Include es no_schedule })

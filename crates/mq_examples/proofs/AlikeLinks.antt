@@ -25,7 +25,7 @@ use Rattle.mq_examples.proofs.AlikeGroups.{all_as, some_left, sends, counts, blo
 abbrev pub one : ℕ → Known → KnownGroups
 one group k = (group, k) ∷ []
 
--- what is done to the one group
+-- a change of the one group
 kept-one : (f : ℕ → Known → Option Known) (group : ℕ) (k : Known) → kept_in f (one group k) ≡ with_entry group (f group k) []
 kept-one f group k = ap (λ b. with_entry group (option_and_then (f group) (cond b (Some k) None)) []) (tied_to_itself group)
 
@@ -48,7 +48,7 @@ plain family limits own = record { family = family; timing = default_timing; lim
 abbrev pub link_of : (last : ℕ) → Counters → KnownGroups → KnownLink
 link_of last counters groups = record { groups = groups; election = querier 31250 1; last = last; counters = counters }
 
--- What a Report for a group and these sources needs, so that nothing of it is refused.
+-- Conditions under which nothing of a Report for a group and these sources is refused.
 pub record Suits (family : Family) (limits : Limits) (own : ℕ) (envelope : Envelope) (group : ℕ) (ss : List ℕ) : Type 0 where
   pub ascend : Ascend ss
   pub taken : (r : RecordView ℕ) → drop_reason (plain family limits own) envelope (Ok (ReportMessage (r ∷ []))) ≡ None
@@ -156,7 +156,7 @@ all_allowed family limits own envelope now group s ss suits =
     after : Known
     after = all_as (Running (now + 260000) 0) None (s ∷ ss)
 
--- what a link comes to without a general query, with one group held or none
+-- the step of a link without a general query, with one group held or none
 abbrev pub step_to : (now : ℕ) → Counters → KnownGroups → List SentQuery → KnownStep
 step_to now counters groups queries = record { link = link_of now counters groups; queries = queries; timing = default_timing }
 

@@ -28,7 +28,7 @@ keys_of es = list_map (λ (e : ℕ × SourceTimer). e.0) es
 abbrev pub any_sending : List ℕ → (ℕ → Option SourceTimer) → Bool
 any_sending keys timer = list_any (λ s. nat_lt 0 (sendings_of (timer s))) keys
 
--- what a change settles of its group's schedule
+-- the settled schedule of a changed group
 abbrev pub settled_by : FilterMode → ScheduleState → List ℕ → (ℕ → Option SourceTimer) → ScheduleState
 settled_by mode schedule keys timer = record {
   group_query = cond (is_include mode) None schedule.group_query;
@@ -39,7 +39,7 @@ pub settled-known : (mode : FilterMode) (es : Sources) (v1 v2 : Option ℕ) (sch
     settled (known mode es v1 v2) schedule ≡ settled_by mode schedule (keys_of es) (λ s. find nat_cmp s es)
 settled-known mode es v1 v2 schedule sorted = λ i. settled_by mode schedule (keys-from_entries es sorted i) (λ s. map.get-from_entries nat_cmp_total es s i)
 
--- what asking for sources makes of a group
+-- the sources of a group, once some are asked for
 abbrev pub asked_sources : Timing → ℕ → Set → Sources → Sources
 asked_sources timing now asked es =
     list_map (λ (e : ℕ × SourceTimer). (e.0, cond (asked e.0) (source_asked (lowered_to timing now) (last_member_count timing) e.1) e.1)) es
@@ -68,7 +68,7 @@ sources_asked-known timing now asked mode es v1 v2 schedule sorted = λ i. recor
   schedule = asked_by timing now asked schedule (keys-from_entries es sorted i) (λ s. map.get-from_entries nat_cmp_total es s i);
 }
 
--- what asking for the group makes of its mode and schedule
+-- the mode of a group that is asked for
 abbrev pub mode_asked : Timing → ℕ → Bool → FilterMode → FilterMode
 mode_asked timing now asks mode = cond asks (mode_lowered (lowered_to timing now) mode) mode
 
@@ -84,7 +84,7 @@ group_asked-known : (timing : Timing) (now : ℕ) (asks : Bool) (mode : FilterMo
     ≡ record { group = known (mode_asked timing now asks mode) es v1 v2; schedule = group_asked_by timing now asks mode schedule }
 group_asked-known timing now asks mode es v1 v2 schedule = grind arith
 
--- what goes in a round
+-- the queries of a round
 abbrev pub sent_by : ℕ → Timing → ℕ → FilterMode → ScheduleState → List ℕ → (ℕ → Option SourceTimer) → List SentQuery
 sent_by n timing now mode schedule keys timer =
     cond (is_due now (group_due schedule.group_query)) (GroupQuery the_group (is_ahead (lowered_to timing now) (group_deadline mode)) ∷ []) []
@@ -160,7 +160,7 @@ pub change_is : (change : GroupChange) (g : GroupState) (query_group : Bool) (qu
 change_is change g query_group query group_is query_is asks =
     λ i. record { group = group_is i; query = λ s. (query_is s ∙ set.contains-from_list_nat query s) i; query_group = asks i }
 
--- what is known of a state holds of one that equals it
+-- a fact about a state holds for an equal state
 pub sends_as : {now : ℕ} {e known : ScheduledGroup} {queries : List SentQuery} {after : ScheduledGroup} → e ≡ known → Sends now known queries after →
     Sends now e queries after
 sends_as {now = now} {queries = queries} {after = after} is sends = subst (λ e. Sends now e queries after) (sym is) sends
@@ -186,7 +186,7 @@ change-known timing now mode es v1 v2 asks asked schedule sorted =
     ∙ sources_asked-known timing now asked (mode_asked timing now asks mode) es v1 v2
     (group_asked_by timing now asks mode (settled_by mode schedule (keys_of es) (λ s. find nat_cmp s es))) sorted
 
--- What a change leaves of a group and its schedule. The change is known source by source; the rest is
+-- The group and its schedule after a change. The change is known source by source; the rest is
 -- computed of the list of sources.
 pub change_leaves : (now : ℕ) (change : GroupChange) (schedule : ScheduleState) (mode : FilterMode) (es : Sources) (asks : Bool)
     (query : List ℕ) {v1 v2 : Option ℕ}
@@ -204,7 +204,7 @@ change_leaves now change schedule mode es asks query {v1 = v1} {v2 = v2} group_i
     ap (λ x. after_change true default_timing now x schedule) (change_is change (known mode es v1 v2) asks query group_is query_is asks_is)
     ∙ change-known default_timing now mode es v1 v2 asks (those query) schedule sorted
 
--- What goes in a round of a group that is known, and what it leaves.
+-- The queries of a round of a known group, and the group after.
 pub known_sends : (now : ℕ) (mode : FilterMode) (es : Sources) (v1 v2 : Option ℕ) (schedule : ScheduleState) {queries : List SentQuery} {after : ScheduledGroup}
     → T (is_sorted nat_cmp es) → T (is_sorted nat_cmp (counted es))
     → sent_by per_query default_timing now mode schedule (keys_of es) (λ s. find nat_cmp s es) ≡ queries
@@ -215,7 +215,7 @@ known_sends now mode es v1 v2 schedule sorted counted_sorted sent left = record 
   leaves = left-known default_timing now mode es v1 v2 schedule counted_sorted ∙ left;
 }
 
--- What goes at once after a change, and what that leaves.
+-- The queries at once after a change, and the group after.
 pub change_sends : (now : ℕ) (change : GroupChange) (schedule : ScheduleState) (mode : FilterMode) (es : Sources) (asks : Bool)
     (query : List ℕ) {v1 v2 : Option ℕ} {queries : List SentQuery} {after : ScheduledGroup}
     → change.group ≡ known mode es v1 v2

@@ -1,4 +1,4 @@
--- Which groups are named where the groups before and after are known, for the worked examples.
+-- The changed groups, if those before and after are known, for the worked examples.
 use Rattle.std.proofs.Common.{◌≡◌, ℕ, Bool, true, false, not, ◌||◌, refl, List, [], ◌∷◌, None, Result, Ok, sym, ap, ◌∙◌}
 use Rattle.std.specs.{Prelude.filter, Ordering.nat_cmp, Bool.beq, FinMap.find, Cmp.nat_cmp_total}
 use Rattle.mq_wire.specs.declared.message.{Message.Message, Message.TheVariants.Report as ReportMessage, WireFault.WireFault}
@@ -29,7 +29,7 @@ filter-known k = λ i. record {
   sources = set.from_list (filter (λ s. names k.mode (map.get-from_entries nat_cmp_total k.sources s i)) (keys-known k.sources i));
 }
 
--- whether a source is named by one of two alone
+-- the test for a source that one of two filters alone names
 abbrev pub apart_at : Known → Known → ℕ → Bool
 apart_at k m s = not (beq (names k.mode (find nat_cmp s k.sources)) (names m.mode (find nat_cmp s m.sources)))
 
@@ -53,7 +53,7 @@ module _ (before after : KnownGroups) (group : ℕ) where
       known ∙ alike_after k.group m.group k.group (filter-known (group_in after group) ∙ sym same ∙ sym (filter-known (group_in before group))) ∙
       unchanged k.group
 
--- what the examples cite: a tick, and a Report with one record at whose moment a tick changes nothing
+-- the lemmas for examples: a tick, and a Report with one record at a moment when a tick changes nothing
 tick_is : (config : Configuration) (now : ℕ) (l : KnownLink) (group : ℕ) → changed_by_tick config now (as_link l) group ≡ changes (as_groups l.groups)
     (as_groups (tick_in config now l).link.groups) group
 tick_is config now l group = ap (λ s. changes (as_groups l.groups) s.state.groups group) (tick-known config now l)

@@ -1,4 +1,4 @@
--- Groups whose sources are known one by one, for the worked examples: what the definitions make of them is computed of
+-- Groups whose sources are known one by one, for the worked examples. The definitions are computed from
 -- the list of their sources.
 use Rattle.std.proofs.Common.{◌≡◌, ℕ, ◌+◌, Bool, true, false, cond, ◌&&◌, ◌||◌, refl, List, [], ◌++◌, length, Option, None, Some, ap, ◌∙◌, ltb, eqb, arith}
 use Rattle.std.specs.{List.list_any, FinMap.find, Cmp.nat_cmp_total, Option.option_map, Option.option_and_then, Ordering.nat_cmp, Ordering.eq_by_cmp}
@@ -30,7 +30,7 @@ ascending es = keys_of (ordered es)
 abbrev pub any_sending : List ℕ → (ℕ → Option SourceTimer) → Bool
 any_sending keys timer = list_any (λ s. ltb 0 (sendings_of (timer s))) keys
 
--- what a change settles of its group's schedule
+-- the settled schedule of a changed group
 abbrev pub settled_by : FilterMode → ScheduleState → List ℕ → (ℕ → Option SourceTimer) → ScheduleState
 settled_by mode schedule keys timer = record {
   group_query = cond (is_include mode) None schedule.group_query;
@@ -94,7 +94,7 @@ expired-known now k =
     left : Known
     left = left_of now k
 
--- what a record changes
+-- the changes of a record
 pub record KnownChange : Type 0 where
   pub after : Known
   pub query : Set
@@ -153,7 +153,7 @@ change-known timing now k kind named =
     l : TableRow
     l = line_in timing now k.mode kind (timer_in k.sources) (named_in named)
 
--- what older hosts and the source-specific range make of a record
+-- the record that older hosts and the source-specific range leave
 abbrev pub translated_in : (v1_mutes_leave muted : Bool) → Hosts → Kind → List ℕ → Option (Kind × List ℕ)
 translated_in mutes true hosts kind named = None
 translated_in mutes false hosts Block named = cond (hosts.v1 || hosts.v2) None (Some (Block, named))

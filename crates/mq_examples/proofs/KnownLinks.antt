@@ -1,4 +1,4 @@
--- What ticks and datagrams do to links whose groups are known one by one, for the worked examples.
+-- The effect of ticks and datagrams on links whose groups are known one by one, for the worked examples.
 use Rattle.std.proofs.Common.{◌≡◌, ℕ, refl, List, [], ◌∷◌, ◌++◌, Some, ap, ◌∙◌}
 use Rattle.std.specs.{Prelude.max, List.flat_map}
 use Rattle.mq_wire.specs.Family.{Family}

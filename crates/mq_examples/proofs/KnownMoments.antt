@@ -1,4 +1,4 @@
--- When a link whose groups are known has something to do next, and what it forwards, for the worked examples.
+-- The next moment of a link whose groups are known, and what it forwards, for the worked examples.
 use Rattle.std.proofs.Common.{◌≡◌, ℕ, Bool, refl, List, [], ◌∷◌, ◌++◌, Some, ap, ◌∙◌}
 use Rattle.std.specs.{Prelude.map as list_map, Option.option_to_list, List.flat_map, FinMap.find, Ordering.nat_cmp, Cmp.nat_cmp_total}
 use Rattle.mq_table.specs.{declared.timers.SourceTimer.SourceTimer, Group.group_deadline, Group.deadline_of, Group.wants, Group.forwards_in}
@@ -47,7 +47,7 @@ forwards-known l group source =
     ap (λ e. forwards_in e.group source) (group-known l.groups group)
     ∙ ap (wants k.mode) (map.get-from_entries nat_cmp_total k.sources source)
 
--- what the examples cite
+-- the lemmas for examples
 pub next_is : (l : KnownLink) (moment : ℕ) → next_in l ≡ moment → NextIs l moment
 next_is l moment is = record { next = next-known l ∙ is }
 

@@ -1,4 +1,4 @@
--- What a datagram comes to at a link whose groups are known one by one, for the worked examples.
+-- The receipt of a datagram at a link whose groups are known one by one, for the worked examples.
 use Rattle.std.proofs.Common.{◌≡◌, ℕ, refl, [], ◌∷◌, ◌++◌, Option, None, Some, Result, Ok, Err, ap, ◌∙◌}
 use Rattle.mq_wire.specs.declared.message.{Message.Message, WireFault.WireFault}
 use Rattle.mq_wire.specs.declared.message.Message.TheVariants.{Query as QueryMessage, OldReport, Leave as LeaveMessage, Report as ReportMessage}
@@ -87,7 +87,7 @@ taken_or_dropped-known config envelope s (Ok message) None = taken-known config 
 abbrev pub receipt_known : Configuration → Envelope → Result (Message ℕ) WireFault → ℕ → KnownLink → KnownReceipt
 receipt_known config envelope read now l = taken_or_dropped_known config envelope (tick_in config now l) read (drop_reason config envelope read)
 
--- What was read at a link that is known.
+-- The receipt of a read message at a known link.
 pub receipt-known : (config : Configuration) (envelope : Envelope) (read : Result (Message ℕ) WireFault) (now : ℕ) (l : KnownLink) →
     receipt_after config envelope read (tick_of config now (as_link l)) ≡ as_receipt (receipt_known config envelope read now l)
 receipt-known config envelope read now l =

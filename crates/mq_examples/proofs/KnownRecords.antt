@@ -1,4 +1,4 @@
--- What records and queries do to links whose groups are known one by one, for the worked examples.
+-- The effect of records and queries on links whose groups are known one by one, for the worked examples.
 use Rattle.std.proofs.Common.{◌≡◌, ℕ, ◌+◌, Bool, true, false, cond, not, ◌&&◌, refl, List, [], ◌∷◌, ◌++◌, length, Option, None, Some, sym, ap, ◌∙◌}
 use Rattle.std.proofs.Common.{leb, eqb, suc, arith}
 use Rattle.std.specs.{Prelude.map as list_map, Cmp.nat_cmp_total, Option.option_map, Option.unwrap_or, Option.is_some}
@@ -113,7 +113,7 @@ passed-known limits gs k =
     λ i. limit_passed_by limits (count-known gs i) (len-known k.sources i) (sum-known sources_of size_in (λ k. len-known k.sources) gs i)
     (sum-known schedules_of scheduled_in (λ k. refl) gs i)
 
--- what is said, with the sources named as a list
+-- a statement, with the named sources as a list
 pub data KnownStatement : Type 0 where
   Record : (kind : Kind) (named : List ℕ) → KnownStatement
   Join : (version : OlderVersion) → KnownStatement
@@ -147,7 +147,7 @@ change_stated-known mutes false timing now (Join version) k =
     ∙ ap (λ g. Some (asking_nothing g)) (joined-known version timing now (table_in timing now k IsEx []).after)
 change_stated-known mutes muted timing now Leave k = translated-known mutes muted timing now k ToIn []
 
--- what becomes of it
+-- the outcome of a statement
 pub record KnownOutcome : Type 0 where
   pub verdict : Verdict
   pub groups : KnownGroups

@@ -1,4 +1,4 @@
--- What a replay comes to where the groups of its link are known one by one, for the worked examples.
+-- The text of a replay, if the groups of its link are known one by one, for the worked examples.
 use Rattle.std.proofs.Common.{◌≡◌, ℕ, ◌+◌, true, false, refl, List, [], ◌∷◌, ◌++◌, length, Option, None, Some, Ok}
 use Rattle.std.proofs.Common.{append-nil, ap, ◌∙◌}
 use Rattle.std.specs.{Prelude.map as list_map, List.flat_map, Option.option_to_list}
@@ -56,7 +56,7 @@ next_in l = least (next_moment l.election.role) (all_moments_known l.groups)
 next-known : (l : ListedLink) → next_of (as_link l) ≡ next_in l
 next-known l = ap (least (next_moment l.election.role)) (moments_in-known l.groups)
 
--- a replay under way, of which the lines of the groups that change aren't asked for
+-- a replay under way, without lines for changed groups
 pub record KnownReplayed : Type 0 where
   pub link : ListedLink
   pub text : List ℕ

@@ -1,4 +1,4 @@
--- What known groups are asked and send, for the worked examples.
+-- The schedules and queries of known groups, for the worked examples.
 use Rattle.std.proofs.Common.{◌≡◌, ℕ, ◌+◌, Bool, true, false, cond, not, ◌&&◌, refl, List, [], ◌∷◌, ◌++◌, Option, None, Some, ap, ◌∙◌, ltb}
 use Rattle.std.specs.{Prelude.filter, Ordering.nat_cmp, List.list_any, FinMap.FinMap, Cmp.nat_cmp_total}
 use Rattle.mq_table.specs.declared.{timing.Timing.Timing, timers.FilterMode.FilterMode, timers.SourceTimer.SourceTimer}
@@ -64,7 +64,7 @@ acted-known false timing now query_group query k = refl
 acted-known true timing now true query k = asked-known timing now query (group_asked_in timing now k)
 acted-known true timing now false query k = asked-known timing now query k
 
--- what a change leaves, before it is sent
+-- the group after a change, before its queries
 abbrev pub settled_change : KnownChange → ScheduleState → Known
 settled_change c schedule =
     let k = c.after in
@@ -80,7 +80,7 @@ changed-known is_querier timing now c schedule =
     (record { group = group_of c.after; schedule = settled-known c.after.mode c.after.sources c.after.v1 c.after.v2 schedule i }))
     ∙ acted-known is_querier timing now c.query_group c.query (settled_change c schedule)
 
--- what goes in a round
+-- the queries of a round
 abbrev pub sent_by : ℕ → Timing → ℕ → ℕ → FilterMode → ScheduleState → List ℕ → (ℕ → Option SourceTimer) → List SentQuery
 sent_by n timing now group mode schedule keys timer =
     cond (is_due now (group_due schedule.group_query)) (GroupQuery group (is_ahead (lowered_to timing now) (group_deadline mode)) ∷ []) []

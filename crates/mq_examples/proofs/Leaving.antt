@@ -1,4 +1,4 @@
--- What shows that a change leaves a group: its sources one by one, and the sources that it asks for.
+-- Conditions under which a change leaves a group: its sources one by one, and the sources that it asks for.
 use Rattle.std.proofs.Common.{◌≡◌, ℕ, Bool, List, Option, refl}
 use Rattle.std.specs.{Ordering.nat_cmp, FinMap.FinMap}
 use Rattle.mq_table.specs.{declared.timers.FilterMode.FilterMode, declared.timers.SourceTimer.SourceTimer, Sets.Set}

@@ -1,4 +1,4 @@
--- How a worked example follows from what is computed of the listed groups.
+-- Lemmas by which a worked example follows from the listed groups.
 use Rattle.std.proofs.Common.{◌≡◌, ℕ, List, [], ap, ◌∙◌}
 use Rattle.mq_wire.specs.declared.records.RecordView.{RecordView}
 use Rattle.mq_sched.specs.Sending.{SentQuery}
@@ -20,7 +20,7 @@ ticks_to config now before queries after q g e l = record {
   };
 }
 
--- what is computed of a datagram
+-- the computed receipt of a datagram
 abbrev pub received : Configuration → Envelope → List ℕ → ℕ → ListedLink → KnownReceipt
 received config envelope bytes now before = receipt_known config envelope (read_of config.family (pseudo_of config.family envelope bytes) bytes) now before
 

@@ -1,4 +1,4 @@
--- What a file's header says doesn't depend on what follows it.
+-- The content of a file's header, whatever bytes follow it.
 use Rattle.std.proofs.Common.{◌≡◌, ◌≤◌, ◌+◌, ℕ, List, ◌++◌, length, drop, refl, arith, ◌∙◌, ap, length-append, length-drop}
 use Rattle.std.proofs.lemmas.Bool.{le-ltb}
 use Rattle.std.proofs.Math.Seq.{drop-append-le}

@@ -25,7 +25,7 @@ Takes-trans a b c bs cs first second = record {
 pub filled_none : (s : InputState) (buffer : List ℕ) → IsFilledTo s s buffer 0
 filled_none s buffer = record { within = omega arith; takes = Takes-nil s; failed = refl }
 
--- the front of a buffer of which a part was overwritten
+-- the front of a buffer, once a part is overwritten
 front : (buffer part : List ℕ) (n more : ℕ) → n ≤ length buffer → more ≤ length part →
     take (n + more) (put_mid n (length buffer - n) buffer part) ≡ take n buffer ++ take more part
 front buffer part n more within fits =

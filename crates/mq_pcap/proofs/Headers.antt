@@ -1,4 +1,4 @@
--- What stands behind a hop-by-hop header, as the code reads it.
+-- The bytes after a hop-by-hop header, as the code reads them.
 use Rattle.std.proofs.Common.{◌≡◌, ◌≤◌, ◌+◌, ◌-◌, ◌*◌, ℕ, List, length, take, drop, Bool, refl, arith}
 use Rattle.std.specs.Prelude.{slice_index}
 use Rattle.std.proofs.lemmas.Bool.{le-ltb}

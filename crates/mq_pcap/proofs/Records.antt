@@ -21,7 +21,7 @@ pub number_in-append : (order : Endian) (n : ℕ) (xs ys : List ℕ) → n ≤ l
 number_in-append Big n xs ys fits = big_from-append n xs ys fits
 number_in-append Little n xs ys fits = little_from-append n xs ys fits
 
--- what a header's length field says does not depend on what follows
+-- a header's length field does not depend on later bytes
 pub captured_length-append : (form : Form) (bytes more : List ℕ) → 16 ≤ length bytes → captured_length form (bytes ++ more) ≡ captured_length form bytes
 captured_length-append form bytes more whole =
     ap (number_in form.order 4) (drop-append-le 8 bytes more (omega (arith, whole)))

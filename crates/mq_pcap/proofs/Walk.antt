@@ -19,7 +19,7 @@ enough (suc most) (suc n) (kind ∷ bytes) a b =
     let behind = enough most n (drop end bytes) (omega (arith, length-drop end bytes)) (omega (arith, length-drop end bytes)) in
     rw (rest, behind) refl
 
--- an option that fits and isn't Pad1, and what stands behind it
+-- an option that fits and isn't Pad1, and the bytes after this option
 pub options_of-option : (kind : ℕ) (bytes : List ℕ) → (kind == 0) ≡ false → slice_index bytes 0 < length bytes →
     options_of (kind ∷ bytes) ≡ (kind, slice_range bytes 1 (slice_index bytes 0 + 1)) ∷ options_of (drop (slice_index bytes 0 + 1) bytes)
 options_of-option kind bytes other fits =
@@ -27,7 +27,7 @@ options_of-option kind bytes other fits =
     let behind = enough (length bytes) (length (drop end bytes)) (drop end bytes) (omega (arith, length-drop end bytes)) (omega arith) in
     rw (other, lt-ltb _ _ fits) (ap (λ options. (kind, slice_range bytes 1 end) ∷ options) behind)
 
--- what a slice from a place to the end is
+-- the slice from a place to the end
 pub from_place : {X : Type 0} (place : ℕ) (xs : List X) → take (length xs - place) (drop place xs) ≡ drop place xs
 from_place place xs = take_all (length xs - place) (drop place xs) (omega (arith, length-drop place xs))
 

@@ -11,7 +11,7 @@ none_in_nothing : (place : ℕ) → zeros_ahead (drop place []) ≤ 0
 none_in_nothing zero = omega arith
 none_in_nothing (suc place) = omega arith
 
--- what bounds the zeros at the front and at each later place bounds them everywhere
+-- a bound for the zeros at the front and at each later place bounds them everywhere
 bounded : (group : ℕ) (groups : List ℕ) (most : ℕ) → zeros_ahead (group ∷ groups) ≤ most
     → ((place : ℕ) → zeros_ahead (drop place groups) ≤ most) → (place : ℕ) → zeros_ahead (drop place (group ∷ groups)) ≤ most
 bounded group groups most here later zero = here
@@ -86,7 +86,7 @@ one_run groups a b longest_a longest_b =
     let place : a.place ≡ b.place = omega (arith, one, other) in
     λ i. record { place = place i; count = count i }
 
--- The first run of all is the longest, where fewer groups stand behind it than it has.
+-- The first run of all is the longest if fewer groups follow it than it has.
 pub first_run : (groups : List ℕ) (place count : ℕ) → length groups ≡ 8 → ((k : ℕ) → k < place → zeros_ahead (drop k groups) ≡ 0) →
     zeros_ahead (drop place groups) ≡ count → 0 < count → 8 ≤ place + 2 * count
     → ◌≡◌ {A = ZeroGroups} (record { place = place; count = count }) (longest_zeros groups)

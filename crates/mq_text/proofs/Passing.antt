@@ -32,7 +32,7 @@ both_passed a b c held mid left text more first second =
       grows = Appends-trans a b c first.written second.written first.grows second.grows;
     }
 
--- what broke off broke off in the longer text too
+-- a text that broke off also broke off in the longer text
 pub broken_off : (a b : Option (List ℕ)) (text more : List ℕ) → GrowsByBeginning a b text → GrowsByBeginning a b (text ++ more)
 broken_off a b text more begun =
     record {

@@ -5,7 +5,7 @@ use Rattle.std.proofs.lemmas.List.{take_all, length-drop}
 use Rattle.mq_text.specs.declared.address_v6.ZeroGroups.{ZeroGroups}
 use Rattle.mq_text.specs.AddressV6.{with_colons, shortened}
 
--- the groups before a run, two colons, and those behind it
+-- the groups before a run, two colons, and the later groups
 pub put_shortened : (old first second third groups : List ℕ) (run : ZeroGroups) → length groups ≡ 8 → 2 ≤ run.count → first ≡ old ++
     with_colons (take run.place groups) → second ≡ first ++ (58 ∷ 58 ∷ []) → third ≡ second ++
     with_colons (take (8 - (run.place + run.count)) (drop (run.place + run.count) groups)) → third ≡ old ++ shortened groups run

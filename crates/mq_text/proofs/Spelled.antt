@@ -11,7 +11,7 @@ use Rattle.std.specs.declared.net.ipv4_addr.Ipv4Addr.{Ipv4Addr}
 use Rattle.std.specs.declared.net.ipv6_addr.Ipv6Addr.{Ipv6Addr}
 use Rattle.mq_text.specs.Reading.{AreGroupsBehind, HasGroups, SpellsV4, SpellsV6, has_dot}
 
--- what is appended to has no dot where neither part has
+-- two joined texts have no dot if neither has one
 pub both_dotless : (xs ys : List ℕ) → has_dot xs ≡ false → has_dot ys ≡ false → has_dot (xs ++ ys) ≡ false
 both_dotless xs ys front back = rw (list_any-append (λ c. c == 46) xs ys, front, back) refl
 
@@ -111,7 +111,7 @@ spelled_from_std text groups no_dot (inr short) =
 pub none_with_dot : (text : List ℕ) → has_dot text ≡ true → (address : ℕ) → SpellsV6 text address → ⊥
 none_with_dot text dot address (groups, has, is) = let none = dotless text groups has in absurd (cc (dot, none))
 
--- none is spelled where std reads none
+-- a text that std reads as no address has none
 pub none_v6 : (text : List ℕ) → ((a : Ipv6Addr) → ¬ (IsIpv6Text text a)) → (address : ℕ) → SpellsV6 text address → ⊥
 none_v6 text none address (groups, has, is) = none (record { segments = groups }) (spelled_as_std text groups has)
 

@@ -21,7 +21,7 @@ lower_exponent b m n p q small half =
     let of_half : b * (2 * q) ≤ b * p = mul-le-mul_left b half in
     omega (arith, of_mantissa, of_half)
 
--- of two values under one exponent, the one that is no more than v is no more than the greatest such
+-- a value of this exponent that is at most v is at most the greatest such value
 same_exponent : (b m n p v : ℕ) → v < (b + m + 1) * p → (b + n) * p ≤ v → (b + n) * p ≤ (b + m) * p
 same_exponent b m n p v above below =
     elim (leb_tells n m) [
@@ -29,7 +29,7 @@ same_exponent b m n p v above below =
       | inr more ↦ (let least : (b + m + 1) * p ≤ (b + n) * p = mul-le-mul_right p (omega (arith, more.1)) in absurd (omega (arith, least)))
     ]
 
--- what is below the next mantissa is below each value with a greater exponent
+-- a number below the next mantissa's value is below each value with a greater exponent
 higher_exponent : (b m n p q v : ℕ) → m < b → 2 * p ≤ q → v < (b + m + 1) * p → (b + n) * q ≤ v → ⊥
 higher_exponent b m n p q v small half above below =
     let of_mantissa : (b + m + 1) * p ≤ (b + b) * p = mul-le-mul_right p (omega arith) in
@@ -101,8 +101,8 @@ greatest_value bits e m v other small less below next within no_more =
           )
     ]
 
--- The code of an exponent and a mantissa is the one for v, where its value is no more than v, and the value of
--- the next mantissa is above v, or there is no next code.
+-- The code of an exponent and a mantissa is the one for v if two conditions hold. Its value is at most v. And
+-- the value of the next mantissa is above v, or there is no next code.
 pub composed_code : (bits e m v : ℕ) → m < 2 ^ bits → e < 8 → (2 ^ bits + m) * 2 ^ (e + 3) ≤ v → (v < (2 ^ bits + m + 1) * 2 ^ (e + 3)) ⊎
     ((e ≡ 7) × (m + 1 ≡ 2 ^ bits)) → IsCodeFor (value_of bits) (16 * 2 ^ bits - 1) v ((8 + e) * 2 ^ bits + m)
 composed_code bits e m v small less below next =

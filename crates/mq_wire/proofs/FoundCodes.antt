@@ -112,7 +112,7 @@ shifted_base n bits few small =
     let most : 2 ^ bits ≤ 2 ^ 12 = pow-le-pow_right (omega arith) {i = bits} {j = 12} (omega (arith, small)) in
     let all : n * 2 ^ bits ≤ 16 * 2 ^ 12 = mul-le n (2 ^ bits) 16 (2 ^ 12) few most in mod-eq_of_lt (omega (arith, all))
 
--- behind the last exponent stands the greatest code
+-- the greatest code follows the last exponent
 pub ends : (bits v e : ℕ) → e ≡ 8 → composed_for bits v (8 - e) e ≡ 16 * 2 ^ bits - 1
 ends bits v e last = rw last refl
 

@@ -1,4 +1,4 @@
--- What is read of a query is what its bytes say.
+-- The fields of a query, as the code reads its bytes.
 use Rattle.std.proofs.Common.{◌≡◌, ◌+◌, ◌-◌, ◌%◌, ◌≤◌, ℕ, List, ◌==◌, nat_lt, if◌then◌else◌, length, slice_index, take, drop, replicate, false, inr}
 use Rattle.std.proofs.Common.{Ok, None, ap, sym, ◌∙◌, refl, arith, ne_eqb}
 use Rattle.byteorder.specs.Endian.{big_number}
@@ -18,7 +18,7 @@ use Rattle.mq_wire.proofs.Addresses.{all_behind}
 use Rattle.mq_wire.proofs.Cuts.{behind_count}
 use Rattle.mq_wire.proofs.Spelled.{no_fault_within}
 
--- what stands behind the group of a query of IGMPv3 or MLDv2, from what was read of it
+-- the fields after the group of a query of IGMPv3 or MLDv2, by the values read
 pub fields_read : {K : Type 0} (place width : ℕ) (bytes : List ℕ) (robustness interval count : ℕ) (sources : List ℕ) →
     count ≡ number_at (place + 2) 2 bytes → first_cut (length bytes) (place + 4) (replicate count width) ≡ None →
     robustness ≡ (if nat_lt 7 (slice_index bytes place % 8) then 0 else slice_index bytes place % 8) →

@@ -15,7 +15,7 @@ length_records width zero place bytes = refl
 length_records width (suc count) place bytes =
     let rest = length_records width count (record_end width place bytes) bytes in omega (arith, rest)
 
--- how many bytes a record has
+-- the length of a record
 record_length : (width place : ℕ) (bytes : List ℕ) → sum (record_spans width place bytes)
     ≡ 4 + width + record_source_count place bytes * width + auxiliary_length place bytes
 record_length width place bytes =
@@ -56,7 +56,7 @@ first_is_whole width count place bytes some whole =
     whole_parts (length bytes) place (record_spans width place bytes) (spans_of_records width (count - 1) (record_end width place bytes) bytes)
     (ap (first_cut (length bytes) place) (sym split) ∙ whole)
 
--- The fields of a record in three parts: as far as its group, its sources, its auxiliary data. What was computed is told by
+-- The fields of a record in three parts: up to its group, its sources, its auxiliary data. Computed values are known by
 -- equations.
 pub record_ends : (width place w sources auxiliary n words : ℕ) (bytes : List ℕ) (r : Result ℕ WireFault) → w ≡ width →
     n ≡ record_source_count place bytes → words ≡ auxiliary_length place bytes → EndsAt (length bytes) place (1 ∷ 1 ∷ 2 ∷ w ∷ []) (Ok sources) →
@@ -119,14 +119,14 @@ all_records width count place done end bytes so_far no_more =
     let none : count - done ≡ 0 = omega arith in
     so_far ∙ ap (λ (n : ℕ). first_cut (length bytes) end (spans_of_records width n end bytes)) none
 
--- what was computed of a record that is whole lies in the bytes
+-- the computed places of a whole record lie in the bytes
 pub record_bounds : (width place w v n words : ℕ) (bytes : List ℕ) → w ≡ width → v ≡ width → n ≡ record_source_count place bytes →
     words ≡ slice_index bytes (place + 1) → first_cut (length bytes) place (record_spans width place bytes) ≡ None →
     place + 4 + w + n * v + 4 * words ≤ length bytes
 record_bounds width place w v n words bytes is_w is_v is_n is_words whole =
     let fits = record_fits width place bytes whole in rw (is_w, is_v, is_n, is_words) (omega (arith, fits))
 
--- what is handed out of records: the first, told by its numbers, and the others from where it ends
+-- the first record, known by its numbers, and the others from its end on
 pub first_handed : (width left place next : ℕ) (bytes : List ℕ) (all : List (RecordView ℕ)) (view : RecordView ℕ) → 0 < left →
     records_at width left place bytes ≡ all → view ≡ record_at width place bytes → next ≡ record_end width place bytes →
     all ≡ view ∷ records_at width (left - 1) next bytes

@@ -32,7 +32,7 @@ whole_at zero width len at whole = refl
 whole_at (suc n) width len at whole =
     step len at width (replicate n width) (omega arith) ∙ whole_at n width len (at + width) (omega arith)
 
--- one that isn't
+-- the first span is cut
 cut_here : (len at width : ℕ) (widths : List ℕ) → len < at + width → first_cut len at (width ∷ widths) ≡ Some at
 cut_here len at width widths cut = grind (arith, nat_tests)
 
@@ -44,7 +44,7 @@ first_whole len at width widths whole =
       | inr over ↦ (let some = cut_here len at width widths over.1 in absurd (cc))
     ]
 
--- how many bytes spans take
+-- the bytes of spans
 sum-cons : (width : ℕ) (widths : List ℕ) → sum (width ∷ widths) ≡ width + sum widths
 sum-cons width widths = let all = sum_by-append (λ n. n) (width ∷ []) widths in omega (arith, all)
 
@@ -64,7 +64,7 @@ cut_behind_whole len at (width ∷ first) others whole =
     let place : at + width + sum first ≡ at + sum (width ∷ first) = (let all = sum-cons width first in omega (arith, all)) in
     step len at width (first ++ others) fits ∙ rest ∙ ap (λ (n : ℕ). first_cut len n others) place
 
--- spans of which one is cut, before others
+-- spans with a cut one, before others
 cut_before : (len at place : ℕ) (first others : List ℕ) → first_cut len at first ≡ Some place → first_cut len at (first ++ others) ≡ Some place
 cut_before len at place [] others cut = absurd (cc)
 cut_before len at place (width ∷ first) others cut =
@@ -98,7 +98,7 @@ fault_before len at first others fault cut =
     let place = cut_somewhere (first_cut len at first) fault cut in
     ap (option_map (λ place. Truncated place)) (cut_before len at place.0 first others place.1 ∙ sym place.1) ∙ cut
 
--- spans that end, and what holds of the others behind them
+-- spans that end, and the facts about the later ones
 pub ends_on : (len at end : ℕ) (first others : List ℕ) (r : Result ℕ WireFault) → EndsAt len at first (Ok end) → EndsAt len end others r →
     EndsAt len at (first ++ others) r
 ends_on len at end first others (Ok last) one two =
@@ -144,7 +144,7 @@ whole_behind count width len at some within enough =
     let parts : (len - at) / width * width + (len - at) % width ≡ len - at = div-add-mod' (len - at) width in
     let all : count * width ≤ (len - at) / width * width = mul-le-mul_right width enough in omega (arith, parts, all)
 
--- The same of what was computed: the bytes that are left, divided by the width, and the count. It is told by equations,
+-- This fact for computed values: the bytes left, divided by the width, and the count. They are known by equations,
 -- since the code reads the width more than once.
 pub addresses_cut : (count width len at left w v n : ℕ) → 0 < width → w ≡ width → v ≡ width → n ≡ count → left + at ≡ len → left / w < n →
     cut_from len at (replicate count width) ≡ Some (Truncated (at + left / w * v))

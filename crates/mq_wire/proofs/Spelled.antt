@@ -1,4 +1,4 @@
--- Bytes spell one message at the most, and exactly where they have no fault.
+-- The one message that bytes encode, if they have no fault.
 use Rattle.std.proofs.Common.{◌≡◌, ◌+◌, ◌≤◌, ◌⊎◌, inl, inr, ℕ, ◌↔◌, List, [], ◌∷◌, ◌++◌, length, Option, Result, Ok, Err, Some, None, arith, ap}
 use Rattle.std.proofs.Common.{subst, sym, ◌∙◌, refl}
 use Rattle.std.specs.Option.{option_map}
@@ -80,7 +80,7 @@ no_fault family pseudo bytes m s =
     within family pseudo bytes s.kind (long_enough family s.kind bytes s.whole) s.checksum s.listed
     ∙ no_fault_within family bytes s.kind s.has_length s.whole
 
--- bytes with a right checksum, of a listed type, without a fault within, spell what their fields say
+-- bytes with a right checksum, of a listed type, without a fault within, encode the message of their fields
 spelled_within : (family : Family) (pseudo bytes : List ℕ) (kind : MessageType) → IsRight (pseudo ++ bytes) → type_named family (type_of bytes)
     ≡ Some kind → fault_within family bytes kind ≡ None → Spells family pseudo bytes (message_of family kind bytes)
 spelled_within family pseudo bytes kind right listed none =
@@ -94,7 +94,7 @@ spelled_within family pseudo bytes kind right listed none =
       says = refl;
     }
 
--- what is read of bytes of a listed type with a right checksum is what they are read as
+-- the result for bytes of a listed type with a right checksum
 pub reads : {K : Type 0} (number : K → ℕ) (family : Family) (pseudo bytes : List ℕ) (kind : MessageType) (r : Result (Message K) WireFault) →
     4 ≤ length bytes → IsRight (pseudo ++ bytes) → type_named family (type_of bytes) ≡ Some kind → ReadsWithin number family kind bytes r →
     ReadsAs number family pseudo bytes r
@@ -102,7 +102,7 @@ reads number family pseudo bytes kind (Ok m) long right listed reads_ok =
     subst (λ (x : Message ℕ). Spells family pseudo bytes x) (sym reads_ok.1) (spelled_within family pseudo bytes kind right listed reads_ok.0)
 reads number family pseudo bytes kind (Err fault) long right listed reads_err = within family pseudo bytes kind long right listed ∙ reads_err
 
--- what bytes are read as is a message exactly where they spell it, and a fault exactly where it is theirs
+-- the result is a message exactly if the bytes encode it, and a fault exactly if the bytes have it
 pub exact_message : (number : ℕ → ℕ) (family : Family) (pseudo bytes : List ℕ) (r : Result (Message ℕ) WireFault) → ((a : ℕ) → number a ≡ a) →
     ReadsAs number family pseudo bytes r → (m : Message ℕ) → (r ≡ Ok m) ↔ Spells family pseudo bytes m
 exact_message number family pseudo bytes (Ok n) own reads m =

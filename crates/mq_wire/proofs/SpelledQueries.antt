@@ -1,4 +1,4 @@
--- Bytes of a query spell it.
+-- Bytes of a query encode it.
 use Rattle.std.proofs.Common.{◌≡◌, ℕ, ◌+◌, ◌*◌, ◌≤◌, false, ◌==◌, inr, List, ◌++◌, length, replicate, None, Some, ap, sym, ◌∙◌, arith}
 use Rattle.std.proofs.lemmas.Bool.Decides.{nat_tests}
 use Rattle.mq_wire.specs.declared.query.Query.{Query}

@@ -1,4 +1,4 @@
--- What is written is the one spelling of the query.
+-- The one encoding of a query, as the code writes it.
 use Rattle.std.proofs.Common.{◌≡◌, ℕ, ◌+◌, ◌*◌, List, ◌++◌, length, ap, sym, ◌∙◌, refl}
 use Rattle.byteorder.specs.Endian.{big_bytes}
 use Rattle.mq_wire.specs.declared.query.Query.{Query}

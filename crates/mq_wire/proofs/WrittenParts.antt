@@ -10,7 +10,7 @@ use Rattle.mq_wire.specs.Canon.{fields_bytes, with_checksum}
 use Rattle.mq_wire.specs.Checksum.{checksum_behind}
 use Rattle.byteorder.specs.Numbers.{length-bytes_high_first}
 
--- these are written before the place, behind it all is as it was, and so many sources of a width are left
+-- these are written before the place, the rest is unchanged, and the sources of a width are left
 pub record IsWritten (width place : ℕ) (sources left first out : List ℕ) : Type 0 where
   pub written : List ℕ
   pub front : flat_map (big_bytes width) sources ≡ written ++ flat_map (big_bytes width) left
@@ -24,7 +24,7 @@ from_place place out part new within same =
     let none : drop (length out - place) (drop place out) ≡ [] = drop_all (length out - place) (drop place out) (omega (arith, length-drop place out)) in
     rw (none, same) (ap (λ (xs : List ℕ). take place out ++ xs) (append-nil new))
 
--- what was written at the front of a part, which is what stands from the place on
+-- the bytes written at the front of a part, which begins at the place
 behind_place : (width place : ℕ) (out part piece : List ℕ) → place ≤ length out → part ≡ piece ++
     drop width (take (length out - place) (drop place out)) → part ≡ piece ++ drop width (drop place out)
 behind_place width place out part piece within is_part =
@@ -58,7 +58,7 @@ one_more width place sources left rest first out part source within w is_left is
       ahead = let ahead = rw is_left at w.ahead in omega (arith, ahead);
     }
 
--- how many bytes the sources have
+-- the bytes of the sources
 pub length_sources : (width : ℕ) (sources : List ℕ) → length (flat_map (big_bytes width) sources) ≡ length sources * width
 length_sources width [] = omega arith
 length_sources width (source ∷ sources) =
@@ -66,7 +66,7 @@ length_sources width (source ∷ sources) =
     let first = length-bytes_high_first width source in
     omega (arith, length-append (big_bytes width source) (flat_map (big_bytes width) sources), rest, first)
 
--- how many bytes a query has behind its head
+-- the bytes of a query after its head
 pub length_query : {K : Type 0} (width group : ℕ) (head : List ℕ) (fields : QuerierFields K) →
     length (head ++ big_bytes width group ++ fields_bytes width fields) ≡ length head + width + 4 + length fields.sources * width
 length_query width group head fields =

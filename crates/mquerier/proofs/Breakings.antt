@@ -21,7 +21,7 @@ use Rattle.mquerier.specs.Changes.{Input, Output, input_by}
 use Rattle.mquerier.specs.Failures.{status_of}
 use Rattle.mquerier.specs.Working.{IsUnwritten}
 
--- what was reported and shown stays so
+-- a reported and shown state stays
 pub reports_kept : {S T : Type 0} (work : Work S T) (old new : InputState) (before mid after : Option (List ℕ)) (r : Result T CaptureFault)
     → is_failed_write r ≡ false → Reports work old new before mid r → Keeps mid after → Reports work old new before after r
 reports_kept work old new before mid after r unlike reports kept = record {

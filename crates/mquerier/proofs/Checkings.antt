@@ -1,4 +1,4 @@
--- What a check comes to once it is flushed, and as a request that is performed.
+-- The result of a check once it is flushed, and as a performed request.
 use Rattle.std.proofs.Common.{◌≡◌, ◌≤◌, ◌^◌, ◌⊎◌, ◌∙◌, subst, sym, refl, arith, false, ℕ, Bool, Bor, List, Option, None, Some, Result, Ok, Err, inl}
 use Rattle.std.proofs.Common.{inr, ⊎_elim}
 use Rattle.std.proofs.lemmas.Bool.{ltb-false}
@@ -46,7 +46,7 @@ check_ended family querier settings terms config input old mid new r r' end smal
     by_result (Ok totals) it = ((small, made.0), it.0, it.1)
     by_result (Err failure) it = (λ two. let one = it.0 in absurd (omega (arith, two, one)), λ one. ((small, made.0), it.1))
 
--- a check at the address that a text spells
+-- a check at the address of a text
 pub checked_for : (protocol : Protocol) (querier : List ℕ) (address : ℕ) (settings : Settings) (terms : CheckTerms) (input : Input) (output : Output)
     (r : Result Totals Failure) → SpellsAddress protocol querier address
     → ChecksAt (family_of protocol) address settings terms input output r → WorksOnCheck protocol querier settings terms input output r
@@ -122,7 +122,7 @@ check_concluded options querier in_words input output errors totals status works
       unjudged = λ four. let it = concludes.unjudged four in (totals, it.0, it.1, works, it.2);
     }
 
--- a check that fails, and is told
+-- a check that fails, and is reported
 pub check_failed : (options : CheckOptions) (querier : List ℕ) (in_words : Bool) (input : Input) (output errors : Output) (failure : Failure) (status : ℕ)
     → WorksOnCheck options.protocol querier options.settings options.terms input output (Err failure)
     → (IsUnwritten {X = Totals} (Err failure) → input.new ≡ input.old)

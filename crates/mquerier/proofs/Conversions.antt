@@ -1,4 +1,4 @@
--- What a conversion comes to, as a request that is performed.
+-- The result of a conversion, as a performed request.
 use Rattle.std.proofs.Common.{◌≡◌, ℕ, [], Bool, Bor, List, Option, Result, Ok, Err, arith, inr, refl}
 use Rattle.std.specs.Io.KnownBytes.{Keeps}
 use Rattle.std.proofs.KnownBytes.{Appends-kept}

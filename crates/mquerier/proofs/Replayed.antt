@@ -1,4 +1,4 @@
--- What a replay comes to once it is flushed.
+-- The result of a replay once it is flushed.
 use Rattle.std.proofs.Common.{subst, ℕ, List, Bool, Option, Result, Ok, Err}
 use Rattle.mq_command.specs.declared.Protocol.{Protocol}
 use Rattle.mq_command.specs.declared.replay.Settings.{Settings}
@@ -19,7 +19,7 @@ use Rattle.mquerier.specs.Status.{IsRefusedReplay}
 use Rattle.mquerier.specs.Working.{IsConfigured, WorksAt, WorksOnReplay}
 use Rattle.mquerier.proofs.Breakings.{Ends, IsEndOf, reports_ended}
 
--- a replay as it was asked for, behind a flush
+-- the requested replay, after a flush
 pub replay_ended : (family : Family) (own : ℕ) (settings : Settings) (asked : Asked) (config : Configuration) (input : Input)
     (old mid new : OutputState) (r : Result Counters CaptureFault) (r' : Result Counters Failure)
     → IsEndOf r input old mid new r' → IsConfigured (asked_configuration family own settings) (Ok config) →
@@ -29,7 +29,7 @@ replay_ended family own settings asked config input old mid new r r' end made re
     reports_ended (replay_of (asked_configuration family own settings) asked) input old mid new r r' end
     (subst (λ (k : Configuration). Replays k asked input.old input.new old.held mid.held r) made.1 replays)
 
--- the first fault of a request with the address that a text spells
+-- the first fault of a request with the address of a text
 pub refused_for : (protocol : Protocol) (own : List ℕ) (address : ℕ) (settings : Settings) (until : Option ℕ) (failure : Failure)
     → SpellsAddress protocol own address → IsRefusedAt (family_of protocol) address settings until failure →
     IsRefusedReplay protocol own settings until failure
@@ -46,7 +46,7 @@ refused_for protocol own address settings until ConversionRead spelled refused =
 refused_for protocol own address settings until Memory spelled refused = (address, spelled, refused)
 refused_for protocol own address settings until Write spelled refused = (address, spelled, refused)
 
--- a replay at the address that a text spells
+-- a replay at the address of a text
 pub replayed_for : (protocol : Protocol) (own : List ℕ) (address : ℕ) (settings : Settings) (asked : Asked) (input : Input) (output : Output)
     (r : Result Bool Failure) → SpellsAddress protocol own address
     → WorksAt (family_of protocol) address settings asked input output r → WorksOnReplay protocol own settings asked input output r

@@ -1,4 +1,4 @@
--- What a check of the querier that the capture names comes to.
+-- The result of a check of the querier that the capture names.
 use Rattle.std.proofs.Common.{◌≡◌, ◌⊎◌, ◌∙◌, ap, subst, sym, refl, arith, ℕ, Bool, List, Option, None, Some, Result, Ok, Err, inl, inr, ⊎_elim}
 use Rattle.mq_check.specs.declared.announced.Announced.{Announced}
 use Rattle.mq_replay.specs.declared.capture_fault.CaptureFault.{CaptureFault}
@@ -54,7 +54,7 @@ never failure status is at = absurd (⊎_elim
     (⊎_elim (λ (e : status ≡ 3). omega (arith, is, two, e)) (λ (e : status ≡ 4). omega (arith, is, two, e))) at)
     (status_is failure))
 
--- a check of the querier that was found failed, and that was told
+-- a check of the found querier failed, and this was reported
 failed_by : (family : Family) (options : CheckOptions) (found : Announced ℕ) (in_words : Bool) (input : Input) (output errors : Output)
     (failure : Failure) (status : ℕ)
     → ChecksFound family options found input output (Err failure) → status ≡ status_of failure → Told in_words errors failure →

@@ -1,4 +1,4 @@
--- What printing on standard error comes to.
+-- The result of printing on standard error.
 use Rattle.std.proofs.Common.{◌≡◌, ◌||◌, ◌++◌, codes, Bool, List, ℕ, Option, Result, Ok, Err, is_err, inl, inr, ap, subst, ◌∙◌}
 use Rattle.std.proofs.Math.Bool.{or-false, or-true}
 use Rattle.mq_text.specs.Printing.{Prints}
@@ -20,7 +20,7 @@ failure_told in_words errors failure told =
     let front = codes "mquerier: " in
     (front ++ failure_text failure ++ wanted_words in_words failure, told)
 
--- the version's line was printed in part or not passed on, which was told
+-- the version's line was printed in part or not passed on, and this was reported
 pub version_failed : (version : List ℕ) (in_words : Bool) (output errors : Output) (text : List ℕ) (failure : Failure) (status : ℕ)
     → text ≡ version_line version → (failure ≡ Write) × BreaksOff output text → status ≡ status_of failure → Told in_words errors failure
     → PrintsVersion version in_words output errors status

@@ -1,4 +1,4 @@
--- What the work on a message comes to.
+-- The result of the work on a message.
 use Rattle.std.proofs.Common.{◌≡◌, ℕ, Bool, List, Bor, Option, Some, Result, Ok, Err, inl, inr, arith, length}
 use Rattle.std.specs.Option.{option_copied}
 use Rattle.std.specs.Io.KnownBytes.{Appends, Keeps}
@@ -60,7 +60,7 @@ line_written old mid new family pseudo hex bytes flag decoded printed kept = (
   Appends-kept old mid new printed.line printed.printed.1 kept,
 )
 
--- a beginning of that line was written
+-- a prefix of that line was written
 pub line_begun : {E : Type 0} (old new : Option (List ℕ)) (family : Family) (pseudo : ℕ → List ℕ) (hex bytes : List ℕ) (e : E) → decode_of hex ≡ Ok bytes
     → PrintsLine old new family (pseudo (length bytes)) bytes (Err e)
     → (flag : Bool) × (line : List ℕ) × IsHexLine family pseudo hex flag line × GrowsByBeginning old new line

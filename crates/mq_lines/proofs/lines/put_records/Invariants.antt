@@ -3,7 +3,7 @@ use Rattle.mq_text.specs.Printing.{Passes}
 use Rattle.mq_lines.specs.Text.{records_text}
 use Rattle.mq_lines.proofs.lines.put_records.Given as goal
 
--- what was put so far and the records that are left are the whole text
+-- the text so far and that of the records left are the whole text
 abbrev pub invariant-loop-view : goal.invariant-loop-view
 invariant-loop-view g l =
     record {

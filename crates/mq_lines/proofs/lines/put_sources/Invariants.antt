@@ -3,7 +3,7 @@ use Rattle.mq_text.specs.Printing.{Passes}
 use Rattle.mq_lines.specs.Text.{sources_text}
 use Rattle.mq_lines.proofs.lines.put_sources.Given as goal
 
--- what was put so far and the sources that are left are the whole text
+-- the text so far and that of the sources left are the whole text
 abbrev pub invariant-loop-source : goal.invariant-loop-source
 invariant-loop-source g l =
     record {

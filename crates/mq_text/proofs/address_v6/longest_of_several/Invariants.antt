@@ -2,7 +2,7 @@ use Rattle.std.proofs.Common.{◌≡◌, ◌≤◌, ◌+◌, drop}
 use Rattle.mq_text.specs.AddressV6 as words
 use Rattle.mq_text.proofs.address_v6.longest_of_several.Given as goal
 
--- what was found among the groups behind the place
+-- the run found among the groups after the place
 abbrev pub invariant-loop-place : goal.invariant-loop-place
 invariant-loop-place l =
     record {

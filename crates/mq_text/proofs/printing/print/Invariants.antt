@@ -3,7 +3,7 @@ use Rattle.std.specs.Io.KnownBytes.{Appends}
 use Rattle.mq_count.specs.Streams.{inner_of, has_failed}
 use Rattle.mq_text.proofs.printing.print.Given as goal
 
--- what was written so far and what is left are the text
+-- the bytes written so far and those left are the text
 abbrev pub invariant-loop-rest : goal.invariant-loop-rest
 invariant-loop-rest g l =
     record {

@@ -2,7 +2,7 @@ use Rattle.std.proofs.Common.{◌≡◌, ◌+◌, ◌≤◌, drop, length, sum}
 use Rattle.mq_wire.specs.Fields.{first_cut}
 use Rattle.mq_wire.proofs.fields.fields_end.Given as goal
 
--- what is known of all the fields is known once it is of those that are left
+-- a fact about all fields holds if it holds for those left
 abbrev pub invariant-loop-width : goal.invariant-loop-width
 invariant-loop-width l =
     record {

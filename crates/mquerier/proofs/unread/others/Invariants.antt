@@ -2,6 +2,6 @@ use Rattle.std.proofs.Common.{◌≡◌, drop}
 use Rattle.mquerier.specs.Failures.{others}
 use Rattle.mquerier.proofs.unread.others.Given as goal
 
--- what is left by the rows so far
+-- the rest after the rows so far
 abbrev pub invariant-loop-row : goal.invariant-loop-row
 invariant-loop-row l = others l.left (drop l.row-index l.rows) ≡ others l.count l.rows
