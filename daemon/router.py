@@ -64,11 +64,17 @@ class Watcher:
     """A host that joins a group when it is asked to, and all of the group that comes at its interface."""
 
     def __init__(self, space, group, source=None, interface="eth0"):
+        """Without a namespace, that of this thread is meant."""
         self.group, self.source = group, source
         self.level = family_of(group)[1]
-        self.member, self.socket, self.index = inside(space, self.opened, interface)
+        self.member, self.socket, self.index = inside(space, self.opened, interface) if space else self.opened(interface)
         self.filtered = struct.pack("=I4x", self.index) + place_of(group) + (place_of(source) if source else b"")
         self.head = 28 if self.level == socket.IPPROTO_IP else 48
+
+    @staticmethod
+    def many(space, groups):
+        """Returns a watcher for each group."""
+        return inside(space, lambda: [Watcher(None, it) for it in groups])
 
     def opened(self, interface):
         kind = 0x800 if ":" not in self.group else 0x86DD
