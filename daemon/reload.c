@@ -57,7 +57,7 @@ const char *route_reload(struct querier *querier, const struct options *options,
     used->scope = options->scope;
     used->unused = options->unused;
     used->upcalls = options->upcalls;
-    upstream_read_bounds(&querier->route->upstream);
+    joins_read_bounds(&querier->route->joins);
     route_renew(querier, now);
     return NULL;
 }

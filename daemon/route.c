@@ -119,7 +119,7 @@ void route_open(struct querier *querier) {
     size_t groups = open_tables(querier);
     open_folder(querier);
     entries_open(&route.entries, options->entries);
-    upstream_open(&route.upstream, groups);
+    joins_open(&route.joins, groups);
     route.was_querier = take(2 * querier->room, sizeof *route.was_querier);
     route_refresh(querier);
     inherit_entries(querier);
@@ -262,7 +262,7 @@ void route_inherit(struct querier *querier, const struct port *port, bool is_mld
         count = link_groups(&port->served[is_mld].link, first, groups);
         for (size_t at = 0; at < count; at++) {
             memcpy(wish.group, groups[at].address, LONG_ADDRESS);
-            struct join *join = upstream_find(&route->upstream, &wish);
+            struct join *join = joins_find(&route->joins, &wish);
             if (join != NULL)
                 join->is_inherited = true;
         }

@@ -3,9 +3,9 @@
 #define ROUTE_H
 
 #include "entries.h"
+#include "joins.h"
 #include "mroute.h"
 #include "querier.h"
-#include "upstream.h"
 
 /* An interface of the router. Those downstream come first, in the order of `querier->bridges`. Those upstream follow. */
 struct vif {
@@ -20,7 +20,7 @@ struct route {
     struct vif vifs[GREATEST_VIFS];
     size_t downstream, count; /* the interfaces downstream, and all */
     struct entries entries;
-    struct upstream upstream;
+    struct joins joins;
     bool *was_querier; /* two for each port, one for each family */
     bool is_stale[2];  /* all groups of a family have to be merged again */
     bool is_lost[2];   /* and all its entries made again: an interface came or is gone */

@@ -41,7 +41,7 @@ static void text_entry(const struct querier *querier, const struct route_entry *
 
 void routed_text(const struct querier *querier, FILE *to) {
     const struct route *route = querier->route;
-    const struct table *joins = &route->upstream.joins, *entries = &route->entries.table;
+    const struct table *joins = &route->joins.table, *entries = &route->entries.table;
     for (size_t at = route->downstream; at < route->count; at++)
         fprintf(to, "upstream %s%s\n", route->vifs[at].name, route->vifs[at].index == 0 ? ", missing" : "");
     fprintf(to, "joined %zu\n", joins->count);
@@ -82,7 +82,7 @@ static void json_entry(const struct querier *querier, const struct route_entry *
 
 void routed_json(const struct querier *querier, FILE *to) {
     const struct route *route = querier->route;
-    const struct table *joins = &route->upstream.joins, *entries = &route->entries.table;
+    const struct table *joins = &route->joins.table, *entries = &route->entries.table;
     fputs(",\"upstream\":[", to);
     for (size_t at = route->downstream; at < route->count; at++)
         fprintf(to, "%s{\"interface\":\"%s\",\"up\":%s}", at > route->downstream ? "," : "", route->vifs[at].name,
@@ -102,7 +102,7 @@ void routed_json(const struct querier *querier, FILE *to) {
 
 void routed_metrics(const struct querier *querier, FILE *to) {
     const struct route *route = querier->route;
-    const struct table *joins = &route->upstream.joins, *entries = &route->entries.table;
+    const struct table *joins = &route->joins.table, *entries = &route->entries.table;
     struct usage all = {0, 0};
     for (size_t at = 0; at < entries->count; at++) {
         const struct route_entry *entry = table_at(entries, at);

@@ -23,18 +23,18 @@ void wishes_update(struct querier *querier, bool is_mld, const uint8_t *group) {
     struct route *route = querier->route;
     struct wish wish = {.is_mld = is_mld};
     memcpy(wish.group, group, LONG_ADDRESS);
-    struct join *join = upstream_find(&route->upstream, &wish);
+    struct join *join = joins_find(&route->joins, &wish);
     size_t vif = route_upstream(querier, is_mld, group);
     wishes_merge(querier, is_mld, group, &merged);
     if (vif == NO_VIF)
         merged.mode = MODE_NONE, merged.count = 0;
     else if (join != NULL && join->is_inherited)
-        upstream_add(&route->upstream, join, &merged);
+        joins_add(&route->joins, join, &merged);
     if (merged.is_wider)
         fault(FAULT_WIDER, "upstream", "links want more sources of a group than memory is for: all are asked for");
     struct filter filter = merge_filter(&merged);
-    upstream_set(&route->upstream, &wish, vif == NO_VIF ? 0 : route->vifs[vif].index, &filter);
-    if ((join = upstream_find(&route->upstream, &wish)) == NULL)
+    joins_set(&route->joins, &wish, vif == NO_VIF ? 0 : route->vifs[vif].index, &filter);
+    if ((join = joins_find(&route->joins, &wish)) == NULL)
         return;
     join->is_seen = true;
     route->is_stale[is_mld] |= join->is_failed; /* it is tried again in a second */
@@ -51,7 +51,7 @@ static void renew_link(struct querier *querier, const mq_link *link) {
 }
 
 void wishes_renew(struct querier *querier, bool is_mld) {
-    struct table *joins = &querier->route->upstream.joins;
+    struct table *joins = &querier->route->joins.table;
     for (size_t at = 0; at < joins->count; at++)
         ((struct join *)table_at(joins, at))->is_seen = false;
     for (size_t at = 0; at < querier->room; at++)
@@ -67,7 +67,7 @@ void wishes_renew(struct querier *querier, bool is_mld) {
 }
 
 void wishes_settle(struct querier *querier, bool is_mld) {
-    struct table *joins = &querier->route->upstream.joins;
+    struct table *joins = &querier->route->joins.table;
     for (size_t at = 0; at < joins->count; at++) {
         struct join *join = table_at(joins, at);
         if (join->wish.is_mld == is_mld)

@@ -82,7 +82,7 @@ static void open_route(void) {
     for (int at = 0; at < 2; at++)
         route.tables[at] = (struct mroute){.file = STDIN_FILENO, .is_mld = at == 1};
     entries_open(&route.entries, 16);
-    upstream_open(&route.upstream, 16);
+    joins_open(&route.joins, 16);
     route.was_querier = take(2 * querier.room, sizeof *route.was_querier);
 }
 

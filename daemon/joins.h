@@ -1,6 +1,6 @@
 /* Memberships upstream: the kernel's host side joins, on upstream interfaces, what the links downstream want. */
-#ifndef UPSTREAM_H
-#define UPSTREAM_H
+#ifndef JOINS_H
+#define JOINS_H
 
 #include "merge.h"
 #include "table.h"
@@ -27,22 +27,22 @@ struct join {
 /* The most sockets for a group, and the most groups of a socket. */
 enum { PARTS = 16, GROUPS_OF_SOCKET = 16 };
 
-struct upstream {
-    struct table joins;
+struct joins {
+    struct table table;
     int *sockets[2][PARTS]; /* each family and part has some, each for GROUPS_OF_SOCKET places; or -1 */
     size_t most_sources[2]; /* the kernel's bound of a list of sources */
     uint64_t secret;
 };
 
 /* Allocates memory for so many groups. */
-void upstream_open(struct upstream *upstream, size_t groups);
+void joins_open(struct joins *joins, size_t groups);
 /* Reads the kernel's bounds again. */
-void upstream_read_bounds(struct upstream *upstream);
+void joins_read_bounds(struct joins *joins);
 /* Asks for a filter of a group on an interface, or leaves the group with MODE_NONE. With the index 0 it only notes the filter. If
    the kernel's bounds do not allow the list, it asks for all sources. */
-void upstream_set(struct upstream *upstream, const struct wish *wish, int index, const struct filter *filter);
-struct join *upstream_find(const struct upstream *upstream, const struct wish *wish);
+void joins_set(struct joins *joins, const struct wish *wish, int index, const struct filter *filter);
+struct join *joins_find(const struct joins *joins, const struct wish *wish);
 /* Adds what the kernel is asked for now to a merged filter. */
-void upstream_add(const struct upstream *upstream, const struct join *join, struct merged *merged);
+void joins_add(const struct joins *joins, const struct join *join, struct merged *merged);
 
 #endif

@@ -1,5 +1,5 @@
 #define _GNU_SOURCE
-#include "upstream.h"
+#include "joins.h"
 
 #include "faults.h"
 #include "holder.h"
@@ -13,9 +13,9 @@
 #include <sys/socket.h>
 #include <unistd.h>
 
-void upstream_open(struct upstream *it, size_t groups) {
+void joins_open(struct joins *it, size_t groups) {
     size_t sockets = groups / GROUPS_OF_SOCKET + 1;
-    table_open(&it->joins, groups, sizeof(struct join), sizeof(struct wish));
+    table_open(&it->table, groups, sizeof(struct join), sizeof(struct wish));
     for (int at = 0; at < 2 * PARTS; at++) {
         int *files = take(sockets, sizeof *files);
         memset(files, -1, sockets * sizeof *files);
@@ -23,7 +23,7 @@ void upstream_open(struct upstream *it, size_t groups) {
     }
     if (getrandom(&it->secret, sizeof it->secret, 0) != sizeof it->secret)
         it->secret = 0xcbf29ce484222325;
-    upstream_read_bounds(it);
+    joins_read_bounds(it);
 }
 
 /* Reads a number of /proc/sys/net, or returns another one if that is missing. */
@@ -37,13 +37,13 @@ static size_t bound(const char *name, size_t otherwise) {
     return read < PAGE_SOURCES ? read : PAGE_SOURCES;
 }
 
-void upstream_read_bounds(struct upstream *it) {
+void joins_read_bounds(struct joins *it) {
     it->most_sources[false] = bound("/proc/sys/net/ipv4/igmp_max_msf", 10);
     it->most_sources[true] = bound("/proc/sys/net/ipv6/mld_max_msf", 64);
 }
 
-struct join *upstream_find(const struct upstream *it, const struct wish *wish) {
-    return table_find(&it->joins, wish);
+struct join *joins_find(const struct joins *it, const struct wish *wish) {
+    return table_find(&it->table, wish);
 }
 
 static struct sockaddr_storage place_of(bool is_mld, const uint8_t *address) {
@@ -60,12 +60,12 @@ static int level_of(const struct join *join) {
 }
 
 /* Returns where the socket of a part of a group is noted. */
-static int *file_of(const struct upstream *it, const struct join *join, size_t part) {
-    return &it->sockets[join->wish.is_mld][part][table_place(&it->joins, join) / GROUPS_OF_SOCKET];
+static int *file_of(const struct joins *it, const struct join *join, size_t part) {
+    return &it->sockets[join->wish.is_mld][part][table_place(&it->table, join) / GROUPS_OF_SOCKET];
 }
 
 /* Returns the socket of a part of a group, which is opened if it is missing, or -1 with `errno`. */
-static int socket_of(struct upstream *it, const struct join *join, size_t part) {
+static int socket_of(struct joins *it, const struct join *join, size_t part) {
     int *file = file_of(it, join, part);
     if (*file >= 0)
         return *file;
@@ -91,7 +91,7 @@ static int enter(int file, const struct join *join, const struct filter *list) {
 }
 
 /* Leaves a group in the parts from `first` to before `end`, if it is there. */
-static void leave(struct upstream *it, const struct join *join, size_t first, size_t end) {
+static void leave(struct joins *it, const struct join *join, size_t first, size_t end) {
     struct group_req group = {.gr_interface = (uint32_t)join->index, .gr_group = place_of(join->wish.is_mld, join->wish.group)};
     for (size_t part = first; part < end; part++)
         setsockopt(*file_of(it, join, part), level_of(join), MCAST_LEAVE_GROUP, &group, sizeof group);
@@ -124,7 +124,7 @@ static int set_list(int file, const struct join *join, const struct filter *list
 }
 
 /* Adds the list that a part has now to a merged filter. */
-static void add_part(const struct upstream *it, const struct join *join, size_t part, struct merged *merged) {
+static void add_part(const struct joins *it, const struct join *join, size_t part, struct merged *merged) {
     static uint8_t sources[PAGE_SOURCES][LONG_ADDRESS];
     static union list list;
     socklen_t length = sizeof list;
@@ -147,13 +147,13 @@ static void add_part(const struct upstream *it, const struct join *join, size_t 
     merge_add(merged, &filter);
 }
 
-void upstream_add(const struct upstream *it, const struct join *join, struct merged *merged) {
+void joins_add(const struct joins *it, const struct join *join, struct merged *merged) {
     for (size_t part = 0; part < join->parts; part++)
         add_part(it, join, part, merged);
 }
 
 /* Makes a part have its list. Returns 0, or an error of <errno.h>. */
-static int set_part(struct upstream *it, const struct join *join, size_t part, const struct filter *list) {
+static int set_part(struct joins *it, const struct join *join, size_t part, const struct filter *list) {
     int file = socket_of(it, join, part);
     bool is_in = part < join->parts, is_short = list->count == (list->mode == MODE_INCLUDE);
     int error = file < 0 ? errno : is_in ? 0 : enter(file, join, list);
@@ -170,7 +170,7 @@ static struct filter part_of(const struct filter *filter, size_t part, size_t mo
 
 /* Makes a group have a filter, in as many sockets as its list needs. Sources that move between sockets are added before they are
    removed: from the last part on if the list grows. Returns 0, or an error of <errno.h>. */
-static int set_parts(struct upstream *it, struct join *join, const struct filter *filter) {
+static int set_parts(struct joins *it, struct join *join, const struct filter *filter) {
     size_t most = it->most_sources[join->wish.is_mld];
     size_t parts = filter->mode == MODE_INCLUDE ? (filter->count + most - 1) / most : 1;
     bool grows = filter->count > join->count || parts > join->parts;
@@ -190,13 +190,13 @@ static int set_parts(struct upstream *it, struct join *join, const struct filter
     return 0;
 }
 
-static void leave_all(struct upstream *it, struct join *join) {
+static void leave_all(struct joins *it, struct join *join) {
     leave(it, join, 0, join->parts);
     join->parts = 0;
 }
 
 /* Returns a sum over a filter (FNV-1a), which begins at a number that no host knows. */
-static uint64_t sum_of(const struct upstream *it, const struct filter *filter) {
+static uint64_t sum_of(const struct joins *it, const struct filter *filter) {
     const uint8_t *bytes = (const uint8_t *)filter->sources;
     uint64_t sum = it->secret ^ (uint64_t)filter->mode;
     for (size_t at = 0; at < filter->count * LONG_ADDRESS; at++)
@@ -205,7 +205,7 @@ static uint64_t sum_of(const struct upstream *it, const struct filter *filter) {
 }
 
 /* Asks for all sources, because the kernel does not allow a list. Returns 0, or an error of <errno.h>. */
-static int set_wider(struct upstream *it, struct join *join) {
+static int set_wider(struct joins *it, struct join *join) {
     static const uint8_t none[1][LONG_ADDRESS];
     const struct filter all = {MODE_EXCLUDE, 0, none};
     int error = set_parts(it, join, &all);
@@ -218,19 +218,19 @@ static int set_wider(struct upstream *it, struct join *join) {
     return error;
 }
 
-void upstream_set(struct upstream *it, const struct wish *wish, int index, const struct filter *filter) {
-    struct join *join = upstream_find(it, wish);
+void joins_set(struct joins *it, const struct wish *wish, int index, const struct filter *filter) {
+    struct join *join = joins_find(it, wish);
     uint64_t sum = sum_of(it, filter);
     if (filter->mode == MODE_NONE) {
         if (join != NULL) {
             leave_all(it, join);
-            table_remove(&it->joins, join);
+            table_remove(&it->table, join);
         }
         return;
     }
     if (join != NULL && join->index == index && join->sum == sum && join->count == filter->count && !join->is_failed)
         return;
-    if (join == NULL && (join = table_put(&it->joins, wish)) == NULL) {
+    if (join == NULL && (join = table_put(&it->table, wish)) == NULL) {
         fault(FAULT_JOINS, "upstream", "there are more groups than memory for them");
         return;
     }
