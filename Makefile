@@ -1,11 +1,15 @@
-# Builds, runs and tests `mquerier`. `rt` is the command of the Rattle toolchain.
+# Builds, runs, tests and installs `mquerier`. `rt` is the command of the Rattle toolchain. A release has the file RELEASE and all that is
+# built: `make install` needs no toolchain there.
 
 PREFIX ?= /usr/local
+LIBDIR ?= $(PREFIX)/lib
 SYSCONFDIR ?= /etc
 UNITDIR ?= $(PREFIX)/lib/systemd/system
-SOURCES := crates.txt $(shell find crates/*/src crates/*/specs crates/*/proofs -type f)
+RELEASED := $(wildcard RELEASE)
+SOURCES := $(if $(RELEASED),,crates.txt $(shell find crates/*/src crates/*/specs crates/*/proofs -type f))
+TOOLCHAIN := $(if $(RELEASED),,rt bash python3)
 FIRST_PATH := message igmp 1600f8faef010203
-VERSION := $(shell sed -n 's/^\#define MQ_VERSION_TEXT "\(.*\)"$$/\1/p' include/mquerier.h)
+VERSION := $(shell tools/version)
 
 # The processor that `make lib` is for, and where its archive and its shared library stand. The shared library for aarch64 needs a
 # cross compiler of C.
@@ -15,10 +19,10 @@ AARCH64 := lib/aarch64-unknown-linux-gnu
 archive_for_x86_64-unknown-linux-gnu := lib/libmquerier.a
 archive_for_aarch64-unknown-linux-gnu := $(AARCH64)/libmquerier.a
 ARCHIVE := $(archive_for_$(TARGET))
-# The number is MQ_VERSION of the header.
-SONAME := libmquerier.so.$(VERSION)
+ABI := $(shell sed -n 's/^\#define MQ_VERSION \(.*\)$$/\1/p' include/mquerier.h)
+SONAME := libmquerier.so.$(ABI)
 SHARED := $(dir $(ARCHIVE))$(SONAME)
-CAPTURES := lib/libmquerier-captures.so.$(VERSION)
+CAPTURES := lib/libmquerier-captures.so.$(ABI)
 # The interpreter that makes and tests the package for Python.
 PYTHON ?= /usr/bin/python3
 ifeq ($(ARCHIVE),)
@@ -31,7 +35,7 @@ endif
 endif
 
 .PHONY: all run try lib wheel quick test kept live live-checked live-test live-soak conform-test page page-test bindings-test arm-test
-.PHONY: mutants bench install dist clean
+.PHONY: mutants bench install install-strip uninstall dist clean
 
 # Both archives are of what is built in one folder, so one is made after the other. tools/build works side by side by itself.
 .NOTPARALLEL:
@@ -41,9 +45,9 @@ all: bin/mquerier
 # Each names the commands that it lacks, before anything is built.
 .PHONY: needs-build needs-library needs-cross needs-gate needs-test needs-live needs-conform needs-page needs-arm needs-wheel needs-bindings
 needs-build:
-	@tools/needs rt bash python3
+	@tools/needs $(TOOLCHAIN)
 needs-library:
-	@tools/needs rt bash python3 $(CC)
+	@tools/needs $(TOOLCHAIN) $(if $(RELEASED),,$(CC))
 needs-cross:
 	@tools/needs rt bash python3 $(CROSS_COMPILE)gcc
 needs-gate:
@@ -64,9 +68,10 @@ needs-wheel:
 needs-bindings:
 	@PYTHON=$(PYTHON) tools/needs python3-pip python3-pytest python3-scapy cargo rustc cargo-clippy pkg-config valgrind
 
-# Proves the crates that the program stands on, builds it, and runs it once.
+# Proves the crates that the program stands on, builds it, and runs it once. tools/linked makes it start on every Linux.
 bin/mquerier: $(SOURCES) | needs-build
 	@tools/build $(FIRST_PATH)
+	@tools/linked
 
 # What a querier makes of a capture of hosts: by the proved program where it is built, else by one that is compiled and not proved.
 run:
@@ -107,7 +112,7 @@ $(AARCH64)/$(SONAME): $(AARCH64)/libmquerier.a include/libmquerier.map | needs-c
 	@echo "$@ is built"
 
 # The package for Python, with both shared libraries inside.
-WHEEL := dist/mquerier-$(VERSION)-py3-none-manylinux2014_x86_64.whl
+WHEEL := dist/mquerier-$(shell tools/version python)-py3-none-manylinux2014_x86_64.whl
 wheel: $(WHEEL)
 
 $(WHEEL): lib/$(SONAME) $(CAPTURES) $(wildcard bindings/python/*.* bindings/python/mquerier/*.*) tools/wheel | needs-wheel
@@ -115,6 +120,7 @@ $(WHEEL): lib/$(SONAME) $(CAPTURES) $(wildcard bindings/python/*.* bindings/pyth
 	@echo "$@ is built"
 
 # The crate of the page for this processor, as a shared library whose calls read captures.
+.SECONDARY: lib/libmq_page.a crates/mq_page/out/mq_page.wasm
 lib/libmq_page.a: $(SOURCES) | needs-library
 	@tools/build --captures
 	@cp crates/mq_page/out/libmq_page.a $@
@@ -143,7 +149,7 @@ mutants: needs-gate
 # A querier on Linux for an interface or for whole bridges, over the library, in C and outside of the proofs. `live-checked` is the
 # same with the compiler's checks of memory and of undefined behaviour, for tests.
 LIVE := $(wildcard daemon/*.c daemon/*.h) examples/frames.c examples/frames.h include/mquerier.h include/mquerier-link.h
-LIVE_FLAGS := -std=c99 -O2 -Wall -Wextra -Iinclude -Iexamples
+LIVE_FLAGS := -std=c99 -O2 -Wall -Wextra -Iinclude -Iexamples -DVERSION='"$(VERSION)"'
 # It reads frames of anybody with privileges, so it is built with the compiler's defences. The flags of the user come last.
 HARDENED := -U_FORTIFY_SOURCE -D_FORTIFY_SOURCE=2 -fstack-protector-strong -fstack-clash-protection -fPIE
 HARDENED_LINKS := -pie -Wl,-z,relro,-z,now,-z,noexecstack
@@ -155,19 +161,26 @@ LIVE_CHECKS := -g -fno-omit-frame-pointer -fsanitize=address,undefined -fno-sani
 live: bin/mquerier-live
 live-checked: bin/mquerier-live-checked
 
-bin/mquerier-live: $(LIVE) lib/libmquerier.a | needs-library
-	@mkdir -p bin
+bin/mquerier-live: $(LIVE) lib/libmquerier.a bin/version
+	@tools/needs $(CC)
 	$(CC) $(LIVE_FLAGS) $(HARDENED) $(CPPFLAGS) $(CFLAGS) $(filter %.c,$^) lib/libmquerier.a $(HARDENED_LINKS) $(LDFLAGS) -o $@
 
-bin/mquerier-live-checked: $(LIVE) lib/libmquerier.a | needs-library
-	@mkdir -p bin
+bin/mquerier-live-checked: $(LIVE) lib/libmquerier.a bin/version
+	@tools/needs $(CC)
 	$(CC) $(LIVE_FLAGS) $(LIVE_CHECKS) $(CPPFLAGS) $(CFLAGS) $(filter %.c,$^) lib/libmquerier.a $(LDFLAGS) -o $@
+
+# The version that the last build put into a program.
+bin/version: FORCE
+	@mkdir -p bin
+	@echo $(VERSION) | cmp -s - $@ || echo $(VERSION) > $@
+.PHONY: FORCE
 
 # The examples in C do what docs/EMBEDDING.md says; the querier on an interface serves hosts of the Linux kernel, and does what the
 # vectors say that are played to it, those that end within SECONDS. The last two want to be root, and the last one the program.
 SECONDS := 600
-live-test: needs-live live
+live-test: needs-live live bin/mquerier
 	@examples/check
+	@examples/routed
 	@daemon/test
 	@daemon/switches
 	@daemon/routes
@@ -221,28 +234,45 @@ bench: bin/mquerier
 	@bench/spent $(WRITE)
 	@bench/links $(WRITE)
 
-# The program, the library for C as an archive and as a shared library, its header, its entry for pkg-config, the library that reads
-# captures, the querier of bridges with its service and its file of options, which isn't replaced, and the manual pages.
+# The program, the library for C in both forms with its headers and its entry for pkg-config, the library that reads captures, the querier
+# of bridges with its service and its file of options, which isn't replaced, and the manual pages. `install-strip` leaves symbols out.
+# DESTDIR stands before each folder. `uninstall` removes these files, and the options if nobody changed them.
+LIVE_OPTIONS := $(SYSCONFDIR)/mquerier-live/options
+ROUTE_OPTIONS := $(SYSCONFDIR)/mquerier-live/route
+MAN := $(PREFIX)/share/man
+INSTALLED := $(addprefix $(PREFIX)/,bin/mquerier sbin/mquerier-live include/mquerier.h include/mquerier-link.h) \
+    $(addprefix $(LIBDIR)/,libmquerier.a libmquerier.so $(SONAME) $(notdir $(CAPTURES)) pkgconfig/libmquerier.pc) \
+    $(UNITDIR)/mquerier-live@.service $(UNITDIR)/mquerier-route.service $(MAN)/man1/mquerier.1 $(MAN)/man3/libmquerier.3 $(MAN)/man8/mquerier-live.8
 install: bin/mquerier lib/libmquerier.a lib/$(SONAME) $(CAPTURES) bin/mquerier-live
-	install -d $(DESTDIR)$(PREFIX)/bin $(DESTDIR)$(PREFIX)/include $(DESTDIR)$(PREFIX)/lib/pkgconfig
-	install -d $(DESTDIR)$(PREFIX)/share/man/man1 $(DESTDIR)$(PREFIX)/share/man/man3 $(DESTDIR)$(PREFIX)/share/man/man8
-	install -d $(DESTDIR)$(PREFIX)/sbin $(DESTDIR)$(SYSCONFDIR)/mquerier-live $(DESTDIR)$(UNITDIR)
-	install -m 755 bin/mquerier $(DESTDIR)$(PREFIX)/bin/mquerier
-	install -m 644 lib/libmquerier.a lib/$(SONAME) $(CAPTURES) $(DESTDIR)$(PREFIX)/lib
-	ln -sf $(SONAME) $(DESTDIR)$(PREFIX)/lib/libmquerier.so
+	install -d $(sort $(dir $(addprefix $(DESTDIR),$(INSTALLED) $(LIVE_OPTIONS))))
+	install -m 755 $(STRIP) bin/mquerier $(DESTDIR)$(PREFIX)/bin
+	install -m 755 $(STRIP) bin/mquerier-live $(DESTDIR)$(PREFIX)/sbin
+	install -m 644 $(STRIP) lib/$(SONAME) $(CAPTURES) $(DESTDIR)$(LIBDIR)
+	install -m 644 lib/libmquerier.a $(DESTDIR)$(LIBDIR)
+	ln -sf $(SONAME) $(DESTDIR)$(LIBDIR)/libmquerier.so
 	install -m 644 include/mquerier.h include/mquerier-link.h $(DESTDIR)$(PREFIX)/include
-	sed 's|@PREFIX@|$(PREFIX)|; s|@VERSION@|$(VERSION)|' include/libmquerier.pc.in > $(DESTDIR)$(PREFIX)/lib/pkgconfig/libmquerier.pc
-	install -m 644 man/mquerier.1 $(DESTDIR)$(PREFIX)/share/man/man1/mquerier.1
-	install -m 644 man/libmquerier.3 $(DESTDIR)$(PREFIX)/share/man/man3/libmquerier.3
-	install -m 755 bin/mquerier-live $(DESTDIR)$(PREFIX)/sbin/mquerier-live
+	sed 's|@PREFIX@|$(PREFIX)|; s|@LIBDIR@|$(LIBDIR)|; s|@VERSION@|$(VERSION)|' include/libmquerier.pc.in \
+	    > $(DESTDIR)$(LIBDIR)/pkgconfig/libmquerier.pc
+	install -m 644 man/mquerier.1 $(DESTDIR)$(MAN)/man1
+	install -m 644 man/libmquerier.3 $(DESTDIR)$(MAN)/man3
+	install -m 644 man/mquerier-live.8 $(DESTDIR)$(MAN)/man8
 	sed 's|@PREFIX@|$(PREFIX)|; s|@SYSCONFDIR@|$(SYSCONFDIR)|' daemon/mquerier-live@.service.in > $(DESTDIR)$(UNITDIR)/mquerier-live@.service
 	sed 's|@PREFIX@|$(PREFIX)|; s|@SYSCONFDIR@|$(SYSCONFDIR)|' daemon/mquerier-route.service.in > $(DESTDIR)$(UNITDIR)/mquerier-route.service
-	test -e $(DESTDIR)$(SYSCONFDIR)/mquerier-live/route || install -m 644 daemon/route.example $(DESTDIR)$(SYSCONFDIR)/mquerier-live/route
-	test -e $(DESTDIR)$(SYSCONFDIR)/mquerier-live/options || install -m 644 daemon/options.example $(DESTDIR)$(SYSCONFDIR)/mquerier-live/options
-	install -m 644 man/mquerier-live.8 $(DESTDIR)$(PREFIX)/share/man/man8/mquerier-live.8
+	test -e $(DESTDIR)$(LIVE_OPTIONS) || install -m 644 daemon/options.example $(DESTDIR)$(LIVE_OPTIONS)
+	test -e $(DESTDIR)$(ROUTE_OPTIONS) || install -m 644 daemon/route.example $(DESTDIR)$(ROUTE_OPTIONS)
 
-# The release of this commit: an archive and the wheel, with their sums in dist/mquerier-VERSION.sha256.
+install-strip:
+	@$(MAKE) --no-print-directory STRIP=-s install
+
+uninstall:
+	rm -f $(addprefix $(DESTDIR),$(INSTALLED))
+	cmp -s daemon/options.example $(DESTDIR)$(LIVE_OPTIONS) && rm $(DESTDIR)$(LIVE_OPTIONS) || true
+	cmp -s daemon/route.example $(DESTDIR)$(ROUTE_OPTIONS) && rm $(DESTDIR)$(ROUTE_OPTIONS) || true
+	rmdir $(DESTDIR)$(dir $(LIVE_OPTIONS)) 2> /dev/null || true
+
+# The release of this commit: an archive and the wheel, with their sums in dist/SHA256SUMS.
 dist: bin/mquerier bin/mquerier-live lib/libmquerier.a lib/$(SONAME) page wheel
+	@tools/linked --dated
 	@PYTHON=$(PYTHON) tools/dist
 
 clean:

@@ -1,5 +1,6 @@
 """The routers on which conform is tested. Each is started at one end of a lab's link."""
 
+import glob
 import os
 import re
 import shutil
@@ -199,7 +200,7 @@ def igmpproxy(lab, family):
 
 def wait_for(place, seconds=10):
     limit = time.monotonic() + seconds
-    while not os.path.exists(place):
+    while not glob.glob(f"{place}*"):
         if time.monotonic() > limit:
             raise Failed(f"{place} doesn't come")
         time.sleep(0.05)

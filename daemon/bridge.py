@@ -49,10 +49,9 @@ def written(mode, sources):
 
 
 def kept(lab, family=None, port=PORT):
-    """Returns the filters of the querier's entries at a port by group, in the form of lines of changes."""
+    """Returns the filters of the querier's permanent entries at a port by group, in the form of lines of changes."""
     found = [it for it in entries(lab) if it.get("protocol") == PROTOCOL[family or lab.family] and "src" not in it]
-    is_true(all(it["state"] == "permanent" for it in found), f"{found}")
-    found = [it for it in found if it["port"] == port]
+    found = [it for it in found if it["port"] == port and it["state"] == "permanent"]
     return {it["grp"]: written(it["filter_mode"], [one["address"] for one in it.get("source_list", [])]) for it in found}
 
 
@@ -206,6 +205,8 @@ def those_of_others_stay(lab):
     is_true(kept(lab).get(group) == "exclude", "no entry of its own")
     is_true(querier.end() == 0 and not kept(lab), "something of its own is left")
     found = {(it["grp"], it["port"], it["protocol"]) for it in entries(lab) if it["port"] != "br0"}
+    is_true((group, PORT, PROTOCOL[lab.family]) in found, "its own entry isn't left to the kernel")
+    found = {it for it in found if it[2] != PROTOCOL[lab.family]}
     is_true({it[:2] for it in found if it[2] == "static"} == made, f"{found}")
     is_true({it[2] for it in found} == {"static", "kernel"}, f"{found}")
     is_true({(both, "p3", "kernel"), (group, "p3", "kernel")} <= found, f"{found}")

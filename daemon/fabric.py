@@ -52,6 +52,18 @@ def run(space, *words, text=None):
     return ran.stdout
 
 
+def waiting(ears):
+    """Returns the frames that arrived at a socket that does not wait."""
+    frames = []
+    while True:
+        try:
+            frame, at = ears.recvfrom(2048)
+        except BlockingIOError:
+            return frames
+        if at[2] != PACKET_OUTGOING:
+            frames.append(frame)
+
+
 def place_of(address):
     """Returns an address as `sockaddr_storage`."""
     if address.version == 4:
@@ -104,7 +116,7 @@ class Querier:
             self.errors.append(line.rstrip("\n"))
 
     def status(self, bridge="br0"):
-        words = [PROGRAM, "status", bridge, "--json", "--run", self.fabric.run]
+        words = ["ip", "netns", "exec", self.fabric.near, PROGRAM, "status", bridge, "--json", "--run", self.fabric.run]
         for _ in range(100):
             ran = subprocess.run(words, capture_output=True, text=True, check=False)
             if ran.returncode == 0:
@@ -151,7 +163,7 @@ class Fabric:
         os.chmod(self.run, 0o755)
         self.bridges = [f"br{number}" for number in range(bridges)]
         self.ends = {f"b{number}h{port}": f"b{number}p{port}" for number in range(bridges) for port in range(1, ports + 1)}
-        self.options, self.queriers = (["--setup"] if setup else []), []
+        self.options, self.queriers, self.streams = (["--setup"] if setup else []), [], []
         for space in (self.near, self.far):
             ip("netns", "add", space)
         run(self.far, "sh", "-c", "echo 0 > /proc/sys/net/ipv6/conf/default/accept_dad; echo 1000 > /proc/sys/net/ipv4/igmp_max_memberships")
@@ -180,6 +192,9 @@ class Fabric:
         return self
 
     def __exit__(self, *_):
+        for stream in self.streams:
+            stream.is_over = True
+            stream.thread.join()
         for querier in self.queriers:
             querier.process.kill()
             querier.process.wait()
@@ -199,13 +214,17 @@ class Fabric:
         self.queriers.append(Querier(self, *self.options, *options, **how))
         return self.queriers[-1]
 
+    def shown(self):
+        """Returns all entries of the databases, as `bridge` prints them."""
+        ran = subprocess.run(["bridge", "-n", self.near, "-d", "-j", "mdb", "show"], capture_output=True, text=True, check=True)
+        return json.loads(ran.stdout)[0]["mdb"]
+
     def entries(self):
-        """Returns the entries of the databases: for each port and family, its groups with a mode and sources."""
+        """Returns the querier's permanent entries: for each port and family, its groups with a mode and sources."""
         found = {}
-        shown = subprocess.run(["bridge", "-n", self.near, "-d", "-j", "mdb", "show"], capture_output=True, text=True, check=True)
-        for it in json.loads(shown.stdout)[0]["mdb"]:
+        for it in self.shown():
             family = next((of for of in FAMILIES if it.get("protocol") == PROTOCOL[of]), None)
-            if family and "src" not in it:
+            if family and "src" not in it and it["state"] == "permanent":
                 sources = frozenset(one["address"] for one in it.get("source_list", []))
                 found.setdefault((it["port"], family), {})[it["grp"]] = (it["filter_mode"], sources)
         return found
@@ -219,7 +238,7 @@ class Fabric:
         wanted = wanted and (wanted[0], frozenset(wanted[1:]))
         limit = time.monotonic() + seconds
         while (found := self.entry(port, group)) != wanted:
-            is_true(time.monotonic() < limit, f"{port} {group}: {found}, not {wanted}; {self.queriers[-1].errors[-5:]}")
+            is_true(time.monotonic() < limit, f"{port} {group}: {found}, not {wanted}; {[it.errors[-5:] for it in self.queriers]}")
             time.sleep(0.05)
 
     def received(self, sender, cases, others=()):
@@ -247,7 +266,7 @@ class Fabric:
         while (found := self.received(sender, wanted)) != wanted:
             if time.monotonic() > limit:
                 wrong = {case: (sorted(found[case] - wanted[case]), sorted(wanted[case] - found[case])) for case in wanted if found[case] != wanted[case]}
-                raise Wrong(f"too much and missing: {str(wrong)[:800]}; {self.queriers[-1].errors[-5:]}")
+                raise Wrong(f"too much and missing: {str(wrong)[:800]}; {[it.errors[-5:] for it in self.queriers]}")
             time.sleep(0.2)
 
 
@@ -257,6 +276,7 @@ class Stream:
     def __init__(self, fabric, sender, cases):
         self.fabric, self.sender, self.cases, self.is_over, self.rounds, self.missed = fabric, sender, cases, False, 0, []
         self.thread = threading.Thread(target=self.run)
+        fabric.streams.append(self)
         self.thread.start()
 
     def run(self):
@@ -268,4 +288,4 @@ class Stream:
     def end(self):
         self.is_over = True
         self.thread.join()
-        is_true(self.rounds > 3 and not self.missed, f"missed in {self.rounds} rounds: {self.missed[:4]}")
+        is_true(self.rounds > 3 and not self.missed, f"{len(self.missed)} missed in {self.rounds} rounds: {self.missed[:4]}")

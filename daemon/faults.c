@@ -1,35 +1,29 @@
 #define _GNU_SOURCE
 #include "faults.h"
 
+#include <errno.h>
 #include <inttypes.h>
 #include <stdio.h>
 #include <stdlib.h>
+#include <string.h>
+#include <sys/mman.h>
 #include <time.h>
 
-/* The most lines of a kind at once. Afterwards each second allows one more. */
-enum { LINES_AT_ONCE = 4 };
+/* The most lines of a kind at once. Afterwards each second allows one more. An allocation of LARGE bytes is not from the heap. */
+enum { LINES_AT_ONCE = 4, LARGE = 1 << 20 };
 
 const char *const fault_names[FAULT_KINDS] = {
-    [FAULT_LOST] = "frames_lost",
-    [FAULT_MALFORMED] = "frames_malformed",
-    [FAULT_FRAGMENTS] = "frames_fragmented",
-    [FAULT_UNSENT] = "queries_unsent",
-    [FAULT_REFUSED] = "entries_refused",
-    [FAULT_SOURCES] = "entries_without_sources",
-    [FAULT_OTHERS] = "entries_of_others",
-    [FAULT_ALWAYS] = "groups_forwarded_always",
-    [FAULT_OVERRUN] = "netlink_overruns",
-    [FAULT_NETLINK] = "netlink_refusals",
-    [FAULT_PORTS] = "ports_unserved",
-    [FAULT_MISSING] = "settings_missing",
-    [FAULT_STATUS] = "status_refused",
-    [FAULT_CLOCK] = "clock_jumps",
-    [FAULT_JOINS] = "joins_refused",
-    [FAULT_WIDER] = "joins_without_sources",
-    [FAULT_ROUTES] = "routes_refused",
-    [FAULT_ELSEWHERE] = "senders_elsewhere",
-    [FAULT_EVICTED] = "routes_evicted",
-    [FAULT_UPCALLS] = "upcalls_delayed",
+    [FAULT_LOST] = "frames_lost",           [FAULT_LIMITS] = "records_refused",
+    [FAULT_MALFORMED] = "frames_malformed", [FAULT_FRAGMENTS] = "frames_fragmented",
+    [FAULT_ROUTERS] = "routers_heard",      [FAULT_UNSENT] = "queries_unsent",
+    [FAULT_REFUSED] = "entries_refused",    [FAULT_SOURCES] = "entries_without_sources",
+    [FAULT_OTHERS] = "entries_of_others",   [FAULT_ALWAYS] = "groups_forwarded_always",
+    [FAULT_OVERRUN] = "netlink_overruns",   [FAULT_NETLINK] = "netlink_refusals",
+    [FAULT_PORTS] = "ports_unserved",       [FAULT_MISSING] = "settings_missing",
+    [FAULT_STATUS] = "status_refused",      [FAULT_CLOCK] = "clock_jumps",
+    [FAULT_JOINS] = "joins_refused",        [FAULT_WIDER] = "joins_without_sources",
+    [FAULT_ROUTES] = "routes_refused",      [FAULT_ELSEWHERE] = "senders_elsewhere",
+    [FAULT_EVICTED] = "routes_evicted",     [FAULT_UPCALLS] = "upcalls_delayed",
 };
 uint64_t fault_counts[FAULT_KINDS];
 
@@ -74,8 +68,14 @@ void fail(int status, const char *what, const char *why) {
 }
 
 void *take(uint64_t count, uint64_t size) {
-    void *memory = calloc(count > 0 ? count : 1, size);
-    if (memory == NULL)
-        fail(STATUS_FAILED, "memory", "there is too little for --ports, --groups and --sources");
+    void *memory = NULL;
+    if (size > 0 && count >= LARGE / size) { /* no reserve, so that a small machine can fork */
+        uint64_t length = count > SIZE_MAX / size ? SIZE_MAX : count * size;
+        memory = mmap(NULL, length, PROT_READ | PROT_WRITE, MAP_PRIVATE | MAP_ANONYMOUS | MAP_NORESERVE, -1, 0);
+    } else {
+        memory = calloc(count > 0 ? count : 1, size);
+    }
+    if (memory == NULL || memory == MAP_FAILED)
+        fail(STATUS_FAILED, "memory for --ports, --groups and --sources", strerror(errno));
     return memory;
 }

@@ -9,8 +9,10 @@ enum { STATUS_FAILED = 1, STATUS_USAGE = 2 };
 /* The faults that the program survives. Each kind has a counter, named in `fault_names`. */
 enum fault {
     FAULT_LOST,      /* frames that the kernel dropped because this program read too late */
+    FAULT_LIMITS,    /* records that would exceed a limit */
     FAULT_MALFORMED, /* frames that carry no whole datagram of IGMP or MLD */
     FAULT_FRAGMENTS, /* fragments of IGMP, and first fragments of MLD */
+    FAULT_ROUTERS,   /* other queriers that take over, queries of older versions, and routers of PIM without --router-port */
     FAULT_UNSENT,    /* queries that could not be sent */
     FAULT_REFUSED,   /* entries of the database that the kernel rejected */
     FAULT_SOURCES,   /* filters of more sources than an entry can have */

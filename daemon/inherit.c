@@ -2,8 +2,10 @@
 #include "inherit.h"
 
 #include "faults.h"
+#include "files.h"
 #include "holder.h"
 
+#include <errno.h>
 #include <linux/rtnetlink.h>
 #include <stdio.h>
 #include <string.h>
@@ -39,7 +41,8 @@ static const char *words_of(const struct querier *querier) {
 
 static const char *name_of(const struct querier *querier) {
     static char name[4096];
-    snprintf(name, sizeof name, "%s/%s/held", querier->options->run, querier->options->upstream.names[0]);
+    if (!files_name(name, sizeof name, querier->options->run, querier->options->upstream.names[0], "held"))
+        fail(STATUS_FAILED, "held", strerror(ENAMETOOLONG));
     return name;
 }
 

@@ -16,11 +16,8 @@
 void joins_open(struct joins *it, size_t groups) {
     size_t sockets = groups / GROUPS_OF_SOCKET + 1;
     table_open(&it->table, groups, sizeof(struct join), sizeof(struct wish));
-    for (int at = 0; at < 2 * PARTS; at++) {
-        int *files = take(sockets, sizeof *files);
-        memset(files, -1, sockets * sizeof *files);
-        it->sockets[at % 2][at / 2] = files;
-    }
+    for (int at = 0; at < 2 * PARTS; at++)
+        it->sockets[at % 2][at / 2] = take(sockets, sizeof(int));
     if (getrandom(&it->secret, sizeof it->secret, 0) != sizeof it->secret)
         it->secret = 0xcbf29ce484222325;
     joins_read_bounds(it);
@@ -59,20 +56,21 @@ static int level_of(const struct join *join) {
     return join->wish.is_mld ? IPPROTO_IPV6 : IPPROTO_IP;
 }
 
-/* Returns where the socket of a part of a group is noted. */
-static int *file_of(const struct joins *it, const struct join *join, size_t part) {
-    return &it->sockets[join->wish.is_mld][part][table_place(&it->table, join) / GROUPS_OF_SOCKET];
+/* Returns the socket of a part of a group, or -1. */
+static int file_of(const struct joins *it, const struct join *join, size_t part) {
+    return it->sockets[join->wish.is_mld][part][table_place(&it->table, join) / GROUPS_OF_SOCKET] - 1;
 }
 
 /* Returns the socket of a part of a group, which is opened if it is missing, or -1 with `errno`. */
 static int socket_of(struct joins *it, const struct join *join, size_t part) {
-    int *file = file_of(it, join, part);
-    if (*file >= 0)
-        return *file;
-    *file = socket(join->wish.is_mld ? AF_INET6 : AF_INET, SOCK_DGRAM | SOCK_CLOEXEC, 0);
-    if (*file >= 0)
-        holder_add(HELD_MEMBERSHIP, *file);
-    return *file;
+    int file = file_of(it, join, part);
+    if (file >= 0)
+        return file;
+    file = socket(join->wish.is_mld ? AF_INET6 : AF_INET, SOCK_DGRAM | SOCK_CLOEXEC, 0);
+    if (file >= 0)
+        holder_add(HELD_MEMBERSHIP, file);
+    it->sockets[join->wish.is_mld][part][table_place(&it->table, join) / GROUPS_OF_SOCKET] = file + 1;
+    return file;
 }
 
 /* Joins a group in a part: for its first source, or for all. Returns 0, or an error of <errno.h>. */
@@ -94,7 +92,7 @@ static int enter(int file, const struct join *join, const struct filter *list) {
 static void leave(struct joins *it, const struct join *join, size_t first, size_t end) {
     struct group_req group = {.gr_interface = (uint32_t)join->index, .gr_group = place_of(join->wish.is_mld, join->wish.group)};
     for (size_t part = first; part < end; part++)
-        setsockopt(*file_of(it, join, part), level_of(join), MCAST_LEAVE_GROUP, &group, sizeof group);
+        setsockopt(file_of(it, join, part), level_of(join), MCAST_LEAVE_GROUP, &group, sizeof group);
 }
 
 /* A list of sources as the kernel has it. */
@@ -131,7 +129,7 @@ static void add_part(const struct joins *it, const struct join *join, size_t par
     list.head.gf_interface = (uint32_t)join->index;
     list.head.gf_group = place_of(join->wish.is_mld, join->wish.group);
     list.head.gf_numsrc = PAGE_SOURCES;
-    if (getsockopt(*file_of(it, join, part), level_of(join), MCAST_MSFILTER, &list, &length) < 0
+    if (getsockopt(file_of(it, join, part), level_of(join), MCAST_MSFILTER, &list, &length) < 0
         || list.head.gf_numsrc > PAGE_SOURCES)
         return;
     struct filter filter = {list.head.gf_fmode == MCAST_EXCLUDE ? MODE_EXCLUDE : MODE_INCLUDE, list.head.gf_numsrc, sources};

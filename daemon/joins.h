@@ -29,7 +29,7 @@ enum { PARTS = 16, GROUPS_OF_SOCKET = 16 };
 
 struct joins {
     struct table table;
-    int *sockets[2][PARTS]; /* each family and part has some, each for GROUPS_OF_SOCKET places; or -1 */
+    int *sockets[2][PARTS]; /* each family and part has some, a socket + 1 for GROUPS_OF_SOCKET places, or 0 */
     size_t most_sources[2]; /* the kernel's bound of a list of sources */
     uint64_t secret;
 };

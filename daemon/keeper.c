@@ -10,13 +10,14 @@ enum { ROWS_FOR_A_GROUP = 2 };
 
 void keeper_open(struct keeper *keeper, size_t groups) {
     size_t room = ROWS_FOR_A_GROUP * groups;
-    *keeper = (struct keeper){{take(room, sizeof(struct row)), 0, room}, MQ_NONE};
+    *keeper = (struct keeper){{take(room, sizeof(struct row)), 0, room}, MQ_NONE, false};
 }
 
-void keeper_begin(struct keeper *keeper, uint64_t settles) {
+void keeper_begin(struct keeper *keeper, uint64_t settles, bool inherits_others) {
     for (size_t at = 0; at < keeper->rows.count; at++)
         keeper->rows.all[at].is_inherited = true;
     keeper->settles = settles;
+    keeper->inherits_others = inherits_others;
 }
 
 /* Returns whether the kernel always forwards a group, and accepts no entry for it: 224.0.0.0/24. */
@@ -24,27 +25,62 @@ static bool is_always_forwarded(const mq_link *link, const uint8_t *group) {
     return !link->is_mld && group[0] == 224 && group[1] == 0 && group[2] == 0;
 }
 
+/* Makes the entry of a group, and its row. */
+static void make_entry(struct keeper *keeper, const struct place *place, const uint8_t *group, const struct filter *filter,
+                       bool is_inherited) {
+    struct row *row = rows_find(&keeper->rows, group);
+    if (row == NULL && keeper->rows.count == keeper->rows.room)
+        fault(FAULT_REFUSED, "mdb", "too many entries of an earlier run");
+    else if (mdb_set(place, group, filter, row != NULL))
+        rows_put(&keeper->rows, group)->is_inherited = is_inherited;
+}
+
 void keeper_update(struct keeper *keeper, const mq_link *link, const struct place *place, const uint8_t *group) {
     struct row *row = rows_find(&keeper->rows, group);
     struct filter filter = filter_of(link, group);
     struct entry entry;
+    bool is_new = row == NULL && keeper->inherits_others && keeper->settles != MQ_NONE && filter.mode != MODE_NONE;
+    bool may_inherit = is_new || (row != NULL && row->is_inherited);
     if (is_always_forwarded(link, group)) {
         if (filter.mode != MODE_NONE)
             mdb_fault(FAULT_ALWAYS, place, group, "the kernel forwards 224.0.0.0/24 always, and takes no entry for it");
         return;
     }
-    int error = row != NULL && row->is_inherited ? mdb_read(place, group, &entry) : ENOENT;
+    int error = may_inherit ? mdb_read(place, group, &entry) : ENOENT;
     if (error != 0 && error != ENOENT)
         return; /* the inherited filter is not known: the entry stays until the next repair */
-    if (error == 0 && entry.maker == MAKER_US)
+    bool inherits = error == 0 && entry.maker != MAKER_OTHER;
+    if (inherits)
         filter = filter_join(&filter, &entry.filter);
-    if (filter.mode == MODE_NONE) {
-        if (row != NULL && mdb_remove(place, group))
-            rows_remove(&keeper->rows, row);
-    } else if (row == NULL && keeper->rows.count == keeper->rows.room) {
-        fault(FAULT_REFUSED, "mdb", "too many entries of an earlier run");
-    } else if (mdb_set(place, group, &filter, row != NULL)) {
-        rows_put(&keeper->rows, group);
+    if (filter.mode != MODE_NONE)
+        make_entry(keeper, place, group, &filter, inherits);
+    else if (row != NULL && mdb_remove(place, group))
+        rows_remove(&keeper->rows, row);
+}
+
+struct filter keeper_filter(const struct keeper *keeper, const mq_link *link, const struct place *place, const uint8_t *group) {
+    static uint8_t sources[2 * PAGE_SOURCES][LONG_ADDRESS];
+    const struct row *row = rows_find(&keeper->rows, group);
+    struct filter filter = {MODE_NONE, 0, NULL};
+    struct entry entry;
+    if (link != NULL)
+        filter = filter_of(link, group);
+    if (row == NULL || !row->is_inherited || mdb_read(place, group, &entry) != 0 || entry.maker == MAKER_OTHER)
+        return filter;
+    filter = filter_join(&filter, &entry.filter);
+    memcpy(sources, filter.sources, filter.count * LONG_ADDRESS);
+    filter.sources = (const uint8_t(*)[LONG_ADDRESS])sources;
+    return filter;
+}
+
+void keeper_hand_over(struct keeper *keeper, const mq_link *link, const struct place *place, bool with_sources) {
+    for (size_t at = 0; at < keeper->rows.count; at++) {
+        const uint8_t *group = keeper->rows.all[at].group;
+        struct filter filter = keeper_filter(keeper, link, place, group);
+        if (filter.mode == MODE_NONE)
+            mdb_remove(place, group);
+        else
+            mdb_hand_over(place, group, with_sources && filter.count <= GREATEST_LIST ? &filter : &filter_of_all);
     }
 }
 
@@ -77,7 +113,8 @@ void keeper_note(struct keeper *keeper, const mq_link *link, const struct entry 
     if (wanted.count > GREATEST_LIST)
         wanted = filter_of_all;
     row->is_seen = true;
-    row->is_right = filter_equal(&wanted, &entry->filter);
+    row->is_temporary = entry->is_temporary;
+    row->is_right = !row->is_temporary && filter_equal(&wanted, &entry->filter);
     if (!is_known)
         row->is_inherited = link == NULL || keeper->settles != MQ_NONE;
 }
@@ -100,7 +137,7 @@ void keeper_repair(struct keeper *keeper, const mq_link *link, const struct plac
         memcpy(group, row->group, sizeof group);
         if (!row->is_seen && is_whole)
             rows_remove(&keeper->rows, row);
-        else if (row->is_seen && !row->is_right && !row->is_inherited && link != NULL)
+        else if (row->is_seen && !row->is_right && (!row->is_inherited || row->is_temporary) && link != NULL)
             keeper_update(keeper, link, place, group);
     }
     if (link != NULL)

@@ -12,15 +12,23 @@
 
 struct keeper {
     struct rows rows;
-    uint64_t settles; /* the time until which inherited entries stay, or MQ_NONE */
+    uint64_t settles;     /* the time until which inherited entries stay, or MQ_NONE */
+    bool inherits_others; /* also entries of the kernel, which are older than the link */
 };
 
 /* Allocates the rows for a link with at most `groups` groups. */
 void keeper_open(struct keeper *keeper, size_t groups);
-/* Makes the present entries inherited: until `settles`, none is removed or made narrower. */
-void keeper_begin(struct keeper *keeper, uint64_t settles);
+/* Makes the present entries inherited: until `settles`, none is removed or made narrower. The kernel's are inherited too if it learns
+   no new ones. */
+void keeper_begin(struct keeper *keeper, uint64_t settles, bool inherits_others);
 /* Makes the entry of a group forward what the link forwards. */
 void keeper_update(struct keeper *keeper, const mq_link *link, const struct place *place, const uint8_t *group);
+/* Returns what is forwarded of a group: what the link forwards, and what an inherited entry does. `link` is NULL if the link has not
+   begun. The sources stand until the next call. */
+struct filter keeper_filter(const struct keeper *keeper, const mq_link *link, const struct place *place, const uint8_t *group);
+/* Makes the entries temporary at the end, with their sources or for all sources. The kernel's snooping goes on with them. `link` is
+   as above. */
+void keeper_hand_over(struct keeper *keeper, const mq_link *link, const struct place *place, bool with_sources);
 /* Ends inheritance: all entries forward what the link forwards. */
 void keeper_settle(struct keeper *keeper, const mq_link *link, const struct place *place);
 

@@ -1,6 +1,7 @@
 #define _GNU_SOURCE
 #include "loop.h"
 
+#include "advice.h"
 #include "faults.h"
 #include "ports.h"
 #include "route.h"
@@ -68,18 +69,13 @@ static void reload(struct querier *querier, int count, char **words) {
         fault(FAULT_MISSING, "reload", why);
         return;
     }
-    for (size_t at = 0; at < 2; at++) {
-        used->configuration[at] = options.configuration[at];
-        bool is_other = used->serves[at] && family_retime(&querier->families[at], &options.configuration[at]);
-        if (is_other && querier->route == NULL)
+    options_replace(used, &options);
+    for (size_t at = 0; at < 2; at++)
+        if (used->serves[at] && family_retime(&querier->families[at], &options.configuration[at]) && querier->route == NULL)
             querier_begin_all(querier, at == 1, moment());
-    }
-    memcpy(used->own, options.own, sizeof used->own);
-    memcpy(used->has_own, options.has_own, sizeof used->has_own);
-    memcpy(used->routers, options.routers, sizeof used->routers);
-    used->router_count = options.router_count;
     querier->is_stale = true; /* the Query Interval may have changed */
     ports_refresh(querier, moment());
+    advice_routers(querier);
 }
 
 static void read_signals(struct querier *querier, int count, char **words) {
@@ -161,6 +157,9 @@ static void look_around(struct querier *querier, uint64_t now) {
     next = now + EVERY;
     if (querier->is_stale)
         refresh(querier);
+    setup_settle(querier, now);
+    if (!querier->options->is_interface)
+        ports_watch_topology(querier, now);
     if (interval != 0 && now >= next_word) {
         service_notify("WATCHDOG=1");
         next_word = now + (interval > EVERY ? interval - EVERY : 0);

@@ -1,7 +1,9 @@
 /* The program `mquerier-live`: a multicast querier on Linux, for one interface or for all ports of bridges. The library `mquerier`
    decides, and its decisions are proved. This program is plain C, and is not proved. */
 #define _GNU_SOURCE
+#include "advice.h"
 #include "faults.h"
+#include "files.h"
 #include "loop.h"
 #include "ports.h"
 #include "route.h"
@@ -12,6 +14,7 @@
 #include <errno.h>
 #include <grp.h>
 #include <linux/capability.h>
+#include <linux/if_link.h>
 #include <stdio.h>
 #include <stdlib.h>
 #include <string.h>
@@ -19,6 +22,10 @@
 #include <sys/stat.h>
 #include <sys/syscall.h>
 #include <unistd.h>
+
+#ifndef VERSION /* `make` sets it, with the date and hash of the commit */
+#define VERSION MQ_VERSION_TEXT
+#endif
 
 enum { NOBODY = 65534 };
 /* The bytes that standard output buffers. */
@@ -44,13 +51,10 @@ static void drop_privileges(bool keeps_database) {
         fail(STATUS_FAILED, "capabilities", strerror(errno));
 }
 
-/* Undoes `--setup`, and removes the entries. It runs at the end of the program, unless an unhandled signal ends it. */
+/* Leaves the bridges to the kernel. It runs at the end of the program, unless an unhandled signal ends it. */
 static void end(void) {
-    if (options.sets_up || options.router_count > 0)
-        for (size_t at = 0; at < querier.bridges_count; at++)
-            setup_undo(&querier, &querier.bridges[at]);
     for (size_t at = 0; at < querier.bridges_count; at++)
-        querier_remove_entries(&querier, &querier.bridges[at]);
+        setup_end(&querier, &querier.bridges[at]);
 }
 
 static int index_of(const char *name, struct interface *found) {
@@ -92,10 +96,17 @@ static void make_folder(const char *name) {
 /* Finds the bridges, and opens each bridge's files and socket. */
 static void open_bridges(void) {
     struct interface found;
+    uint32_t snoops;
     char folder[4096];
-    for (size_t at = 0; at < querier.bridges_count; at++)
-        if (!querier.bridges[at].is_port)
-            mdb_try(querier.netlink, index_of(options.names[at], &found), options.names[at]);
+    for (size_t at = 0; at < querier.bridges_count; at++) {
+        if (querier.bridges[at].is_port)
+            continue;
+        index_of(options.names[at], &found);
+        if (!interface_setting(&found, false, IFLA_BR_MCAST_SNOOPING, &snoops))
+            fail(STATUS_FAILED, options.names[at], "it is no bridge, or the kernel can't snoop");
+        mdb_try(querier.netlink, found.index, options.names[at]);
+        files_lock(options.names[at]);
+    }
     make_folder(options.run);
     for (size_t at = 0; at < querier.bridges_count; at++) {
         if (querier.bridges[at].is_port)
@@ -135,6 +146,7 @@ static void run(int count, char **words) {
     loop_open(&querier);
     drop_privileges(!options.is_interface || options.bridge != NULL);
     ports_refresh(&querier, moment());
+    advice_routers(&querier);
     querier_repair(&querier, moment());
     if (!options.is_interface || options.bridge != NULL)
         atexit(end);
@@ -146,6 +158,8 @@ static void run(int count, char **words) {
 }
 
 int main(int count, char **words) {
+    if (count > 1 && strcmp(words[1], "--version") == 0)
+        return puts("mquerier-live " VERSION) < 0;
     if (count > 1 && strcmp(words[1], "status") == 0)
         return status_print(count - 1, words + 1);
     run(count - 1, words + 1);

@@ -45,16 +45,14 @@ void mdb_fault(enum fault kind, const struct place *place, const uint8_t *group,
 }
 
 /* Begins a request about the entry of a group at a port, or about all entries of a port if `group` is NULL. */
-static void begin(const struct place *place, struct request *request, uint16_t type, uint16_t flags, const uint8_t *group,
-                  int port) {
+static void begin(const struct place *place, struct request *request, uint16_t type, uint16_t flags, const uint8_t *group, int port,
+                  uint8_t state) {
     struct br_port_msg head = {.family = AF_BRIDGE, .ifindex = (uint32_t)place->bridge};
-    struct br_mdb_entry entry = {.ifindex = (uint32_t)port};
+    struct br_mdb_entry entry = {.ifindex = (uint32_t)port, .state = state};
     if (group != NULL) {
         memcpy(&entry.addr.u, group, address_bytes(place));
         entry.addr.proto = htons(place->is_mld ? ETH_P_IPV6 : ETH_P_IP);
     }
-    if (type == RTM_NEWMDB)
-        entry.state = MDB_PERMANENT;
     request_begin(request, type, flags, &head, sizeof head);
     request_put(request, MDBA_SET_ENTRY, &entry, sizeof entry);
 }
@@ -96,7 +94,7 @@ void mdb_try(int netlink, int bridge, const char *name) {
     struct answer answer;
     struct place place = {.netlink = netlink, .bridge = bridge};
     uint8_t protocol = PROTOCOL_NOBODY;
-    begin(&place, &request, RTM_DELMDB, NLM_F_BULK, NULL, 0);
+    begin(&place, &request, RTM_DELMDB, NLM_F_BULK, NULL, 0, 0);
     size_t beside = request_begin_nest(&request, MDBA_SET_ENTRY_ATTRS);
     request_put(&request, BESIDE_PROTOCOL, &protocol, sizeof protocol);
     request_end_nest(&request, beside);
@@ -110,7 +108,7 @@ void mdb_try(int netlink, int bridge, const char *name) {
 void mdb_remove_all(const struct place *place) {
     struct request request;
     struct answer answer;
-    begin(place, &request, RTM_DELMDB, NLM_F_BULK, NULL, place->port);
+    begin(place, &request, RTM_DELMDB, NLM_F_BULK, NULL, place->port, 0);
     put_beside(place, &request, NULL);
     int error = netlink_ask(place->netlink, &request, &answer);
     if (error != 0 && error != ENODEV)
@@ -131,7 +129,10 @@ static struct filter read_filter(const uint8_t *at, const uint8_t *end, size_t w
     const uint8_t *next = list == NULL ? NULL : attribute_data(list);
     while (list != NULL && (one = attribute_next(&next, attribute_end(list))) != NULL && filter.count < PAGE_SOURCES) {
         const struct nlattr *address = attribute_find(attribute_data(one), attribute_end(one), MDBA_MDB_SRCATTR_ADDRESS);
-        if (address == NULL || (size_t)(attribute_end(address) - attribute_data(address)) < width)
+        uint32_t timer = 0; /* in EXCLUDE mode the kernel forwards a source while its timer runs */
+        attribute_number(attribute_data(one), attribute_end(one), MDBA_MDB_SRCATTR_TIMER, &timer);
+        bool is_whole = address != NULL && (size_t)(attribute_end(address) - attribute_data(address)) >= width;
+        if (!is_whole || (mode == MCAST_EXCLUDE && timer != 0))
             continue;
         memset(sources[filter.count], 0, LONG_ADDRESS);
         memcpy(sources[filter.count++], attribute_data(address), width);
@@ -154,6 +155,7 @@ static bool read_entry(const struct nlattr *found, struct entry *entry) {
     uint32_t protocol = 0;
     attribute_number(at, end, MDBA_MDB_EATTR_RTPROT, &protocol);
     *entry = (struct entry){.port = (int)head->ifindex, .is_mld = head->addr.proto == htons(ETH_P_IPV6)};
+    entry->is_temporary = head->state == MDB_TEMPORARY;
     size_t width = entry->is_mld ? 16 : 4;
     memcpy(entry->group, &head->addr.u, width);
     entry->maker = protocol == (entry->is_mld ? PROTOCOL_MLD : PROTOCOL_IGMP) ? MAKER_US
@@ -194,7 +196,7 @@ int mdb_read(const struct place *place, const uint8_t *group, struct entry *entr
     struct request request;
     struct answer answer;
     struct search search = {.port = place->port, .entry = entry};
-    begin(place, &request, RTM_GETMDB, 0, group, 0);
+    begin(place, &request, RTM_GETMDB, 0, group, 0, 0);
     int error = netlink_ask(place->netlink, &request, &answer);
     if (error != 0)
         return error;
@@ -226,10 +228,10 @@ bool mdb_dump(int netlink, mdb_each *each, void *context) {
     return error == 0;
 }
 
-static int put_entry(const struct place *place, const uint8_t *group, const struct filter *filter, uint16_t flag,
+static int put_entry(const struct place *place, const uint8_t *group, const struct filter *filter, uint16_t flag, uint8_t state,
                      struct answer *answer) {
     struct request request;
-    begin(place, &request, RTM_NEWMDB, NLM_F_CREATE | flag, group, place->port);
+    begin(place, &request, RTM_NEWMDB, NLM_F_CREATE | flag, group, place->port, state);
     put_beside(place, &request, filter);
     return netlink_ask(place->netlink, &request, answer);
 }
@@ -241,9 +243,9 @@ bool mdb_set(const struct place *place, const uint8_t *group, const struct filte
         mdb_fault(FAULT_SOURCES, place, group, "more sources than the kernel takes: all are forwarded");
         filter = &filter_of_all;
     }
-    int error = put_entry(place, group, filter, is_ours ? NLM_F_REPLACE : NLM_F_EXCL, &answer);
+    int error = put_entry(place, group, filter, is_ours ? NLM_F_REPLACE : NLM_F_EXCL, MDB_PERMANENT, &answer);
     if (error == EEXIST && mdb_read(place, group, &found) == 0 && found.maker != MAKER_OTHER)
-        error = put_entry(place, group, filter, NLM_F_REPLACE, &answer);
+        error = put_entry(place, group, filter, NLM_F_REPLACE, MDB_PERMANENT, &answer);
     if (error == EEXIST)
         mdb_fault(FAULT_OTHERS, place, group, "there is an entry of another's, which stays");
     else if (error != 0)
@@ -254,9 +256,15 @@ bool mdb_set(const struct place *place, const uint8_t *group, const struct filte
 bool mdb_remove(const struct place *place, const uint8_t *group) {
     struct request request;
     struct answer answer;
-    begin(place, &request, RTM_DELMDB, 0, group, place->port);
+    begin(place, &request, RTM_DELMDB, 0, group, place->port, 0);
     int error = netlink_ask(place->netlink, &request, &answer);
     if (error != 0 && error != ENOENT && error != ENODEV)
         mdb_fault(FAULT_REFUSED, place, group, answer.why);
     return error == 0 || error == ENOENT || error == ENODEV;
+}
+
+void mdb_hand_over(const struct place *place, const uint8_t *group, const struct filter *filter) {
+    struct answer answer;
+    if (put_entry(place, group, filter, NLM_F_REPLACE, MDB_TEMPORARY, &answer) != 0)
+        mdb_remove(place, group); /* a port that is down has no temporary entries */
 }

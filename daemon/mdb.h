@@ -22,6 +22,7 @@ struct entry {
     int port;
     bool is_mld;
     enum maker maker;
+    bool is_temporary; /* the kernel removes it unless hosts report */
     uint8_t group[LONG_ADDRESS];
     struct filter filter; /* its sources stand until the next entry */
 };
@@ -40,6 +41,9 @@ void mdb_fault(enum fault kind, const struct place *place, const uint8_t *group,
 /* Makes an entry, or replaces our own or the kernel's. Returns whether our entry is there now. Counts a fault if the kernel rejects
    it, or if another program's entry is there. */
 bool mdb_set(const struct place *place, const uint8_t *group, const struct filter *filter, bool is_ours);
+/* Makes our entry temporary. The kernel's snooping goes on with it, and removes it if no host reports for
+   `mcast_membership_interval`. */
+void mdb_hand_over(const struct place *place, const uint8_t *group, const struct filter *filter);
 /* Removes our entry of a group. Returns whether it is gone. */
 bool mdb_remove(const struct place *place, const uint8_t *group);
 /* Removes all our entries. */

@@ -20,6 +20,7 @@ static const char HELP[] =
     "       mquerier-live bridge BRIDGE.. [OPTION]..\n"
     "       mquerier-live route --upstream INTERFACE INTERFACE.. [OPTION]..\n"
     "       mquerier-live status BRIDGE [--json | --metrics] [--run DIR]\n"
+    "       mquerier-live --version\n"
     "\n"
     "A multicast querier and router on Linux. `interface` serves one link of one family, and prints a line for each message and "
     "query.\n"
@@ -37,10 +38,11 @@ static const char HELP[] =
     "  --qi S               Query Interval, 1 to 31744 seconds (125)\n"
     "  --qri MS             Query Response Interval in milliseconds, below the Query Interval (10000)\n"
     "  --lmqi MS            Last Member (Last Listener) Query Interval in milliseconds (1000)\n"
-    "  --groups N           most groups of a link, up to 65535 (1024)\n"
+    "  --groups N           most groups of a link, up to 65535 (4096, interface 1024)\n"
     "  --group-sources N    most sources of a group, up to 1024 (igmp 366, mld 89)\n"
     "  --sources N          most sources of all groups of a link together, up to 65535 (16384)\n"
-    "  --scheduled N        most schedules of specific queries of a link, up to two for each group, up to 65535 (256)\n"
+    "  --scheduled N        most schedules of specific queries of a link, up to two for each group, up to 65535 (4096,\n"
+    "                       interface 256)\n"
     "  --ssm                keep 232.0.0.0/8, or ff3x::/32, for source-specific multicast\n"
     "  --changes            print a line for each change of what is forwarded of a group\n"
     "\n"
@@ -61,6 +63,7 @@ static const char HELP[] =
     "  --ports N            most ports of all bridges, up to 1024 (64). Memory is allocated for all of them\n"
     "  --setup              set the bridges up, and restore the earlier settings at the end\n"
     "  --router-port PORT   forward all multicast to this port. May be given up to 64 times\n"
+    "  --report             at each --router-port, report as a host what the other ports want, and send no queries\n"
     "  --run DIR            folder of its files (/run/mquerier-live)\n"
     "  --options FILE       read options from this file too: words, and comments from # to the end of a line. SIGHUP reads it\n"
     "                       again\n"
@@ -77,8 +80,8 @@ static const char HELP[] =
     "changes, with the port after T.\n"
     "\n"
     "It does not hear fragments, damaged IPv4 headers, and frames with a VLAN tag (give the VLAN's own interface). SIGTERM\n"
-    "ends it, and it removes what it made in the bridge. A line on standard error says what the kernel rejected, and it goes\n"
-    "on. daemon/README.md has the settings that a bridge needs.\n"
+    "ends it, and leaves its entries to the kernel's snooping. A line on standard error says what the kernel rejected.\n"
+    "daemon/README.md has the settings that a bridge needs.\n"
     "\n"
     "Status: 0 if a signal ended it, 1 if the interface, the bridge, memory or the output failed, 2 if the command line or\n"
     "the configuration is faulty or asks for help.\n";
@@ -94,6 +97,8 @@ static const struct {
     {"sources", PLACE(sources)},       {"scheduled", PLACE(scheduled)},
 };
 enum { COUNT = sizeof NUMBERS / sizeof *NUMBERS };
+/* The default limit of groups and of schedules is what one port of a bridge may need. */
+enum { NUMBER_GROUPS = 4, NUMBER_SCHEDULED = 7, PORT_GROUPS = 4096 };
 enum {
     OWN = COUNT,
     UPSTREAM,
@@ -109,10 +114,33 @@ enum {
     PORTS,
     SETUP,
     ROUTER_PORT,
+    REPORT,
     RUN,
     FILE_OF,
+    VERSION,
     ASKED_HELP,
     OPTIONS
+};
+static const struct option OTHERS[] = {
+    {"own", required_argument, NULL, OWN},
+    {"upstream", required_argument, NULL, UPSTREAM},
+    {"scope", required_argument, NULL, SCOPE},
+    {"entries", required_argument, NULL, ENTRIES},
+    {"unused", required_argument, NULL, UNUSED},
+    {"upcalls", required_argument, NULL, UPCALLS},
+    {"own6", required_argument, NULL, OWN6},
+    {"family", required_argument, NULL, FAMILY},
+    {"ssm", no_argument, NULL, SSM},
+    {"changes", no_argument, NULL, CHANGES},
+    {"mdb", required_argument, NULL, MDB},
+    {"ports", required_argument, NULL, PORTS},
+    {"setup", no_argument, NULL, SETUP},
+    {"router-port", required_argument, NULL, ROUTER_PORT},
+    {"report", no_argument, NULL, REPORT},
+    {"run", required_argument, NULL, RUN},
+    {"options", required_argument, NULL, FILE_OF},
+    {"version", no_argument, NULL, VERSION},
+    {"help", no_argument, NULL, ASKED_HELP},
 };
 static const char *const FAMILIES[2] = {"igmp", "mld"};
 
@@ -144,12 +172,16 @@ static const char *read_family(struct options *options, const char *text) {
 }
 
 /* Puts a number into the configurations of both families. */
+static void set_number(struct options *options, int which, uint32_t number) {
+    for (int at = 0; at < 2; at++)
+        memcpy((uint8_t *)&options->configuration[at] + NUMBERS[which].place, &number, sizeof number);
+}
+
 static const char *read_limit(struct options *options, int which, const char *text) {
     uint32_t number;
     if (!read_number(text, &number))
         return wrong("not a number below 2^32: ", text);
-    for (int at = 0; at < 2; at++)
-        memcpy((uint8_t *)&options->configuration[at] + NUMBERS[which].place, &number, sizeof number);
+    set_number(options, which, number);
     return NULL;
 }
 
@@ -181,15 +213,28 @@ static const char *read_upstream(struct options *options, const char *words) {
     return why == NULL ? NULL : wrong("--upstream: ", why);
 }
 
+static const char *read_run(struct options *options, const char *text) {
+    if (strlen(text) >= sizeof options->run)
+        return wrong("too long a name: ", text);
+    strcpy(options->run, text);
+    return NULL;
+}
+
 static const char *read_ports(struct options *options, const char *text) {
     bool is_read = read_number(text, &options->ports) && options->ports >= 1 && options->ports <= GREATEST_PORTS;
     return is_read ? NULL : wrong("--ports is from 1 to 1024, not ", text);
+}
+
+static bool is_for_bridge(int found) {
+    return found == OWN6 || found == FAMILY || (found >= PORTS && found < VERSION);
 }
 
 /* Reads one option, whose value is `optarg`. */
 static const char *read_option(struct options *options, int found, int count, char **words) {
     if (found < COUNT)
         return read_limit(options, found, optarg);
+    if (options->is_interface && is_for_bridge(found))
+        return wrong("that option is for bridge, not for interface: --", OTHERS[found - COUNT].name);
     switch (found) {
     case OWN: return read_address(options, !options->serves[false], optarg);
     case UPSTREAM: return read_upstream(options, optarg);
@@ -205,8 +250,10 @@ static const char *read_option(struct options *options, int found, int count, ch
     case PORTS: return read_ports(options, optarg);
     case SETUP: options->sets_up = true; break;
     case ROUTER_PORT: return read_router(options, optarg);
-    case RUN: options->run = optarg; break;
+    case REPORT: options->reports = true; break;
+    case RUN: return read_run(options, optarg);
     case FILE_OF: options->file = optarg; break;
+    case VERSION: exit(puts("mquerier-live " MQ_VERSION_TEXT) < 0 || fflush(stdout) != 0 ? STATUS_FAILED : 0);
     default: fputs(HELP, stderr); exit(STATUS_USAGE);
     }
     return NULL;
@@ -214,29 +261,10 @@ static const char *read_option(struct options *options, int found, int count, ch
 
 /* Reads options and names from all words but the first. */
 static const char *read_words(struct options *options, int count, char **words) {
-    static const struct option others[] = {
-        {"own", required_argument, NULL, OWN},
-        {"upstream", required_argument, NULL, UPSTREAM},
-        {"scope", required_argument, NULL, SCOPE},
-        {"entries", required_argument, NULL, ENTRIES},
-        {"unused", required_argument, NULL, UNUSED},
-        {"upcalls", required_argument, NULL, UPCALLS},
-        {"own6", required_argument, NULL, OWN6},
-        {"family", required_argument, NULL, FAMILY},
-        {"ssm", no_argument, NULL, SSM},
-        {"changes", no_argument, NULL, CHANGES},
-        {"mdb", required_argument, NULL, MDB},
-        {"ports", required_argument, NULL, PORTS},
-        {"setup", no_argument, NULL, SETUP},
-        {"router-port", required_argument, NULL, ROUTER_PORT},
-        {"run", required_argument, NULL, RUN},
-        {"options", required_argument, NULL, FILE_OF},
-        {"help", no_argument, NULL, ASKED_HELP},
-    };
     struct option all[OPTIONS + 1] = {{0}};
     for (int at = 0; at < COUNT; at++)
         all[at] = (struct option){NUMBERS[at].name, required_argument, NULL, at};
-    memcpy(all + COUNT, others, sizeof others);
+    memcpy(all + COUNT, OTHERS, sizeof OTHERS);
     opterr = 0;
     optind = 0; /* getopt begins again */
     for (int found; (found = getopt_long(count, words, "", all, NULL)) != -1;) {
@@ -246,6 +274,9 @@ static const char *read_words(struct options *options, int count, char **words) 
             return why;
     }
     for (; optind < count; optind++) {
+        for (size_t at = 0; at < options->count && !options->is_interface; at++)
+            if (strcmp(words[optind], options->names[at]) == 0)
+                return wrong("named twice: ", words[optind]);
         if (options->count == GREATEST_BRIDGES)
             return wrong("too many names: ", words[optind]);
         options->names[options->count++] = words[optind];
@@ -335,8 +366,12 @@ const char *options_read(struct options *options, int count, char **words) {
     for (int at = 0; at < 2; at++)
         options->configuration[at] = mq_config_defaults(at == 1, placeholders[at]);
     options->is_interface = count > 0 && strcmp(words[0], "interface") == 0;
-    if (count > 0 && strcmp(words[0], "--help") == 0)
-        return read_option(options, ASKED_HELP, count, words);
+    if (!options->is_interface) {
+        set_number(options, NUMBER_GROUPS, PORT_GROUPS);
+        set_number(options, NUMBER_SCHEDULED, PORT_GROUPS);
+    }
+    if (count > 0 && (strcmp(words[0], "--help") == 0 || strcmp(words[0], "--version") == 0))
+        return read_option(options, words[0][2] == 'h' ? ASKED_HELP : VERSION, count, words);
     options->is_route = count > 0 && strcmp(words[0], "route") == 0;
     if (!options->is_interface && !options->is_route && (count == 0 || strcmp(words[0], "bridge") != 0))
         return wrong("the first word is interface, bridge, route or status", "");
@@ -355,7 +390,43 @@ const char *options_read(struct options *options, int count, char **words) {
                    : finish_interface(options);
     if (options->bridge != NULL)
         return wrong("--mdb is for an interface", "");
+    if (options->reports && options->router_count == 0)
+        return wrong("--report is for a --router-port", "");
     return options->is_route ? finish_route(options) : options->count > 0 ? NULL : wrong("a bridge is needed", "");
+}
+
+/* Returns the name of an option whose value differs and cannot change while the program runs, or NULL. */
+static const char *fixed_difference(const struct options *used, const struct options *next) {
+    for (int which = NUMBER_GROUPS; which < COUNT; which++)
+        for (int at = 0; at < 2; at++)
+            if (memcmp((const uint8_t *)&used->configuration[at] + NUMBERS[which].place,
+                       (const uint8_t *)&next->configuration[at] + NUMBERS[which].place, sizeof(uint32_t))
+                != 0)
+                return NUMBERS[which].name;
+    if (used->configuration[0].source_specific != next->configuration[0].source_specific)
+        return "ssm";
+    if (memcmp(used->serves, next->serves, sizeof used->serves) != 0)
+        return "family";
+    return used->ports != next->ports                     ? "ports"
+           : used->sets_up != next->sets_up               ? "setup"
+           : used->reports != next->reports               ? "report"
+           : used->prints_changes != next->prints_changes ? "changes"
+           : strcmp(used->run, next->run) != 0            ? "run"
+                                                          : NULL;
+}
+
+void options_replace(struct options *used, const struct options *next) {
+    const char *fixed = fixed_difference(used, next);
+    for (int which = 0; which < NUMBER_GROUPS; which++)
+        for (int at = 0; at < 2; at++)
+            memcpy((uint8_t *)&used->configuration[at] + NUMBERS[which].place,
+                   (const uint8_t *)&next->configuration[at] + NUMBERS[which].place, sizeof(uint32_t));
+    memcpy(used->own, next->own, sizeof used->own);
+    memcpy(used->has_own, next->has_own, sizeof used->has_own);
+    memcpy(used->routers, next->routers, sizeof used->routers);
+    used->router_count = next->router_count;
+    if (fixed != NULL)
+        fault(FAULT_MISSING, "reload", wrong("the service has to start again for a change of --", fixed));
 }
 
 bool options_is_router(const struct options *options, const char *port) {

@@ -7,6 +7,7 @@
 
 #include <errno.h>
 #include <linux/if_addr.h>
+#include <linux/if_bridge.h>
 #include <linux/if_link.h>
 #include <linux/rtnetlink.h>
 #include <net/if_arp.h>
@@ -89,8 +90,9 @@ static void take_address(void *context, const struct nlmsghdr *message) {
 /* Reads the addresses of a bridge. A removed address stays in use until there is another. Returns whether the kernel's list was
    whole. */
 static bool read_addresses(struct querier *querier, struct bridge *bridge) {
-    static const char *const missing[2] = {"it has no IPv4 address, and there is no --own: IGMP waits for one",
-                                           "it has no link-local address, and there is no --own6: MLD waits for one"};
+    static const char *const missing[2] = {
+        "it has no IPv4 address, and there is no --own: IGMP waits for one, and the kernel forwards as before",
+        "it has no link-local address, and there is no --own6: MLD waits for one, and the kernel forwards as before"};
     struct request request;
     struct answer answer;
     struct bridge read = *bridge;
@@ -104,6 +106,7 @@ static bool read_addresses(struct querier *querier, struct bridge *bridge) {
             memcpy(bridge->own[at], read.own[at], LONG_ADDRESS);
         else if (is_whole && querier->options->serves[at] && !bridge->is_missed[at])
             fault(FAULT_MISSING, bridge->name, missing[at]);
+        querier->is_stale |= read.has_own[at] && !bridge->has_own[at]; /* entries of an earlier run are to become permanent */
         bridge->has_own[at] |= read.has_own[at];
         bridge->is_missed[at] = is_whole && !read.has_own[at];
     }
@@ -144,7 +147,7 @@ static void begin_links(struct querier *querier, struct port *port, bool is_anew
     }
 }
 
-/* Copies a port as the kernel has it. If the port came up, its links begin again and query at once. */
+/* Copies a port as the kernel has it. If the port came up or forwards again, its links begin again and query at once. */
 static void take_port(const struct search *search, const struct interface *found) {
     struct querier *querier = search->querier;
     struct port *port = place_of(querier, found->index);
@@ -158,16 +161,22 @@ static void take_port(const struct search *search, const struct interface *found
     bool is_new = port->index != found->index || port->bridge != search->bridge;
     if (is_new)
         querier_forget(querier, port);
-    bool is_anew = !is_new && found->is_up && !port->is_up;
+    uint32_t state = BR_STATE_FORWARDING;
+    interface_setting(found, true, IFLA_BRPORT_STATE, &state);
+    bool is_up = found->is_up && state == BR_STATE_FORWARDING, is_anew = !is_new && is_up && !port->is_up;
     *port = (struct port){.index = found->index,
                           .bridge = search->bridge,
-                          .is_up = found->is_up,
+                          .is_up = is_up,
+                          .is_blocked = found->is_up && !is_up,
                           .is_found = true,
                           .router = port->router,
+                          .keeps_router = port->keeps_router && !is_new,
                           .hello_until = is_new ? 0 : port->hello_until,
                           .served = {port->served[0], port->served[1]}};
     strcpy(port->name, (const char *)attribute_data(name));
     interface_setting(found, true, IFLA_BRPORT_MULTICAST_ROUTER, &port->router);
+    interface_setting(found, true, IFLA_BRPORT_FAST_LEAVE, &port->fast_leave);
+    interface_setting(found, true, IFLA_BRPORT_MCAST_TO_UCAST, &port->to_unicast);
     begin_links(querier, port, is_anew, search->now);
 }
 
@@ -210,13 +219,59 @@ static const char *unserved(const struct interface *found) {
     return NULL;
 }
 
+/* Reads what the kernel reports of a change of the spanning tree. Returns whether a change begins, ends or follows another one. */
+static bool has_changed(struct bridge *bridge, const struct interface *found) {
+    static const uint16_t types[] = {IFLA_BR_TOPOLOGY_CHANGE, IFLA_BR_TOPOLOGY_CHANGE_DETECTED, IFLA_BR_TOPOLOGY_CHANGE_TIMER};
+    uint32_t now[3] = {0};
+    for (int at = 0; at < 3; at++)
+        interface_setting(found, false, types[at], &now[at]);
+    bool is_other = now[0] != bridge->change[0] || now[1] != bridge->change[1];
+    bool is_longer = now[2] > bridge->change[2]; /* the timer counts down, and each change begins it again */
+    memcpy(bridge->change, now, sizeof now);
+    return is_other || is_longer;
+}
+
+void ports_watch_topology(struct querier *querier, uint64_t now) {
+    struct interface found;
+    for (size_t at = 0; at < querier->bridges_count; at++) {
+        struct bridge *bridge = &querier->bridges[at];
+        if (bridge->index == 0 || interface_read(querier->netlink, bridge->name, &found) != 0 || found.index != bridge->index)
+            continue;
+        bool is_anew = has_changed(bridge, &found);
+        for (size_t port = 0; port < querier->room && is_anew; port++)
+            if (querier->ports[port].index != 0 && querier->ports[port].bridge == bridge && querier->ports[port].is_up)
+                begin_links(querier, querier->ports + port, true, now);
+    }
+}
+
+/* Sets when the links of a bridge know what hosts want, after a family got an address. MLD may lack one, since the kernel floods MLD
+   then in any case. `had` says which families had one before. */
+static void set_settling(struct querier *querier, struct bridge *bridge, const bool had[2], uint64_t now) {
+    const bool *serves = querier->options->serves;
+    bool is_new = bridge->settles == MQ_NONE;
+    for (int at = 0; at < 2; at++)
+        is_new |= serves[at] && bridge->has_own[at] && !had[at];
+    if (!is_new || !bridge->has_own[!serves[false]])
+        return;
+    bridge->settles = now + querier_settling(querier);
+    bridge->is_late |= bridge->is_settled;
+    bridge->is_settled = false;
+}
+
 /* Copies a bridge as the kernel has it, with its addresses and ports. Returns whether the kernel's lists were whole. */
 static bool take_bridge(struct querier *querier, struct bridge *bridge, const struct interface *found, uint64_t now) {
     const struct nlattr *mac = attribute_find(found->at, found->end, IFLA_ADDRESS);
+    if (bridge->index != found->index) {
+        bridge->settles = MQ_NONE;
+        bridge->is_settled = false;
+        has_changed(bridge, found);
+    }
     bridge->index = found->index;
     if (mac != NULL && attribute_end(mac) - attribute_data(mac) == MAC)
         memcpy(bridge->mac, attribute_data(mac), MAC);
+    const bool had[2] = {bridge->has_own[0], bridge->has_own[1]};
     bool has_all = read_addresses(querier, bridge);
+    set_settling(querier, bridge, had, now);
     return read_ports(querier, bridge, now) && has_all;
 }
 

@@ -14,6 +14,9 @@ bool ports_read_news(struct querier *querier);
 /* Reads bridges, addresses and ports again. Begins the links of new ports, and ends the links of ports that are gone. */
 void ports_refresh(struct querier *querier, uint64_t now);
 
+/* Queries at each port of a bridge whose spanning tree changes: hosts may be behind other ports now. */
+void ports_watch_topology(struct querier *querier, uint64_t now);
+
 /* An interface, with its attributes from `at` to `end`. */
 struct interface {
     int index, master;

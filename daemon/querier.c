@@ -2,9 +2,11 @@
 #include "querier.h"
 
 #include "faults.h"
+#include "heard.h"
 #include "hello.h"
 #include "route.h"
 #include "text.h"
+#include "upstream.h"
 
 #include <arpa/inet.h>
 #include <errno.h>
@@ -73,6 +75,7 @@ void querier_open(struct querier *querier, struct options *options) {
         served->memory = take(family->link_size, 1);
         keeper_open(&served->keeper, family->configuration.groups);
     }
+    upstream_open(querier);
 }
 
 struct port *querier_port(const struct querier *querier, int index) {
@@ -107,7 +110,30 @@ void querier_remove_entries(struct querier *querier, const struct bridge *bridge
     }
 }
 
-/* Sends a query at a port. A query that fails is lost as on the wire: queries are repeated. */
+void querier_hand_over(struct querier *querier, const struct bridge *bridge, bool is_mld, bool with_sources) {
+    struct place place;
+    for (size_t at = 0; at < querier->room; at++) {
+        struct port *port = querier->ports + at;
+        struct served *served = &port->served[is_mld];
+        bool is_its = port->index != 0 && port->bridge == bridge && querier->options->serves[is_mld];
+        if (is_its && querier_place(querier, port, is_mld, &place))
+            keeper_hand_over(&served->keeper, served->is_on ? &served->link : NULL, &place, with_sources);
+    }
+}
+
+void querier_send(struct querier *querier, const struct port *port, bool is_mld, const uint8_t *frame, size_t length) {
+    struct sockaddr_ll at = {.sll_family = AF_PACKET,
+                             .sll_protocol = htons(is_mld ? ETH_P_IPV6 : ETH_P_IP),
+                             .sll_ifindex = port->index,
+                             .sll_halen = MAC};
+    memcpy(at.sll_addr, frame, MAC);
+    if (sendto(querier->ring.packets, frame, length, MSG_DONTWAIT, (struct sockaddr *)&at, sizeof at) < 0)
+        fault(FAULT_UNSENT, port->name, strerror(errno));
+    else
+        querier->sent++;
+}
+
+/* Sends a query at a port. */
 static void send_query(struct querier *querier, const struct port *port, bool is_mld, const mq_query *query, uint64_t now) {
     static uint8_t frame[GREATEST_FRAME];
     static char line[2 * LONGEST_QUERY + 128];
@@ -120,18 +146,10 @@ static void send_query(struct querier *querier, const struct port *port, bool is
         *to++ = '\n';
         fwrite(line, 1, (size_t)(to - line), stdout);
     }
-    if (!port->is_up)
+    if (!port->is_up || upstream_is(querier, port))
         return;
     size_t length = write_frame(is_mld, bridge->mac, bridge->own[is_mld], query->destination, query->message, query->length, frame);
-    struct sockaddr_ll at = {.sll_family = AF_PACKET,
-                             .sll_protocol = htons(is_mld ? ETH_P_IPV6 : ETH_P_IP),
-                             .sll_ifindex = port->index,
-                             .sll_halen = MAC};
-    memcpy(at.sll_addr, frame, MAC);
-    if (sendto(querier->ring.packets, frame, length, MSG_DONTWAIT, (struct sockaddr *)&at, sizeof at) < 0)
-        fault(FAULT_UNSENT, port->name, strerror(errno));
-    else
-        querier->sent++;
+    querier_send(querier, port, is_mld, frame, length);
 }
 
 static void print_address(const mq_link *link, const char *before, const uint8_t *address) {
@@ -194,6 +212,7 @@ static void follow(struct querier *querier, struct port *port, bool is_mld, uint
             print_change(querier, port, &served->link, querier->changed[at], filter_of(&served->link, querier->changed[at]), now);
         if (keeps)
             keeper_update(&served->keeper, &served->link, &place, querier->changed[at]);
+        upstream_note(querier, port, is_mld, querier->changed[at], now);
     }
     if (querier->route != NULL)
         route_follow(querier, port, is_mld, count, now);
@@ -205,6 +224,14 @@ static void follow(struct querier *querier, struct port *port, bool is_mld, uint
 static uint64_t settling(const mq_config *it) {
     uint64_t interval = SECOND * (uint64_t)it->query_interval / 4;
     return (it->robustness - 1) * interval + it->response_interval + LATE;
+}
+
+uint64_t querier_settling(const struct querier *querier) {
+    uint64_t longest = 0;
+    for (int at = 0; at < 2; at++)
+        if (querier->options->serves[at] && settling(&querier->families[at].configuration) > longest)
+            longest = settling(&querier->families[at].configuration);
+    return longest;
 }
 
 void querier_begin(struct querier *querier, struct port *port, bool is_mld, uint64_t now) {
@@ -221,7 +248,7 @@ void querier_begin(struct querier *querier, struct port *port, bool is_mld, uint
     memcpy(served->own, port->bridge->own[is_mld], sizeof served->own);
     if (!served->is_on)
         fault(FAULT_MISSING, port->bridge->name, mq_status_text(status));
-    keeper_begin(&served->keeper, now + settling(&configuration));
+    keeper_begin(&served->keeper, now + settling(&configuration), querier->options->sets_up);
     set_deadline(querier, port, is_mld);
 }
 
@@ -235,11 +262,13 @@ void querier_forget(struct querier *querier, struct port *port) {
     for (int at = 0; at < 2; at++) {
         print_ends(querier, port, &port->served[at], moment());
         port->served[at].is_on = false;
+        port->served[at].told = 0;
         port->served[at].keeper.rows.count = 0;
         set_deadline(querier, port, at == 1);
     }
     if (querier->route != NULL)
         route_forget(querier);
+    upstream_note_all(querier, port->bridge, moment());
 }
 
 /* Prints the result of a datagram. */
@@ -266,7 +295,7 @@ static void hear(struct querier *querier, struct port *port, const struct frame 
     struct datagram datagram;
     enum carried carried = read_frame(frame->bytes, frame->length, &datagram);
     if (is_hello(&datagram))
-        port->hello_until = now + SECOND * (uint64_t)hello_seconds(&datagram);
+        heard_hello(querier, port, &datagram, now);
     else if (carried == CARRIED_NOTHING && !querier->options->is_interface)
         fault(FAULT_MALFORMED, port->name, "a frame without a whole message");
     if (carried == CARRIED_FRAGMENT && !querier->options->is_interface)
@@ -274,8 +303,12 @@ static void hear(struct querier *querier, struct port *port, const struct frame 
     bool is_mld = carried == CARRIED_DATAGRAM && datagram.is_ipv6;
     if (carried != CARRIED_DATAGRAM || !port->served[is_mld].is_on)
         return;
+    bool was_querier = mq_link_is_querier(&port->served[is_mld].link);
     mq_answer answer = mq_link_receive(&port->served[is_mld].link, &datagram.envelope, datagram.body, datagram.length, now);
     send_queries(querier, port, is_mld, answer, now);
+    heard_tell(port, is_mld, &datagram, answer, was_querier);
+    if (answer.dropped == 0)
+        upstream_hear(querier, port, is_mld, &datagram, now);
     querier->heard++;
     if (querier->options->is_interface)
         print_answer(querier, &port->served[is_mld].link, &datagram, answer, now);
@@ -286,7 +319,7 @@ void querier_hear(struct querier *querier, uint64_t now) {
     struct frame frame;
     for (int count = 0; count < FRAMES && ring_next(&querier->ring, &frame); count++) {
         struct port *port = querier_port(querier, frame.index);
-        if (port != NULL)
+        if (port != NULL && !port->is_blocked)
             hear(querier, port, &frame, now);
     }
 }
@@ -313,10 +346,12 @@ static void tick(struct querier *querier, struct port *port, bool is_mld, uint64
     struct place place;
     send_queries(querier, port, is_mld, mq_link_tick(&served->link, now), now);
     follow(querier, port, is_mld, now);
-    if (served->keeper.settles <= now && querier_place(querier, port, is_mld, &place))
+    if (served->keeper.settles <= now && querier_place(querier, port, is_mld, &place)) {
         keeper_settle(&served->keeper, &served->link, &place);
-    else if (served->keeper.settles <= now)
+        upstream_note_all(querier, port->bridge, now);
+    } else if (served->keeper.settles <= now) {
         served->keeper.settles = MQ_NONE;
+    }
     set_deadline(querier, port, is_mld);
 }
 
@@ -346,6 +381,8 @@ void querier_tick(struct querier *querier, uint64_t now) {
         } else if (first == 2 * querier->room + DEADLINE_REPAIR) {
             querier->is_stale = true;
             deadlines_set(deadlines, first, MQ_NONE); /* the repair sets the next one */
+        } else if (first == 2 * querier->room + DEADLINE_REPORTS) {
+            upstream_tick(querier, now);
         } else {
             count_lost(querier);
             deadlines_set(deadlines, first, now + SECOND);

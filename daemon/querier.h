@@ -25,13 +25,18 @@ struct bridge {
     bool is_missed[2];            /* a line said that there is none */
     bool is_configured[2];        /* it has a configuration of its own */
     mq_config configuration[2];
-    int before;    /* the file of the settings before --setup, or -1 */
-    int listening; /* the socket of the status, or -1 */
+    uint64_t settles;   /* when its links know what hosts want, or MQ_NONE while they wait for an address */
+    bool is_settled;    /* that time is over */
+    bool is_late;       /* a family got an address after that, and the kernel has to flood again */
+    uint32_t change[3]; /* flags and a timer of the last change of the spanning tree */
+    int before;         /* the file of the settings before --setup, or -1 */
+    int listening;      /* the socket of the status, or -1 */
 };
 
 /* A link of a port. */
 struct served {
     bool is_on;                /* the link has begun */
+    uint8_t told;              /* the limits that a line told of: a bit for each place in `refused_by` */
     uint8_t own[LONG_ADDRESS]; /* the own address that it began with */
     mq_link link;
     void *memory; /* the memory of `link` */
@@ -42,9 +47,12 @@ struct port {
     int index; /* 0 if the place is free */
     char name[IF_NAMESIZE];
     struct bridge *bridge;
-    bool is_up, is_found;
-    uint32_t router;      /* the setting mcast_router */
-    uint64_t hello_until; /* the end of a PIM router's Hello, or 0 */
+    bool is_up;      /* it has a carrier, and is not blocked */
+    bool is_blocked; /* the spanning tree keeps it from forwarding */
+    bool is_found;
+    uint32_t router, fast_leave, to_unicast; /* the settings mcast_router, mcast_fast_leave and mcast_to_unicast */
+    bool keeps_router;                       /* a line said that mcast_router stays */
+    uint64_t hello_until;                    /* the end of a PIM router's Hello, or 0 */
     struct served served[2];
 };
 
@@ -73,7 +81,7 @@ struct querier {
 };
 
 /* The deadlines after those of links. */
-enum { DEADLINE_REPAIR, DEADLINE_SECOND, DEADLINE_ROUTE, DEADLINES_BESIDE };
+enum { DEADLINE_REPAIR, DEADLINE_SECOND, DEADLINE_REPORTS, DEADLINE_ROUTE, DEADLINES_BESIDE };
 
 /* Returns NULL, or the fault of a served family's configuration as text. */
 const char *querier_fault(const struct options *options);
@@ -84,6 +92,8 @@ uint64_t moment(void);
 
 /* Begins a link again, at the bridge's own address. The link queries at once, and inherits the entries of the earlier link. */
 void querier_begin(struct querier *querier, struct port *port, bool is_mld, uint64_t now);
+/* Returns the milliseconds after which links that begin know what hosts want. */
+uint64_t querier_settling(const struct querier *querier);
 /* Begins again each link of a family that has begun. */
 void querier_begin_all(struct querier *querier, bool is_mld, uint64_t now);
 /* Begins each link again if nothing ran for more than a Query Interval, for example while the machine slept. */
@@ -100,8 +110,12 @@ void querier_repair(struct querier *querier, uint64_t now);
 void querier_forget(struct querier *querier, struct port *port);
 /* Removes all own entries at the ports of a bridge. */
 void querier_remove_entries(struct querier *querier, const struct bridge *bridge);
+/* Leaves the entries of a family at the ports of a bridge to the kernel's snooping, with their sources or for all sources. */
+void querier_hand_over(struct querier *querier, const struct bridge *bridge, bool is_mld, bool with_sources);
 /* Sets the place of a port and family in the database. Returns false if no database is kept. */
 bool querier_place(const struct querier *querier, const struct port *port, bool is_mld, struct place *place);
+/* Sends a frame at a port. A message that fails is lost as on the wire: it is repeated. */
+void querier_send(struct querier *querier, const struct port *port, bool is_mld, const uint8_t *frame, size_t length);
 /* Returns the port with an index, or NULL. */
 struct port *querier_port(const struct querier *querier, int index);
 

@@ -124,7 +124,7 @@ static void report_text(const struct querier *querier, const struct bridge *brid
         const struct port *port = querier->ports + at;
         if (!has_link(querier, port, bridge))
             continue;
-        fprintf(to, "port %s%s", port->name, port->is_up ? "" : ", down");
+        fprintf(to, "port %s%s", port->name, port->is_blocked ? ", blocked" : port->is_up ? "" : ", down");
         if (options_is_router(querier->options, port->name))
             fputs(", a router's by --router-port", to);
         if (port->hello_until > now)
@@ -183,8 +183,9 @@ static void json_link(const struct port *port, bool is_mld, uint64_t now, FILE *
 }
 
 static void json_port(const struct querier *querier, const struct port *port, bool is_first, uint64_t now, FILE *to) {
-    fprintf(to, "%s\n{\"port\":\"%s\",\"up\":%s,\"router_port\":%s", is_first ? "" : ",", port->name,
-            port->is_up ? "true" : "false", options_is_router(querier->options, port->name) ? "true" : "false");
+    fprintf(to, "%s\n{\"port\":\"%s\",\"up\":%s,\"blocked\":%s,\"router_port\":%s", is_first ? "" : ",", port->name,
+            port->is_up ? "true" : "false", port->is_blocked ? "true" : "false",
+            options_is_router(querier->options, port->name) ? "true" : "false");
     json_moment("pim_left", port->hello_until > now ? port->hello_until : MQ_NONE, now, to);
     for (int family = 0; family < 2; family++) {
         if (!querier->options->serves[family])
@@ -251,7 +252,7 @@ static void metric(const struct querier *querier, const struct bridge *bridge, i
 }
 
 static void report_metrics(const struct querier *querier, const struct bridge *bridge, FILE *to) {
-    for (int at = 0; at < FAULT_KINDS; at++)
+    for (int at = 0; at < FAULT_KINDS && bridge == querier->bridges; at++) /* they are of all bridges together */
         fprintf(to, "# TYPE mquerier_%s_total counter\nmquerier_%s_total %" PRIu64 "\n", fault_names[at], fault_names[at],
                 fault_counts[at]);
     for (int which = 0; which < METRICS; which++)

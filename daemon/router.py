@@ -2,6 +2,7 @@
 
 import collections
 import ctypes
+import glob
 import ipaddress
 import itertools
 import json
@@ -267,7 +268,7 @@ class Network:
         one = Running(space, PROGRAM, *words)
         self.running.append(one)
         limit = time.monotonic() + 5
-        while is_ready and not os.path.exists(f"{self.folder}/{space}/{upstream.split(',')[0].split('=')[0]}/status"):
+        while is_ready and not glob.glob(f"{self.folder}/{space}/{upstream.split(',')[0].split('=')[0]}/status-*"):
             is_true(one.process.poll() is None and time.monotonic() < limit, f"not ready: {one.errors}")
             time.sleep(0.02)
         return one
@@ -278,7 +279,7 @@ class Network:
         return one
 
     def status(self, space, upstream, form="--json"):
-        words = [PROGRAM, "status", upstream, form, "--run", f"{self.folder}/{space}"]
+        words = ["ip", "netns", "exec", space, PROGRAM, "status", upstream, form, "--run", f"{self.folder}/{space}"]
         ran = subprocess.run([it for it in words if it], capture_output=True, text=True, check=False)
         is_true(ran.returncode == 0, ran.stderr)
         return json.loads(ran.stdout) if form == "--json" else ran.stdout

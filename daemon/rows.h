@@ -10,9 +10,10 @@
 
 struct row {
     uint8_t group[LONG_ADDRESS];
-    bool is_inherited; /* an earlier link made the entry, and hosts have not answered since */
+    bool is_inherited; /* an earlier link or the kernel made the entry, and hosts have not answered since */
     bool is_seen;      /* the last dump had the entry */
     bool is_right;     /* the dump had it with the link's filter */
+    bool is_temporary; /* the dump had it as temporary */
 };
 
 struct rows {

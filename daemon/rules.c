@@ -12,17 +12,21 @@
 #include <linux/netfilter/nf_tables.h>
 #include <linux/netfilter/nfnetlink.h>
 #include <signal.h>
+#include <spawn.h>
 #include <string.h>
 #include <sys/socket.h>
 #include <sys/wait.h>
 #include <unistd.h>
 
-/* Room for the rules of all ports: six lists, with at most 12 bytes for each port. The status of a child that cannot run `nft`. */
-enum { GREATEST_RULES = 6 * 12 * GREATEST_PORTS + 4096, NOT_THERE = 127 };
+/* Room for the rules of all ports: six lists, with at most 12 bytes for each port. */
+enum { GREATEST_RULES = 6 * 12 * GREATEST_PORTS + 4096 };
 
-/* The ports in the rules of each bridge. */
+/* The families and ports in the rules of each bridge. */
 static struct ruled {
+    bool is_known; /* the kernel has these rules */
+    bool hides[2];
     int indexes[GREATEST_PORTS];
+    bool leads[GREATEST_PORTS]; /* to a router */
     size_t count;
 } ruled[GREATEST_BRIDGES];
 
@@ -30,6 +34,7 @@ static struct ruled {
    each change, by anybody. */
 static uint32_t generation;
 static int netfilter = -1; /* the socket that asks for it */
+static bool was_run;       /* `nft` succeeded once */
 
 /* Returns the generation that the kernel has now, or 0 if the kernel does not say. */
 static uint32_t ask_generation(void) {
@@ -49,88 +54,139 @@ void rules_open(void) {
     generation = ask_generation();
 }
 
-/* Runs `nft` in the child, with `end` as its standard input. */
-static void become_nft(int end) {
+/* Starts `nft` with `end` as its standard input. It needs no memory for a copy of this process. Returns 0 or an error of <errno.h>.
+   */
+static int start_nft(int end, pid_t *child) {
     static char nft[] = "nft", option[] = "-f", input[] = "-";
     char *words[] = {nft, option, input, NULL};
-    sigset_t none;
+    posix_spawn_file_actions_t files;
+    posix_spawnattr_t signals;
+    sigset_t none, broken_pipe;
     sigemptyset(&none);
-    sigprocmask(SIG_SETMASK, &none, NULL);
-    signal(SIGPIPE, SIG_DFL);
-    dup2(end, STDIN_FILENO);
-    execvp(words[0], words);
-    _exit(NOT_THERE);
+    sigemptyset(&broken_pipe);
+    sigaddset(&broken_pipe, SIGPIPE);
+    posix_spawn_file_actions_init(&files);
+    posix_spawn_file_actions_adddup2(&files, end, STDIN_FILENO);
+    posix_spawnattr_init(&signals);
+    posix_spawnattr_setsigmask(&signals, &none);
+    posix_spawnattr_setsigdefault(&signals, &broken_pipe);
+    posix_spawnattr_setflags(&signals, POSIX_SPAWN_SETSIGMASK | POSIX_SPAWN_SETSIGDEF);
+    int error = posix_spawnp(child, words[0], &files, &signals, words, environ);
+    posix_spawnattr_destroy(&signals);
+    posix_spawn_file_actions_destroy(&files);
+    return error;
 }
 
 /* Passes a text to `nft`, and waits for its end. Returns whether it succeeded. */
 static bool run_nft(const char *text, size_t length) {
     int ends[2], status = 0;
+    pid_t child;
     if (pipe2(ends, O_CLOEXEC) < 0) {
         fault(FAULT_NETLINK, "nft", strerror(errno));
         return false;
     }
-    pid_t child = fork();
-    if (child == 0)
-        become_nft(ends[0]);
+    int error = start_nft(ends[0], &child);
     close(ends[0]);
-    bool is_written = child > 0 && write(ends[1], text, length) == (ssize_t)length;
+    bool is_written = error == 0 && write(ends[1], text, length) == (ssize_t)length;
     close(ends[1]);
-    bool is_done = child > 0 && waitpid(child, &status, 0) == child && status == 0 && is_written;
-    bool is_missing = child > 0 && WIFEXITED(status) && WEXITSTATUS(status) == NOT_THERE;
-    if (!is_done)
-        fault(FAULT_NETLINK, "nft",
-              is_missing ? "it can't be run" : "the rules that keep the kernel's own snooping away can't be made");
+    bool is_done = error == 0 && waitpid(child, &status, 0) == child && status == 0 && is_written;
+    was_run |= is_done;
+    if (error != 0)
+        fault(FAULT_NETLINK, "nft can't be run, and the kernel's own snooping learns and asks too", strerror(error));
+    else if (!is_done)
+        fault(FAULT_NETLINK, "nft", "the rules that keep the kernel's own snooping away can't be made");
     return is_done;
 }
 
-/* Writes the name of a bridge's table. `nft` allows letters, digits and underlines. */
+/* Writes the name of a bridge's table. `nft` allows letters, digits and underlines; other characters are written as numbers. */
 static char *put_table(char *to, const struct bridge *bridge) {
     to = put_text(to, "table bridge mquerier_");
-    for (const char *at = bridge->name; *at != '\0'; at++)
-        *to++ = isalnum((unsigned char)*at) ? *at : '_';
+    for (const char *at = bridge->name; *at != '\0'; at++) {
+        if (isalnum((unsigned char)*at))
+            *to++ = *at;
+        else
+            to = put_hexadecimal(put_text(to, "_"), (const uint8_t *)at, 1);
+    }
     return to;
 }
 
-/* Writes a rule that drops the messages of a family at these ports. */
-static char *put_rule(char *to, bool is_mld, const struct ruled *ports, const char *side) {
+/* Writes the words that match these ports: all of them, or only those that lead to routers, or only the others. Returns NULL if there
+   is none. */
+enum which { ALL_PORTS, ROUTERS, OTHERS };
+static char *put_ports(char *to, const struct ruled *ports, enum which which, const char *side) {
+    bool is_first = true;
     to = put_text(put_text(put_text(to, " "), side), " {");
-    for (size_t at = 0; at < ports->count; at++)
-        to = put_number(put_text(to, at > 0 ? ", " : " "), (uint64_t)ports->indexes[at]);
-    return put_text(to, is_mld ? " } icmpv6 type { 130, 131, 132, 143 } drop;" : " } ip protocol igmp drop;");
+    for (size_t at = 0; at < ports->count; at++) {
+        if (which != ALL_PORTS && ports->leads[at] != (which == ROUTERS))
+            continue;
+        to = put_number(put_text(to, is_first ? " " : ", "), (uint64_t)ports->indexes[at]);
+        is_first = false;
+    }
+    return is_first ? NULL : put_text(to, " }");
 }
 
-/* Writes a chain that drops the messages of the served families at these ports. */
-static char *put_chain(char *to, const bool serves[2], const struct ruled *ports, const char *head, const char *side) {
-    to = put_text(put_text(put_text(to, "chain "), head), " priority 0;");
-    for (int family = 0; family < 2; family++)
-        if (serves[family])
-            to = put_rule(to, family == 1, ports, side);
-    return put_text(to, " }\n");
+/* Writes a rule for the messages of each hidden family at these ports, with the words for each family. */
+static char *put_rules(char *to, const struct ruled *ports, enum which which, const char *side, const char *const words[2]) {
+    for (int family = 0; family < 2; family++) {
+        char *next = ports->hides[family] ? put_ports(to, ports, which, side) : NULL;
+        to = next == NULL ? to : put_text(put_text(next, words[family]), ";");
+    }
+    return to;
+}
+
+/* Writes the chains of a bridge. The kernel's snooping knows a message by its protocol, so a message from a port gets another one, and
+   gets its own back on its way to this machine. A mark goes with it. It reaches no other port. */
+static char *put_chains(char *to, const struct ruled *ports) {
+    static const char *const hide[2] = {
+        " ip protocol igmp meta mark set 0x6d717101 ip protocol set 253",
+        " ip6 nexthdr 0 icmpv6 type { 130, 131, 132, 143 } meta mark set 0x6d717102 @nh,48,8 set 253"};
+    static const char *const drop[2] = {" ip protocol igmp drop", " icmpv6 type { 130, 131, 132, 143 } drop"};
+    static const char *const drop_queries[2] = {" igmp type 0x11 drop", " icmpv6 type 130 drop"};
+    to = put_text(to, "chain from_port { type filter hook prerouting priority 400;");
+    to = put_text(put_rules(to, ports, ALL_PORTS, "iif", hide), " }\n");
+    to = put_text(to, "chain to_host { type filter hook input priority -400;"
+                      " meta mark 0x6d717101 ip protocol set 2 meta mark set 0;"
+                      " meta mark 0x6d717102 @nh,48,8 set 0 meta mark set 0; }\n");
+    to = put_text(to, "chain to_port { type filter hook forward priority -400; meta mark { 0x6d717101, 0x6d717102 } drop;");
+    to = put_text(put_rules(to, ports, ALL_PORTS, "oif", drop), " }\n");
+    to = put_text(to, "chain own_to_port { type filter hook output priority 0;");
+    to = put_rules(to, ports, OTHERS, "oif", drop);
+    return put_text(put_rules(to, ports, ROUTERS, "oif", drop_queries), " }\n");
 }
 
 /* Replaces the table of a bridge in one step. Returns whether that succeeded. */
-static bool replace_table(const bool serves[2], const struct bridge *bridge, const struct ruled *ports) {
+static bool replace_table(const struct bridge *bridge, const struct ruled *ports) {
     static char text[GREATEST_RULES];
     char *to = put_text(put_table(text, bridge), "\ndelete ");
     to = put_text(put_table(to, bridge), "\n");
-    if (ports->count > 0) {
+    if (ports->count > 0 && (ports->hides[0] || ports->hides[1])) {
         to = put_text(put_table(to, bridge), " {\n");
-        to = put_chain(to, serves, ports, "from_port { type filter hook prerouting", "iif");
-        to = put_chain(to, serves, ports, "to_port { type filter hook postrouting", "oif");
-        to = put_chain(to, serves, ports, "own_to_port { type filter hook output", "oif");
+        to = put_chains(to, ports);
         to = put_text(to, "}\n");
     }
     return run_nft(text, (size_t)(to - text));
 }
 
+static bool is_same(const struct ruled *one, const struct ruled *other) {
+    return one->is_known == other->is_known && memcmp(one->hides, other->hides, sizeof one->hides) == 0
+           && one->count == other->count && memcmp(one->indexes, other->indexes, one->count * sizeof *one->indexes) == 0
+           && memcmp(one->leads, other->leads, one->count * sizeof *one->leads) == 0;
+}
+
 void rules_apply(struct querier *querier, const struct bridge *bridge) {
-    struct ruled *before = &ruled[bridge - querier->bridges], now = {.count = 0};
-    for (size_t at = 0; at < querier->ports_count; at++) /* in ascending order */
-        if (querier->by_index[at].port->bridge == bridge)
-            now.indexes[now.count++] = querier->by_index[at].index;
-    if (now.count == before->count && memcmp(now.indexes, before->indexes, now.count * sizeof *now.indexes) == 0)
+    struct ruled *before = &ruled[bridge - querier->bridges], now = {.is_known = true};
+    for (int at = 0; at < 2; at++)
+        now.hides[at] = querier->options->serves[at] && bridge->has_own[at];
+    for (size_t at = 0; at < querier->ports_count; at++) { /* in ascending order */
+        const struct port *port = querier->by_index[at].port;
+        if (port->bridge != bridge)
+            continue;
+        now.leads[now.count] = port->keeps_router || options_is_router(querier->options, port->name);
+        now.indexes[now.count++] = port->index;
+    }
+    if (is_same(&now, before))
         return;
-    if (!replace_table(querier->options->serves, bridge, &now))
+    if (!replace_table(bridge, &now))
         return;
     *before = now;
     bool is_only_change = generation != 0 && ask_generation() == generation + 1;
@@ -143,11 +199,10 @@ void rules_check(void) {
         return;
     generation = now;
     for (size_t at = 0; at < GREATEST_BRIDGES; at++)
-        ruled[at].count = 0;
+        ruled[at].is_known = false;
 }
 
-void rules_remove(const struct bridge *bridge) {
+bool rules_remove(const struct bridge *bridge) {
     static const struct ruled none;
-    static const bool serves[2];
-    replace_table(serves, bridge, &none);
+    return replace_table(bridge, &none) || !was_run;
 }

@@ -11,6 +11,7 @@ void rules_apply(struct querier *querier, const struct bridge *bridge);
 /* Makes the next `rules_apply` make all rules again if anybody else changed any rule of nftables. This only asks the kernel: it
    runs no program. */
 void rules_check(void);
-void rules_remove(const struct bridge *bridge);
+/* Removes the rules of a bridge. Returns whether they are gone, or were never made because `nft` failed. */
+bool rules_remove(const struct bridge *bridge);
 
 #endif

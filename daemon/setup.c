@@ -1,7 +1,9 @@
 #define _GNU_SOURCE
 #include "setup.h"
 
+#include "advice.h"
 #include "faults.h"
+#include "files.h"
 #include "ports.h"
 #include "rules.h"
 
@@ -13,7 +15,7 @@
 #include <stdio.h>
 #include <stdlib.h>
 #include <string.h>
-#include <sys/file.h>
+#include <time.h>
 #include <unistd.h>
 
 /* The settings of a bridge, each with the effect of a wrong value. */
@@ -21,7 +23,7 @@ enum { SNOOPING, IGMP_VERSION, MLD_VERSION, HASH_MAX, QUERIER, SETTINGS };
 static const struct setting {
     const char *name;
     uint16_t type, width;
-    const char *otherwise;
+    const char *otherwise; /* the effect of a wrong value */
 } settings[SETTINGS] = {
     [SNOOPING] = {"mcast_snooping", IFLA_BR_MCAST_SNOOPING, 1, "it takes no entry, and floods"},
     [IGMP_VERSION] = {"mcast_igmp_version", IFLA_BR_MCAST_IGMP_VERSION, 1, "it looks at no source"},
@@ -33,19 +35,22 @@ static const struct setting router = {"mcast_router", IFLA_BRPORT_MULTICAST_ROUT
                                       "a query that is heard there brings all groups there"};
 enum { ROUTER_NEVER = 0, ROUTER_ALWAYS = 2, GREATEST_BEFORE = 1 << 16 };
 
-/* Returns the least value that a setting needs. */
-static uint32_t wanted(const struct querier *querier, int which) {
-    const bool *serves = querier->options->serves;
+/* Returns the least value that a setting needs. A family without an address needs none. The kernel floods until its own querier is
+   on, which waits until all links know what hosts want. */
+static uint32_t wanted(const struct querier *querier, const struct bridge *bridge, int which) {
+    const struct options *options = querier->options;
+    bool serves[2];
     uint64_t entries = 0;
+    for (int at = 0; at < 2; at++) {
+        serves[at] = options->serves[at] && (bridge->has_own[at] || !options->sets_up);
+        entries += serves[at] ? querier->room * querier->families[at].entries : 0;
+    }
     switch (which) {
     case IGMP_VERSION: return serves[false] ? 3 : 0;
     case MLD_VERSION: return serves[true] ? 2 : 0;
-    case QUERIER: return !querier->options->is_interface;
-    case HASH_MAX:
-        for (int at = 0; at < 2; at++)
-            entries += serves[at] ? querier->room * querier->families[at].entries : 0;
-        return entries > UINT32_MAX ? UINT32_MAX : (uint32_t)entries;
-    default: return 1;
+    case QUERIER: return !options->is_interface && (bridge->is_settled || !options->sets_up);
+    case HASH_MAX: return entries > UINT32_MAX ? UINT32_MAX : (uint32_t)entries;
+    default: return entries > 0;
     }
 }
 
@@ -67,18 +72,12 @@ static bool set(struct querier *querier, int index, const char *name, bool is_po
     return error == 0;
 }
 
+/* Counts a wrong setting, and always prints its line. */
 static void tell_setting(const char *name, const struct setting *it, uint32_t value, uint32_t least) {
     char why[160];
     snprintf(why, sizeof why, "%s is %" PRIu32 ", and should be %" PRIu32 ": %s", it->name, value, least, it->otherwise);
-    fault(FAULT_MISSING, name, why);
-}
-
-/* Adds an earlier value to the bridge's file: that of the port with this index, or of the bridge if the index is 0. */
-static void remember(const struct bridge *bridge, int port, const struct setting *it, uint32_t value) {
-    char line[128];
-    int length = snprintf(line, sizeof line, "%d %s %" PRIu32 "\n", port, it->name, value);
-    if (bridge->before >= 0 && write(bridge->before, line, (size_t)length) != length)
-        fault(FAULT_NETLINK, bridge->name, "what was there before --setup can't be written down");
+    fault_counts[FAULT_MISSING]++;
+    tell(name, why);
 }
 
 /* Returns the text of the file of earlier settings. It stands until the next call. */
@@ -99,6 +98,25 @@ static bool is_remembered(const struct bridge *bridge, int port, const struct se
     return false;
 }
 
+/* Adds an earlier value to the bridge's file, unless it has one: that of the port with this index, or of the bridge if the index is
+   0. Returns false if the value cannot be restored later: then the setting has to stay. */
+static bool remember(const struct bridge *bridge, int port, const struct setting *it, uint32_t value) {
+    char line[128];
+    int length = snprintf(line, sizeof line, "%d %s %" PRIu32 "\n", port, it->name, value);
+    if (is_remembered(bridge, port, it))
+        return true;
+    off_t end = lseek(bridge->before, 0, SEEK_END);
+    ssize_t written = write(bridge->before, line, (size_t)length);
+    if (written == length)
+        return true;
+    snprintf(line, sizeof line, "%s stays, since its value can't be written down: %s", it->name,
+             written < 0 ? strerror(errno) : "no room");
+    fault(FAULT_NETLINK, bridge->name, line);
+    if (written > 0 && end >= 0 && ftruncate(bridge->before, end) < 0)
+        fault(FAULT_NETLINK, bridge->name, strerror(errno));
+    return false;
+}
+
 /* Sets up a bridge, or prints its wrong settings. */
 static void apply_to_bridge(struct querier *querier, struct bridge *bridge, const char *name, bool tells) {
     struct interface found;
@@ -111,32 +129,44 @@ static void apply_to_bridge(struct querier *querier, struct bridge *bridge, cons
     for (int at = 0; at < SETTINGS; at++)
         has[at] = interface_setting(&found, false, settings[at].type, &values[at]);
     for (int at = 0; at < SETTINGS; at++) {
-        uint32_t least = wanted(querier, at);
+        uint32_t least = wanted(querier, bridge, at);
         if (!has[at] || values[at] >= least)
             continue;
-        if (querier->options->sets_up && !is_remembered(bridge, 0, &settings[at]))
-            remember(bridge, 0, &settings[at], values[at]);
-        if (querier->options->sets_up)
+        if (querier->options->sets_up && remember(bridge, 0, &settings[at], values[at]))
             set(querier, found.index, name, false, &settings[at], least);
-        else if (tells)
+        else if (!querier->options->sets_up && tells)
             tell_setting(name, &settings[at], values[at], least);
     }
 }
 
-/* Sets whether a port leads to a router, or prints that its setting is wrong. */
-static void apply_to_port(struct querier *querier, struct port *port, bool tells) {
+/* Sets whether a port leads to a router. An administrator's own port of a router stays one. */
+static void apply_to_port(struct querier *querier, struct port *port) {
     bool is_router = options_is_router(querier->options, port->name);
     uint32_t value = is_router ? ROUTER_ALWAYS : ROUTER_NEVER;
-    if (port->router == value)
+    if (port->router == value || (!querier->options->sets_up && !is_router))
         return;
-    if (!querier->options->sets_up && !is_router) {
-        if (tells)
-            tell_setting(port->name, &router, port->router, value);
+    if (port->router == ROUTER_ALWAYS && !is_remembered(port->bridge, port->index, &router)) {
+        if (!port->keeps_router)
+            tell(port->name, "mcast_router is 2 and stays: all groups are forwarded there");
+        querier->is_stale |= !port->keeps_router; /* the rules let this machine's Reports pass to it */
+        port->keeps_router = true;
         return;
     }
-    if (!is_remembered(port->bridge, port->index, &router))
-        remember(port->bridge, port->index, &router, port->router);
-    set(querier, port->index, port->name, true, &router, value);
+    if (remember(port->bridge, port->index, &router, port->router))
+        set(querier, port->index, port->name, true, &router, value);
+}
+
+/* Has the kernel flood again while a late family begins, if it did before --setup. */
+static void flood_again(struct querier *querier, struct bridge *bridge) {
+    if (bridge->is_late && querier->options->sets_up && is_remembered(bridge, 0, &settings[QUERIER]))
+        set(querier, bridge->index, bridge->name, false, &settings[QUERIER], 0);
+    bridge->is_late = false;
+}
+
+/* Returns whether each served family has an address at a bridge. */
+static bool has_addresses(const struct querier *querier, const struct bridge *bridge) {
+    const bool *serves = querier->options->serves;
+    return (bridge->has_own[0] || !serves[0]) && (bridge->has_own[1] || !serves[1]);
 }
 
 void setup_apply(struct querier *querier) {
@@ -144,17 +174,32 @@ void setup_apply(struct querier *querier) {
     const struct options *options = querier->options;
     for (size_t at = 0; at < querier->bridges_count; at++) {
         struct bridge *bridge = &querier->bridges[at];
-        bool tells = told[at] != bridge->index;
+        bool tells = told[at] != bridge->index,
+             has_ports = !options->is_interface && (has_addresses(querier, bridge) || !options->sets_up);
         told[at] = bridge->index;
         if (bridge->index == 0 || (bridge->is_port && !options->is_interface)
             || (options->is_interface && (!tells || options->bridge == NULL)))
             continue;
-        apply_to_bridge(querier, bridge, options->is_interface ? options->bridge : bridge->name, tells);
-        for (size_t port = 0; port < querier->room && !options->is_interface; port++)
-            if (querier->ports[port].index != 0 && querier->ports[port].bridge == bridge)
-                apply_to_port(querier, querier->ports + port, tells);
-        if (options->sets_up)
+        if (options->sets_up) /* first, so that no query of the kernel leaves */
             rules_apply(querier, bridge);
+        flood_again(querier, bridge);
+        apply_to_bridge(querier, bridge, options->is_interface ? options->bridge : bridge->name, tells);
+        for (size_t port = 0; port < querier->room && has_ports; port++)
+            if (querier->ports[port].index != 0 && querier->ports[port].bridge == bridge)
+                apply_to_port(querier, querier->ports + port);
+        if (tells && !options->is_interface)
+            advice_ports(querier, bridge);
+    }
+}
+
+void setup_settle(struct querier *querier, uint64_t now) {
+    for (size_t at = 0; at < querier->bridges_count; at++) {
+        struct bridge *bridge = &querier->bridges[at];
+        if (bridge->is_port || bridge->index == 0 || bridge->is_settled || now < bridge->settles)
+            continue;
+        bridge->is_settled = true;
+        if (querier->options->sets_up)
+            apply_to_bridge(querier, bridge, bridge->name, false);
     }
 }
 
@@ -181,16 +226,36 @@ static bool put_back(struct querier *querier, const struct bridge *bridge, const
     return error == 0 || error == ENODEV;
 }
 
-void setup_undo(struct querier *querier, struct bridge *bridge) {
+/* Restores the settings from before --setup, also those that a killed run changed. */
+static void undo(struct querier *querier, struct bridge *bridge) {
     char *left = NULL;
     bool is_back = true;
     if (bridge->before < 0)
         return;
     for (char *line = strtok_r(read_before(bridge), "\n", &left); line != NULL; line = strtok_r(NULL, "\n", &left))
         is_back &= put_back(querier, bridge, line);
-    rules_remove(bridge);
     if (is_back && ftruncate(bridge->before, 0) < 0)
         fault(FAULT_NETLINK, bridge->name, strerror(errno));
+}
+
+void setup_end(struct querier *querier, struct bridge *bridge) {
+    static const int versions[2] = {IGMP_VERSION, MLD_VERSION};
+    const struct timespec handed_over = {0, 10000000}; /* the ring hands the last frames over */
+    if (querier->options->sets_up && !rules_remove(bridge)) {
+        tell(bridge->name, "the kernel doesn't hear hosts, so entries and settings stay for the next run");
+        return;
+    }
+    nanosleep(&handed_over, NULL);
+    querier_hear(querier, moment());
+    for (int at = 0; at < 2; at++) /* an older version looks at no source, so an entry of sources would end too early */
+        querier_hand_over(querier, bridge, at == 1, !is_remembered(bridge, 0, &settings[versions[at]]));
+    undo(querier, bridge);
+}
+
+/* Undoes --setup of a killed run. */
+static void undo_killed(struct querier *querier, struct bridge *bridge) {
+    rules_remove(bridge);
+    undo(querier, bridge);
 }
 
 void setup_open(struct querier *querier) {
@@ -201,13 +266,12 @@ void setup_open(struct querier *querier) {
         struct bridge *bridge = &querier->bridges[at];
         if (bridge->is_port)
             continue;
-        snprintf(name, sizeof name, "%s/%s/before", querier->options->run, bridge->name);
+        if (!files_name(name, sizeof name, querier->options->run, bridge->name, "before"))
+            fail(STATUS_FAILED, bridge->name, strerror(ENAMETOOLONG));
         bridge->before = open(name, O_RDWR | O_CREAT | O_APPEND | O_CLOEXEC, 0600);
         if (bridge->before < 0)
             fail(STATUS_FAILED, name, strerror(errno));
-        if (flock(bridge->before, LOCK_EX | LOCK_NB) < 0)
-            fail(STATUS_FAILED, bridge->name, "another mquerier-live serves it");
         if (!querier->options->sets_up && *read_before(bridge) != '\0')
-            setup_undo(querier, bridge);
+            undo_killed(querier, bridge);
     }
 }

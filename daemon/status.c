@@ -2,6 +2,7 @@
 #include "status.h"
 
 #include "faults.h"
+#include "files.h"
 #include "report.h"
 
 #include <errno.h>
@@ -24,7 +25,7 @@ static int readers;
 /* Writes the address of a bridge's socket. Returns false if the name is too long. */
 static bool name_socket(const char *run, const char *bridge, struct sockaddr_un *at) {
     *at = (struct sockaddr_un){.sun_family = AF_UNIX};
-    return (size_t)snprintf(at->sun_path, sizeof at->sun_path, "%s/%s/status", run, bridge) < sizeof at->sun_path;
+    return files_name(at->sun_path, sizeof at->sun_path, run, bridge, "status");
 }
 
 int status_listen(const char *run, const char *name) {
@@ -80,7 +81,7 @@ void status_answer(struct querier *querier, int listening, const struct bridge *
     if (child == 0)
         serve(querier, bridge, reader, now);
     if (child < 0)
-        fault(FAULT_STATUS, "status", "too many readers of the status");
+        fault(FAULT_STATUS, "status", readers < READERS ? strerror(errno) : "too many readers of the status");
     else
         readers++;
     close(reader);

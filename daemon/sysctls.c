@@ -2,6 +2,7 @@
 #include "sysctls.h"
 
 #include "faults.h"
+#include "files.h"
 
 #include <errno.h>
 #include <fcntl.h>
@@ -80,7 +81,8 @@ static void make(const char *name, uint32_t value, uint32_t least) {
 void sysctls_open(struct querier *querier) {
     char name[4096];
     uint32_t value;
-    snprintf(name, sizeof name, "%s/%s/before", querier->options->run, querier->options->upstream.names[0]);
+    if (!files_name(name, sizeof name, querier->options->run, querier->options->upstream.names[0], "before"))
+        fail(STATUS_FAILED, "before", strerror(ENAMETOOLONG));
     before = open(name, O_RDWR | O_CREAT | O_APPEND | O_CLOEXEC, 0600);
     if (before < 0)
         fail(STATUS_FAILED, name, strerror(errno));

@@ -205,8 +205,8 @@ static inline void mq_widen_sources(mq_source *sources, size_t count) {
 static inline void mq_widen_groups(bool is_mld, mq_group *groups, mq_page page, const mq_source *sources) {
     size_t left = page.sources;
     for (size_t at = page.groups; at-- > 0;) {
-        mq_igmp_group igmp;
-        mq_mld_group mld;
+        mq_igmp_group igmp = {{0}, 0, 0, 0, 0};
+        mq_mld_group mld = {{0}, 0, 0, 0};
         mq_group *it = &groups[at];
         if (is_mld) {
             mq_copy_bytes(&mld, (const uint8_t *)groups + at * sizeof mld, sizeof mld);

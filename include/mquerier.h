@@ -2,7 +2,8 @@
 
    A link is one interface of one family. The caller gives it datagrams and the time. The library writes the queries to be sent,
    and says what to forward. It has no clock, no socket, no thread and no state of its own, and it never allocates. This header
-   is in the order of use: make, feed, send, wait, look. docs/EMBEDDING.md has whole programs, and a router's duties.
+   is in the order of use: make, feed, send, wait, look. docs/EMBEDDING.md has whole programs, and a router's duties. mquerier-link.h
+   has one set of calls for both families.
 
    The caller keeps these rules, which nothing checks:
    - A pointer points to as many elements as its prototype or its length says. It is null only where that length is 0.
@@ -34,9 +35,9 @@ extern "C" {
 /* The version of this header. A program checks once that `mq_version`, the version of the archive, returns the same.
    It rises when a compiled program would no longer work. That is when a call, the layout of a struct or the meaning of a number
    changes, or when a size macro below counts too few bytes. Within a version calls and reasons may be added, and `mq_counts` may
-   grow at its end. */
+   grow at its end. MQ_VERSION_TEXT is the version of the sources. */
 #define MQ_VERSION 2
-#define MQ_VERSION_TEXT "2"
+#define MQ_VERSION_TEXT "2.1.0"
 uint32_t mq_version(void);
 
 /* No deadline; and the latest time that a call accepts, 2^53 milliseconds. */
@@ -61,14 +62,14 @@ enum {
 };
 static inline const char *mq_status_text(uint32_t status) {
     static const char *const texts[] = {"done",
-                                        "the robustness variable is out of range",
-                                        "the query interval is out of range",
+                                        "the robustness variable is not within 1 to 7",
+                                        "the query interval is not within 1 to 31744 seconds",
                                         "the response interval is out of range or not below the query interval",
                                         "the last member query interval is out of range",
-                                        "the limit of groups is out of range",
-                                        "the limit of sources of a group is out of range",
-                                        "the limit of sources is out of range",
-                                        "the limit of schedules is out of range",
+                                        "the limit of groups is not within 1 to 65535",
+                                        "the limit of sources of a group is not within 1 to 1024",
+                                        "the limit of sources is not within 1 to 65535",
+                                        "the limit of schedules is not within 1 to 65535",
                                         "no router may send queries from the own address",
                                         "the memory is too small",
                                         "the time is later than 2^53 milliseconds",

@@ -44,6 +44,21 @@ def texts(program, data, fields, is_checked):
     return found
 
 
+def verdict(program, data, fields, is_checked):
+    """The sentence at the top of the page, by the status of the program and its line on standard error."""
+    if not is_checked:
+        return "Nothing was judged: no general query is in the capture, so no querier is known."
+    words = ["check", fields["family"], "--querier", fields["own"], *options_of(fields), "--within", fields["within"]]
+    ran = subprocess.run([program, *words], input=data, capture_output=True, check=False)
+    standard = {"igmp": "RFC 3376", "mld": "RFC 3810"}[fields["family"]]
+    if ran.returncode == 4:
+        return f"Nothing was judged: {ran.stderr.decode().strip().partition('nothing judged: ')[2]}."
+    if ran.returncode == 0:
+        return f"{fields['own']} is as {standard} says."
+    count = int(re.search(rb"^checked .*: (\d+) findings$", ran.stdout, re.M).group(1))
+    return f"{fields['own']} differs from {standard} in {count:,} place{'s' * (count != 1)}."
+
+
 def marks(found, family):
     """How many marks the texts say: records, older and empty Reports, Leaves and queries of the family; queries that are sent;
     and findings."""
@@ -53,7 +68,12 @@ def marks(found, family):
         if words[3:4] == [family] and words[4] != "fault":
             count += max(1, line.count("["))
     count += sum(line.split()[1] == "send" for line in found["replay"].decode().splitlines())
-    return count + sum(line[0].isdigit() for line in found["check"].decode().splitlines())
+    return count + findings(found)
+
+
+def findings(found):
+    """How many findings the text says."""
+    return sum(line[0].isdigit() for line in found["check"].decode().splitlines())
 
 
 def bars(found):

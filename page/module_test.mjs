@@ -15,6 +15,13 @@ const QUERIERS = {
   igmp: { text: "10.0.0.9", own: Uint8Array.from([10, 0, 0, 9]), settings: IGMP },
   mld: { text: "fe80::9", own: Uint8Array.from([0xfe, 0x80, ...Array(13).fill(0), 9]), settings: { ...IGMP, group_sources: 89 } },
 };
+// A script of the page that imports nothing.
+async function script(name) {
+  const text = readFileSync(new URL(`src/${name}`, import.meta.url), "utf8");
+  return import(`data:text/javascript,${encodeURIComponent(text)}`);
+}
+
+const { interfacesIn } = await script("interfaces.js");
 const [module, program, ...files] = process.argv.slice(2);
 const compiled = new WebAssembly.Module(readFileSync(module));
 const sums = { passed: 0, failed: 0 };
@@ -59,13 +66,24 @@ function packed(settings) {
   return new Uint8Array(view.buffer);
 }
 
+// A choice of packets: of an interface by its number or its name, of a network, each once.
+function chosen({ number = null, name = "", vlan = NO_END, once = 0 }) {
+  const view = new DataView(new ArrayBuffer(40));
+  view.setBigUint64(0, BigInt(number ?? 0), true);
+  view.setBigUint64(8, BigInt(vlan), true);
+  view.setUint32(16, number !== null ? 1 : name !== "" ? 2 : 0, true);
+  view.setUint32(20, once, true);
+  new TextEncoder().encodeInto(name, new Uint8Array(view.buffer, 24));
+  return new Uint8Array(view.buffer);
+}
+
 // Calls an export with memory for so much text and so much work, and behind the text four bytes that have to stay.
-function call(name, capture, { querier = null, room = PAGE + 4 * capture.length, work = 2 ** 27 } = {}) {
+function call(name, capture, { querier = null, choice = null, room = PAGE + 4 * capture.length, work = 2 ** 27 } = {}) {
   const lent = new Lent();
   const [answer, text] = [lent.lend(24), lent.lend(room + 4)];
   new Uint8Array(lent.memory.buffer, text + room, 4).fill(7);
   const memory = lent.put(new Uint8Array(new BigUint64Array([BigInt(lent.lend(work)), BigInt(work / UNIT)]).buffer));
-  const handed = querier ? [lent.put(querier.own), lent.put(packed(querier.settings))] : [];
+  const handed = querier ? [lent.put(querier.own), lent.put(packed(querier.settings))] : choice ? [lent.put(chosen(choice))] : [];
   lent.exports[name](BigInt(answer), ...handed, lent.put(capture), BigInt(capture.length), memory, BigInt(text), BigInt(room));
   const [status, written, number] = Array.from(new BigUint64Array(lent.memory.buffer.slice(answer, answer + 24)), Number);
   const sentence = lent.lend(PAGE);
@@ -76,9 +94,9 @@ function call(name, capture, { querier = null, room = PAGE + 4 * capture.length,
 }
 
 // The text of an export is that of the program, which fails where that has a fault.
-function beside(file, capture, name, words, querier = null) {
+function beside(file, capture, name, words, querier = null, choice = null) {
   const ran = spawnSync(program, words, { input: capture, maxBuffer: 2 ** 30 });
-  const told = call(name, capture, { querier });
+  const told = call(name, capture, { querier, choice });
   want(told.text.equals(ran.stdout), `${file}: ${words.join(" ")}: another text`);
   want((told.status > 0) === (ran.status === 1), `${file}: ${words.join(" ")}: status ${told.status} where the program's is ${ran.status}`);
 }
@@ -88,10 +106,27 @@ function with_settings(family, more) {
   return { own, settings: { ...settings, ...more } };
 }
 
+const CHOICES = [["--interface 0", { number: 0 }], ["--interface 1", { number: 1 }], ["--interface 3", { number: 3 }], ["--interface lo", { name: "lo" }], ["--interface eth0", { name: "eth0" }], ["--vlan 20", { vlan: 20n }], ["--once", { once: 1 }], ["--once --vlan 0 --interface 1", { once: 1, vlan: 0n, number: 1 }]];
+
+// Each interface that the page names has as many packets as the program converts of it. Without one, nothing is to choose.
+function interfaces(file, capture) {
+  const found = interfacesIn(capture);
+  for (const { number, name, packets } of found) {
+    const converted = spawnSync(program, ["convert", "--interface", String(number)], { input: capture, maxBuffer: 2 ** 30 }).stdout;
+    const lines = spawnSync(program, ["show"], { input: converted }).stdout.toString().split("\n").length - 1;
+    want(lines === packets, `${file}: ${packets} packets of interface ${name}, and the program has ${lines}`);
+  }
+  want(new Set(found.map((it) => it.number)).size === found.length, `${file}: an interface twice`);
+}
+
 function all_of(file) {
   const capture = readFileSync(file);
   beside(file, capture, "page_show", ["show"]);
   beside(file, capture, "page_convert", ["convert"]);
+  for (const [words, choice] of file.startsWith("samples/") ? CHOICES : CHOICES.slice(0, 1)) {
+    beside(file, capture, "page_convert_chosen", ["convert", ...words.split(" ")], null, choice);
+  }
+  interfaces(file, capture);
   for (const [family, { text }] of Object.entries(QUERIERS)) {
     const [replay, check] = [`page_replay_${family}`, `page_check_${family}`];
     beside(file, capture, replay, ["replay", family, "--own", text], with_settings(family, {}));
@@ -153,7 +188,37 @@ function faults(capture) {
   }
 }
 
+function numbers(isLittle, ...all) {
+  const view = new DataView(new ArrayBuffer(4 * all.length));
+  all.forEach((it, at) => view.setUint32(4 * at, it, isLittle));
+  return Buffer.from(view.buffer);
+}
+
+// Blocks of pcapng in an order of bytes: a section, interfaces with these names, and a packet of each of these interfaces.
+function section(isLittle, names, packets) {
+  const block = (type, body) => {
+    const [rest, length] = [Buffer.alloc(-body.length & 3), numbers(isLittle, 12 + body.length + (-body.length & 3))];
+    return Buffer.concat([numbers(isLittle, type), length, body, rest, length]);
+  };
+  const halves = (one, other) => numbers(isLittle, isLittle ? one | (other << 16) : (one << 16) | other);
+  const named = (it) => (it ? Buffer.concat([halves(2, it.length), Buffer.from(it.padEnd((it.length + 3) & ~3, "\0"))]) : Buffer.alloc(0));
+  const described = names.map((it) => block(1, Buffer.concat([halves(101, 0), numbers(isLittle, 0), named(it)])));
+  const taken = packets.map((it) => block(6, Buffer.concat([numbers(isLittle, it, 0, 0, 4, 4), Buffer.from("abcd")])));
+  const first = block(0x0a0d0d0a, Buffer.concat([numbers(isLittle, 0x1a2b3c4d), halves(1, 0), numbers(isLittle, 0xffffffff, 0xffffffff)]));
+  return Buffer.concat([first, ...described, ...taken]);
+}
+
+// Interfaces of two sections of different orders: those with packets, with their names and the numbers that the program counts.
+function sections() {
+  const capture = Buffer.concat([section(true, ["eth0", null, "eth2"], [0, 1, 0]), section(false, ["eth3", "eth4"], [1, 1, 1])]);
+  const found = interfacesIn(capture).map(({ number, name, packets }) => `${number} ${name} ${packets}`);
+  want(found.join() === "0 eth0 2,1 interface 1 1,4 eth4 3", `interfaces of sections: ${found}`);
+  interfaces("sections", capture);
+  for (let end = 0; end < capture.length; end += 1) interfacesIn(capture.subarray(0, end));
+}
+
 files.forEach(all_of);
+sections();
 for (const test of [text_memory, work_memory, refusals, faults]) test(readFileSync(files[0]));
 console.log(`${sums.passed} passed, ${sums.failed} failed`);
 process.exit(sums.failed > 0 ? 1 : 0);

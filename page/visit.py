@@ -104,7 +104,8 @@ class Visit:
     def close(self):
         """Nothing may have gone wrong unseen, no request may have gone anywhere, and nothing may be kept."""
         for it in self.page.told("Runtime.exceptionThrown"):
-            raise Wrong(f"an exception: {it['exceptionDetails'].get('exception', {}).get('description')}")
+            details = it["exceptionDetails"]
+            raise Wrong(f"an exception: {details.get('exception', {}).get('description') or details}")
         for it in self.page.told("Log.entryAdded"):
             raise Wrong(f"the browser says: {it['entry']['text']}")
         self.page.close()

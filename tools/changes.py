@@ -4,8 +4,8 @@ names, or the edit itself."""
 import os
 import re
 
-from functions import GHOST_USE, Source
-from repository import TOP, files_changed_since, text_in, text_of
+from functions import GHOST_USE, Source, functions_in
+from repository import TOP, files_changed_since, text_in, text_of, with_those_below
 
 # A name that a file of specs/ declares, also as a field or a constructor.
 DECLARED = re.compile(r"(?m)^ *(?:(?:pub|abbrev|unfoldable|pattern|data|record|axiom) )*(\S+) :(?:\s|\Z)")
@@ -47,11 +47,11 @@ class Changes:
                 else:
                     self.functions[path] = changed
 
-    def in_contract(self, edit):
-        """True if the contract of an edit's function names a changed definition."""
-        words = {*re.split(r"[\s(){}\[\],;]+", edit.of.head)}
+    def names_changed(self, file, head):
+        """True if the head of a function in a file names a changed definition."""
+        words = {*re.split(r"[\s(){}\[\],;]+", head)}
         parts = words | {part for it in words for part in it.split(".")}
-        for module, names, alias in GHOST_USE.findall(text_of(f"{TOP}/crates/{edit.crate}/{edit.file}")):
+        for module, names, alias in GHOST_USE.findall(text_of(f"{TOP}/{file}")):
             changed = self.definitions.get(module, ())
             pairs = [it.strip().partition(" as ") for it in names.split(",")]
             local = [pair[2] or pair[0] for pair in pairs if pair[0] in changed]
@@ -62,8 +62,11 @@ class Changes:
         return False
 
     def concern(self, edit):
-        """True if an edit has to be tried again."""
-        source, folder = f"crates/{edit.crate}/{edit.file}", f"crates/{edit.crate}/"
-        is_its_own = edit.path in self.files or (edit.of.scope, edit.of.name) in self.functions.get(source, ())
+        """True if an edit has to be tried again. A function of an impl has the contract of its trait."""
+        folder, of = f"crates/{edit.crate}/", edit.of
         proofs = [it.removeprefix(folder) for it in self.files if it.startswith(f"{folder}proofs/")]
-        return is_its_own or any(map(edit.is_of_its_proof, proofs)) or self.in_contract(edit)
+        if edit.path in self.files or any(map(edit.is_of_its_proof, proofs)):
+            return True
+        alike = [(name, it) for name in with_those_below([edit.crate]) for it in functions_in(name) if it.name == of.name]
+        stated = {(f"crates/{name}/{it.file}", it) for name, it in alike if it == of or it.scope and of.scope.endswith(it.scope)}
+        return any((it.scope, it.name) in self.functions.get(file, ()) or self.names_changed(file, it.head) for file, it in stated)

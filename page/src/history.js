@@ -118,6 +118,11 @@ function kindsIn(marks, bars) {
   return { bars: different(bars.kind), marks: different(marks.kind), hasDropped };
 }
 
+// The marks of findings, by time.
+function findingsIn({ kind, byTime }) {
+  return byTime.filter((mark) => KINDS[kind[mark]].lane === LANES.finding);
+}
+
 export function historyOf(family, groups, heard, replayed, found) {
   const rows = rowsOf(family, groups.all, replayed.bars);
   const marks = sortedMarks(marksOf(heard, replayed, found, rows), rows.names.length);
@@ -126,7 +131,9 @@ export function historyOf(family, groups, heard, replayed, found) {
   // A replay that a fault ended may end before the last received message.
   const end = Math.max(replayed.end, marks.time[marks.byTime[marks.byTime.length - 1]] ?? 0);
   const isSource = Uint8Array.from(rows.isSource);
-  return { family, names: rows.names, isSource, marks, bars, last, end, isQuerier: replayed.isQuerier, kinds: kindsIn(marks, bars) };
+  const check = { found: found.length, counts: found.counts, marks: findingsIn(marks) };
+  const { isQuerier } = replayed;
+  return { family, names: rows.names, isSource, marks, bars, last, end, isQuerier, check, kinds: kindsIn(marks, bars) };
 }
 
 export function isGroupBar(kind) {

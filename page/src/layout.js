@@ -4,7 +4,7 @@ import { firstAtLeast } from "./columns.js";
 import { lanesOf } from "./history.js";
 import { LANES } from "./kinds.js";
 
-const LANE_HEIGHT = 12;
+export const LANE_HEIGHT = 12;
 const BAR_HEIGHT = 14;
 const SOURCE_HEIGHT = 15;
 const LABEL_HEIGHT = 15;

@@ -27,6 +27,11 @@ function markColour(kind, colours) {
   return { [KIND.wanted_query]: colours.wanted, [KIND.heard_query]: colours.heard }[kind] ?? colours.ink;
 }
 
+function drawColumn(pen, left, height, colour) {
+  pen.fillStyle = colour;
+  pen.fillRect(left, 15 - height, 3, height);
+}
+
 // `kinds` are those of a history.
 export function showLegend(list, kinds) {
   const colours = coloursOf(list);
@@ -42,5 +47,7 @@ export function showLegend(list, kinds) {
     const glyph = { mark: colours.dropped, ground: colours.ground };
     items.push(entry(picture(18, (pen) => drawGlyph(pen, "disc", 9, 9, glyph, true)), "struck through: dropped, changes nothing"));
   }
+  const columns = picture(18, (pen) => [4, 11, 7].forEach((height, at) => drawColumn(pen, 3 + 4 * at, height, colours.ink)));
+  items.push(entry(columns, "columns: more than 3 marks in 4 pixels each; zoom in"));
   list.replaceChildren(...items);
 }

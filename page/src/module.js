@@ -11,7 +11,9 @@ export const STATUS = { done: 0, full: 1, memory: 2, otherMagic: 12, otherLinkTy
 const PAGE = 65536;
 const UNIT = 16; // the memory for the work is counted in units of so many bytes
 const LEAST_TEXT = 1 << 16;
-const LEAST_WORK = 1 << 26;
+// The text of a listing or a conversion has at most so many bytes for each byte of a capture. Few other texts have as many.
+const TEXT_A_BYTE = 4;
+const LEAST_WORK = 1 << 27;
 const NO_END = 2n ** 64n - 1n;
 
 // The settings in memory: numbers of 4 bytes, then the end, of 8 bytes.
@@ -19,6 +21,9 @@ const PACKED = ["rv", "qi", "qri", "lmqi", "groups", "group_sources", "sources",
 const UNTIL = 4 * PACKED.length;
 const SETTINGS = UNTIL + 8;
 const ANSWER = 3 * 8;
+// The choice of an interface in memory: its number, any network, a 1 for a choice by number, and zeros.
+const CHOICE = 40;
+const BY_NUMBER = 1;
 
 // One call: an instance with its own memory, which grows at its end for each argument.
 class Call {
@@ -64,10 +69,18 @@ function settingsBytes(settings) {
   return new Uint8Array(view.buffer);
 }
 
-// Returns the arguments of a querier's call before the capture.
-function querierOf(call, settings) {
+// Lends the arguments of a querier's call before the capture.
+function querierOf(settings) {
   const own = addressBytes(settings.own, settings.family);
-  return [call.lendBytes(own).at, call.lendBytes(settingsBytes(settings)).at];
+  return (call) => [call.lendBytes(own).at, call.lendBytes(settingsBytes(settings)).at];
+}
+
+function choiceBytes(number) {
+  const view = new DataView(new ArrayBuffer(CHOICE));
+  view.setBigUint64(0, BigInt(number), true);
+  view.setBigUint64(8, NO_END, true);
+  view.setUint32(16, BY_NUMBER, true);
+  return new Uint8Array(view.buffer);
 }
 
 export class Module {
@@ -84,32 +97,34 @@ export class Module {
     return this.run("page_show", bytes);
   }
 
-  async convert(bytes) {
-    return this.run("page_convert", bytes);
+  // Converts all packets, or those of the interface with this number.
+  async convert(bytes, number = null) {
+    if (number === null) return this.run("page_convert", bytes);
+    return this.run("page_convert_chosen", bytes, (call) => [call.lendBytes(choiceBytes(number)).at]);
   }
 
   async replay(bytes, settings) {
-    return this.run(`page_replay_${settings.family}`, bytes, { ...settings, changes: false });
+    return this.run(`page_replay_${settings.family}`, bytes, querierOf({ ...settings, changes: false }));
   }
 
   async replayChanges(bytes, settings) {
-    return this.run(`page_replay_${settings.family}`, bytes, { ...settings, changes: true });
+    return this.run(`page_replay_${settings.family}`, bytes, querierOf({ ...settings, changes: true }));
   }
 
   async check(bytes, settings) {
-    return this.run(`page_check_${settings.family}`, bytes, { ...settings, changes: false });
+    return this.run(`page_check_${settings.family}`, bytes, querierOf({ ...settings, changes: false }));
   }
 
-  // Runs an export until its text fits and its memory suffices, each time with twice as much. The work needs room for the text too.
-  run(name, bytes, settings = null) {
-    for (let room = LEAST_TEXT + 2 * bytes.length, work = LEAST_WORK; ; ) {
+  // Runs an export until its text fits and its memory suffices, each time with more. The work needs room for the text too. `request` lends
+  // the arguments before the capture.
+  run(name, bytes, request = () => []) {
+    for (let room = LEAST_TEXT + TEXT_A_BYTE * bytes.length, work = LEAST_WORK; ; ) {
       const call = new Call(this.compiled);
       const [answer, capture, text] = [call.lend(ANSWER), call.lendBytes(bytes), call.lend(room)];
       const memory = call.lendWork(work + UNIT * Math.ceil(room / UNIT));
-      const querier = settings ? querierOf(call, settings) : [];
-      call.exports[name](answer.at, ...querier, capture.at, capture.length, memory, text.at, text.length);
+      call.exports[name](answer.at, ...request(call), capture.at, capture.length, memory, text.at, text.length);
       const { status, written } = call.answer(answer);
-      if (status === STATUS.full) room *= 2;
+      if (status === STATUS.full) room *= 4;
       else if (status === STATUS.memory) work *= 2;
       else return { status, text: call.bytes({ at: text.at, length: written }).slice(), fault: this.sentence(call, answer) };
     }

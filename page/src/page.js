@@ -1,8 +1,10 @@
 // The page: the actions of a user, and their results.
 
+import { Choice } from "./choice.js";
 import { Client } from "./client.js";
 import { base64Bytes, listenToButtons, listenToFiles, listenToForm } from "./controls.js";
 import { describe, linesOf, markLine } from "./description.js";
+import { Findings } from "./findings.js";
 import { showLegend } from "./legend.js";
 import { LineList } from "./line_list.js";
 import { Text } from "./lines.js";
@@ -10,6 +12,7 @@ import { momentText } from "./moments.js";
 import { copy, save } from "./saving.js";
 import { fillIn, settingsOf } from "./settings.js";
 import { Timeline } from "./timeline.js";
+import { nothingJudged, verdictOf } from "./verdict.js";
 
 const $ = (id) => document.getElementById(id);
 const TEXTS = ["listing", "replay", "check"];
@@ -17,6 +20,8 @@ const EMPTY = new Text(new Uint8Array(), new Uint32Array(1));
 
 const state = { file: "", opened: null, settings: null, history: null, texts: {}, faults: {}, converted: null, run: 0 };
 const lists = Object.fromEntries([...TEXTS, "marks"].map((name) => [name, new LineList($(name), (line) => choose(name, line))]));
+const choice = new Choice($("choice"), (number) => openFile(state.source, number).then(() => choice.focus()));
+const findings = new Findings($("verdict"), showFinding);
 const timeline = new Timeline($("timeline"), (selection) => select(selection, "timeline"));
 const client = new Client(parts.worker, showProgress);
 
@@ -76,6 +81,8 @@ async function work(task) {
     if (run !== state.run) return;
     state.faults.work = why.message;
     showFaults();
+    if (document.querySelector("#settings [aria-invalid]")) $("querier").open = true;
+    findings.clear();
     $("status").textContent = "";
     setState("failed");
   }
@@ -97,14 +104,15 @@ function stop() {
   start();
 }
 
-function openFile(file) {
+// `number` is that of an interface whose packets alone are read, or null.
+function openFile(file, number = null) {
   return work(async (isCurrent) => {
-    state.file = file.name ?? "capture";
+    Object.assign(state, { source: file, file: file.name ?? "capture", number });
     state.faults = {};
     showFaults();
     hideResults();
     await state.started;
-    const opened = await client.call("open", { file });
+    const opened = await client.call("open", { file, number });
     if (!isCurrent()) return;
     showOpened(opened);
     await run(isCurrent);
@@ -115,6 +123,9 @@ function hideResults() {
   for (const id of ["settings", "picture", "texts"]) $(id).hidden = true;
   state.history = null;
   timeline.clear();
+  findings.clear();
+  // Its lines are made of texts, which are others from now on.
+  lists.marks.show(0, () => "");
 }
 
 function showOpened(opened) {
@@ -155,6 +166,7 @@ async function run(isCurrent) {
   if (state.texts.listing.count === 0) {
     $("status").textContent = `${state.file}: no packet could be read.`;
     $("texts").hidden = true;
+    showVerdict(nothingJudged("no packet could be read"));
     return;
   }
   $("settings").hidden = false;
@@ -176,7 +188,16 @@ async function showRun(settings, { replay, check, history }) {
   $("unchecked").textContent = "No querier is checked: give the address of one above.";
   $("picture").hidden = false;
   showHistory(history);
+  const unknown = nothingJudged("no general query is in the capture, so no querier is known");
+  showVerdict(check ? verdictOf(settings, history.check, check.fault) : unknown, history);
   await showChanges();
+}
+
+// The verdict, and what a reader has to know beside it.
+function showVerdict(verdict, history = null) {
+  const lineOf = (mark) => markLine(history, mark, textsOfHistory()).replace("Finding: ", "");
+  findings.show(verdict, history ? history.check.marks : [], history ? history.marks.time : [], lineOf);
+  choice.show(state.opened.interfaces, state.number);
 }
 
 function showHistory(history) {
@@ -188,7 +209,7 @@ function showHistory(history) {
     number(names.length - 1 - sources, "group", "groups"),
     number(bars.kind.length, "bar", "bars"),
     number(marks.kind.length, "mark", "marks"),
-    number(findingCount(), "finding", "findings"),
+    number(history.check.found, "finding", "findings"),
   ];
   const role = history.isQuerier ? "" : " At the end another router is querier.";
   $("summary").textContent = `${parts.join(", ")}, in ${momentText(history.end)}.${role}`;
@@ -204,10 +225,6 @@ function showHistory(history) {
 }
 
 const textsOfHistory = () => ({ ...state.texts, replay: state.withChanges });
-
-function findingCount() {
-  return state.texts.check.count - (state.faults.check || !state.texts.check.count ? 0 : 1);
-}
 
 // The replay without the lines of changed groups is another run. Marks keep their lines in the one with them.
 async function showChanges() {
@@ -239,7 +256,23 @@ function select(selection, from) {
     lists[name].select(isShown ? lines[name] - 1 : -1);
   }
   if (from !== "marks") lists.marks.select(selection.mark === undefined ? -1 : placeInList(selection.mark));
+  findings.select(selection.mark);
   showDetail(selection, lines);
+}
+
+function showFinding(mark) {
+  select({ mark }, "verdict");
+  $("timeline").scrollIntoView({ block: "nearest" });
+}
+
+// A line that belongs to no mark and no bar was chosen.
+function selectLine(name, line) {
+  timeline.select(null);
+  findings.select(null);
+  for (const other of Object.keys(lists)) if (other !== name) lists[other].select(-1);
+  const words = document.createElement("p");
+  words.textContent = `Line ${line + 1} of the ${name} has no mark.`;
+  $("detail").replaceChildren(words, quoted([`${name} ${line + 1}: ${state.texts[name].line(line)}`]));
 }
 
 function showDetail(selection, lines = {}) {
@@ -253,10 +286,14 @@ function showDetail(selection, lines = {}) {
   const words = document.createElement("p");
   words.textContent = `${at}: ${what}.${section ? ` ${section}.` : ""}`;
   const said = TEXTS.filter((name) => lines[name]).map((name) => `${name} ${lines[name]}: ${texts[name].line(lines[name] - 1)}`);
-  const quoted = document.createElement("p");
-  quoted.className = "lines-of";
-  quoted.textContent = said.join("\n");
-  detail.replaceChildren(words, quoted);
+  detail.replaceChildren(words, quoted(said));
+}
+
+function quoted(lines) {
+  const paragraph = document.createElement("p");
+  paragraph.className = "lines-of";
+  paragraph.textContent = lines.join("\n");
+  return paragraph;
 }
 
 // A line was chosen in a list: the first mark that belongs to it.
@@ -264,11 +301,12 @@ function choose(name, line) {
   if (!state.history) return;
   const { marks, bars } = state.history;
   if (name === "marks") return select({ mark: marks.byTime[line] }, name);
-  if (name === "replay" && state.texts.replay !== state.withChanges) return;
+  if (name === "replay" && state.texts.replay !== state.withChanges) return selectLine(name, line);
   const mark = marks.byTime.find((it) => marks[name][it] === line + 1);
   const bar = name === "replay" && mark === undefined ? bars.from.indexOf(line + 1) : -1;
   if (mark !== undefined) select({ mark }, name);
   else if (bar >= 0) select({ bar }, name);
+  else selectLine(name, line);
 }
 
 function savedBytes(name) {
@@ -300,10 +338,10 @@ function showView(name) {
   views[name]();
 }
 
-if (innerWidth < 600) $("key").open = false;
-listenToFiles(openFile, parts.samples);
+if (innerWidth < 600) for (const id of ["key", "querier"]) $(id).open = false;
+listenToFiles((file) => openFile(file), parts.samples);
 listenToForm(fillInFamily, () => work(run));
-listenToButtons({ view: showView, copy: copyText, save: saveText });
+listenToButtons({ view: showView, copy: copyText, save: saveText, step: (by) => findings.step(Number(by)) });
 $("changes").addEventListener("change", () => work(showChanges));
 $("stop").addEventListener("click", stop);
 start();

@@ -1,12 +1,17 @@
-// Paints the visible part of a history. If marks or bars share a pixel, it paints one of them.
+// Paints the visible part of a history. If bars share a pixel, it paints one of them. If many marks share a few pixels, it paints a
+// column, whose height says how many.
 
 import { firstAtLeast } from "./columns.js";
 import { drawBar, drawGlyph } from "./glyphs.js";
 import { BARS, KIND, KINDS, LANES, LANE_COUNT } from "./kinds.js";
+import { LANE_HEIGHT } from "./layout.js";
 import { axisText, stepFor } from "./moments.js";
 
 export const AXIS_HEIGHT = 24;
-const LEAST_STEP = 3;
+// The width of a column in pixels, the most marks of that width that are painted one by one, and how many columns beside it count too.
+const COLUMN = 4;
+const MOST_MARKS = 3;
+const BESIDE = 2;
 const GROUND = ["ground", "ink", "faint", "line", "select"];
 const BAR_COLOURS = ["exclude", "include", "hatched", "stopped"];
 const COLOURS = [...GROUND, ...BAR_COLOURS, "wanted", "heard", "finding", "dropped"];
@@ -25,7 +30,7 @@ export class Painter {
     Object.assign(this, { pen, size, colours });
     const { history, layout, window, scrollTop, labelWidth, selection } = timeline;
     Object.assign(this, { history, layout, window, scrollTop, labelWidth, selection });
-    this.drawn = { marks: 0, bars: 0 };
+    this.drawn = { marks: 0, bars: 0, columns: 0 };
   }
 
   x(moment) {
@@ -84,10 +89,12 @@ export class Painter {
     pen.beginPath();
     pen.rect(this.labelWidth, AXIS_HEIGHT, size.width - this.labelWidth, size.height);
     pen.clip();
-    for (const lane of lanes) {
+    const columns = lanes.map(({ lane }) => this.columnsOf(row, lane));
+    const dense = densePlaces(columns.flat());
+    lanes.forEach((lane, at) => {
       if (lane.lane === LANES.bar) this.paintBars(row, lane);
-      this.paintMarks(row, lane);
-    }
+      this.paintMarks(row, lane, columns[at], dense);
+    });
     pen.restore();
     this.paintLabel(row, lanes, isSource);
   }
@@ -143,20 +150,39 @@ export class Painter {
     pen.fillText(BARS[kind].name, left, box.y + box.height / 2);
   }
 
-  paintMarks(row, { lane, middle }) {
+  paintMarks(row, { lane, middle, height }, columns, dense) {
     const { marks } = this.history;
-    const high = marks.starts[row * LANE_COUNT + lane + 1];
-    const perPixel = this.window.span / (this.size.width - this.labelWidth);
-    let mark = firstAtLeast(marks.time, this.window.from - 8 * perPixel, marks.starts[row * LANE_COUNT + lane], high);
-    while (mark < high && marks.time[mark] <= this.window.to + 8 * perPixel) {
-      this.paintMark(mark, middle);
-      const next = firstAtLeast(marks.time, marks.time[mark] + LEAST_STEP * perPixel, mark + 1, high);
-      mark = Math.max(next, mark + 1);
+    const most = columns.reduce((greatest, { low, high }) => Math.max(greatest, high - low), 0);
+    for (const { place, low, high, left } of columns) {
+      if (dense.has(place)) this.paintColumn(low, left, middle, (height - 2) * shareOf(high - low, most));
+      else for (let mark = low; mark < high; mark++) this.paintMark(mark, middle);
     }
     const selected = this.selection?.mark;
     if (selected !== undefined && marks.row[selected] === row && KINDS[marks.kind[selected]].lane === lane) {
       this.paintSelected(selected, middle);
     }
+  }
+
+  // The columns of a lane that have marks. They begin at multiples of their width in time, so they stay while the window moves.
+  columnsOf(row, lane) {
+    const { marks } = this.history;
+    const [first, end] = [marks.starts[row * LANE_COUNT + lane], marks.starts[row * LANE_COUNT + lane + 1]];
+    const width = (COLUMN * this.window.span) / (this.size.width - this.labelWidth);
+    const columns = [];
+    for (let low = firstAtLeast(marks.time, this.window.from - 2 * width, first, end); low < end; ) {
+      const place = Math.floor(marks.time[low] / width);
+      if (place * width > this.window.to + 2 * width) break;
+      const high = Math.max(low + 1, firstAtLeast(marks.time, (place + 1) * width, low, end));
+      columns.push({ place, low, high, left: this.x(place * width) });
+      low = high;
+    }
+    return columns;
+  }
+
+  paintColumn(mark, left, middle, height) {
+    this.pen.fillStyle = this.colourOf(this.history.marks.kind[mark], false);
+    this.pen.fillRect(left, this.y(middle) + LANE_HEIGHT / 2 - height, COLUMN - 1, height);
+    this.drawn.columns++;
   }
 
   // A replay drops the queries of the querier itself. They are not marked as dropped.
@@ -198,6 +224,23 @@ export class Painter {
     this.pen.lineWidth = 2.5;
     this.pen.strokeRect(x - 2, y - 2, width + 4, height + 4);
   }
+}
+
+// The places of columns that stand for the marks of a row: where one lane has too many, or all lanes have on average, with the columns
+// beside it.
+function densePlaces(columns) {
+  const [dense, totals] = [new Set(), new Map()];
+  for (const { place, low, high } of columns) {
+    if (high - low > MOST_MARKS) dense.add(place);
+    for (let near = place - BESIDE; near <= place + BESIDE; near++) totals.set(near, (totals.get(near) ?? 0) + high - low);
+  }
+  for (const [place, total] of totals) if (total > MOST_MARKS * (2 * BESIDE + 1)) dense.add(place);
+  return dense;
+}
+
+// The share of the greatest height for a number of marks, by orders of magnitude.
+function shareOf(count, most) {
+  return Math.max(0.3, Math.log(1 + count) / Math.log(1 + most));
 }
 
 // A text whose middle is left out if the text is too wide.

@@ -81,13 +81,14 @@ export class Timeline {
     this.canvas.style.height = `${size.height}px`;
     const pen = this.canvas.getContext("2d");
     pen.scale(scale, scale);
-    const { marks, bars } = new Painter(pen, size, coloursOf(this.box), this).paint();
-    Object.assign(this.canvas.dataset, { marks, bars });
+    const { marks, bars, columns } = new Painter(pen, size, coloursOf(this.box), this).paint();
+    Object.assign(this.canvas.dataset, { marks, bars, columns });
   }
 
+  // `selection` is a mark or a bar, or null.
   select(selection) {
     this.selection = selection;
-    this.reach(selection);
+    if (selection) this.reach(selection);
     this.draw();
   }
 

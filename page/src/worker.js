@@ -4,6 +4,7 @@ import { ZERO } from "./addresses.js";
 import { foundIn } from "./found.js";
 import { heardIn, Names } from "./heard.js";
 import { historyOf } from "./history.js";
+import { interfacesIn } from "./interfaces.js";
 import { lineStarts } from "./lines.js";
 import { Module, STATUS } from "./module.js";
 import { replayedIn } from "./replayed.js";
@@ -35,13 +36,13 @@ async function read(file) {
   }
 }
 
-// The listing of a file. A file of another form is converted first.
-async function listed(bytes) {
+// The listing of a file. A file of another form is converted first: all packets, or those of the interface with this number.
+async function listed(bytes, number) {
   tell("Listing the packets", 0.2);
   const listing = await held.module.show(bytes);
   if (!MAY_BE_CONVERTED.includes(listing.status)) return { bytes, listing, converted: null };
   tell("Converting the file", 0.25);
-  const converted = await held.module.convert(bytes);
+  const converted = await held.module.convert(bytes, number);
   if (converted.status === STATUS.noCapture) return { bytes, listing, converted: null };
   tell("Listing the packets", 0.4);
   return { bytes: converted.text, listing: await held.module.show(converted.text), converted };
@@ -54,8 +55,9 @@ function familyIn(heard) {
   return { messages: heard.messages, first, querier: found && found.own, settings: { ...defaultsOf(heard.family), ...found } };
 }
 
-async function open({ file }) {
-  const { bytes, listing, converted } = await listed(await read(file));
+async function open({ file, number }) {
+  const whole = await read(file);
+  const { bytes, listing, converted } = await listed(whole, number);
   held.capture = bytes;
   held.heard = heardIn(listing.text, (share) => tell("Reading the listing", 0.5 + 0.5 * share));
   const families = { igmp: familyIn(held.heard.igmp), mld: familyIn(held.heard.mld) };
@@ -64,6 +66,7 @@ async function open({ file }) {
     families,
     conversionFault: converted ? converted.fault : "",
     converted: converted ? converted.text.slice() : null,
+    interfaces: converted ? interfacesIn(whole) : [],
   };
 }
 

@@ -31,7 +31,7 @@ static void configurations(void) {
     faulty.groups = 0, faulty.robustness = 0;
     CHECK(mq_igmp_new(faulty, MQ_LATEST + 1, &it) == MQ_ROBUSTNESS);
     CHECK(MQ_DONE == 0 && MQ_OWN_ADDRESS == 9 && MQ_MEMORY == 10 && MQ_MOMENT == 11 && MQ_WORKSPACE == 12);
-    CHECK(!strcmp(mq_status_text(MQ_LIMIT_SCHEDULED), "the limit of schedules is out of range"));
+    CHECK(!strcmp(mq_status_text(MQ_LIMIT_SCHEDULED), "the limit of schedules is not within 1 to 65535"));
     CHECK(!strcmp(mq_status_text(MQ_MEMORY), "the memory is too small"));
     CHECK(!strcmp(mq_status_text(MQ_WORKSPACE), "the workspace is too small for the link"));
     CHECK(!strcmp(mq_status_text(13), "not a status") && !strcmp(mq_dropped_text(11), "not a reason"));

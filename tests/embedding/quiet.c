@@ -1,5 +1,5 @@
-/* A link with GROUPS groups, and calls that need none of them: quiet FAMILY GROUPS. callgrind counts the instructions of `asked`,
-   which may not grow with the groups. */
+/* A link with GROUPS groups, calls that need none of them, and a datagram for one of them: quiet FAMILY GROUPS. callgrind counts the
+   instructions of `asked` and of `received`, which may not grow with the groups. */
 #include "check.h"
 
 enum { RECORDS = 250, NOW = 1000 };
@@ -35,14 +35,18 @@ static size_t report(uint32_t first, uint32_t records) {
     return length;
 }
 
+/* Receives a Report of this length. Returns how many records were applied. */
+static size_t applied(size_t length) {
+    mq_answer it =
+        is_mld ? mq_mld_receive(&mld.link, &mld.workspace, host6, routers6, 1, true, body, length, NOW, queries, sizeof queries)
+               : mq_igmp_receive(&igmp.link, &igmp.workspace, host4, body, length, NOW, queries, sizeof queries);
+    return it.applied;
+}
+
 static void join(uint32_t groups) {
     for (uint32_t first = 1; first <= groups; first += RECORDS) {
         const uint32_t left = groups - first + 1, records = left < RECORDS ? left : RECORDS;
-        const size_t length = report(first, records);
-        mq_answer it =
-            is_mld ? mq_mld_receive(&mld.link, &mld.workspace, host6, routers6, 1, true, body, length, NOW, queries, sizeof queries)
-                   : mq_igmp_receive(&igmp.link, &igmp.workspace, host4, body, length, NOW, queries, sizeof queries);
-        CHECK(it.applied == records);
+        CHECK(applied(report(first, records)) == records);
     }
 }
 
@@ -55,9 +59,15 @@ static size_t asked(void) {
     return sent || next <= NOW || !is_querier ? 0 : is_mld ? mq_mld_len(&mld.link) : mq_igmp_len(&igmp.link);
 }
 
+/* The Report of one group that is there. */
+static size_t length;
+static size_t received(void) {
+    return applied(length);
+}
+
 int main(int count, char **words) {
-    /* (by a place that may change, so that no compiler puts the calls into `main`) */
-    static size_t (*volatile call)(void) = asked;
+    /* (by places that may change, so that no compiler puts the calls into `main`) */
+    static size_t (*volatile call)(void) = asked, (*volatile report_one)(void) = received;
     if (count != 3)
         return 2;
     const uint32_t groups = (uint32_t)atoi(words[2]);
@@ -67,5 +77,7 @@ int main(int count, char **words) {
     CHECK((is_mld ? mq_mld_new(config6, 0, &mld) : mq_igmp_new(config4, 0, &igmp)) == MQ_DONE);
     join(groups);
     CHECK(call() == groups);
+    length = report(1, 1);
+    CHECK(report_one() == 1);
     return told();
 }

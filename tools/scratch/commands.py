@@ -1,9 +1,10 @@
-"""Tests of tools/needs, tools/try and tools/kept."""
+"""Tests of tools/needs, tools/try, tools/kept and tools/version."""
 
 import os
+import re
 import time
 
-from scratch import copy_tools, put, run, taken, want
+from scratch import committed, copy_tools, git, put, run, taken, want
 
 
 def names_what_is_missing(top):
@@ -57,8 +58,30 @@ def keeps(top):
     put(f"{top}/kit/bin/rt", module, 0o755)
 
 
+def prints_the_version(top):
+    """Checks the version of a commit, of a tag, and of a release."""
+    top = f"{top}/versions"
+    copy_tools(top, "version")
+    put(f"{top}/include/mquerier.h", '#define MQ_VERSION_TEXT "3.4.5"\n')
+    git(top, "init", "--quiet")
+    committed(top)
+    version = f"{top}/tools/version"
+    said = run(top, version)[1]
+    want(re.fullmatch(r"3\.4\.5\+2\d{7}\.[0-9a-f]{8}\n", said), "the version of a commit", said)
+    git(top, "tag", "v3.4.4")
+    want(run(top, version) == (0, said), "the version with a tag of another one", said)
+    git(top, "tag", "--delete", "v3.4.4")
+    git(top, "tag", "v3.4.5")
+    want(run(top, version) == (0, "3.4.5\n"), "the version of a tag", run(top, version))
+    for text, wanted in (("3.4.4+20261129.01234567", "3.4.4+20261129.g01234567"), ("3.4.4+20261129.0123456f", "3.4.4+20261129.0123456f")):
+        put(f"{top}/RELEASE", f"mquerier {text}\ncommit it\n")
+        want(run(top, version) == (0, f"{text}\n"), "the version of a release", run(top, version))
+        want(run(top, version, "python") == (0, f"{wanted}\n"), "the version for Python", run(top, version, "python"))
+
+
 def commands(top):
     copy_tools(top, "needs", "try", "kept")
     names_what_is_missing(top)
     tries(top)
     keeps(top)
+    prints_the_version(top)

@@ -2,6 +2,7 @@
 
 import json
 import os
+import re
 import shutil
 
 from scratch import committed, copy_tools, put, run, taken, want
@@ -121,13 +122,22 @@ def answers(says):
 
 
 # A function with a contract, and the definitions that it names directly, by another definition, and by a module.
-CONTRACT = """ghost use Rattle.low.specs.Words.{named, ◌⊓◌, far as near};
+CONTRACT = """ghost use Rattle.low.specs.Words.{named, ◌⊓◌, far as near, at_trait};
 ghost use Rattle.low.specs.Words as words;
 /// A comment.
 fn single()
     ensures { result ≡ named (1 ⊓ 2) near words.whole }
 {
     single body
+}
+trait Trait {
+    fn held()
+        ensures { result ≡ at_trait };
+}
+impl Trait for It {
+    fn held() {
+        held body
+    }
 }
 """
 WORDS = """use Rattle.std.specs.Prelude.{ℕ}
@@ -149,22 +159,28 @@ abbrev pub whole : ℕ
 whole =
     -- a comment
     3
+
+abbrev pub at_trait : ℕ
+at_trait = 5
 """
-# The changes of a file, and whether the edit of that function has to be tried again.
+# The changes of a file, and the edits that have to be tried again.
 CHANGES = [
-    ("specs/Words.antt", "named n = indirect n", "named n = n", True),
-    ("specs/Words.antt", "indirect n = n", "indirect n = 0", False),
-    ("specs/Words.antt", "left ⊓ right = left", "left ⊓ right = right", True),
-    ("specs/Words.antt", "pub far : ℕ", "pub far : Bool", True),
-    ("specs/Words.antt", "    3", "    4", True),
-    ("specs/Words.antt", "-- a comment", "-- another comment", False),
-    ("src/lib.rt", "result ≡ named", "result ≤ named", True),
-    ("src/lib.rt", "/// A comment.", "/// Another comment.", False),
-    ("src/lib.rt", "    single body", "    single body;", True),
-    ("src/lib.rt", "callee body", "callee body;", False),
-    ("proofs/single/Answers.antt", "-- as it was", "-- otherwise", True),
-    ("proofs/caller/Answers.antt", "fields", "other fields", False),
-    ("wrong-bodies/single.edit", "single wrong", "single is wrong", True),
+    ("specs/Words.antt", "named n = indirect n", "named n = n", ["single"]),
+    ("specs/Words.antt", "indirect n = n", "indirect n = 0", []),
+    ("specs/Words.antt", "left ⊓ right = left", "left ⊓ right = right", ["single"]),
+    ("specs/Words.antt", "pub far : ℕ", "pub far : Bool", ["single"]),
+    ("specs/Words.antt", "    3", "    4", ["single"]),
+    ("specs/Words.antt", "-- a comment", "-- another comment", []),
+    ("src/lib.rt", "result ≡ named", "result ≤ named", ["single"]),
+    ("src/lib.rt", "/// A comment.", "/// Another comment.", []),
+    ("src/lib.rt", "    single body", "    single body;", ["single"]),
+    ("src/lib.rt", "callee body", "callee body;", []),
+    ("proofs/single/Answers.antt", "-- as it was", "-- otherwise", ["single"]),
+    ("proofs/caller/Answers.antt", "fields", "other fields", []),
+    ("wrong-bodies/single.edit", "single wrong", "single is wrong", ["single"]),
+    ("src/lib.rt", "result ≡ at_trait", "result ≤ at_trait", ["held"]),
+    ("src/lib.rt", "        held body", "        held body;", ["held"]),
+    ("specs/Words.antt", "at_trait = 5", "at_trait = 6", ["held"]),
 ]
 
 
@@ -172,17 +188,18 @@ def wrong_bodies_of_changes(top):
     """Makes each change since a commit alone, and checks whether `--since` finds the edit."""
     crate = f"{top}/crates/low"
     text = taken(f"{crate}/src/lib.rt")
-    put(f"{crate}/src/lib.rt", CONTRACT + text.replace("fn single() {\n    single body\n}\n", ""))
+    others = re.sub(r"fn (single|held)\(\) \{\n.*\n\}\n", "", text)
+    put(f"{crate}/src/lib.rt", CONTRACT + others)
     put(f"{crate}/specs/Words.antt", WORDS)
     put(f"{crate}/proofs/single/Answers.antt", "-- as it was\n")
     put(f"{crate}/proofs/caller/Answers.antt", "-- fields\n")
     committed(top)
-    for file, old, new, is_due in CHANGES:
+    for file, old, new, due in CHANGES:
         was = taken(f"{crate}/{file}")
         want(was.count(old) == 1, f"{file} has such a text", old)
         put(f"{crate}/{file}", was.replace(old, new))
         said = tried(top, "--since", "HEAD")[1]
-        want(("low/single" in said) == is_due, f"the edit of a function after {new!r} in {file}", said)
+        want([it for it in ("single", "held") if f"low/{it}:" in said] == due, f"the edits after {new!r} in {file}", said)
         put(f"{crate}/{file}", was)
     want(tried(top, "--since", "HEAD")[0] == (0, "0 passed, 0 failed"), "the edits since a commit without changes", "")
     put(f"{crate}/src/lib.rt", text)

@@ -9,12 +9,13 @@ import os
 import sys
 from typing import Any, Dict, List, Optional, Sequence
 
-from . import CaptureFault, Fault, Finding, check
+from . import CaptureFault, Fault, Finding, __version__, check
 from ._library import VARIABLES
 
 
 def arguments(words: Optional[List[str]]) -> argparse.Namespace:
     parser = argparse.ArgumentParser(prog="python -m mquerier")
+    parser.add_argument("--version", action="version", version=f"mquerier {__version__}")
     commands = parser.add_subparsers(dest="command", required=True)
     text = "prints findings, one JSON object a line; the status is 3 if there are any, 4 if a check judged nothing, 1 if a capture has a fault"
     of_check = commands.add_parser("check", help=text, description=text)

@@ -5,16 +5,19 @@ from __future__ import annotations
 import ctypes
 import dataclasses
 import functools
-import mmap
-from ctypes import POINTER, c_char_p, c_size_t, c_uint32, c_uint64, c_void_p
-from typing import Any, Dict, List, Optional
+from ctypes import POINTER, c_char_p, c_size_t, c_uint8, c_uint32, c_uint64, c_void_p
+from typing import Any, Dict, List, Optional, Tuple, Union
 
-from ._library import VARIABLES, VERSION, Units, call_of, loaded
+from ._library import UNIT, VARIABLES, VERSION, Units, call_of, loaded
+from ._memory import Memory
+from ._types import FamilyName
 
 DONE, FULL, MEMORY = 0, 1, 2
-LEAST_TEXT, LEAST_WORK, MOST_WORK, UNIT = 1 << 16, 1 << 26, 1 << 36, 16
-LONGEST_SENTENCE = 256
-NO_END = 2**64 - 1
+LEAST_TEXT, LEAST_WORK, MOST_WORK = 1 << 16, 1 << 27, 1 << 36
+# The text of a listing or a conversion has at most so many bytes for each byte of a capture. Few other texts have as many.
+TEXT_A_BYTE = 4
+LONGEST_SENTENCE, LONGEST_NAME = 256, 16
+NO_END = NO_VLAN = 2**64 - 1
 SETTINGS = (*VARIABLES, "source_specific", "changes", "within", "cite")
 
 
@@ -22,6 +25,17 @@ class Settings(ctypes.Structure):
     """The settings of a querier: its variables, its limits, and the options of a replay or a check."""
 
     _fields_ = [(name, c_uint32) for name in SETTINGS] + [("until", c_uint64)]
+
+
+class Choice(ctypes.Structure):
+    """The packets to convert: of an interface by its number (1) or its name (2), or of all (0); of a network, and each once."""
+
+    suffix = "_chosen"
+    _fields_ = [("number", c_uint64), ("vlan", c_uint64), ("interface", c_uint32), ("once", c_uint32), ("name", c_uint8 * LONGEST_NAME)]
+
+    @property
+    def arguments(self) -> Tuple[Any, ...]:
+        return (ctypes.byref(self),)
 
 
 class RawOutcome(ctypes.Structure):
@@ -34,9 +48,17 @@ class RawOutcome(ctypes.Structure):
 class Querier:
     """The querier of a replay or of a check."""
 
-    family: str
+    family: FamilyName
     own: bytes
     settings: Settings
+
+    @property
+    def suffix(self) -> str:
+        return f"_{self.family}"
+
+    @property
+    def arguments(self) -> Tuple[Any, ...]:
+        return self.own, ctypes.byref(self.settings)
 
 
 @dataclasses.dataclass(frozen=True)
@@ -54,37 +76,33 @@ def library() -> Dict[str, Any]:
     it = loaded(f"libmquerier-captures.so.{VERSION}")
     ends: List[Any] = [c_char_p, c_size_t, Units, c_void_p, c_size_t]
     calls = {}
-    for name in ("show", "convert", "replay_igmp", "replay_mld", "check_igmp", "check_mld"):
+    asked: Dict[str, List[Any]] = {"show": [], "convert_chosen": [POINTER(Choice)]}
+    for family in ("igmp", "mld"):
+        asked[f"replay_{family}"] = asked[f"check_{family}"] = [c_char_p, POINTER(Settings)]
+    for name, request in asked.items():
         calls[name] = call = call_of(it, f"page_{name}")
-        call.restype, call.argtypes = RawOutcome, [c_char_p, POINTER(Settings), *ends] if "_" in name else ends
+        call.restype, call.argtypes = RawOutcome, [*request, *ends]
     calls["fault_text"] = call = call_of(it, "page_fault_text")
     call.restype, call.argtypes = c_size_t, [POINTER(RawOutcome), c_void_p, c_size_t]
     return calls
 
 
-class Lent:
-    """Zeroed memory of the system at a multiple of 16. The system allocates a page at its first use."""
-
-    def __init__(self, size: int) -> None:
-        self.pages = mmap.mmap(-1, size)
-        self.at = ctypes.addressof(ctypes.c_char.from_buffer(self.pages))
-
-
-def run(call: str, data: bytes, querier: Optional[Querier] = None) -> Outcome:
-    """Makes a call, and repeats it with twice the memory if that was too little. The work memory includes room for the text."""
-    function = library()[f"{call}_{querier.family}" if querier else call]
-    asked = [querier.own, ctypes.byref(querier.settings)] if querier else []
-    room, work = LEAST_TEXT + 2 * len(data), LEAST_WORK
+def run(call: str, data: bytes, request: Optional[Union[Querier, Choice]] = None, before: int = 0) -> Outcome:
+    """Makes a call, and repeats it with more memory if that was too little. The work memory includes room for the text. `before` is added
+    to the number of a record that has a fault."""
+    function = library()[call + (request.suffix if request else "")]
+    asked = request.arguments if request else ()
+    room, work = LEAST_TEXT + TEXT_A_BYTE * len(data), LEAST_WORK
     while True:
-        text, units = Lent(room), (work + room) // UNIT + 1
-        memory = Lent(units * UNIT)
-        raw = function(*asked, data, len(data), Units(memory.at, units), text.at, room)
+        text, memory = Memory(room), Memory(work + room + UNIT)
+        raw = function(*asked, data, len(data), memory.units, text.at, room)
         if raw.status == FULL:
-            room *= 2
+            room *= 4
         elif raw.status == MEMORY and work < MOST_WORK:
             work *= 2
         else:
-            return Outcome(text.pages[: raw.written], sentence_of(raw), raw.number)
+            count, raw.number = raw.number, raw.number + before
+            return Outcome(text.pages[: raw.written], sentence_of(raw), count)
 
 
 def sentence_of(raw: RawOutcome) -> Optional[str]:

@@ -9,12 +9,14 @@ from ctypes import POINTER, c_bool, c_char_p, c_size_t, c_uint8, c_uint32, c_uin
 from ipaddress import IPv4Address, IPv6Address
 from typing import Any, Dict, List, Tuple, Type
 
+from ._types import FamilyName
+
 VERSION = 2
 NONE, LATEST = 2**64 - 1, 2**53
 VARIABLES = (
     "robustness", "query_interval", "response_interval", "last_member_interval", "groups", "group_sources", "sources", "scheduled",
 )  # fmt: skip
-COUNTERS = 29
+COUNTERS, UNIT = 29, 16
 NATIVE = os.path.join(os.path.dirname(os.path.abspath(__file__)), "native")
 
 
@@ -98,7 +100,7 @@ def signatures(family: Family) -> Dict[str, Tuple[Any, List[Any]]]:
 class Family:
     """The addresses, structs and calls of a family. The calls are attributes."""
 
-    def __init__(self, library: Any, name: str, width: int, address: Any) -> None:
+    def __init__(self, library: Any, name: FamilyName, width: int, address: Any) -> None:
         self.name, self.width, self.address = name, width, address
         octets = c_uint8 * width
         numbers = [(it, c_uint32) for it in VARIABLES]

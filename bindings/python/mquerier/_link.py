@@ -9,8 +9,9 @@ import weakref
 from typing import Any, List, Optional, Tuple, Union
 
 from ._arguments import AddressLike, config_of, family_named, flag, given, moment, octets, packed, within
-from ._library import COUNTERS, LATEST, NONE, Family, Handle, Units
-from ._types import Address, Answer, Counts, Dropped, Group, Parsed, Query, Refused, Source
+from ._library import COUNTERS, LATEST, NONE, Family, Handle
+from ._memory import Memory, give_back, taken
+from ._types import Address, Answer, Counts, Dropped, FamilyName, Group, Parsed, Query, Refused, Source
 from .faults import Fault
 
 LONGEST_BODY = 65535
@@ -19,15 +20,6 @@ GROUPS_A_PAGE = 64
 
 def or_none(deadline: int) -> Optional[int]:
     return None if deadline == NONE else deadline
-
-
-class Block:
-    """Memory that stays where it is, and its whole units of 16 bytes."""
-
-    def __init__(self, size: int) -> None:
-        self.memory = ctypes.create_string_buffer(size)
-        before = -ctypes.addressof(self.memory) % 16
-        self.units = Units(ctypes.addressof(self.memory) + before, (size - before) // 16)
 
 
 class Torn:
@@ -50,7 +42,7 @@ class Link:
 
     def __init__(
         self,
-        family: str,
+        family: FamilyName,
         own: AddressLike,
         *,
         start: int = 0,
@@ -68,13 +60,17 @@ class Link:
         self._family = it = family_named(family)
         config = config_of(it, "own", own, variables)
         self._lock: Union[threading.Lock, Torn] = threading.Lock()
-        self._memory, self._work = Block(it.size(config)), Block(it.workspace_size(config))
+        self._memory, self._work = Memory(it.size(config)), Memory(it.workspace_size(config))
         self._link, self._workspace = Handle(), Handle()
+        self._own: Address = it.address(bytes(config.own))
         self._group_sources = config.group_sources
-        self._queries = ctypes.create_string_buffer(it.outlet_bytes(config, LONGEST_BODY))
+        self._room = it.outlet_bytes(config, LONGEST_BODY)
         self._made(it.init_units(config, moment("start", start), self._memory.units, ctypes.byref(self._link)))
         self._made(it.workspace_init_units(config, self._work.units, ctypes.byref(self._workspace)))
         LINKS.add(self)
+
+    def __repr__(self) -> str:
+        return f"Link({self.family!r}, {str(self.own)!r})"
 
     def __reduce__(self) -> Any:
         raise TypeError("a link cannot be copied: its memory stays where it is")
@@ -82,6 +78,16 @@ class Link:
     def _forked(self) -> None:
         """Frees the lock in a new process, where no other thread holds it any longer."""
         self._lock = Torn() if isinstance(self._lock, Torn) or self._lock.locked() else threading.Lock()
+
+    @property
+    def family(self) -> FamilyName:
+        """The family of its addresses: `"igmp"` or `"mld"`."""
+        return self._family.name
+
+    @property
+    def own(self) -> Address:
+        """The source address of its queries."""
+        return self._own
 
     @staticmethod
     def _made(status: int) -> None:
@@ -99,13 +105,15 @@ class Link:
         alert: bool = True,
     ) -> Answer:
         """Takes a datagram: the source of its packet and the bytes after the IP header. For MLD also the destination, the hop limit
-        and whether the packet has the Router Alert option; IGMP does not look at these. First it does what `tick` does."""
+        and whether the packet has the Router Alert option; a link of IGMP does nothing with these. First it does what `tick` does."""
         it, data = self._family, octets("body", body)
         envelope: List[Any] = [packed(it, "source", source)]
+        to = None if destination is None else packed(it, "destination", destination)
+        more = [to, within("hop_limit", hop_limit, 255), flag("alert", alert)]
         if it.name == "mld":
-            if destination is None:
+            if to is None:
                 raise TypeError("destination: a datagram of MLD needs it")
-            envelope += [packed(it, "destination", destination), within("hop_limit", hop_limit, 255), flag("alert", alert)]
+            envelope += more
         return self._call(it.receive, *envelope, data, len(data), moment("now", now))
 
     def tick(self, now: int) -> Answer:
@@ -114,9 +122,12 @@ class Link:
 
     def _call(self, call: Any, *arguments: Any) -> Answer:
         with self._lock:
-            room = len(self._queries)
-            raw = call(ctypes.byref(self._link), ctypes.byref(self._workspace), *arguments, self._queries, room)
-            written = ctypes.string_at(self._queries, raw.written)
+            room = taken(self._room)
+            try:
+                raw = call(ctypes.byref(self._link), ctypes.byref(self._workspace), *arguments, room.at, self._room)
+                written = room.pages[: raw.written]
+            finally:
+                give_back(room)
         if raw.status:
             raise Fault.of_status(raw.status)
         dropped = Dropped(raw.dropped) if raw.dropped else None
@@ -224,7 +235,7 @@ def group_of(family: Family, raw: Any, sources: List[Any]) -> Group:
 
 
 def message_line(
-    family: str, body: bytes, source: Optional[AddressLike] = None, destination: Optional[AddressLike] = None
+    family: FamilyName, body: bytes, source: Optional[AddressLike] = None, destination: Optional[AddressLike] = None
 ) -> str:
     """Returns a message as one line, or the line of its fault. The addresses are those of its packet; IGMP does not look at them."""
     it, data = family_named(family), octets("body", body)

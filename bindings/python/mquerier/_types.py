@@ -5,9 +5,10 @@ from __future__ import annotations
 import dataclasses
 import enum
 from ipaddress import IPv4Address, IPv6Address
-from typing import Dict, Optional, Tuple, Union
+from typing import Dict, Literal, Optional, Tuple, Union
 
 Address = Union[IPv4Address, IPv6Address]
+FamilyName = Literal["igmp", "mld"]
 
 
 class Dropped(enum.IntEnum):

@@ -2,108 +2,24 @@
 
 from __future__ import annotations
 
-import dataclasses
-import os
-from typing import Any, Callable, Generic, List, Mapping, Optional, Sequence, TypeVar, Union, overload
+from typing import Any, ContextManager, Iterator, Mapping, Optional, TypeVar, Union
 
 from . import _captures_library as library
-from ._arguments import AddressLike, any_address, config_of, family_named, flag, given, moment, octets, within
-from ._captures_library import NO_END, Outcome, Querier, Settings
+from ._arguments import AddressLike, any_address, config_of, family_named, flag, given, moment, within
+from ._captures_library import LONGEST_NAME, NO_END, NO_VLAN, Choice, Outcome, Querier, Settings
+from ._files import NOT_CONVERTED, Capture, bytes_of, file_of, named, reader_of
 from ._library import VARIABLES
-from .faults import CaptureFault
-from .lines import Event, Finding, Packet, basis_of, event_of, finding_of, packet_of, role_of
+from ._records import captures_in
+from .faults import CaptureFault, Fault
+from .lines import Event, Packet, event_of, packet_of
+from .results import Converted, Findings, Lines
 
-# A capture: its bytes, or the path of its file.
-Capture = Union[bytes, bytearray, memoryview, str, "os.PathLike[str]"]
-T = TypeVar("T")
 Read = TypeVar("Read", bound="Lines[Any]")
 
 
-class Lines(Sequence[T], Generic[T]):
-    """The lines of a text as objects. `text` is the text itself, byte for byte that of the program `mquerier`."""
-
-    def __init__(self, text: str, lines: List[str], read: Callable[[str], T]) -> None:
-        self.text = text
-        self._all = [read(it) for it in lines]
-
-    @overload
-    def __getitem__(self, at: int) -> T: ...
-    @overload
-    def __getitem__(self, at: slice) -> List[T]: ...
-    def __getitem__(self, at: Union[int, slice]) -> Union[T, List[T]]:
-        return self._all[at]
-
-    def __len__(self) -> int:
-        return len(self._all)
-
-    def __repr__(self) -> str:
-        return f"<{len(self)} of {self.text.count(chr(10))} lines>\n{self.text}"
-
-
-class Findings(Lines[Finding]):
-    """The findings of a check. `general` and `specific` count the queries of the querier in the capture. `basis` counts the packets, and
-    `role` is the role of the router; both are None if the check did not come to its end."""
-
-    def __init__(self, text: str) -> None:
-        lines = text.splitlines()
-        at = next((at for at, line in enumerate(lines) if line.startswith("checked")), len(lines))
-        super().__init__(text, lines[:at], finding_of)
-        is_whole = at + 3 <= len(lines)
-        words = lines[at].split() if is_whole else ["", "", "0", "", "0:"]
-        self.general, self.specific = int(words[2]), int(words[4].rstrip(":"))
-        self.basis = basis_of(lines[at + 1]) if is_whole else None
-        self.role = role_of(lines[at + 2]) if is_whole else None
-
-    @property
-    def unjudged(self) -> Optional[str]:
-        """The reason why the check judged nothing, whatever it found; None if it judged the querier. A mistyped address is one."""
-        it = self.basis
-        if it is None:
-            return "the check did not come to its end"
-        if 0 < it.packets <= 2 * (it.cut + it.unread):
-            return "every second packet or more is cut or isn't read"
-        if 0 < it.packets <= 2 * it.back:
-            return "every second packet or more has a stamp that goes back"
-        if it.messages + it.malformed == 0:
-            return "there is no message of this family"
-        if len(self) + self.general + self.specific == 0:
-            return "no query from this address was seen, and none is missing"
-        return None
-
-
-@dataclasses.dataclass(frozen=True)
-class Converted:
-    """A classic capture of Ethernet, and the number of packets whose link type is not read."""
-
-    data: bytes
-    unread: int
-
-
-# Other kinds of files, by their first bytes.
-PCAPNG = b"\n\r\r\n"
-KINDS = {
-    PCAPNG: "the file is pcapng, which convert() reads",
-    b"\x1f\x8b": "the file is compressed by gzip",
-    b"\x28\xb5\x2f\xfd": "the file is compressed by zstd",
-}
-
-
-def bytes_of(capture: Capture) -> bytes:
-    if isinstance(capture, (str, os.PathLike)):
-        with open(capture, "rb") as file:
-            return file.read()
-    return octets("capture", capture, "bytes or a path")
-
-
 def run(call: str, capture: Capture, querier: Optional[Querier] = None) -> Outcome:
-    """Makes a call on a capture. The message of a fault begins with the path of a file, and ends with the kind of another file."""
     data = bytes_of(capture)
-    outcome = library.run(call, data, querier)
-    if outcome.fault is None:
-        return outcome
-    path = [os.fsdecode(capture)] if isinstance(capture, (str, os.PathLike)) else []
-    kinds = [kind for first, kind in KINDS.items() if data.startswith(first) and (call, first) != ("convert", PCAPNG)]
-    return dataclasses.replace(outcome, fault=": ".join([*path, outcome.fault, *kinds]))
+    return named(capture, data, library.run(call, data, querier))
 
 
 def whole(outcome: Outcome, lines: Read) -> Read:
@@ -125,8 +41,27 @@ def querier_of(field: str, own: AddressLike, until: Optional[int], variables: Ma
 def show(capture: Capture) -> Lines[Packet]:
     """Lists a capture: a `Packet` for each record."""
     outcome = run("show", capture)
-    text = outcome.text.decode()
-    return whole(outcome, Lines(text, text.splitlines(), packet_of))
+    return whole(outcome, Lines(outcome.text.decode(), packet_of))
+
+
+def packets(capture: Capture) -> Iterator[Packet]:
+    """Yields what `show` lists while it reads the capture. It keeps a few megabytes. A file may be a pipe. A fault is raised after all
+    packets before it."""
+    return packets_in(capture, file_of(capture))
+
+
+def packets_in(capture: Capture, opened: ContextManager[Any]) -> Iterator[Packet]:
+    time = 0
+    with opened as file:
+        for data, before in captures_in(reader_of(file)):
+            # All but the first begin with a record that is none.
+            skipped = min(before, 1)
+            outcome = named(capture, data, library.run("show", data, before=before - skipped))
+            for line in outcome.text.decode().splitlines()[skipped:]:
+                packet = packet_of(line, before - skipped, time)
+                time = packet.time
+                yield packet
+            whole(outcome, Lines("", packet_of))
 
 
 def replay(
@@ -150,8 +85,7 @@ def replay(
     after the first record, by default the time of the last one."""
     variables = given(locals())
     outcome = run("replay", capture, querier_of("own", own, until, variables, changes=flag("changes", changes)))
-    text = outcome.text.decode()
-    return whole(outcome, Lines(text, text.splitlines(), event_of))
+    return whole(outcome, Lines(outcome.text.decode(), event_of))
 
 
 def check(
@@ -180,9 +114,28 @@ def check(
     return whole(outcome, Findings(outcome.text.decode()))
 
 
-def convert(capture: Capture) -> Converted:
-    """Returns all packets of a capture of any kind, pcapng too, as one classic capture of Ethernet."""
-    outcome = run("convert", capture)
+def choice_of(interface: Union[int, str, None], vlan: Optional[int], once: bool) -> Choice:
+    choice = Choice(vlan=NO_VLAN if vlan is None else within("vlan", vlan, 4095), once=flag("once", once))
+    if isinstance(interface, str):
+        name = interface.encode("utf-8", "surrogateescape")
+        if not 0 < len(name) <= LONGEST_NAME or 0 in name:
+            raise Fault("interface", f"a name has 1 to {LONGEST_NAME} bytes")
+        choice.interface, choice.name = 2, (*name, *bytes(LONGEST_NAME - len(name)))
+    elif interface is not None:
+        choice.interface, choice.number = 1, within("interface", interface, 2**64 - 1)
+    return choice
+
+
+def convert(
+    capture: Capture, *, interface: Union[int, str, None] = None, vlan: Optional[int] = None, once: bool = False
+) -> Converted:
+    """Returns the packets of a capture of any kind, pcapng too, as one classic capture of Ethernet.
+
+    By default these are all packets. `interface` is the number or the name of one interface, and `vlan` the ID of one network. `once`
+    leaves out packets that come again within 5 ms. Numbers count the interfaces from 0. In Linux cooked captures of version 2 they are the
+    indexes in the headers of packets."""
+    choice, data = choice_of(interface, vlan, once), bytes_of(capture)
+    outcome = named(capture, data, library.run("convert", data, choice), NOT_CONVERTED)
     if outcome.fault:
         raise CaptureFault(outcome.fault, [])
     return Converted(outcome.text, outcome.count)

@@ -3,11 +3,16 @@
 from __future__ import annotations
 
 import dataclasses
+import functools
 import ipaddress
 import re
-from typing import List, Optional, Tuple, Union
+from typing import List, Literal, Optional, Tuple, Union, cast
 
-from ._types import Address, Dropped, Group, Source
+from ._types import Address, Dropped, FamilyName, Group, Source
+
+Why = Literal["other", "cut", "fragment"]
+Filter = Literal["none", "include", "exclude"]
+Kind = Literal["missing", "extra", "differs", "general", "packet"]
 
 
 @dataclasses.dataclass(frozen=True)
@@ -17,7 +22,7 @@ class Packet:
 
     number: int
     time: int
-    family: Optional[str]
+    family: Optional[FamilyName]
     source: Optional[Address]
     message: str
 
@@ -50,7 +55,7 @@ class Skipped:
 
     time: int
     number: int
-    why: str
+    why: Why
 
 
 @dataclasses.dataclass(frozen=True)
@@ -59,7 +64,7 @@ class Change:
 
     time: int
     group: Address
-    filter: str
+    filter: Filter
     sources: Tuple[Address, ...]
 
 
@@ -93,7 +98,7 @@ class Finding:
     field, the interval, or the packet's number and header. `section` is None if the check ran without `cite`."""
 
     time: int
-    kind: str
+    kind: Kind
     group: Optional[Address]
     source: Optional[Address]
     section: Optional[str]
@@ -125,6 +130,16 @@ class Role:
     again_at: Optional[int] = None
 
 
+@dataclasses.dataclass(frozen=True)
+class Ending:
+    """The lines after the findings of a check: the queries of the router, the packets, and its role."""
+
+    general: int
+    specific: int
+    basis: Basis
+    role: Role
+
+
 FINDING = re.compile(
     r"(?P<time>\d+) (?:"
     r"(?P<kind>missing|extra) (?P<asked>[^ (]+(?: [^ (]+)?)"
@@ -134,11 +149,17 @@ FINDING = re.compile(
 )
 
 
-def packet_of(line: str) -> Packet:
+# Few addresses have many lines.
+address_of = functools.lru_cache(4096)(ipaddress.ip_address)
+
+
+def packet_of(line: str, before: int = 0, least: int = 0) -> Packet:
+    """Returns the packet of a line. Its capture comes `before` records after the begin of a longer one. No time is below `least`."""
     number, time, *rest = line.split(" ", 4)
+    at = int(number) + before, max(int(time), least)
     if len(rest) == 1:
-        return Packet(int(number), int(time), None, None, rest[0])
-    return Packet(int(number), int(time), rest[1], ipaddress.ip_address(rest[0]), rest[2])
+        return Packet(*at, None, None, rest[0])
+    return Packet(*at, cast(FamilyName, rest[1]), address_of(rest[0]), rest[2])
 
 
 def event_of(line: str) -> Event:
@@ -151,13 +172,13 @@ def event_of(line: str) -> Event:
         return Totals(**dict(zip(words[1::2], map(int, words[2::2]))))
     time, kind, rest = int(words[0]), words[1], words[2:]
     if kind == "send":
-        return Sent(time, ipaddress.ip_address(rest[0]), bytes.fromhex(rest[1]))
+        return Sent(time, address_of(rest[0]), bytes.fromhex(rest[1]))
     if kind == "skip":
-        return Skipped(time, int(rest[0]), rest[1])
+        return Skipped(time, int(rest[0]), cast(Why, rest[1]))
     if kind == "change":
-        sources = tuple(ipaddress.ip_address(it.lstrip("!")) for it in rest[2:])
-        return Change(time, ipaddress.ip_address(rest[0]), rest[1], sources)
-    number, source, numbers = int(rest[0]), ipaddress.ip_address(rest[1]), list(map(int, rest[3:]))
+        sources = tuple(address_of(it.lstrip("!")) for it in rest[2:])
+        return Change(time, address_of(rest[0]), cast(Filter, rest[1]), sources)
+    number, source, numbers = int(rest[0]), address_of(rest[1]), list(map(int, rest[3:]))
     if rest[2] == "dropped":
         return Received(time, number, source, dropped=Dropped(numbers[0]))
     applied, ignored, refused = numbers
@@ -173,14 +194,14 @@ def group_of(words: List[str]) -> Group:
         hosts[rest[-2]] = int(rest[-1])
         del rest[-2:]
     sources = tuple(source_of(it) for it in rest)
-    return Group(ipaddress.ip_address(address), deadline, sources, hosts.get("v1"), hosts.get("v2"))
+    return Group(address_of(address), deadline, sources, hosts.get("v1"), hosts.get("v2"))
 
 
 def source_of(word: str) -> Source:
     if word.startswith("!"):
-        return Source(ipaddress.ip_address(word[1:]), None)
+        return Source(address_of(word[1:]), None)
     address, _, deadline = word.partition("=")
-    return Source(ipaddress.ip_address(address), int(deadline))
+    return Source(address_of(address), int(deadline))
 
 
 def basis_of(line: str) -> Basis:
@@ -193,12 +214,22 @@ def role_of(line: str) -> Role:
     said = dict(it.rsplit(" ", 1) for it in rest)
     lost_at, other, again = said.get("last at"), said.get("other"), said.get("again at")
     return Role(
-        ipaddress.ip_address(querier.split()[0]),
+        address_of(querier.split()[0]),
         int(said.get("lost", 0)),
         None if lost_at is None else int(lost_at),
-        None if other is None else ipaddress.ip_address(other),
+        None if other is None else address_of(other),
         None if again is None else int(again),
     )
+
+
+def ending_of(text: str) -> Tuple[int, Optional[Ending]]:
+    """Returns how long the findings are in a check's text, and the lines after them. A check that a fault ended has none."""
+    at = text.rfind("checked general ")
+    lines = text[at:].splitlines() if at >= 0 else []
+    if len(lines) < 3:
+        return at if at >= 0 else len(text), None
+    words = lines[0].split()
+    return at, Ending(int(words[2]), int(words[4].rstrip(":")), basis_of(lines[1]), role_of(lines[2]))
 
 
 def finding_of(line: str) -> Finding:
@@ -206,7 +237,7 @@ def finding_of(line: str) -> Finding:
     if found is None:
         raise ValueError(f"not a line of a check: {line}")
     it = found.groupdict()
-    asked = [ipaddress.ip_address(word) for word in (it["asked"] or it["of"] or "").split()]
+    asked = [address_of(word) for word in (it["asked"] or it["of"] or "").split()]
     group, source = [*asked, None, None][:2]
-    kind = it["kind"] or it["differs"] or it["other"]
+    kind = cast(Kind, it["kind"] or it["differs"] or it["other"])
     return Finding(int(it["time"]), kind, group, source, it["section"], it["detail"] or it["rest"] or "")

@@ -4,6 +4,7 @@ import concurrent.futures
 import gc
 import glob
 import gzip
+import io
 import ipaddress
 import json
 import os
@@ -15,10 +16,11 @@ import sys
 import mquerier
 import pytest
 from conftest import TOP, used
-from mquerier import CaptureFault, Fault, _captures_library
+from mquerier import CaptureFault, Fault, _captures_library, _records
 
 SAMPLE = f"{TOP}/samples/igmp.pcap"
 VARIABLES = {"response_interval": 2000, "last_member_interval": 500}
+GROUP = "239.1.2.3"
 DATA = pathlib.Path(SAMPLE).read_bytes()
 CAPTURES = sorted(glob.glob(f"{TOP}/vectors/*.pcap") + glob.glob(f"{TOP}/samples/*.pcap*"))
 QUERIERS = ("10.9.0.1", "10.0.0.9", "fe80::9")
@@ -80,6 +82,57 @@ def test_texts_of_other_settings():
     assert is_as_printed(DATA, ["check", "igmp", *words.split()], mquerier.check, "--querier", "10.9.0.1", cite=False, **more)
 
 
+@pytest.mark.parametrize(
+    "words, choice",
+    [
+        ("--interface 0", {"interface": 0}), ("--interface 1", {"interface": 1}), ("--interface 2", {"interface": 2}),
+        ("--interface 3", {"interface": 3}), ("--interface lo", {"interface": "lo"}), ("--interface any", {"interface": "any"}),
+        ("--interface br0", {"interface": "br0"}), ("--vlan 0", {"vlan": 0}), ("--vlan 20", {"vlan": 20}), ("--once", {"once": True}),
+        ("--interface 18446744073709551615", {"interface": 2**64 - 1}), ("--once --interface 1 --vlan 20", {"once": True, "interface": 1, "vlan": 20}),
+    ],
+)  # fmt: skip
+def test_conversion_of_a_choice(words, choice):
+    for file in (*CAPTURES, f"{TOP}/samples/cooked2.pcap"):
+        if "samples" in file or "tag" in file:
+            ran = subprocess.run([f"{TOP}/bin/mquerier", "convert", *words.split(), file], stdout=subprocess.PIPE, check=True)
+            assert mquerier.convert(file, **choice).data == ran.stdout
+
+
+def cooked(packets):
+    """Returns a cooked capture of version 2: packets with their times and the indexes of their interfaces."""
+    records = [DATA[:20] + (276).to_bytes(4, "little")]
+    for now, index, data in packets:
+        numbers = (now // 1000, now % 1000 * 1000, 20 + len(data), 20 + len(data))
+        records += [*(it.to_bytes(4, "little") for it in numbers), b"\x08\0\0\0", index.to_bytes(4, "big"), bytes(12), data]
+    return b"".join(records)
+
+
+def test_a_router_with_two_links():
+    """A host of one link joins and leaves. Each link by itself is right. Judged as one, the other link's querier misses two queries."""
+    links = {index: mquerier.Link("igmp", f"10.{index}.0.1") for index in (3, 4)}
+    heard = []
+    for now, index, kind in ((0, 3, None), (0, 4, None), (500, 4, 0x16), (1500, 4, 0x17), (2500, 4, None)):
+        link, source = links[index], f"10.{index}.0.5"
+        message = kind and bytes([kind, 0, *(0xFFFF - (kind * 256 + 0xEF01 + 0x0203) % 0xFFFF).to_bytes(2, "big"), 239, 1, 2, 3])
+        answer = link.receive(source, message, now) if kind else link.tick(now)
+        assert answer.dropped is None
+        heard += [(now, index, ipv4(source, GROUP, message))] if kind else []
+        heard += [(now, index, ipv4(str(link.own), str(it.destination), it.message)) for it in answer.queries]
+    assert len(heard) == 6
+    found = mquerier.check(mquerier.convert(cooked(heard)).data, "10.3.0.1", until=9000)
+    assert [(it.kind, str(it.group)) for it in found] == 2 * [("missing", GROUP)]
+    for index in (3, 4):
+        found = mquerier.check(mquerier.convert(cooked(heard), interface=index).data, f"10.{index}.0.1", until=9000)
+        assert (len(found), found.unjudged) == (0, None)
+
+
+def ipv4(source, destination, message):
+    """Returns a packet of IGMP with Router Alert."""
+    words = [0x46C0, 24 + len(message), 0, 0, 0x0102, 0]
+    ends = [ipaddress.ip_address(it).packed for it in (source, destination)]
+    return b"".join(it.to_bytes(2, "big") for it in words) + b"".join(ends) + b"\x94\x04\0\0" + message
+
+
 def test_packets_of_a_link_type_that_is_not_read():
     converted = mquerier.convert(DATA[:20] + (147).to_bytes(4, "little") + DATA[24:])
     assert converted.unread == 46 and {it.message for it in mquerier.show(converted.data)} == {"other"}
@@ -88,7 +141,7 @@ def test_packets_of_a_link_type_that_is_not_read():
 def test_memory_grows_until_it_suffices(monkeypatch):
     wanted = mquerier.check(DATA, "10.9.0.1").text
     monkeypatch.setattr(_captures_library, "LEAST_WORK", 16)
-    monkeypatch.setattr(_captures_library, "LEAST_TEXT", -2 * len(DATA) + 1)
+    monkeypatch.setattr(_captures_library, "LEAST_TEXT", 1 - 4 * len(DATA))
     assert mquerier.check(DATA, "10.9.0.1").text == wanted
     monkeypatch.setattr(_captures_library, "MOST_WORK", 16)
     with pytest.raises(CaptureFault, match="out of memory"):
@@ -118,6 +171,120 @@ def test_packets():
     assert packets[9] == mquerier.Packet(10, 4263, "igmp", ipaddress.ip_address("10.9.0.11"), message)
     other = mquerier.show(f"{TOP}/vectors/mld-frames-other.pcap")[0]
     assert (other.family, other.source, other.message) == (None, None, "other")
+
+
+def counted(monkeypatch):
+    """Returns the calls that the library gets from now on."""
+    calls, library = [], _captures_library.library()
+    made = {name: lambda *words, name=name: calls.append(name) or library[name](*words) for name in library}
+    monkeypatch.setattr(_captures_library, "library", lambda: made)
+    return calls
+
+
+@pytest.mark.parametrize("file", CAPTURES, ids=os.path.basename)
+def test_texts_are_made_once(monkeypatch, file):
+    """The memory for a text suffices at once, so no text is made again."""
+    calls = counted(monkeypatch)
+    data = mquerier.convert(file).data
+    for own in QUERIERS:
+        mquerier.show(data), mquerier.replay(data, own, changes=True), mquerier.check(data, own)
+    assert sorted(it for it in calls if it != "fault_text") == sorted(
+        ["convert_chosen", *["show"] * 3, *["replay_igmp", "check_igmp"] * 2, "replay_mld", "check_mld"]
+    )
+
+
+@pytest.mark.parametrize("piece", [1, 7, 100, 1000, 1 << 20])
+def test_packets_one_by_one(monkeypatch, piece):
+    monkeypatch.setattr(_records, "PIECE", piece)
+    for data in (DATA, DATA[:24], mquerier.convert(f"{TOP}/samples/merged.pcapng").data, mquerier.convert(f"{TOP}/samples/cooked2.pcap").data):
+        assert list(mquerier.packets(data)) == list(mquerier.show(data))
+
+
+@pytest.mark.parametrize("piece", [1, 100, 1 << 20])
+def test_packets_before_a_fault(monkeypatch, piece):
+    monkeypatch.setattr(_records, "PIECE", piece)
+    long = (262145).to_bytes(4, "little")
+    for data in (b"", b"x" * 99, DATA[:3], DATA[:20], DATA[:30], DATA[:-1], DATA + b"\0", DATA + bytes(8) + long + bytes(300_000), DATA[:20] + DATA):
+        with pytest.raises(CaptureFault) as fault:
+            mquerier.show(data)
+        found = []
+        with pytest.raises(CaptureFault) as other:
+            for it in mquerier.packets(data):
+                found.append(it)
+        assert (found, str(other.value)) == (list(fault.value.lines), str(fault.value))
+
+
+def test_stamps_that_go_back_one_by_one(monkeypatch):
+    """Times never go back, also from piece to piece."""
+    monkeypatch.setattr(_records, "PIECE", 100)
+    records, at = [], 24
+    while at < len(DATA):
+        end = at + 16 + int.from_bytes(DATA[at + 8 : at + 12], "little")
+        records.append(DATA[at:end])
+        at = end
+    data = DATA[:24] + b"".join([records[5], *records[30:], *records[:30]])
+    assert list(mquerier.packets(data)) == list(mquerier.show(data))
+
+
+def test_many_packets_in_little_memory(tmp_path):
+    with open(tmp_path / "many.pcap", "wb") as file:
+        subprocess.run([f"{TOP}/bench/capture", "100000"], stdout=file, check=True)
+    number, most, before = 0, 0, used()
+    for packet in mquerier.packets(tmp_path / "many.pcap"):
+        number += 1
+        assert packet.number == number
+        most = max(most, used()) if number % 10_000 == 0 else most
+    assert number == 100_000 and most - before < 16 << 20
+
+
+def test_files_that_are_open(tmp_path):
+    wanted = list(mquerier.show(DATA))
+    (tmp_path / "link.pcap.gz").write_bytes(gzip.compress(DATA))
+    for opened in (lambda: open(SAMPLE, "rb"), lambda: io.BytesIO(DATA), lambda: gzip.open(tmp_path / "link.pcap.gz")):
+        for call in (mquerier.show, mquerier.packets):
+            with opened() as file:
+                assert list(call(file)) == wanted
+        with opened() as file:
+            assert mquerier.convert(file).data == mquerier.convert(DATA).data
+        with opened() as file:
+            assert mquerier.check(file, "10.9.0.1").text == mquerier.check(DATA, "10.9.0.1").text
+            assert not file.closed
+    with open(SAMPLE, "rb") as file:
+        file.seek(1)
+        assert fault_of(mquerier.show, file).startswith(f"{SAMPLE}: no capture: ")
+    for call in (mquerier.show, lambda it: list(mquerier.packets(it))):
+        with open(SAMPLE, encoding="latin-1") as file, pytest.raises(TypeError, match="capture: expected bytes, a path or a file"):
+            call(file)
+
+
+def test_a_pipe_is_read_as_it_comes():
+    read, write = os.pipe()
+    with open(read, "rb") as file, open(write, "wb", buffering=0) as to:
+        found = mquerier.packets(file)
+        to.write(DATA[:1000])
+        assert [next(found).number for _ in range(12)] == [*range(1, 13)]
+        to.write(DATA[1000:])
+        assert next(found).number == 13
+
+
+def test_lines_are_a_sequence():
+    found = mquerier.show(DATA)
+    assert [found[at] for at in range(-46, 46)] == [*found, *found]
+    assert found[2:5] == list(found)[2:5] and found[::-7] == list(found)[::-7] and found[40:99] == list(found)[40:]
+    for at in (46, -47):
+        with pytest.raises(IndexError):
+            found[at]
+    with pytest.raises(TypeError):
+        found["1"]
+    assert found[3] in found and found.index(found[3]) == 3
+
+
+def test_a_short_repr():
+    found = mquerier.show(DATA)
+    assert repr(found).startswith("<Lines of 46 lines, '1 0 ") and repr(found).endswith(", ..>") and len(repr(found)) < 400
+    assert repr(mquerier.show(DATA[:24])) == "<Lines of 0 lines>"
+    findings = mquerier.check(DATA, "10.9.0.1", **VARIABLES)
+    assert repr(findings).startswith("<Findings of 12 lines, '999 differs 0.0.0.0: ") and len(repr(findings)) < 400
 
 
 def test_events_add_up():
@@ -232,6 +399,11 @@ def test_faults_of_arguments():
         ("scheduled", lambda: mquerier.replay(DATA, "10.9.0.1", scheduled=0)),
         ("until", lambda: mquerier.replay(DATA, "10.9.0.1", until=2**53 + 1)),
         ("tolerance", lambda: mquerier.check(DATA, "10.9.0.1", tolerance=-1)),
+        ("interface", lambda: mquerier.convert(DATA, interface=-1)),
+        ("interface", lambda: mquerier.convert(DATA, interface=2**64)),
+        ("interface", lambda: mquerier.convert(DATA, interface="")),
+        ("interface", lambda: mquerier.convert(DATA, interface="a" * 17)),
+        ("vlan", lambda: mquerier.convert(DATA, vlan=4096)),
     ]:
         with pytest.raises(Fault) as fault:
             call()
@@ -246,6 +418,10 @@ def test_faults_of_arguments():
         ("changes", lambda: mquerier.replay(DATA, "10.9.0.1", changes=1)),
         ("tolerance", lambda: mquerier.check(DATA, "10.9.0.1", tolerance=True)),
         ("cite", lambda: mquerier.check(DATA, "10.9.0.1", cite="no")),
+        ("interface", lambda: mquerier.convert(DATA, interface=1.5)),
+        ("interface", lambda: mquerier.convert(DATA, interface=b"eth0")),
+        ("vlan", lambda: mquerier.convert(DATA, vlan="20")),
+        ("once", lambda: mquerier.convert(DATA, once=1)),
     ]:
         with pytest.raises(TypeError, match=field):
             call()
@@ -266,6 +442,11 @@ def test_command_line():
     }  # fmt: skip
     right = ran("check", f"{TOP}/vectors/igmp-query-from-lower.pcap", "--querier", "10.0.0.2")
     assert (right.returncode, right.stdout, right.stderr) == (0, "", "")
+
+
+def test_version_of_the_command_line():
+    it = ran("--version")
+    assert (it.returncode, it.stdout) == (0, f"mquerier {mquerier.__version__}\n")
 
 
 def test_command_line_with_faults(tmp_path):

@@ -41,6 +41,29 @@ def test_a_use():
     assert not link.forwards(GROUP, "10.0.0.5") and link.groups() == []
 
 
+def test_what_a_link_says_of_itself():
+    for family, own in (("igmp", "10.0.0.9"), ("mld", "fe80::9")):
+        link = Link(family, own)
+        assert (link.family, link.own) == (family, ipaddress.ip_address(own))
+        assert repr(link) == f"Link({family!r}, {own!r})" and repr(eval(repr(link))) == repr(link)
+
+
+def test_an_envelope_for_both_families():
+    envelope = {"destination": GROUP, "hop_limit": 1, "alert": True}
+    assert made().receive(HOST, JOIN, 0, **envelope) == made().receive(HOST, JOIN, 0)
+
+
+def test_faults_have_a_base():
+    assert issubclass(Fault, mquerier.Error) and issubclass(mquerier.CaptureFault, mquerier.Error)
+    assert issubclass(Fault, ValueError) and issubclass(mquerier.CaptureFault, ValueError)
+    with pytest.raises(mquerier.Error):
+        made(groups=0)
+
+
+def test_version():
+    assert mquerier.__version__ == re.search('MQ_VERSION_TEXT "(.*)"', HEADER)[1]
+
+
 def test_another_querier():
     link = Link("mld", own="fe80::9")
     query = bytes.fromhex("8200ca4d27100000") + bytes(16) + bytes.fromhex("027d0000")
@@ -83,6 +106,8 @@ def test_faults_of_calls():
         ("now", lambda: link.receive(HOST, JOIN, -1)),
         ("source", lambda: link.receive("fe80::1", JOIN, 0)),
         ("source", lambda: link.receive(b"\x0a\0\0", JOIN, 0)),
+        ("destination", lambda: link.receive(HOST, JOIN, 0, destination="ff02::1")),
+        ("hop_limit", lambda: link.receive(HOST, JOIN, 0, hop_limit=256)),
         ("group", lambda: link.forwards("ff02::1", HOST)),
         ("group", lambda: link.group("239.1.2")),
         ("hop_limit", lambda: Link("mld", "fe80::9").receive("fe80::1", b"", 0, destination="ff02::1", hop_limit=256)),
@@ -111,6 +136,9 @@ def mld(**more):
         ("source", lambda link: link.forwards(GROUP, None)),
         ("group", lambda link: link.group(7)),
         ("destination", lambda _: mld(destination=None)),
+        ("destination", lambda link: link.receive(HOST, JOIN, 0, destination=5)),
+        ("hop_limit", lambda link: link.receive(HOST, JOIN, 0, hop_limit="1")),
+        ("alert", lambda link: link.receive(HOST, JOIN, 0, alert=None)),
         ("hop_limit", lambda _: mld(hop_limit=1.0)),
         ("alert", lambda _: mld(alert=1)),
         ("family", lambda _: Link(4, "10.0.0.9")),
@@ -173,6 +201,20 @@ def test_a_million_calls_take_no_memory():
         if now == 100_000:
             before = used()
     assert used() - before < 1 << 20
+
+
+@pytest.mark.parametrize("family, own", [("igmp", "10.0.0.9"), ("mld", "fe80::9")])
+def test_memory_of_a_link(family, own):
+    """Links with the default limits, which all make calls, take at most 200 KB each."""
+    kept = [Link(family, own)]
+    kept[0].tick(0)
+    before = used()
+    for _ in range(100):
+        kept.append(Link(family, own))
+        assert len(kept[-1].tick(0).queries) == 1
+    each = (used() - before) // 100
+    print(f"a link of {family} takes {each} bytes")
+    assert 0 < each <= 200_000
 
 
 def test_links_that_end_give_their_memory_back():

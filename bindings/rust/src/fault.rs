@@ -62,14 +62,14 @@ impl Fault {
 impl fmt::Display for Fault {
     fn fmt(&self, to: &mut fmt::Formatter<'_>) -> fmt::Result {
         to.write_str(match self {
-            Fault::Robustness => "the robustness variable is out of range",
-            Fault::QueryInterval => "the query interval is out of range",
+            Fault::Robustness => "the robustness variable is not within 1 to 7",
+            Fault::QueryInterval => "the query interval is not within 1 to 31744 seconds",
             Fault::ResponseInterval => "the response interval is out of range or not below the query interval",
             Fault::LastMemberInterval => "the last member query interval is out of range",
-            Fault::Groups => "the limit of groups is out of range",
-            Fault::GroupSources => "the limit of sources of a group is out of range",
-            Fault::Sources => "the limit of sources is out of range",
-            Fault::Scheduled => "the limit of schedules is out of range",
+            Fault::Groups => "the limit of groups is not within 1 to 65535",
+            Fault::GroupSources => "the limit of sources of a group is not within 1 to 1024",
+            Fault::Sources => "the limit of sources is not within 1 to 65535",
+            Fault::Scheduled => "the limit of schedules is not within 1 to 65535",
             Fault::OwnAddress => "no router may send queries from the own address",
             Fault::Memory => "the memory is too small",
             Fault::Moment => "the time is later than 2^53 milliseconds",

@@ -115,7 +115,7 @@ fn any_length() {
 
 /// The header, each run of white space as one space.
 fn header() -> String {
-    let folder = std::env::var("MQUERIER_LIB").expect("MQUERIER_LIB is lib/ of the repository");
+    let folder = std::env::var("MQUERIER_LIB").unwrap_or(concat!(env!("CARGO_MANIFEST_DIR"), "/../../lib").into());
     spaced(&std::fs::read_to_string(folder + "/../include/mquerier.h").unwrap())
 }
 

@@ -1,4 +1,4 @@
--- What runs after an arm of a `match`. Assumes `Logic`.
+-- The code after an arm of a `match`. Assumes `Logic`.
 use seplogic.Ra.Ura.{Ura}
 use mir.Syntax.{Body}
 use prog.Wp.{Env, Calls, Loops, Wp, after_seq}

@@ -6,7 +6,7 @@ use Rattle.mq_arena.specs.Blocks.{Request, size_of_block, GrantedInTurn, size_of
 left : (units : ℕ) (n : ℕ) → 16 * units - size_of_block n ≡ 16 * (units - (n + 15) / 16)
 left units n = omega arith
 
--- what is left after a request that fits
+-- the rest after a request that fits
 whole : (units : ℕ) (n m : ℕ) → n ≤ 16 * units → m ≤ 16 * (units - (n + 15) / 16) → size_of_block n + m ≤ 16 * units
 whole units n m fits rest = omega arith
 

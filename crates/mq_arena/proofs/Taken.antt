@@ -1,4 +1,4 @@
--- Units of memory that are lent, and the two cases of what `Arena::take` gave: such units, or nothing. Assumes `Logic`.
+-- Units of provided memory, and the two results of `Arena::take`: such units, or nothing. Assumes `Logic`.
 use Rattle.std.proofs.Common.{◌≡◌, ℕ, ◌*◌, ◌^◌, ◌<◌, List, [], ◌∷◌, ◌++◌, length, IfOk, Ok, Err, ap, ◌∙◌}
 use seplogic.Ra.Ura.{Ura}
 use base.Fraction.{full_share}
@@ -29,7 +29,7 @@ abbrev pub Told : ℕ → Taken.Denot → Type 0
 Told n x = IfOk x (λ block. 16 * length block.now ≡ size_of_block n)
 
 module _ {M : Type 1} {𝓤 : Ura M} {𝓛 : Logic 𝓤} {K : Type 0} {Γ : List (Item 𝓤)} {G : Goal 𝓤 𝓛.H} where
-  -- units that are lent for good are room
+  -- units that are given for good are room
   pub lent : K → Soaks G → (r : Block.Denot) (vs : List Val)
       → (vs ≡ slice_val r.ref_ptr (length r.now) ∷ [] → length r.now < 2 ^ 64 → length r.now * 16 < 2 ^ 63 →
       Seq K 𝓛 (‵ (froom (units (length r.now)) r.ref_ptr.0 r.ref_ptr.1) ∷ Γ) G) → Seq K 𝓛 (‵ (Block.own_val r vs) ∷ Γ) G

@@ -1,9 +1,9 @@
--- What is taken of memory twice.
+-- Memory that is taken twice.
 use Rattle.std.proofs.Common.{ℕ, ◌+◌, ◌<◌, ◌≤◌, ◌≡◌, Bool, true, false, refl, arith}
 use Rattle.std.specs.Prelude.{Result, IsErr, is_ok, Ok, Err}
 use Rattle.mq_arena.specs.Vectors.{Takes}
 
--- what is granted first is taken, and then as much as the second takes
+-- the first granted request is taken, and then that of the second
 pub both : {a b old between new : ℕ} {is_granted : Bool} → Takes a old between true → Takes b between new is_granted → Takes (a + b) old new is_granted
 both first second =
     let had = first.taken refl in
@@ -13,7 +13,7 @@ both first second =
 pub neither : {a old between new : ℕ} (b : ℕ) → Takes a old between false → Takes (a + b) old new false
 neither {a} {old} b first = record { granted = λ fits. first.granted (omega (arith, fits)); taken = λ is. search (arith, is) }
 
--- what a result says of it
+-- the taken memory, by a result
 pub refused : {T E : Type 0} {a old new : ℕ} (r : Result T E) → IsErr r → Takes a old new false → Takes a old new (is_ok r)
 refused (Ok x) is none = absurd (let never : false ≡ true = is in cc)
 refused (Err e) is none = none

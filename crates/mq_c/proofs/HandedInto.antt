@@ -1,4 +1,4 @@
--- What a call has handed into the memory that is lent.
+-- The messages that a call has put into the provided memory.
 use Rattle.std.proofs.Common.{◌≡◌, ℕ, Bool, List, [], ◌∷◌, sym, ap, ◌∙◌, subst}
 use Rattle.mq_link.specs.Handing.{HandsOver}
 use Rattle.mq_link.specs.Sent.{Outgoing}

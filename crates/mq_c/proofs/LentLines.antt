@@ -1,4 +1,4 @@
--- Lines in memory that was lent.
+-- Lines in provided memory.
 use Rattle.std.proofs.Common.{◌≡◌, ℕ, ◌-◌, ◌≤◌, IsTrue, Bool, true, false, is_ok, is_err, if◌then◌else◌, List, [], ◌++◌, length, take, drop, Some}
 use Rattle.std.proofs.Common.{Result, Ok, Err, refl, sym, ap, ◌∙◌, subst, arith, append-nil, ◌||◌}
 use Rattle.std.proofs.lemmas.List.{take-append-drop}
@@ -23,7 +23,7 @@ all_in_front text before new written within same_length behind all =
     let front : take (length before) text ≡ text = grind (arith, common_steps, long, within, same_length) in
     sym (take-append-drop written new) ∙ rw (all, behind, front, long) refl
 
--- where the memory was filled, a beginning of the text stands there
+-- full memory has a prefix of the text
 beginning_in_front : (text left before new : List ℕ) → length new ≡ length before → text ≡ new ++ left → new ≡ in_front text before
 beginning_in_front text left before new same_length parts =
     let front : take (length before) text ≡ new = grind (arith, common_steps, parts, same_length) in
@@ -57,7 +57,7 @@ printed_stands family pseudo bytes before new written (Err e) within same_length
       counted = grind (arith, common_steps, ap length parts, begun.some_left, no_room refl, same_length);
     }
 
--- the same of a room that was made, with nothing written yet, and then printed into
+-- this fact for a room that was made empty, and then printed into
 pub line_stands : {E : Type 0} {L : Type 0} {l : _} (family : Family) (pseudo bytes : List ℕ) (made room : LineRoom L l) (printed : Result Bool E)
     → made.written ≡ 0 → made.full ≡ false → room.full ≡ made.full || is_err printed
     → PrintsLine (written_to made) (written_to room) family pseudo bytes printed

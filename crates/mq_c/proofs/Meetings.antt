@@ -1,4 +1,4 @@
--- How often the groups that are held may still be met by records of a datagram.
+-- The number of times that a datagram's records may still meet the held groups.
 use Rattle.std.proofs.Common.{◌≡◌, ℕ, ◌+◌, ◌-◌, ◌*◌, ◌<◌, ◌≤◌, Bool, true, false, not, List, [], ◌∷◌, length, Some, sym, ap, ◌∙◌, subst, arith}
 use Rattle.std.proofs.Math.Nat.{mul-le-mul_right}
 use Rattle.std.proofs.lemmas.List.Sums.{sum_by-cons, sum_by-le-sum_by}
@@ -64,7 +64,7 @@ module _ (seen : Seen) (groups : Groups) (a : ℕ) (e : ScheduledGroup) where
       nothing d true is = omega arith
       nothing d false is = cc
 
-  -- one that was held and is
+  -- a group that was held and is
   pub meetings-changed : map.contains_key groups a ≡ true → is_vacant (group_at groups a).group ≡ false → is_vacant e.group ≡ false
       → (meetings seen (with_group groups a e) ≡ meetings seen groups) × (map.len (with_group groups a e) ≡ map.len groups)
   meetings-changed held was is =
@@ -75,7 +75,7 @@ module _ (seen : Seen) (groups : Groups) (a : ℕ) (e : ScheduledGroup) where
       let after = ap (λ v. one_if (not v)) is in
       (omega (arith, total, same), omega (arith, len, before, after))
 
-  -- one that wasn't
+  -- a group that wasn't held
   pub meetings-made : map.contains_key groups a ≡ false →
       meetings seen (with_group groups a e) + 4 * map.len groups ≤ meetings seen groups + 4 * map.len (with_group groups a e)
   meetings-made absent =

@@ -1,8 +1,8 @@
--- The bytes that are answered are told by a number of 64 bits.
+-- The number of the answered bytes, which has 64 bits.
 use Rattle.std.proofs.Common.{ℕ, ◌+◌, ◌*◌, ◌/◌, ◌^◌, ◌<◌, ◌≤◌, arith}
 use Rattle.std.proofs.Math.Nat.{div-le_self, mul-le-mul}
 
--- the bytes of so many queries and addresses
+-- the bytes of queries and addresses
 two_products : (head queries width asked : ℕ) → head ≤ 2 ^ 10 → queries ≤ 2 ^ 40 → width ≤ 2 ^ 8 → asked ≤ 2 ^ 40 → head * queries + width * asked < 2 ^ 64
 two_products head queries width asked few_bytes few narrow small =
     let first = mul-le-mul few_bytes few in

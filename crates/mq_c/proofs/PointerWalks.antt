@@ -1,5 +1,5 @@
--- The two functions of a struct of one pointer that owns a value, for whatever family: what is behind the pointer is lent, and the
--- pointer of a value is put in. Each meets the clauses that follow from what it does. Assumes `Logic`.
+-- The two functions of a struct of one pointer that owns a value, for whatever family. One borrows the value behind the pointer, the
+-- other stores the pointer of a value. Each meets the clauses that follow from its work. Assumes `Logic`.
 use Rattle.std.proofs.Common.{◌≡◌, ℕ, List, [], ◌∷◌, refl, sym, ◌∙◌, MutBor}
 use seplogic.Ra.Ura.{Ura}
 use base.Fraction.{full_share}
@@ -42,7 +42,7 @@ abbrev pub ty_of : RattleType → Ty
 ty_of R = lone R.mir
 
 module _ (R : RattleType) (P : Pointing) where
-  -- ---- what is behind the pointer is lent
+  -- ---- the value behind the pointer is borrowed
   module _ (kept : P.D → R.Denot) where
     abbrev O : RattleType
     O = row_of P (boxed R P kept)
@@ -136,7 +136,7 @@ module _ (R : RattleType) (P : Pointing) where
               nothing ! $ nothing ! $ fjoin ! $ join ! $ nothing ! $ move ! (2 ∷ 0 ∷ []) $ join ! $ join ! $ frame ! $ by !
               (holds κs a g lent (at_exit T κs a (tt, tt)) refl))))))
 
-  -- ---- the pointer of a value that is lent for good is put in
+  -- ---- the pointer of a value that is given for good is stored
   module _ (owned : P.D → Fml) (made : Ptr → R.Denot → P.D) (at_is : (p : Ptr) (v : R.Denot) → (P.as_values (made p v)).0 ≡ p)
       (is_owned : (p : Ptr) (v : R.Denot) → owned (made p v) ≡ box_owns no_freeing R p v) where
     abbrev Q : RattleType

@@ -1,4 +1,4 @@
--- A struct of one pointer that owns a value, for whatever family: what it is in the machine, and how it is lent
+-- A struct of one pointer that owns a value, for whatever family: its form in the machine, and how it is borrowed
 -- and given up. Assumes `Logic`.
 use Rattle.std.proofs.Common.{◌≡◌, ℕ, List, [], ◌∷◌, ◌++◌, refl, sym, subst}
 use seplogic.Ra.Ura.{Ura}

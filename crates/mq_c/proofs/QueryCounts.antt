@@ -1,4 +1,4 @@
--- How many queries a tick sends at most, and how many sources they name.
+-- The most queries of a tick, and the most sources that they name.
 use Rattle.std.proofs.Common.{◌≡◌, ℕ, zero, suc, ◌+◌, ◌*◌, ◌<◌, ◌≤◌, Bool, true, false, cond, not, ◌&&◌, refl, List, [], ◌∷◌, ◌++◌, length, take}
 use Rattle.std.proofs.Common.{drop, filter, sum_by, Option, None, Some, is_some, sym, ap, ◌∙◌, arith, leb, length-append, length-drop}
 use Rattle.std.proofs.Math.Nat.{mul-le-mul_right}
@@ -28,7 +28,7 @@ use Rattle.mq_link.specs.State.{Groups, LinkState, AreWithin, sources_of, source
 use Rattle.mq_link.specs.Tick.{group_expired, if_held, groups_expired, queries_due, tick_at}
 use Rattle.mq_link.proofs.Bounds.{expired_no_more, within-kept}
 
--- No more queries than these runs have of so many sources, where each query of a run but its last has n of them.
+-- At most the queries that these runs have for these sources, if each query of a run but its last has n of them.
 pub record AreFew (n runs sources : ℕ) (queries : List SentQuery) : Type 0 where
   pub count : length queries * n ≤ runs * n + sources
   pub named : sum_by named_in queries ≤ sources
@@ -104,7 +104,7 @@ pub one_at_most : (b : Bool) → one_if b ≤ 1
 one_at_most true = omega arith
 one_at_most false = omega arith
 
--- what a group sends
+-- the queries of a group
 module _ (n : ℕ) (positive : 0 < n) (timing : Timing) (now group : ℕ) (e : ScheduledGroup) where
   asked_few : (q : Option QuerySchedule) (s : Bool) → AreFew n (one_if (is_some q)) 0 (cond (is_due now (group_due q)) (GroupQuery group s ∷ []) [])
   asked_few None s = few_none n 0 0

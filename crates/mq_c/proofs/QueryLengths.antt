@@ -1,4 +1,4 @@
--- How many bytes the queries of a tick take.
+-- The bytes of a tick's queries.
 use Rattle.std.proofs.Common.{◌≡◌, ℕ, ◌+◌, ◌*◌, ◌<◌, ◌≤◌, ◌^◌, Bool, false, List, [], ◌∷◌, length, sum_by, ap, arith, ◌∙◌}
 use Rattle.std.proofs.Math.Nat.{add-mul, suc-mul}
 use Rattle.std.specs.Prelude.{map as list_map}

@@ -1,4 +1,4 @@
--- How many queries a datagram sends at most, and how many sources they name.
+-- The most queries of a datagram, and the most sources that they name.
 use Rattle.std.proofs.Common.{◌≡◌, ℕ, ◌+◌, ◌*◌, ◌≤◌, List, ◌++◌, length, sum_by, Option, None, Some, Result, Ok, Err, IfSome, refl, arith, min}
 use Rattle.std.specs.FinMap as map
 use Rattle.mq_wire.specs.declared.message.Message.{Message}
@@ -39,7 +39,7 @@ one_asks longest config some = by_family config.family
     by_family Igmp = omega (arith, some)
     by_family Mld = omega (arith, some)
 
--- the queries of a tick, and those that a message asks behind them
+-- the queries of a tick, and then those of a message
 module _ (longest : ℕ) (config : Configuration) (runs sources : ℕ) (some : 1 ≤ config.limits.groups) where
   abbrev AreAsked : List SentQuery → Type 0
   AreAsked queries = AreFew (per_query config.family) (runs + 3 * asking_records longest config)

@@ -1,4 +1,4 @@
--- How many queries the records of a datagram send at most, and how many sources they name.
+-- The most queries of a datagram's records, and the most sources that they name.
 use Rattle.std.proofs.Common.{◌≡◌, ℕ, ◌+◌, ◌-◌, ◌*◌, ◌<◌, ◌≤◌, Bool, true, false, cond, ◌&&◌, refl, List, [], ◌∷◌, ◌++◌, length, sum_by, Option, None}
 use Rattle.std.proofs.Common.{Some, IfSome, is_some, sym, ap, subst, arith, leb, min}
 use Rattle.std.proofs.Math.Nat.{mul-le-mul_right}
@@ -105,7 +105,7 @@ module _ (at : Setting) (group : ℕ) (kind : Kind) (xs : List ℕ) (groups : Gr
         (held_stays_held (v1_mutes_leave at.config.family) (is_muted at.config group st) at.election.timing at.now (group_at groups group).group kind
         (set.from_list xs) held)
 
-  -- one that isn't held is asked nothing, and may be met from then on
+  -- a group that isn't held is asked nothing, and may be met from then on
   module _ (seen : Seen) (absent : map.contains_key groups group ≡ false) (unheld_is : group_at groups group ≡ unheld) where
     abbrev Makes : Groups → Type 0
     Makes left = meetings seen left + 4 * map.len groups ≤ meetings seen groups + 4 * map.len left
@@ -145,8 +145,8 @@ module _ (at : Setting) (group : ℕ) (kind : Kind) (xs : List ℕ) (groups : Gr
         AsksNothing) (sym unheld_is)
         (unheld_asks_nothing (v1_mutes_leave at.config.family) (is_muted at.config group st) at.election.timing at.now kind (set.from_list xs)))
 
--- What some records ask: how many of them do, and for how many sources. It falls off what the records behind them may
--- still ask for, but for what they name and the groups that they make.
+-- The queries of some records: their number, and that of their sources. They fall off those that later records may
+-- still ask for, but for the sources that they name and the groups that they make.
 pub record Asks (n records named : ℕ) (seen after : Seen) (groups left : Groups) (queries : List SentQuery) : Type 0 where
   pub asked : ℕ
   pub sources : ℕ

@@ -1,4 +1,4 @@
--- How many records a datagram has at most, and how many sources they name.
+-- The most records of a datagram, and the most sources that they name.
 use Rattle.std.proofs.Common.{◌≡◌, ℕ, zero, suc, ◌+◌, ◌*◌, ◌≤◌, List, [], ◌∷◌, ◌++◌, length, Bool, cond, Ok, drop, replicate, sum, sum_by, ap, ◌∙◌, arith}
 use Rattle.std.proofs.Math.Nat.{add-mul, suc-mul}
 use Rattle.std.proofs.lemmas.List.Sums.{sum_by-cons}
@@ -15,7 +15,7 @@ use Rattle.mq_link.specs.Receive.{read_of}
 use Rattle.mq_link.proofs.SpelledMessages.{AreWhole, where_read}
 use Rattle.mq_c.specs.Rooms.{records_in_body, sources_in_body}
 
--- how many sources a record names
+-- the number of a record's sources
 abbrev pub sources_named : RecordView ℕ → ℕ
 sources_named r = length r.sources
 

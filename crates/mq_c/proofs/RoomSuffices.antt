@@ -1,4 +1,4 @@
--- Where there is room for all queries, none is left out.
+-- Room for all queries, which leaves none out.
 use Rattle.std.proofs.Common.{◌≡◌, ℕ, ◌+◌, ◌<◌, ◌≤◌, ◌^◌, Bool, true, false, List, [], ◌∷◌, ◌++◌, length, take, drop, sum_by, sym, ap, arith}
 use Rattle.std.proofs.Common.{length-append, length-drop}
 use Rattle.std.proofs.lemmas.Bool.{false≢true}
@@ -9,7 +9,7 @@ use Rattle.byteorder.specs.Numbers.{length-bytes_high_first}
 use Rattle.mq_link.specs.Sent.{Outgoing}
 use Rattle.mq_c.specs.Queries.{Outbox, Fits, framed, put, Puts}
 
--- how many bytes a query takes there
+-- the bytes of a query there
 abbrev pub taken_by : (width : ℕ) → Outgoing → ℕ
 taken_by width message = width + (2 + length message.bytes)
 
@@ -26,7 +26,7 @@ length_framed width to bytes =
     let behind = length-append (big_bytes width to ++ big_bytes 2 (length bytes)) bytes in
     omega (arith, address, told, front, behind)
 
--- the memory stays as long as it was
+-- the memory keeps its length
 length_put : (width : ℕ) (message : Outgoing) (box : Outbox) → Fits width message box → length (put width message true box).bytes ≡ length box.bytes
 length_put width message box fits =
     let room = fits.room in

@@ -1,4 +1,4 @@
--- What few queries take has room.
+-- The room for few queries.
 use Rattle.std.proofs.Common.{ℕ, ◌+◌, ◌*◌, ◌/◌, ◌≤◌, List, length, sum_by, arith}
 use Rattle.std.proofs.Math.Nat.{mul-le-mul_left}
 use Rattle.std.specs.Prelude.{map as list_map}
@@ -13,7 +13,7 @@ use Rattle.mq_c.proofs.QueryCounts.{AreFew}
 use Rattle.mq_c.proofs.QueryLengths.{taken_by_all}
 use Rattle.mq_c.proofs.RoomSuffices.{taken_by}
 
--- so many runs of so many sources
+-- these runs of these sources
 at_most : (family : Family) (count runs sources : ℕ) → count * per_query family ≤ runs * per_query family + sources → count ≤ runs + sources / per_query family
 at_most Igmp count runs sources few = omega (arith, few)
 at_most Mld count runs sources few = omega (arith, few)

@@ -59,7 +59,7 @@ put_behind front old row all n k is all_is =
     ∙ ap (λ (l : List _). front ++ (row ++ l)) (drop-drop k n old)
     ∙ sym (append_assoc front row (drop (n + k) old))
 
--- what was written to the end of the memory from some place on
+-- a write to the end of the memory from some place on
 to_end : {X : Type 0} (all row put : List X) (n k : ℕ) → put ≡ row ++ drop k (take (length all - n) (drop n all))
     → take n all ++ (put ++ drop (length all - n) (drop n all)) ≡ take n all ++ (row ++ drop k (drop n all))
 to_end all row put n k is =

@@ -1,4 +1,4 @@
--- Memory that is too small for the object is smaller than what is told.
+-- Memory that is too small for the object, since it is smaller than the stated size.
 use Rattle.std.proofs.Common.{◌≡◌, ℕ, ◌+◌, ◌<◌, ◌≤◌, true, false, Err, subst, arith}
 use Rattle.std.specs.Prelude.{Result, IsOk, ◌↔◌}
 use denote.RattleType.{RattleType}

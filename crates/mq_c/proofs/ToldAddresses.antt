@@ -25,7 +25,7 @@ stand_whole f from old out i low high so_far =
     all_put f from old out i low high so_far.put
     ∙ ap (λ (l : List _). list_map f l ++ drop (length from) old) (sym (take_all (length old) from (omega (arith, so_far.within))))
 
--- what is written of addresses from a place on, of their numbers
+-- the written addresses from a place on, by their numbers
 pub of_numbers : {K A : Type 0} (number : K → ℕ) (octets_of : ℕ → A) (addresses : List K) (first : ℕ) (old : List A)
     → list_map (stored_octets number octets_of) (take (length old) (drop first addresses)) ++ drop (length (drop first addresses)) old
     ≡ list_map octets_of (take (length old) (drop first (list_map number addresses))) ++ drop (length (drop first (list_map number addresses))) old
@@ -40,7 +40,7 @@ of_numbers {K} {A} number octets_of addresses first old =
     fused [] = refl
     fused (a ∷ l) = ap (λ (l : List A). octets_of (number a) ∷ l) (fused l)
 
--- of a workspace's addresses those from a place on, which may lie behind them all
+-- the addresses of a workspace from a place on, which may lie after them all
 pub told_from : {K A : Type 0} (number : K → ℕ) (octets_of : ℕ → A) (addresses : List K) (changed : List ℕ) (first place : ℕ) (old new : List A)
     → list_map number addresses ≡ changed → place ≡ min first (length addresses)
     → (let rest = take (length addresses - place) (drop place addresses) in new ≡ list_map (stored_octets number octets_of) (take (length old) rest)

@@ -1,4 +1,4 @@
--- What a call leaves of the workspace that it was lent.
+-- The workspace of a call, after the call.
 use Rattle.std.proofs.Common.{ℕ, ◌<◌, ◌^◌, Bool, refl, arith}
 use Rattle.mq_link.specs.Workspace.{WorkspaceState}
 use Rattle.mq_c.specs.Changed.{WorksIn}

@@ -1,4 +1,4 @@
--- Whether one of several elements passes a test, which are tried one after the other.
+-- A test of several elements, tried one after the other.
 use Rattle.std.proofs.Common.{◌≡◌, ℕ, suc, ◌+◌, ◌<◌, Bool, true, false, List, ◌∷◌, length, drop, get_or, refl, ap, sym, ◌∙◌, add-one}
 use Rattle.std.specs.Prelude.{map as list_map}
 use Rattle.std.specs.List.{list_any}
@@ -6,11 +6,11 @@ use Rattle.std.proofs.Math.ListN.{get_or-map as mapped_at}
 use Rattle.std.proofs.Math.Seq.{drop-cons, drop-length}
 use Rattle.std.proofs.lemmas.List.{length-map as mapped_long}
 
--- what is made of each is as many
+-- a list of results is as long
 pub made_long : {X Y : Type 0} (f : X → Y) (xs : List X) (ys : List Y) → list_map f xs ≡ ys → length ys ≡ length xs
 made_long f xs ys made = ap length (sym made) ∙ mapped_long xs f
 
--- an element as it was read, at its place in the list of what is made of each
+-- an element, at its place in the list of results
 pub made_at : {X Y : Type 0} (f : X → Y) (xs : List X) (ys : List Y) (place : ℕ) (x : X) → list_map f xs ≡ ys → x ≡ get_or xs place x →
     f x ≡ get_or ys place (f x)
 made_at f xs ys place x made is = ap f is ∙ sym (mapped_at f xs place x) ∙ ap (λ (zs : List _). get_or zs place (f x)) made

@@ -1,4 +1,4 @@
--- What a conversion comes to, once it is put.
+-- The result of a conversion, once it is put.
 use Rattle.std.proofs.Common.{◌≡◌, ℕ, ◌++◌, false, List, [], Option, Result, Ok, Err, refl, sym, subst, ◌∙◌, inl, append-nil, arith}
 use Rattle.std.specs.Io.KnownBytes.{Appends}
 use Rattle.std.proofs.KnownBytes.{Appends-nil}

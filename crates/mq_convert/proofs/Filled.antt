@@ -6,7 +6,7 @@ use borrow.Rule.Slice.PartMut.{put_mid, mid_of, post_of, mid_len, same_len_mid}
 use Rattle.mq_pcap.specs.Filling.{InputState, Takes}
 use Rattle.mq_pcap.proofs.Filled.{Takes-nil, Takes-trans}
 
--- behind the first `from` bytes these were taken, up to a place, and no call has failed
+-- these bytes were read after the first `from` bytes, up to a place, and no call has failed
 pub record IsFilledFrom (old new : InputState) (before buffer : List ℕ) (from n to : ℕ) : Type 0 where
   pub bytes : List ℕ
   pub takes : Takes old new bytes
@@ -27,7 +27,7 @@ filled_none s buffer from to within = record {
   failed = refl;
 }
 
--- the front of a buffer of which a part was overwritten
+-- the front of a buffer, once a part is overwritten
 front : (buffer part : List ℕ) (n size more : ℕ) → n + size ≤ length buffer → more ≤ length part →
     take (n + more) (put_mid n size buffer part) ≡ take n buffer ++ take more part
 front buffer part n size more within fits =

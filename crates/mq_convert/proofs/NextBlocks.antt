@@ -1,6 +1,6 @@
--- What reading the next block comes to, step by step.
-use Rattle.std.proofs.Common.{◌≡◌, ℕ, ◌<◌, ◌≤◌, ◌||◌, Bool, true, false, List, [], ◌∷◌, ◌++◌, length, take, Some, None, Result, Ok, Err, refl, ap}
-use Rattle.std.proofs.Common.{sym, ◌∙◌, inl, inr, arith, append-nil, length-append}
+-- The result of reading the next block, step by step.
+use Rattle.std.proofs.Common.{◌≡◌, ℕ, ◌<◌, ◌≤◌, ◌||◌, Bool, true, false, List, [], ◌∷◌, ◌++◌, length, take, Some, Result, Ok, Err, refl, ap}
+use Rattle.std.proofs.Common.{sym, ◌∙◌, inr, arith, append-nil, length-append}
 use Rattle.std.specs.Prelude.{nat_lt, not, ◌&&◌}
 use Rattle.std.proofs.lemmas.Bool.{lt-ltb, le-ltb}
 use Rattle.std.proofs.lemmas.List.{take_all, take-append-le}
@@ -23,23 +23,6 @@ pub some_head : (kind : Kind) → 0 < head_size kind
 some_head Start = omega arith
 some_head (Classic order fraction) = omega arith
 some_head (Section order) = omega arith
-
--- the end of the file
-pub nothing_next : (kind : Kind) (number : ℕ) (old new : InputState) (before block : List ℕ) (count : ℕ) → is_start kind ≡ false → count ≡ 0
-    → FillsFrom {E = ConvertFault} old new before block 0 (head_size kind) (Ok count) → NextBlock kind number old new block (Ok None)
-nothing_next kind number old new before block count other none filled =
-    let size = filled.fills.1 in
-    let some = some_head kind in
-    record {
-      bytes = filled.bytes;
-      takes = filled.takes;
-      answers = (by_length filled.bytes (omega (arith, size, none)), other, filled.fills.3 (omega (arith, none, some)));
-      failed = filled.failed;
-    }
-  where
-    by_length : (xs : List ℕ) → length xs ≡ 0 → xs ≡ []
-    by_length [] is = refl
-    by_length (x ∷ xs) is = absurd (omega (arith, is))
 
 -- bytes that are there, or have to be, are no end
 there : (kind : Kind) (bytes : List ℕ) → (length bytes ≡ 0 → is_start kind ≡ true) → (nat_lt (length bytes) 1 && not (is_start kind)) ≡ false
@@ -77,15 +60,6 @@ head_cut kind number old new before block count some few short filled =
       answers = (refl, rw (all, under, cut) refl, λ e. filled.fills.3 short);
       failed = filled.failed;
     }
-
-pub head_failed : (kind : Kind) (number : ℕ) (old new : InputState) (before block : List ℕ) (e : ConvertFault)
-    → FillsFrom {E = ConvertFault} old new before block 0 (head_size kind) (Err e) → NextBlock kind number old new block (Err answer.Read)
-head_failed kind number old new before block e filled = record {
-  bytes = filled.bytes;
-  takes = filled.takes;
-  answers = inl (let short = filled.fills in omega (arith, short));
-  failed = filled.failed;
-}
 
 -- the first bytes of a block are there
 pub record IsHead (kind : Kind) (old mid : InputState) (block : List ℕ) : Type 0 where

@@ -7,7 +7,7 @@ use Rattle.mq_pcap.specs.Capture.{field}
 use Rattle.mq_pcap.proofs.Walk.{from_place}
 use Rattle.mq_convert.specs.Interfaces.{filled_up, options_within, options_of}
 
--- what stands behind the first option
+-- the bytes after the first option
 abbrev behind : Endian → List ℕ → List ℕ
 behind order bytes = drop (min (length bytes) (filled_up (4 + field order 2 2 bytes))) bytes
 
@@ -30,7 +30,7 @@ enough order (suc most) (suc n) bytes a b =
     let whole = ltb-false (length bytes) 4 long in
     enough order most n (behind order bytes) (omega arith) (omega arith))
 
--- an option that fits, and what stands behind it
+-- an option that fits, and the bytes after this option
 pub options_of-option : (order : Endian) (bytes : List ℕ) → 4 ≤ length bytes → (field order 0 2 bytes ≡ 0 → ⊥) → 4 + field order 2 2 bytes ≤ length bytes →
     options_of order bytes ≡ (field order 0 2 bytes, slice_range bytes 4 (4 + field order 2 2 bytes)) ∷ options_of order (behind order bytes)
 options_of-option order [] whole other fits = absurd (omega arith)

@@ -3,7 +3,7 @@ use Rattle.std.proofs.Common.{◌≡◌, ◌≤◌, ◌+◌, ℕ, List, [], ◌+
 use Rattle.mq_pcap.specs.Filling.{InputState, Takes}
 use Rattle.mq_pcap.proofs.Filled.{Takes-nil, Takes-trans}
 
--- behind the first `from` bytes these were taken, up to a place, and no call has failed
+-- these bytes were read after the first `from` bytes, up to a place, and no call has failed
 pub record IsPassedFrom (old new : InputState) (from n to : ℕ) : Type 0 where
   pub bytes : List ℕ
   pub takes : Takes old new bytes

@@ -1,4 +1,4 @@
--- What is seen of a block that was read in parts.
+-- The seen bytes of a block that was read in parts.
 use Rattle.std.proofs.Common.{◌≡◌, ◌≤◌, ◌<◌, ◌+◌, ◌-◌, ◌||◌, ℕ, Bool, true, false, min, List, ◌++◌, length, take, drop, Result, Ok, Err, refl, arith}
 use Rattle.std.proofs.Common.{◌∙◌, ap, sym, length-append, append_assoc}
 use Rattle.std.proofs.lemmas.Bool.{le-ltb, lt-ltb}
@@ -15,7 +15,7 @@ pub all_seen : (block : List ℕ) → length block ≤ most_seen → seen_of blo
 unfolding seen_of
 all_seen block short = let fits = le-ltb most_seen (length block) short in rw fits refl
 
--- of a longer one the first bytes and the last 4
+-- the first bytes and the last 4 of a longer block
 parts_seen : (first mid last : List ℕ) → length first ≡ most_seen - 4 → length last ≡ 4 → 0 < length mid → seen_of ((first ++ mid) ++ last) ≡ first ++ last
 unfolding seen_of
 parts_seen first mid last size four some =
@@ -62,12 +62,6 @@ first_cut E old new before after from size count long short filled =
       failed = filled.failed;
       size = filled.size;
     }
-
-pub first_failed : (E : Type 0) (old new : InputState) (before after : List ℕ) (from size : ℕ) (e : E) → most_seen < size
-    → FillsFrom {E = E} old new before after from (most_seen - 4) (Err e) → FillsSeen {E = E} old new before after from size (Err e)
-first_failed E old new before after from size e long filled =
-    let short = filled.fills in
-    record { bytes = filled.bytes; takes = filled.takes; passes = omega (arith, short, long); shows = tt; failed = filled.failed; size = filled.size }
 
 -- the first bytes are there
 pub record IsFirst (old mid : InputState) (before block : List ℕ) (from : ℕ) : Type 0 where

@@ -1,4 +1,4 @@
--- What is known of the packets so far, behind one packet more.
+-- The facts about the packets so far, with one packet more.
 use Rattle.std.proofs.Common.{◌≡◌, ℕ, true, false, Bool, Option, List, [], ◌∷◌, ◌++◌, length, refl, sym, subst, ap, ◌∙◌, arith, append-nil, length-append}
 use Rattle.std.specs.Prelude.{◌&&◌, ◌==◌}
 use Rattle.std.specs.List.{flat_map}
@@ -20,7 +20,7 @@ unread_links-more choice packets more =
     ap (λ xs. flat_map (unread_link choice) xs) (going_out-more choice [] packets more)
     ∙ flat_map-append (unread_link choice) (going_out choice [] packets) (going_out choice (gone_behind choice [] packets) more)
 
--- whether a packet is chosen, by its interface's number and its tag as they were read
+-- the choice of a packet, by the number of its interface and the tag that were read
 pub chosen_is : (choice : Choice) (packet : Captured) (number : ℕ) (tag : Option ℕ) (chosen : Bool) → number ≡ number_of packet →
     tag ≡ tag_of (frame_of packet.link packet.bytes)
     → chosen ≡ is_chosen choice number packet.name tag → is_chosen_packet choice packet ≡ chosen
@@ -66,16 +66,11 @@ pub sifted_none : (sieve : SieveState) (packet : Captured) → sieve.choice.once
 unfolding is_compared
 sifted_none sieve packet is = kept_so sieve (is_compared sieve.choice packet) packet.moment (frame_out packet) (rw is refl)
 
--- nothing came
-pub nothing_sieved : (choice : Choice) (sieve : SieveState) → sieve.choice ≡ choice → sieve.gone ≡ [] → Tallies [] sieve.counts.unread →
-    sieve.counts.repeated ≡ 0 → HasSieved choice [] sieve
-nothing_sieved choice sieve is none tallied zero = record { chosen = is; gone = none; counts = record { unread = tallied; repeated = zero } }
-
 -- no packet came
 pub no_more : (choice : Choice) (packets : List Captured) (sieve : SieveState) → HasSieved choice packets sieve → HasSieved choice (packets ++ []) sieve
 no_more choice packets sieve has = rw (append-nil packets) has
 
--- whether a packet comes again, where what is known is of other packets
+-- the test for a packet that comes again, by the facts about earlier packets
 again_so : (choice : Choice) (packets : List Captured) (old : SieveState) (packet : Captured) (left : Bool) → HasSieved choice packets old →
     left ≡ comes_again old.choice old.gone packet
     → comes_again choice (gone_behind choice [] packets) packet ≡ left

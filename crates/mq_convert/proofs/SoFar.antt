@@ -1,4 +1,4 @@
--- What is known of a file of which some blocks were read, and whose packets were put.
+-- The facts about a file once some blocks are read and their packets are put.
 use Rattle.std.proofs.Common.{◌≡◌, ℕ, ◌+◌, ◌≤◌, min, List, [], ◌∷◌, ◌++◌, length, take, Option, Some, None, Result, Ok, Err, refl, ap, sym, subst}
 use Rattle.std.proofs.Common.{◌∙◌, inl, inr, arith, append-nil, append_assoc, length-append}
 use Rattle.std.specs.Prelude.{option_to_list}
@@ -67,7 +67,7 @@ written_of-more choice [] held = ap (λ (xs : List Captured). file_header ++ fla
     (append-nil (option_to_list held))
 written_of-more choice (block ∷ blocks) held = converted-more choice (block ∷ blocks) held
 
--- what is written of a block, where this is known of the packets before it
+-- the bytes written for a block, by the facts about the packets before
 text_so : (choice : Choice) (packets : List Captured) (sieve : SieveState) (number : ℕ) (held : Option Captured) → HasSieved choice packets sieve
     → block_text sieve.choice sieve.gone number held ≡ block_text choice (gone_behind choice [] packets) number held
 text_so choice packets sieve number held has =
@@ -98,7 +98,7 @@ nothing_read choice s context sieve is sieved = record {
   sieved = sieved;
 }
 
--- what a block comes to is what its size and what is seen of it come to
+-- the result of a block is that of its size and its seen bytes
 is_seen : (context : ContextState) (number size count : ℕ) (mid new : InputState) (buffer : List ℕ) →
     (next : NextBlock context.kind number mid new buffer (Ok (Some size))) → count ≡ min size most_seen
     → block_in context next.bytes ≡ seen_in context size (take count buffer)
@@ -125,7 +125,7 @@ next_read choice old mid new context after number size count sieve more buffer h
   refl,
 )
 
--- what the packets that were read come to, where a call ends
+-- the result of the packets that were read, at the end of a call
 ended_with : (choice : Choice) (old mid new : InputState) (before after : Option (List ℕ)) (held left : List ℕ) (context : ContextState) (number : ℕ)
     (sieve : SieveState) (r : IsReadTo choice old mid context number sieve)
     → (bytes : List ℕ) → Takes mid new bytes → number ≤ endless → (end : Option BlockFault) → EndsBy number context bytes end →

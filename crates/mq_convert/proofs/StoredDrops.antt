@@ -11,7 +11,7 @@ use Rattle.mq_convert.specs.Dropped.{with_dropped}
 set_back : (xs : List Interface) (id : ℕ) (x : Interface) → refill (length xs) xs (slice_set xs id x) ≡ slice_set xs id x
 set_back xs id x = take_at (slice_set xs id x) _ (length xs) (length-set xs id x)
 
--- by the interface that stands there
+-- the new context, by the interface stored there
 abbrev stored : ContextState → (id more : ℕ) → Option Interface → ContextState
 stored context id more None = context
 stored context id more (Some interface) = record context {

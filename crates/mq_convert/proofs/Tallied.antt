@@ -12,7 +12,7 @@ use Rattle.mq_convert.specs.declared.unread.LinkCount.{LinkCount}
 use Rattle.mq_convert.specs.declared.unread.Unread.{Unread}
 use Rattle.mq_convert.specs.Tallies.{Tallies, counted, first_links, is_known, is_of, raised, times, with_link}
 
--- whether a link type has a row
+-- true exactly if a link type has a row
 abbrev seen_in : (link : ℕ) → List ℕ → Bool
 seen_in link seen = list_any (λ other. other == link) seen
 

@@ -16,7 +16,7 @@ use arrayvec::ArrayVec;
 pub const MOST_LINKS: usize = 16;
 
 /// The number of packets with a link type.
-#[derive(Clone, Copy, Default, Debug, PartialEq, Eq)]
+#[derive(Clone, Copy, Default, PartialEq, Eq)]
 pub struct LinkCount {
     /// The link type.
     pub link: u16,

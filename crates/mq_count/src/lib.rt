@@ -15,7 +15,7 @@
 //! - The meter: `Meter`. Its contracts say `Spends low high old new`, and the functions of
 //!   `metering` that do nothing state the laws of that word.
 //! - Moves: `Moves`, which counts the items that storage moves.
-//! - Streams: `Watched`, and for tests `Faulty`.
+//! - Streams: `Watched`.
 //! - Text: `write_decimal`.
 //! - Words that the messages and the group tables share: `OlderVersion`.
 #![tactic(auto)]
@@ -23,7 +23,6 @@
 pub mod address_v4;
 pub mod address_v6;
 pub mod decimal;
-pub mod faulty;
 pub mod keys;
 pub mod metering;
 pub mod moments;
@@ -35,7 +34,6 @@ pub mod versions;
 pub use address_v4::Addr4;
 pub use address_v6::Addr6;
 pub use decimal::write_decimal;
-pub use faulty::Faulty;
 pub use keys::Key;
 pub use metering::Meter;
 pub use moments::{Moment, Span};

@@ -1,4 +1,4 @@
--- How much the groups have together, once one of them has changed, is held, or is no longer held.
+-- The amounts of all groups, once one of them has changed, is held, or is no longer held.
 use Rattle.std.proofs.Common.{◌≡◌, ℕ, ◌+◌, ◌-◌, ◌<◌, ◌≤◌, Bool, true, false, cond, not, ◌==◌, ◌&&◌, if◌then◌else◌, refl, List, [], ◌∷◌, Option, None}
 use Rattle.std.proofs.Common.{Some, is_some, sym, ap, ◌∙◌, subst, arith, ⊎_elim}
 use Rattle.std.specs.Prelude.{map as list_map}
@@ -59,7 +59,7 @@ module _ (w : ℕ × ScheduledGroup → ℕ) (groups : Groups) (a : ℕ) where
         left : Groups
         left = map.remove groups a
 
-        -- what is put back is as it was
+        -- the entry is put back unchanged
         back : (e : ScheduledGroup) → map.get groups a ≡ Some e → (q : ℕ) (b : Bool) → eq_by_cmp nat_cmp q a ≡ b →
             cond b (Some e) (cond b None (map.get groups q)) ≡ map.get groups q
         back e is q true same = sym (ap (map.get groups) (tied q a same) ∙ is)
@@ -116,7 +116,7 @@ vacant_sources e is = by_mode e.group.mode is
     by_mode Include is = eqb-true (map.len e.group.sources) 0 is
     by_mode (Exclude d) is = absurd (true≢false (sym is))
 
--- how many sources and schedules are left with a group as said
+-- the sources and schedules of all groups, with this group
 pub sources-with_group : (groups : Groups) (a : ℕ) (e : ScheduledGroup) → sources_in (with_group groups a e) + sources_of (group_at groups a)
     ≡ sources_in groups + sources_of e
 sources-with_group groups a e =
@@ -150,7 +150,7 @@ len-with_group groups a e = by_test (is_vacant e.group)
     added true n = omega arith
     added false n = omega arith
 
-    -- what is held is one at least
+    -- at least one is held
     taken : (b : Bool) (n : ℕ) → one_if b ≤ n → cond b (n - 1) n + one_if b ≡ n + 0
     taken true n some = omega arith
     taken false n some = omega arith

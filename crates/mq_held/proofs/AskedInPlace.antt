@@ -1,4 +1,4 @@
--- A group of which one source is asked for, by its row.
+-- A group, by its row, with one source asked for.
 use Rattle.std.proofs.Common.{◌≡◌, ℕ, ◌+◌, ◌≤◌, Bool, true, false, cond, ◌&&◌, refl, List, [], ◌∷◌, ◌++◌, Option, None, Some, length, ltb, get_or, set}
 use Rattle.std.proofs.Common.{sym, ap, ◌∙◌, subst, arith}
 use Rattle.std.specs.Prelude.{map as list_map}
@@ -138,7 +138,7 @@ module _ {K : Type 0} (number : K → ℕ) (timing : Timing) (now : ℕ) (source
             schedule = record { group_query = same_count timing now h.schedule.group_query quiet.group i; sources_due = then_due i };
           }
 
-      -- what waits is what is due
+      -- the waiting messages are those that are due
       pub sent_is : {S : Type 0} (takes : S → SentQuery → S → Type 0) (old new : S) (n address : ℕ)
           → Sends takes old (waiting_messages n timing now address group_asked) new
           → Sends takes old (messages_due n timing now address (one_asked timing now (number source) (group_of number h row))) new
@@ -265,7 +265,7 @@ module _ {K A : Type 0} {number : K → ℕ} {s : Inside K A} {state : HeldState
         group_counted_is number timing now source h (row_of s n) a.at.up a.above quiet_head
         ∙ ap (λ x. after_round timing now (one_asked timing now (number source) (group_of number x (row_of s n)))) (sym (a.at.head h here))
 
-    -- what waits for the row is what is due
+    -- the messages that wait for the row are those that are due
     pub sends_after : {S : Type 0} (takes : S → SentQuery → S → Type 0) (old new : S) (per_query address : ℕ)
         → ((g : GroupState) → timers_in number (row_asked number timing now source (row_of s n)) ≡ g.sources
         → Sends takes old (waiting_messages per_query timing now address g) new) → HasNumber state address n

@@ -1,4 +1,4 @@
--- How many sources of a row are counted.
+-- The count of a row's sources.
 use Rattle.std.proofs.Common.{ℕ, ◌+◌, ◌<◌, ◌≤◌, ◌≡◌, ◌||◌, ◌&&◌, Bool, true, false, cond, ltb, min, refl, arith, List, [], ◌∷◌, take, drop, get_or}
 use Rattle.std.proofs.Common.{Some, sym, ap, ◌∙◌, ⊎_elim}
 use Rattle.std.specs.Prelude.{map as list_map}
@@ -30,7 +30,7 @@ pub count-none_of_any : {X : Type 0} (p : X → Bool) (xs : List X) → list_any
 count-none_of_any p [] none = refl
 count-none_of_any p (x ∷ xs) none = none_of_both p x xs (p x) refl none (count-none_of_any p xs)
 
--- what passes stands before a place where none does behind it
+-- if no item from a place on passes, those that pass stand before it
 pub count-before : {X : Type 0} (p : X → Bool) (xs : List X) (i : ℕ) → list_any p (drop i xs) ≡ false → count_by p xs ≡ count_by p (take i xs)
 count-before p xs i none =
     ap (count_by p) (sym (take-append-drop i xs)) ∙ omega (arith, sum_by-append (one_for p) (take i xs) (drop i xs), count-none_of_any p (drop i xs) none)
@@ -49,7 +49,7 @@ one_of_two test p f b x xs true is each some rest =
     omega (arith, sum_by-cons (one_for p) (f x) (list_map f xs), own)
 one_of_two test p f b x xs false is each some rest = omega (arith, sum_by-cons (one_for p) (f x) (list_map f xs), rest some)
 
--- of what is made of some items one passes, where that of an item that passes another test does
+-- one result passes, if the results of items with another test do and one item passes that test
 pub count-made : {X Y : Type 0} (test : X → Bool) (p : Y → Bool) (f : X → Y) (b : Bool) → ((x : X) → test x ≡ true → p (f x) ≡ b) → (xs : List X) →
     list_any test xs ≡ true → cond b 1 0 ≤ count_by p (list_map f xs)
 count-made test p f b each [] some = absurd (true≢false (sym some))

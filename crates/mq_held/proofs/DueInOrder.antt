@@ -109,7 +109,7 @@ few-running groups =
       map.len-entries groups,
     )
 
--- whether the group of a number is due
+-- the test of a number for a due group
 abbrev pub is_due_at : HeldState → ℕ → ℕ → Bool
 is_due_at s now n = has_due now (group_at s.groups (key_in s.order.items n))
 
@@ -197,7 +197,7 @@ module _ {K : Type 0} (number : K → ℕ) {order : NumberedKeysState} {heads : 
       ordered-left (IsOrdered-stored number known was) now (subst (λ xs. IsAscending (key_in xs) ns) (items_are number known was) up)
       (λ n. same n ∙ each n ∙ sym (times-left now n))
 
--- what few of them, and many, cost
+-- the cost of few due groups, and of many
 few-bound : (count len : ℕ) → count < 64 → count ≤ len → count * bitlen count ≤ min 1 count * (7 * len)
 few-bound count len few within =
     ⊎_elim

@@ -1,4 +1,4 @@
--- Which numbers are due, by the moments that are stored.
+-- The due numbers, by the stored moments.
 use Rattle.std.proofs.Common.{ℕ, ◌+◌, ◌<◌, ◌≡◌, Bool, false, cond, not, refl, arith, List, [], ◌∷◌, length, take, get_or, None, sym, ap, ◌∙◌}
 use Rattle.std.specs.Prelude.{nat_le, if◌then◌else◌}
 use Rattle.std.specs.List.{count_by, list_any}

@@ -1,4 +1,4 @@
--- The entries of a map, and one that is made at its place.
+-- The entries of a map, and an entry made at its place.
 use Rattle.std.proofs.Common.{◌≡◌, ℕ, zero, suc, ◌<◌, ◌≤◌, Bool, true, false, cond, refl, List, [], ◌∷◌, length, get_or, Option, None, Some, is_some}
 use Rattle.std.proofs.Common.{sym, ap, ◌∙◌, subst, arith}
 use Rattle.std.specs.Prelude.{map as list_map, slice_get}
@@ -38,7 +38,7 @@ module _ {X : Type 0} where
   abbrev keys_of : List (ℕ × X) → List ℕ
   keys_of es = list_map (λ e. e.0) es
 
-  -- what stands behind the first has a higher key
+  -- every later entry has a higher key than the first
   above_first : (e : ℕ × X) (es : List (ℕ × X)) (p k : ℕ) → T (is_sorted nat_cmp (e ∷ es)) → slice_get (keys_of es) p ≡ Some k → e.0 < k
   above_first e es p k up here =
       by_entry (slice_get es p) refl
@@ -76,7 +76,7 @@ module _ {X : Type 0} (k : ℕ) where
 
 -- the entries of a map
 module _ {X : Type 0} (m : FinMap nat_cmp X) (k p : ℕ) where
-  -- what is at a place
+  -- the entry at a place
   module _ (here : slice_get (map.keys m) p ≡ Some k) where
     pub place_within : p < length (map.entries m)
     place_within = omega (arith, slice_get_within (map.keys m) p k here, length-map (map.entries m) (λ (e : ℕ × X). e.0))

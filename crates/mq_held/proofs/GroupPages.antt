@@ -14,7 +14,7 @@ use Rattle.mq_held.proofs.HeldInOrder.{entry_next}
 use Rattle.mq_held.proofs.KeysByNumber.{numbers_in}
 use Rattle.mq_held.proofs.GroupsInOrder.{IsOrdered, rank-is, number-at_rank}
 
--- behind the last place of a page comes the first of the next
+-- the first place of the next page follows the last place of a page
 rank-more : (pages : List ℕ) (page : ℕ) → page < length pages → rank_at pages (page + 1) 0 ≡ rank_at pages page (get_or pages page 0)
 rank-more pages page within = omega (arith, sum_by_more (λ n. n) pages page 0 within)
 

@@ -20,7 +20,7 @@ use Rattle.mq_held.proofs.OrderedGroups.{keys-groups}
 use Rattle.mq_held.proofs.Places.{same-address}
 use Rattle.mq_held.proofs.KeysByNumber.{numbers_in, keys_in, key-of_item, key-contained, keys-by_number, number-is}
 
--- what is so of the order of a storage's groups
+-- the facts about the order of a storage's groups
 pub record IsOrdered (s : HeldState) : Type 0 where
   pub keys : map.keys s.groups ≡ keys_in s.order.items
   pub ascending : IsAscending (λ x. x.key) s.order.items

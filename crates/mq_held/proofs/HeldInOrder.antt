@@ -1,4 +1,4 @@
--- The entries of a map of groups from a place on, the first of them and those behind it.
+-- The entries of a map of groups from a place on: the first of them, and the rest.
 use Rattle.std.proofs.Common.{◌≡◌, ℕ, suc, ◌+◌, ◌<◌, List, ◌∷◌, drop, get_or, length, sym, ap, ◌∙◌, arith}
 use Rattle.std.proofs.Math.Seq.{drop-cons}
 use Rattle.std.proofs.lemmas.List.{get_or-map}

@@ -66,7 +66,7 @@ earliest-five a b c d e =
     ∙ earliest-alike (l a ++ l hosts) (l a ++ (l b ++ l c)) queries (earliest-join_right (l a) (l b ++ l c))
     ∙ ap earliest_of (simp (append_assoc, append-nil))
 
--- the moments of a group that is held, of which there is one
+-- a held group has at least one moment
 some_right : (xs ys : List ℕ) → is_some (earliest_of ys) ≡ true → is_some (earliest_of (xs ++ ys)) ≡ true
 some_right [] ys is = is
 some_right (x ∷ xs) ys is = refl

@@ -1,4 +1,4 @@
--- What is stored says of the groups that a contract sees.
+-- The groups that a contract sees, by what is stored.
 use Rattle.std.proofs.Common.{◌≡◌, ◌==◌, ◌&&◌, Bool, not, ℕ, ◌<◌, true, true≢false, refl, List, [], length, get_or, set, Option, None, Some, is_some}
 use Rattle.std.proofs.Common.{sym, ap, ◌∙◌, subst, arith}
 use Rattle.std.specs.List.{Contains}
@@ -123,7 +123,7 @@ module _ {K : Type 0} (number : K → ℕ) {order : NumberedKeysState} {heads : 
   known-key {a} {n} is =
       ap (λ xs. key_in xs n) (sym items_are) ∙ key-of_number order.items n a (known.once n) (here is)
 
-  -- how many groups, sources and schedules there are
+  -- the numbers of groups, sources and schedules
   pub len-held : map.len state.groups ≡ length order.items
   len-held = ap map.len (sym groups_are) ∙ len-groups number order.items heads rows known.ascending
 

@@ -20,7 +20,7 @@ numbers_in items = list_map (λ x. x.number) items
 abbrev pub keys_in : List NumberedKey → List ℕ
 keys_in items = list_map (λ x. x.key) items
 
--- a test of what a function makes of the elements
+-- a test of a function's results
 pub map-filter : {X Y : Type 0} (f : X → Y) (p : Y → Bool) (xs : List X) → list_map f (filter (λ x. p (f x)) xs) ≡ filter p (list_map f xs)
 map-filter f p [] = refl
 map-filter f p (x ∷ xs) = by_test (p (f x)) (map-filter f p xs)
@@ -85,7 +85,7 @@ module _ (items : List NumberedKey) (once : (n : ℕ) → times n (numbers_in it
       let at = has.2 in
       subst (λ (y : NumberedKey). key_in items y.number ≡ y.key) at (key-of_item items once has.0 x has.1)
 
--- the first item of a number has the key that is told
+-- the first item with a number has this key
 pub first-item : (items : List NumberedKey) (n : ℕ) → set_of (λ x. x.number) items n ≡ true → Contains items (record { number = n; key = key_in items n })
 first-item [] n is = absurd (true≢false (sym is))
 first-item (x ∷ items) n is =

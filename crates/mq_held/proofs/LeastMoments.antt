@@ -80,7 +80,7 @@ below-all d n (x ∷ ds) below =
     let first : d ≤ x = All-head (λ deadline. d ≤ deadline) x ds below in
     omega (arith, rest, first)
 
--- the least of a number and some moments, one of which is at or before the others
+-- the least of a number and some moments, if one moment is at or before the others
 pub least-bounds : (n : ℕ) (ds : List ℕ) (d k : ℕ) → k < length ds → get_or ds k d ≡ d → All (λ deadline. d ≤ deadline) ds → least n ds ≡ min n d
 least-bounds n [] d k within is below = absurd (omega arith)
 least-bounds n (x ∷ ds) d zero within is below =

@@ -9,7 +9,7 @@ use Rattle.mq_sets.specs.NumberedKeys.{key_in}
 use Rattle.mq_held.specs.Held.{HeldState, HasNumber, IsNumber}
 use Rattle.mq_held.proofs.KeysByNumber.{first-item}
 
--- what is read next has not been written yet
+-- the next item to read has not been written yet
 pub unread : {p : ℕ → Bool} {xs ys : List ℕ} {k i : ℕ} → FiltersInPlace p xs ys k i → (d : ℕ) → get_or ys i d ≡ get_or xs i d
 unread {xs = xs} {ys = ys} {i = i} h d = ap (λ n. get_or ys n d) zero_more ∙ sym (get_or-drop i ys 0 d) ∙ ap (λ zs. get_or zs 0 d) h.rest ∙
     get_or-drop i xs 0 d ∙ ap (λ n. get_or xs n d) (sym zero_more)

@@ -30,7 +30,7 @@ row_of s n = get_or s.sources.rows n []
 abbrev pub group_in : {K A : Type 0} → (K → ℕ) → Inside K A → ℕ → ScheduledGroup
 group_in number s n = group_by number s.heads.items s.sources.rows n
 
--- what a contract sees of a storage, and what is so of each
+-- the state of a storage that a contract sees, and the facts about each
 abbrev pub seen : {K A : Type 0} → (K → ℕ) → Inside K A → HeldState
 seen number s =
     record { groups = groups_by number s.order.items s.heads.items s.sources.rows; order = s.order; source_room = s.source_room; ahead = s.sources.ahead }

@@ -1,4 +1,4 @@
--- A number is given to an address: the storage before its group is written there.
+-- The storage once an address has a number, before its group is written.
 use Rattle.std.proofs.Common.{◌≡◌, ◌||◌, ℕ, ◌+◌, ◌-◌, ◌<◌, ◌≤◌, Bool, true, false, cond, if◌then◌else◌, refl, List, length, map, Option, Some, sym}
 use Rattle.std.proofs.Common.{ap, ◌∙◌, subst, arith, ◌⊎◌, inl, inr, ⊎_elim}
 use Rattle.std.specs.Prelude.{nat_le}
@@ -33,7 +33,7 @@ use Rattle.mq_held.proofs.Located.{IsStorage, group_in, seen}
 use Rattle.mq_held.specs.declared.held_groups.HeldGroups.TheInside.{Inside}
 use Rattle.mq_held.proofs.Inside.{ahead_is, groups_are, room_is, running-held, source_room_is, sources-held}
 
--- what stands in a list after an insert
+-- the items of a list after an insert
 pub made-there : {X : Type 0} (xs : List X) (p : ℕ) (x : X) → p ≤ length xs → Contains (insert xs p x) x
 made-there xs p x within = (p, omega (arith, length-insert xs p x within), get_or-insert_at xs p x x within)
 
@@ -46,7 +46,7 @@ kept-there xs p x y within has =
     (has.0 + 1, omega (arith, has.1, length-insert xs p x within), get_or-insert_above xs p x y has.0 from within ∙ has.2) in at)
     (cases_lt has.0 p)
 
--- what is written over is gone
+-- a second insert at an address replaces the first
 insert-over : (groups : Groups) (a : ℕ) (d e : ScheduledGroup) → map.insert (map.insert groups a d) a e ≡ map.insert groups a e
 insert-over groups a d e =
     map.same_map nat_cmp_total map.nat_cmp-IsAntisymmetric (map.insert (map.insert groups a d) a e) (map.insert groups a e) (λ q.

@@ -1,4 +1,4 @@
--- How many moments are compared for the earliest of some.
+-- The number of moments that are compared for the earliest one.
 use Rattle.std.proofs.Common.{ℕ, ◌+◌, ◌-◌, ◌≡◌, min, refl, arith, List, [], ◌∷◌, ◌++◌, length, Option, length-append}
 use Rattle.std.specs.Option.{option_to_list}
 use Rattle.mq_count.specs.Spending.{Spends}

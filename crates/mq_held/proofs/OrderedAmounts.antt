@@ -1,4 +1,4 @@
--- How much the groups have together, by the items of the order: sources, schedules, and moments.
+-- The sources, schedules and moments of all groups, by the items of the order.
 use Rattle.std.proofs.Common.{◌≡◌, ℕ, zero, suc, ◌+◌, ◌-◌, ◌<◌, ◌≤◌, Bool, true, false, true≢false, cond, not, if◌then◌else◌, refl, List, [], ◌∷◌}
 use Rattle.std.proofs.Common.{length, map, get_or, Option, None, Some, is_some, sym, ap, ◌∙◌, arith, ⊎_elim}
 use Rattle.std.specs.List.{All, sum_by, count_by, filter, flat_map}

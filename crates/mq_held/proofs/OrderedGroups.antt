@@ -54,7 +54,7 @@ module _ {K : Type 0} (number : K → ℕ) (items : List NumberedKey) (heads : L
       values [] = refl
       values (x ∷ items) = ap (λ gs. group_by number heads rows x.number ∷ gs) (values items)
 
-  -- what the map has at an address
+  -- the map's entry at an address
   pub get-groups : (q : ℕ) → map.get (groups_by number items heads rows) q ≡ option_map (λ (x : NumberedKey). group_by number heads rows x.number)
       (item_with key_of items q)
   get-groups q =
@@ -81,7 +81,7 @@ module _ {K : Type 0} (number : K → ℕ) (items : List NumberedKey) (heads : L
       mapped None = refl
       mapped (Some x) = refl
 
-  -- The group of one number is another, and those of all other numbers are as they were.
+  -- The group of one number has changed. The other groups are the same.
   pub groups-changed : (new_heads : List ScheduledHead) (new_rows : List (List (Source K))) (n a : ℕ) (e : ScheduledGroup) →
       Contains items (item n a) → times n (map number_of items) ≤ 1
       → group_by number new_heads new_rows n ≡ e

@@ -111,7 +111,7 @@ number-within items n a room within has =
     let below = within has.0 (item n a) has.1 in
     omega (arith, below, ap number_of has.2)
 
--- how often a number stands that has an item, and one that has none
+-- how often a number stands, with and without an item
 pub times-in : (items : List NumberedKey) (n a : ℕ) → Contains items (item n a) → 1 ≤ times n (map number_of items)
 times-in items n a has =
     times-some (map number_of items) n has.0 0 (omega (arith, has.1, length-map items number_of))

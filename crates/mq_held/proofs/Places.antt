@@ -1,4 +1,4 @@
--- Where the groups of a map stand.
+-- The places of a map's groups.
 use Rattle.std.proofs.Common.{◌≡◌, ℕ, Option, Some, sym, ap, ◌∙◌}
 use Rattle.std.specs.Option.{unwrap_or}
 use Rattle.std.proofs.lemmas.List.{get_or-map}
@@ -9,7 +9,7 @@ use Rattle.mq_held.specs.Places.{HasPlace, group_in}
 use Rattle.mq_held.proofs.Entries.{place_within, key_at, get-place}
 
 module _ (groups : Groups) (a p : ℕ) (has : HasPlace groups a p) where
-  -- what is found there
+  -- the group found there
   pub place-get : map.get groups a ≡ Some (group_in groups p)
   place-get =
       get-place groups a p has.address_is (a, unheld)

@@ -1,4 +1,4 @@
--- Groups of which several sources are heard of again.
+-- Groups with several sources heard of again.
 use Rattle.std.proofs.Common.{◌≡◌, ℕ, Bool, true, false, cond, ◌||◌, refl, List, [], ◌∷◌, ◌++◌, Option, None, Some, is_some, sym, ap, ◌∙◌}
 use Rattle.std.specs.List.{list_all, list_any}
 use Rattle.std.specs.Option.{option_map}
@@ -21,7 +21,7 @@ use Rattle.mq_held.specs.Stored.{group_of}
 use Rattle.mq_held.proofs.RestartedTimers.{IsWellFormed-restarted}
 use Rattle.mq_held.proofs.Sorted.{tied}
 
--- what all numbers of a list pass each of them passes, and what one of them passes some do
+-- a test of all numbers in a list holds for each; a test that holds for one holds for some
 pub each_passes : (test : ℕ → Bool) (ks : List ℕ) (s : ℕ) → list_all test ks ≡ true → list_any (eq_by_cmp nat_cmp s) ks ≡ true → test s ≡ true
 each_passes test [] s all has = absurd (true≢false (sym has))
 each_passes test (k ∷ ks) s all has =
@@ -91,7 +91,7 @@ has_each-restarted deadline source (x ∷ xs) e all =
     let parts = and_parts (map.contains_key e.group.sources x) (has_each xs e) all in
     and_from _ _ (held-restarted deadline source e x parts.0) (has_each-restarted deadline source xs e parts.1)
 
--- the timer of one that it has
+-- the timer, if there is one
 pub timer-there : (t : Option SourceTimer) → is_some t ≡ true → (timer : SourceTimer) × (t ≡ Some timer)
 timer-there None there = absurd (true≢false (sym there))
 timer-there (Some timer) there = (timer, refl)

@@ -1,4 +1,4 @@
--- A row of which the timers of several sources are set, one after another.
+-- A row whose timers of several sources are set, one after another.
 use Rattle.std.proofs.Common.{◌≡◌, ℕ, ◌+◌, ◌-◌, ◌<◌, ◌≤◌, ◌==◌, min, Bool, true, false, if◌then◌else◌, ltb, ◌&&◌, ◌||◌, refl, List, [], ◌∷◌, ◌++◌, length}
 use Rattle.std.proofs.Common.{get_or, set, take, drop, Option, None, Some, IfSome, sym, ap, ◌∙◌, subst, arith, ⊎_elim}
 use Rattle.std.specs.Prelude.{map as list_map}
@@ -54,7 +54,7 @@ some_row number [] (s ∷ names) all some = absurd (true≢false (sym all))
 some_row number (x ∷ row) names all some = omega arith
 
 module _ {K : Type 0} (number : K → ℕ) (deadline earliest : ℕ) (before : List (Source K)) (named : List K) where
-  -- how the row stands once the timers of so many names are set, up to a place
+  -- the row once the timers of the first `count` names are set, up to a place
   pub record IsRestarted (row : List (Source K)) (from count : ℕ) (were_stopped were_later : Bool) : Type 0 where
     pub ascending : IsAscending (number_in number) row
     pub size : length row ≡ length before
@@ -193,7 +193,7 @@ module _ {K : Type 0} {number : K → ℕ} {deadline earliest : ℕ} {before : L
           is = found.is;
         }
       where
-        -- what stands above the source at the place stands behind it
+        -- a source above the one at the place stands after it
         not_before : (p : ℕ) → p ≤ place → number_in number (get_or before place x) < number_in number (get_or before p x) → ⊥
         not_before p low above =
             ⊎_elim
@@ -218,7 +218,7 @@ module _ {K : Type 0} {number : K → ℕ} {deadline earliest : ℕ} {before : L
       there = there_then;
     }
 
--- The group of a number has each named source, of which there are some. `h` is its head.
+-- The group of a number has each named source, and there is one. `h` is its head.
 pub record HasNamed {K A : Type 0} (number : K → ℕ) (s : Inside K A) (state : HeldState) (n : ℕ) (named : List K) (h : ScheduledHead) : Type 0 where
   pub at : Located number s state n
   pub head : h ≡ get_or s.heads.items n h

@@ -1,4 +1,4 @@
--- A group of which one source is heard of again, by its row.
+-- A group, by its row, with one source heard of again.
 use Rattle.std.proofs.Common.{◌≡◌, ℕ, zero, suc, ◌<◌, min, cond, refl, List, [], ◌∷◌, ◌++◌, append_assoc, length, get_or, set, Option, None, Some, IfSome, sym}
 use Rattle.std.proofs.Common.{ap, ◌∙◌, subst, arith, ⊎_elim}
 use Rattle.std.specs.Option.{option_to_list}
@@ -30,7 +30,7 @@ use Rattle.mq_held.proofs.Located.{Located, Placed, first-held, group_in, row_of
 use Rattle.mq_held.proofs.LeastMoments.{earliest-join, earliest-join_right}
 use Rattle.mq_held.proofs.Sorted.{ties, untied}
 
--- what is put at a number, and what stays at the others
+-- the value put at a number, and those at other numbers, which stay
 module _ {X : Type 0} (m : FinMap nat_cmp X) {k : ℕ} (v : X) {q : ℕ} where
   get-put : q ≡ k → map.get (map.insert m k v) q ≡ Some v
   get-put same = map.get-insert nat_cmp_total m k v q ∙ ap (λ b. cond b (Some v) (map.get m q)) (ties q k same)
@@ -38,7 +38,7 @@ module _ {X : Type 0} (m : FinMap nat_cmp X) {k : ℕ} (v : X) {q : ℕ} where
   get-kept : (q ≡ k → ⊥) → map.get (map.insert m k v) q ≡ map.get m q
   get-kept differs = map.get-insert nat_cmp_total m k v q ∙ ap (λ b. cond b (Some v) (map.get m q)) (untied q k differs)
 
--- what is put again where it is changes nothing
+-- an insert of the same value changes nothing
 pub insert-same : {X : Type 0} (m : FinMap nat_cmp X) (n : ℕ) (v : X) → map.get m n ≡ Some v → map.insert m n v ≡ m
 insert-same m n v is =
     map.same_map nat_cmp_total map.nat_cmp-IsAntisymmetric (map.insert m n v) m
@@ -96,7 +96,7 @@ IsWellFormed-restarted deadline source timer e there held =
           (cases_eq q source);
     }
 
--- the earliest of some moments, one of which was later than it and is another
+-- the earliest moment, once another moment that was later has changed
 earliest-later : (xs ys : List ℕ) (was : Option ℕ) (deadline earliest : ℕ) → earliest_of (xs ++ (option_to_list was ++ ys)) ≡ Some earliest
     → IfSome was (λ d. earliest < d) → earliest_of (xs ++ (deadline ∷ ys)) ≡ Some (min earliest deadline)
 earliest-later xs ys was deadline earliest is later =

@@ -1,4 +1,4 @@
--- What is stored, once the group of a number has changed, or another order has the same groups but for vacant ones.
+-- The storage once the group of a number has changed, or once another order has the same groups without vacant ones.
 use Rattle.std.proofs.Common.{◌≡◌, ℕ, ◌+◌, ◌-◌, ◌*◌, ◌<◌, ◌≤◌, Bool, true, false, true≢false, cond, if◌then◌else◌, ◌&&◌, ◌==◌, refl, List, [], ◌∷◌}
 use Rattle.std.proofs.Common.{length, map, get_or, set, None, Some, is_some, sym, ap, ◌∙◌, subst, arith, ◌⊎◌, inl, inr, ⊎_elim}
 use Rattle.std.specs.Prelude.{replicate}
@@ -69,7 +69,7 @@ pub row-none : {K : Type 0} (number : K → ℕ) (x : ScheduledHead) (row : List
 row-none number x row up is =
     nil_from_length row (sym (len-timers_in number row up) ∙ ap (λ (e : ScheduledGroup). map.len e.group.sources) is ∙ map.len-empty nat_cmp SourceTimer)
 
--- how many schedules the head of a number has
+-- the number of schedules in a head
 pub schedules-read : {K : Type 0} (number : K → ℕ) (heads : List ScheduledHead) (rows : List (List (Source K))) (n : ℕ) (h : ScheduledHead) →
     n < length heads → h ≡ get_or heads n h
     → one_if (is_some h.schedule.group_query) + one_if (is_some h.schedule.sources_due) ≡ schedules_of (group_by number heads rows n)
@@ -99,7 +99,7 @@ well_formed-other g held = by_test (is_vacant g) refl
     by_test true vacant = absurd (by_mode g.mode refl vacant)
     by_test false other = other
 
--- what is so of a group that is stored
+-- the fact about a stored group
 abbrev IsUnheldIfVacant : ScheduledGroup → Type 0
 IsUnheldIfVacant e = is_vacant e.group ≡ true → e ≡ unheld
 

@@ -49,14 +49,14 @@ module _ {X : Type 0} where
       (λ (differs : q ≡ n → ⊥). ap (λ b. is_some (cond b (Some v) (map.get m q))) (untied q n differs) ∙ there)
       (cases_eq q n)
 
-  -- how many pass, where one doesn't
+  -- fewer pass than there are, if one doesn't
   pub count-fewer : (p : X → Bool) (xs : List X) (k : ℕ) (d : X) → k < length xs → p (get_or xs k d) ≡ false → count_by p xs < length xs
   count-fewer p xs k d within fails =
       let part = get_or-le-sum_by (λ x. if not (p x) then 1 else 0) xs k d within in
       let one : ◌≡◌ {A = ℕ} (if not (p (get_or xs k d)) then 1 else 0) 1 = ap (λ b. if not b then 1 else 0) fails in
       omega (arith, part, one, length-filter_both p (λ x. not (p x)) (λ x. refl) xs, length-filter p xs, length-filter (λ x. not (p x)) xs)
 
--- how many numbers have a moment, once one of them is set
+-- the number of moments, once one is set
 pub len-set : (moments : FinMap nat_cmp ℕ) (n due : ℕ) (was_new : Bool) (numbers : List ℕ) → map.contains_key moments n ≡ not was_new →
     ((m : ℕ) → times m numbers ≡ (if map.contains_key (map.insert moments n due) m then 1 else 0))
     → length numbers ≡ map.len moments + one_if was_new
@@ -68,7 +68,7 @@ len-set moments n due was_new numbers there each =
     by_test true k = refl
     by_test false k = omega arith
 
--- how many cells a row has
+-- the number of a row's cells
 sizes-row : {T : Type 0} (rows : List (List T)) (n : ℕ) → get_or (map length rows) n 0 ≡ length (get_or rows n [])
 sizes-row [] n = refl
 sizes-row (row ∷ rows) zero = refl
@@ -149,7 +149,7 @@ module _ {K : Type 0} (number : K → ℕ) {order : NumberedKeysState} {heads : 
               let part = count_by-le-length (λ (e : ScheduledGroup). not (is_vacant e.group)) (map.values state.groups) in
               omega (arith, part, map.len-entries state.groups, length-map (map.entries state.groups) (λ (e : ℕ × ScheduledGroup). e.1))
 
-  -- what can be written before the rows are packed, and what is moved, by how many sources a group had and has
+  -- the room before the rows are packed, and the moves, by the sources that a group had and has
   module _ (n : ℕ) {a : ℕ} (row : List (Source K)) (limit : ℕ) (has : HasNumber state a n) (limit_is : limit ≡ source_room)
       (size : length rows ≡ order.room) where
     pub ahead-is : ahead_after (record { rows = rows; cell_limit = limit; ahead = ahead }) n row

@@ -1,4 +1,4 @@
--- The vacant groups are taken out: the map without them, and what is stored then.
+-- The map without the vacant groups, and the storage then.
 use Rattle.std.proofs.Common.{ℕ, ◌+◌, ◌*◌, ◌/◌, ◌^◌, ◌<◌, ◌≤◌, ◌≡◌, ◌==◌, min, Bool, true, false, true≢false, not, cond, ◌&&◌, refl, List, [], ◌∷◌}
 use Rattle.std.proofs.Common.{length, get_or, Option, None, Some, sym, ap, ◌∙◌, subst, arith, ⊎_elim, ◌⊎◌, inl, inr}
 use Rattle.std.specs.Prelude.{map as list_map, filter}
@@ -45,7 +45,7 @@ use Rattle.mq_held.proofs.OrderedItems.{number_of, has-number, times-in, absent-
 use Rattle.mq_held.proofs.StoredEdits.{IsStored-order}
 use Rattle.mq_held.proofs.TakenItems.{is_among, among-none, among-some, contains-filter, fewer-once, items-left, length-left, sum-left}
 
--- what is found among the entries that pass
+-- the entry found among those that pass
 find-filter : {X : Type 0} (a : ℕ) (p : ℕ × X → Bool) (es : List (ℕ × X)) → T (is_sorted nat_cmp es) →
     find nat_cmp a (filter p es) ≡ option_and_then (λ v. cond (p (a, v)) (Some v) None) (find nat_cmp a es)
 find-filter a p [] up = refl
@@ -97,7 +97,7 @@ entries-kept groups =
     by_value q None = refl
     by_value q (Some e) = by_test (is_vacant e.group) e
 
--- how many groups pass a test, by their numbers
+-- the number of groups that pass a test, by their numbers
 pub count-numbers : {s : HeldState} (known : IsOrdered s) (p : ScheduledGroup → Bool) →
     count_by p (map.values s.groups) ≡ length (filter (λ n. p (group_at s.groups (key_in s.order.items n))) (numbers_in s.order.items))
 count-numbers {s = s} known p =
@@ -282,7 +282,7 @@ module _ {K : Type 0} (number : K → ℕ) {order : NumberedKeysState} {heads : 
       let x : NumberedKey = record { number = n; key = a } in
       has number known was (contains-filter runs order.items x (subst (λ xs. Contains xs x) is there))
 
-  -- what is left where each vacant one is taken out
+  -- the numbers left once each vacant one is removed
   pub left-removed : (ns : List ℕ) → All (IsNumber state) ns → ((n : ℕ) → times n ns ≤ 1) →
       ((n : ℕ) → IsNumber state n → is_vacant_at state n ≡ true → 1 ≤ times n ns)
       → {gone : List ℕ} → gone ≡ filter (is_vacant_at state) ns → filter (λ x. not (is_among gone x.number)) order.items ≡ filter runs order.items
@@ -336,7 +336,7 @@ module _ {K : Type 0} (number : K → ℕ) {order : NumberedKeysState} {heads : 
         ap (items_by (key_in order.items)) kept_here ∙ items-left (key_in order.items) (λ n. not (is_vacant_at state n)) order.items
         (key-of_item order.items known.once)
 
--- what it costs where few are taken out one by one
+-- the cost if few are removed one by one
 pub few-searches : (gone given len : ℕ) → gone ≤ len / 32 → gone ≤ given → len ≤ 2 ^ 16 → gone * (bitlen len + 2) ≤ min 1 given * len
 few-searches gone given len few part small =
     ⊎_elim

@@ -19,7 +19,7 @@ use Rattle.mq_sets.proofs.Counted.{stands}
 use Rattle.mq_held.proofs.KeysByNumber.{numbers_in, filter-agree, times-item}
 use Rattle.mq_held.proofs.OrderedAmounts.{times-filter}
 
--- whether a number stands in a list
+-- true exactly if a number stands in a list
 abbrev pub is_among : List ℕ → ℕ → Bool
 is_among ns n = set_of (λ m. m) ns n
 
@@ -87,7 +87,7 @@ without-is old new n once gone =
     let d : NumberedKey = record { number = n; key = 0 } in
     gone.rest ∙ without-at old n gone.rank d gone.there once (gone.is d)
 
--- what is left once one number more is taken out
+-- the items left once one more number is removed
 pub left-more : (items old new : List NumberedKey) (ns : List ℕ) (i n : ℕ) → i < length ns → n ≡ get_or ns i n →
     old ≡ filter (λ x. not (is_among (take i ns) x.number)) items
     → new ≡ filter (λ x. not (n == x.number)) old → new ≡ filter (λ x. not (is_among (take (i + 1) ns) x.number)) items
@@ -128,7 +128,7 @@ length-left p items is = omega (arith, ap length is, length-filter p items, coun
 pub length-vacant : (p : ℕ → Bool) (ns : List ℕ) {left : List ℕ} → left ≡ filter p ns → length left ≤ length ns
 length-vacant p ns is = omega (arith, ap length is, length-filter p ns, count_by-le-length p ns)
 
--- fewer numbers each of which stands once
+-- each of fewer numbers still stands at most once
 pub fewer-once : (p : ℕ → Bool) (ns : List ℕ) → ((m : ℕ) → times m ns ≤ 1) → (n : ℕ) → times n (filter p ns) ≤ 1
 fewer-once p ns once n = omega (arith, times-filter p n ns, once n, part (p n))
   where
@@ -150,7 +150,7 @@ items-left f p (x ∷ items) keys = by_test (p x.number) (items-left f p items (
         ap (λ k. record { number = x.number; key = k } ∷ items_by f (filter p (numbers_in items))) key ∙ ap (λ ys. x ∷ ys) rest
     by_test false rest = rest
 
--- what is left are some of the items
+-- the items left are among the items
 pub contains-filter : (p : NumberedKey → Bool) (items : List NumberedKey) (x : NumberedKey) → Contains (filter p items) x → Contains items x
 contains-filter p items x has =
     subst (Contains items) has.2

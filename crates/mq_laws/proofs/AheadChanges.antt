@@ -76,9 +76,6 @@ lowered_source : (now limit : ℕ) (asks : Bool) (t : Option SourceTimer) → no
     → IfSome (deadline_of (cond asks (option_map (source_lowered limit) t) t)) (λ e. now < e)
 lowered_source now limit asks t h1 h2 = grind arith
 
-asked_timer : (now limit count d n : ℕ) → now < limit → now < d → IfSome (deadline_of (Some (source_asked limit count (Running d n)))) (λ e. now < e)
-asked_timer now limit count d n h1 h2 = grind arith
-
 asked_source : (now limit count : ℕ) (asks : Bool) (t : Option SourceTimer) → now < limit → IfSome (deadline_of t) (λ e. now < e)
     → IfSome (deadline_of (cond asks (option_map (source_asked limit count) t) t)) (λ e. now < e)
 asked_source now limit count asks t h1 h2 = grind arith
@@ -95,12 +92,7 @@ query_ahead timing now false (Some asked) g later h = record {
   v2 = h.v2;
 }
 
--- what the querier asks
-group_asked_ahead : (timing : Timing) (now : ℕ) (e : ScheduledGroup) → now < lowered_to timing now → AllAhead now e.group
-    → AllAhead now (group_asked timing now e).group
-group_asked_ahead timing now e later h =
-    record { group = lowered_mode now (lowered_to timing now) e.group.mode later h.group; sources = h.sources; v1 = h.v1; v2 = h.v2 }
-
+-- the group once the querier has asked for sources
 sources_asked_ahead : (timing : Timing) (now : ℕ) (asked : Set) (e : ScheduledGroup) → now < lowered_to timing now → AllAhead now e.group
     → AllAhead now (sources_asked timing now asked e).group
 sources_asked_ahead timing now asked e later h = record {

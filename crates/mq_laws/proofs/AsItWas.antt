@@ -1,4 +1,4 @@
--- A classic capture of Ethernet without tags, in nanoseconds, is written as it was.
+-- A classic capture of Ethernet without tags, in nanoseconds, and its conversion, which has the same bytes.
 use Rattle.std.proofs.Common.{◌≡◌, ◌<◌, ◌≤◌, ◌+◌, ℕ, true, List, [], ◌∷◌, ◌++◌, length, take, drop, Option, None, Some, Ok, refl, arith, sym, ◌∙◌, ap}
 use Rattle.std.proofs.Common.{subst, append-nil}
 use Rattle.std.specs.List.{All, flat_map}
@@ -21,7 +21,7 @@ use Rattle.mq_laws.proofs.KeptRecords.{behind_header, packet_of, record_kept, re
 use Rattle.mq_laws.proofs.OneFile.{one_file_lem}
 use Rattle.mq_laws.proofs.Sifted.{all_go_out}
 
--- the records from one of this number on are blocks whose packets are written as they were
+-- the records from this number on are blocks whose packets are written unchanged
 record IsKeptFrom (number : ℕ) (bytes : List ℕ) : Type 0 where
   blocks : List (Option Captured)
   are_blocks : AreBlocks behind_header bytes blocks behind_header

@@ -1,4 +1,4 @@
--- What a record leaves of one source, by the row of the tables that it meets.
+-- The timer of one source after a record, by the row of the tables that it meets.
 use Rattle.std.proofs.Common.{◌≡◌, ℕ, ◌+◌, Bool, true, false, not, ◌||◌, ◌⊎◌, inl, inr, Option, None, Some, IsSome, IsTrue, refl, sym, ap, ◌∙◌, subst, cond}
 use Rattle.std.proofs.Common.{arith}
 use Rattle.std.proofs.lemmas.Bool.{false≢true}
@@ -11,7 +11,7 @@ use Rattle.mq_table.specs.declared.timing.Timing.{Timing}
 use Rattle.mq_laws.specs.Groups.{ForwardsAfter, group_after}
 use Rattle.std.specs.FinSet as set
 
--- what a group forwards of a source after a record, by whether it is named and was forwarded before
+-- the forwarding of a source after a record, by whether it is named and was forwarded before
 abbrev pub forwards_then : Kind → Bool → Bool → Bool
 forwards_then IsIn named before = named || before
 forwards_then Allow named before = named || before
@@ -35,7 +35,7 @@ kept_then : (gmi : ℕ) (mode : FilterMode) (kind : Kind) (s : ℕ) (t : Option 
     → (table_row_at gmi mode kind t a).copy s ≡ false → (e : ℕ) → deadline_of (timer_then gmi mode kind s t a) ≡ Some e → deadline_of t ≡ Some e
 kept_then gmi mode kind s t a r c e h = grind arith
 
--- the timer of a source that the record doesn't name is as it was, or the source is gone
+-- the timer of a source that the record doesn't name is unchanged, or the source is gone
 others_then : (gmi : ℕ) (mode : FilterMode) (kind : Kind) (s : ℕ) (t : Option SourceTimer)
     → (timer_then gmi mode kind s t false ≡ t) ⊎ (timer_then gmi mode kind s t false ≡ None)
 others_then gmi mode kind s t = grind arith

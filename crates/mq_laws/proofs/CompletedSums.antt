@@ -13,7 +13,7 @@ sum_with_field high low (a ∷ []) long = absurd (omega arith)
 sum_with_field high low (a ∷ b ∷ []) long = absurd (omega arith)
 sum_with_field high low (a ∷ b ∷ c ∷ []) long = absurd (omega arith)
 
--- what a sum wants to the next multiple of 65535
+-- the difference of a sum to the next multiple of 65535
 completed : (sum : ℕ) → 0 < sum → sum + (65535 - ((sum - 1) % 65535 + 1)) ≡ 65535 * ((sum - 1) / 65535 + 1)
 completed sum some = omega (arith, div-add-mod (sum - 1) 65535)
 
@@ -31,7 +31,7 @@ completes_to_multiple sum =
           )
     ]
 
--- a message with the checksum that it has behind other bytes is right behind them
+-- a message with the checksum for its place after other bytes is right there
 pub completed_behind : (before bytes : List ℕ) → length before % 2 ≡ 0 → 4 ≤ length bytes →
     IsRight (before ++ with_field (checksum_behind before bytes / 256) (checksum_behind before bytes % 256) bytes)
 completed_behind before bytes even long =

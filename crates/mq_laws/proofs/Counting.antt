@@ -1,4 +1,4 @@
--- What a datagram adds to the counters, and that the outlet's answers change nothing else.
+-- The counters that a datagram raises, and the outlet's answers, which change nothing else.
 use Rattle.std.proofs.Common.{◌≡◌, ℕ, ◌+◌, Bool, true, false, cond, not, refl, List, [], ◌∷◌, length, suc, Option, None, Some, Result, Ok, Err, ap, ◌∙◌}
 use Rattle.std.proofs.{Common.arith, lemmas.List.Sums.sum_by-cons}
 use Rattle.std.specs.List.{count_by}
@@ -64,7 +64,7 @@ all_verdicts : (at : Setting) (seen : Seen) (rs : List (RecordView ℕ)) (groups
 all_verdicts at seen [] groups = refl
 all_verdicts at seen (r ∷ rs) groups = ap (λ n. suc n) (all_verdicts at (seen_after at.config r groups seen) rs (judged at seen r groups).groups)
 
--- What a message that is taken adds to the counters, of which its answer counts its records.
+-- The counters that a taken message raises. Its answer counts its records.
 record CountsAll (message : Message ℕ) (step : Step) (receipt : Receipt) : Type 0 where
   records : CountsRecords (records_in message) receipt.answer
   counted : CountsAnswer receipt.answer step.state.counters receipt.step.state.counters

@@ -176,7 +176,7 @@ if_cleared_beyond : (m : ℕ) (groups : Groups) (b : Bool) → AllBeyond m group
 if_cleared_beyond m groups true all = groups_cleared_beyond m groups all
 if_cleared_beyond m groups false all = all
 
--- What a link does next comes later than a moment.
+-- The next work of a link comes later than a moment.
 pub record IsLater (m : ℕ) (state : LinkState) : Type 0 where
   pub election : m < next_moment state.election.role
   pub groups : AllBeyond m state.groups

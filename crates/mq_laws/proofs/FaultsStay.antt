@@ -1,4 +1,4 @@
--- A fault of a beginning of a file, unless that it is cut, is one of all of it.
+-- A fault of a file's first bytes, which is a fault of the whole file unless the bytes are cut.
 use Rattle.std.proofs.Common.{◌≡◌, ◌+◌, ℕ, Bool, true, false, List, ◌++◌, length, Option, None, Some, Result, Ok, Err, refl, arith, sym, ◌∙◌, ap, inl}
 use Rattle.std.proofs.Common.{inr, length-append, append_assoc}
 use Rattle.std.specs.Prelude.{nat_lt, not, ◌&&◌}
@@ -14,8 +14,8 @@ use Rattle.mq_convert.specs.Faults.{is_cut}
 use Rattle.mq_convert.specs.Files.{Captures, EndsBy, endless, outer_fault, size_fault}
 use Rattle.mq_convert.specs.Sizes.{head_size, is_start, size_in, size_of}
 
--- what the tests of a fault by the size see: whether there are bytes, or have to be, whether there are too many blocks, whether
--- the head is there, and what it says
+-- the facts that the tests of a fault by the size see: the bytes there are, or have to be, the number of blocks,
+-- the head, and its fault
 abbrev tests : (none over short : Bool) → (says : Result ℕ BlockFault) → (there : ℕ) → Option BlockFault
 tests true over short says there = None
 tests false true short says there = Some fault.Endless

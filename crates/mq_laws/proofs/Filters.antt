@@ -1,4 +1,4 @@
--- What is forwarded doesn't depend on how often one ticks: the sendings to go have no part in it.
+-- Forwarding, which doesn't depend on how often ticks come, since it doesn't read the sendings left.
 use Rattle.std.proofs.Common.{◌≡◌, ℕ, ◌≤◌, Bool, true, false, cond, ◌&&◌, refl, List, [], ◌∷◌, length, suc, Option, None, Some, sym, ap, ◌∙◌, eqb, arith}
 use Rattle.std.specs.{FinMap.FinMap, Option.option_and_then, Option.unwrap_or, Ordering.nat_cmp}
 use Rattle.mq_table.proofs.{Composed.expired-expired, Groups.same_sources, Maps.get-kept}
@@ -107,7 +107,7 @@ bare_expired now g =
 is_the_vacant : (g : GroupState) → is_vacant (held_or_vacant g) ≡ true → held_or_vacant g ≡ vacant
 is_the_vacant g h1 = grind arith
 
--- the same of groups
+-- this fact for groups
 bare_at : Groups → ℕ → GroupState
 bare_at groups group = bare (group_at groups group).group
 

@@ -1,5 +1,5 @@
--- A group that an event doesn't name has the filter that it had; so a table that takes over the filters of those that are
--- named is that of the state.
+-- A table that takes over the filters of the named groups. It is that of the state,
+-- since a group that an event doesn't name keeps its filter.
 use Rattle.std.proofs.Common.{◌≡◌, ℕ, Bool, true, false, cond, not, List, [], ◌∷◌, Option, None, Some, Result, Ok, Err, refl, sym, ap, ◌∙◌}
 use Rattle.std.proofs.lemmas.Bool.{true≢false, or_parts}
 use Rattle.std.specs.{Option.unwrap_or, Ordering.nat_cmp}
@@ -22,7 +22,7 @@ use Rattle.std.specs.FinMap as map
 abbrev filter_in : Groups → ℕ → Filter
 filter_in groups group = filter_of (group_at groups group).group
 
--- what doesn't change it
+-- a state that keeps the filter
 pub same_unless_changed : (before after : GroupState) → changes_filter before after ≡ false → filter_of after ≡ filter_of before
 unfolding changes_filter
 same_unless_changed before after is = sym (are_same-equal (filter_of before) (filter_of after) (by_value (are_same (filter_of before) (filter_of after)) is))
@@ -53,7 +53,7 @@ message_keeps config envelope (OldReport version joined) step group is = same_in
 message_keeps config envelope (LeaveMessage left) step group is = same_in step.state.groups _ group is
 message_keeps config envelope (ReportMessage records) step group is = records_keep (setting_of config step.state) map.empty records step.state.groups group is
 
--- what was read, dropped or not
+-- the read message, dropped or not
 read_keeps : (config : Configuration) (envelope : Envelope) (step : Step) (read : Result (Message ℕ) WireFault) (reason : Option DropReason) (group : ℕ)
     → changed_by_read (setting_of config step.state) read reason step.state.groups group ≡ false
     → filter_in (taken_or_dropped config envelope step read reason).step.state.groups group ≡ filter_in step.state.groups group
@@ -71,7 +71,7 @@ event_keeps config (Datagram envelope bytes now) state group is =
     read_keeps config envelope (tick_of config now state) read (drop_reason config envelope read) group parts.1
     ∙ same_in state.groups (tick_of config now state).state.groups group parts.0
 
--- and forwards the same of it
+-- a group with this filter forwards equally
 pub alike_forwarded : (before after : LinkState) (group source : ℕ) → filter_at after group ≡ filter_at before group
     → forwards after group source ≡ forwards before group source
 alike_forwarded before after group source same =

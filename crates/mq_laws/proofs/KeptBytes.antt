@@ -41,7 +41,7 @@ two_back (a ∷ b ∷ rest) long all =
     let xs : List ℕ = a ∷ b ∷ [] in
     be_bytes_2 xs (big_number 2 (a ∷ b ∷ rest)) refl (each_byte xs (All-take (λ (byte : ℕ). byte < 256) 2 (a ∷ b ∷ rest) all)) (omega arith)
 
--- the same of numbers that stand further behind
+-- this fact for numbers at later places
 pub four_at : (place : ℕ) (xs : List ℕ) → place + 4 ≤ length xs → AreBytes xs → little_bytes 4 (field Little place 4 xs) ≡ take 4 (drop place xs)
 four_at place xs long all = four_back (drop place xs) (omega (arith, length-drop place xs)) (All-drop (λ (byte : ℕ). byte < 256) place xs all)
 
@@ -62,7 +62,7 @@ three_parts xs long =
     let a : take 14 xs ≡ take 12 xs ++ take 2 (drop 12 xs) = take-add 12 2 xs in
     rw (← a) (take-append-drop 14 xs)
 
--- the same of two, the lowest first
+-- this fact for two bytes, the lowest first
 pub low_two_at : (place : ℕ) (xs : List ℕ) → place + 2 ≤ length xs → AreBytes xs → little_bytes 2 (field Little place 2 xs) ≡ take 2 (drop place xs)
 low_two_at place xs long all = low_two_back (drop place xs) (omega (arith, length-drop place xs)) (All-drop (λ (byte : ℕ). byte < 256) place xs all)
   where
@@ -73,14 +73,14 @@ low_two_at place xs long all = low_two_back (drop place xs) (omega (arith, lengt
         let ys : List ℕ = a ∷ b ∷ [] in
         le_bytes_2 ys (little_number 2 (a ∷ b ∷ rest)) refl (each_byte ys (All-take (λ (byte : ℕ). byte < 256) 2 (a ∷ b ∷ rest) all)) (omega arith)
 
--- the bytes of a beginning and of what stands behind it are bytes
+-- both parts of a list of bytes are bytes
 pub front_bytes : (xs ys : List ℕ) → AreBytes (xs ++ ys) → AreBytes xs
 front_bytes xs ys all = subst AreBytes (take-append_seam xs ys) (All-take (λ (byte : ℕ). byte < 256) (length xs) (xs ++ ys) all)
 
 pub rest_bytes : (xs ys : List ℕ) → AreBytes (xs ++ ys) → AreBytes ys
 rest_bytes xs ys all = subst AreBytes (drop-append_seam xs ys) (All-drop (λ (byte : ℕ). byte < 256) (length xs) (xs ++ ys) all)
 
--- a field of a beginning
+-- a field of the first bytes
 pub field-take : (order : Endian) (place n m : ℕ) (xs : List ℕ) → place + n ≤ m → m ≤ length xs → field order place n (take m xs) ≡ field order place n xs
 field-take order place n m xs within long =
     let size = length-take-le m xs long in

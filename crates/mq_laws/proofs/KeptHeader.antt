@@ -23,7 +23,7 @@ use Rattle.mq_laws.specs.PlainCaptures.{looked_at, plain}
 use Rattle.mq_laws.proofs.KeptBytes.{AreBytes, each_byte, field-take, four_at, low_two_at}
 use Rattle.mq_laws.proofs.KeptRecords.{behind_header, whole_seen}
 
--- what the header says beside its magic number
+-- the fields of the header beside its magic number
 record SaysPlain (order : Endian) (fraction : Fraction) (bytes : List ℕ) : Type 0 where
   order_is : order ≡ Little
   fraction_is : fraction ≡ Nanoseconds
@@ -52,7 +52,7 @@ says_plain order fraction bytes is =
         cc)
     by_tests true false false a b c = absurd (let d = rw (a, b, c) at is in cc)
 
--- what is said of the header of such a file, test by test
+-- the facts about the header of such a file, test by test
 pub record IsPlainHeader (bytes : List ℕ) : Type 0 where
   pub long : 24 ≤ length bytes
   pub big_micro : (field Big 0 4 bytes == magic_of Microseconds) ≡ false
@@ -131,7 +131,7 @@ header_read bytes all h =
     let is : seen_in at_start (length (take 24 bytes)) (take 24 bytes) ≡ Ok (behind_header, None) = rw (first_in, big, section, form) (classic_is bytes h) in
     whole_seen at_start (take 24 bytes) (omega (arith, length-take-le 24 bytes h.long)) ∙ is
 
--- what is looked at of it is what is written
+-- the examined bytes are those written
 pub looked_is : (bytes : List ℕ) → AreBytes bytes → IsPlainHeader bytes → looked_at bytes ≡ file_header
 looked_is bytes all h =
     let long = h.long in

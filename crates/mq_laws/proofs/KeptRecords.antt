@@ -1,4 +1,4 @@
--- A record of Ethernet without tags, in nanoseconds, is written as it was.
+-- A record of Ethernet without tags, in nanoseconds, and its conversion, which has the same bytes.
 use Rattle.std.proofs.Common.{◌≡◌, ◌≤◌, ◌<◌, ◌+◌, ◌-◌, ◌*◌, ◌^◌, min, ℕ, Bool, true, false, List, [], ◌∷◌, ◌++◌, length, take, drop, Some, Ok, refl}
 use Rattle.std.proofs.Common.{arith, ◌∙◌, ap, subst, length-append, length-drop}
 use Rattle.std.specs.Prelude.{nat_lt, not, slice_range}
@@ -37,7 +37,7 @@ no_tag addresses kind (a ∷ []) tag = rw tag refl
 no_tag addresses kind (a ∷ (b ∷ [])) tag = rw tag refl
 no_tag addresses kind (a ∷ (b ∷ (c ∷ []))) tag = rw tag refl
 
--- behind the header of such a file
+-- the context after the header of such a file
 abbrev pub behind_header : ContextState
 behind_header = record {
   kind = Classic Little Nanoseconds;
@@ -78,7 +78,7 @@ moment_kept seconds part few below =
 number_below : (place : ℕ) (xs : List ℕ) → AreBytes xs → field Little place 4 xs < 2 ^ 32
 number_below place xs all = little_from-lt 0 4 (drop place xs) (each_byte (drop place xs) (All-drop (λ (byte : ℕ). byte < 256) place xs all))
 
--- what a record holds
+-- the packet of a record
 pub record_read : (header bytes : List ℕ) → length header ≡ 16 → length bytes ≤ most_bytes → AreBytes header → field Little 4 4 header < second →
     block_in behind_header (header ++ bytes) ≡ Ok (behind_header, Some (packet_of header bytes))
 unfolding record_in

@@ -1,4 +1,4 @@
--- No packet is left out whose frame isn't written soon.
+-- The packets left out, whose frames are written soon.
 use Rattle.std.proofs.Common.{◌≡◌, ℕ, ◌-◌, true, false, Bool, List, [], ◌∷◌, ◌++◌, length, take, drop, refl, sym, subst, ap, ◌∙◌, zero, suc, arith}
 use Rattle.std.proofs.Common.{append_assoc}
 use Rattle.std.specs.Prelude.{not, ◌&&◌, ◌||◌}
@@ -27,7 +27,7 @@ any_behind p xs ys is = list_any-append p xs ys ∙ ap (λ b. list_any p xs || b
 any_dropped : {X : Type 0} (p : X → Bool) (n : ℕ) (xs : List X) → list_any p (drop n xs) ≡ true → list_any p xs ≡ true
 any_dropped p n xs is = subst (λ ys. list_any p ys ≡ true) (take-append-drop n xs) (any_behind p (take n xs) (drop n xs) is)
 
--- of several lists one has such an element
+-- one of two lists has such an element
 one_of : (a b : Bool) → (a || b) ≡ true → b ≡ false → a ≡ true
 one_of true b is other = refl
 one_of false b is other = absurd (cc)

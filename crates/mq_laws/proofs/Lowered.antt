@@ -1,4 +1,4 @@
--- What lowering does to a deadline, and lowering twice.
+-- A deadline once it is lowered, and once it is lowered twice.
 use Rattle.std.proofs.Common.{ℕ, Bool, cond, Option, sym, subst, arith}
 use Rattle.std.specs.Option.{option_map}
 use Rattle.mq_table.proofs.Lower.{timer_at-sources_lowered}

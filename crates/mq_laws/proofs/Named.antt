@@ -76,7 +76,7 @@ pub stated_names : (at : Setting) (group : ℕ) (st : Statement) (groups : Group
 unfolding stated
 stated_names at group st groups name h = changed_names at group groups (change_in at group st groups) name h
 
--- a record that goes on is refused as one that is repeated exactly where four records met its group
+-- an admitted record is refused as repeated exactly if four records met its group before
 repeated_given : (at : Setting) (seen : Seen) (r : RecordView ℕ) (groups : Groups) (kind : Kind) → entrance at.config r ≡ GoesOn kind
     → ((judged at seen r groups).verdict ≡ Refused Repeated) ↔ (is_repeated groups seen r.group ≡ true)
 unfolding judged
@@ -106,7 +106,7 @@ long_given at seen r groups = by_entrance (entrance at.config r)
     by_entrance (Stops verdict) = (λ h. ap Stops h, λ h. cc)
     by_entrance (GoesOn kind) = (λ h. absurd (by_test (is_repeated groups seen r.group) kind h), λ h. cc)
 
--- what a record enters with
+-- the entrance of a record
 enters : (config : Configuration) (r : RecordView ℕ) (kind : Kind) → kind_named r.kind ≡ Some kind → is_admitted config.family r.group ≡ true
     → entrance config r ≡ cond (ltb config.limits.group_sources (length r.sources)) (Stops (Refused Long)) (GoesOn kind)
 enters config r kind named admitted =
@@ -148,7 +148,7 @@ unadmitted_ignored at seen r groups apart = ignored_if at seen r groups (by_kind
     by_kind (Some kind) =
         ap (λ b. cond (not b) (Stops Ignored) (cond (ltb at.config.limits.group_sources (length r.sources)) (Stops (Refused Long)) (GoesOn kind))) apart
 
--- want of memory is never named
+-- the refusal for memory never occurs
 pub never_memory : (at : Setting) (seen : Seen) (r : RecordView ℕ) (groups : Groups) → (judged at seen r groups).verdict ≡ Refused Memory → ⊥
 unfolding judged
 never_memory at seen r groups = by_kind (kind_named r.kind)

@@ -1,4 +1,4 @@
--- The number of an address's groups is the address.
+-- The address as the number of its groups of digits.
 use Rattle.std.proofs.Common.{◌≡◌, ℕ, zero, suc, get_or, ◌+◌, ◌*◌, ◌/◌, ◌%◌, ◌^◌, ◌<◌, List, [], ◌∷◌, refl, ap, ◌∙◌, arith}
 use Rattle.std.proofs.Math.Nat.{div-div-eq-div-mul}
 use Rattle.std.specs.Int.{w128, to_be_bytes, from_be_bytes, byte_at}

@@ -1,4 +1,4 @@
--- No text spells two addresses.
+-- The one address of a text.
 use Rattle.std.proofs.Common.{ap, ◌≡◌, ℕ, List, sym, ◌∙◌}
 use Rattle.std.specs.Int.{w32, from_be_bytes}
 use Rattle.std.specs.Net.Addr.{ipv4_octets, ipv6_segments}

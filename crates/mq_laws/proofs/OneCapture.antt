@@ -1,4 +1,4 @@
--- A file is one capture, and some faults of a beginning are faults of the whole.
+-- The one capture of a file, and faults of its first bytes that are faults of the whole.
 use Rattle.std.proofs.Common.{◌≡◌, ◌≤◌, ◌<◌, ◌+◌, ℕ, List, [], ◌∷◌, ◌++◌, length, take, drop, Option, None, Some, Result, Ok, Err, refl, arith, sym}
 use Rattle.std.proofs.Common.{◌∙◌, ap, length-append, append_assoc, subst}
 use Rattle.std.proofs.lemmas.Bool.{le-ltb, lt-ltb}
@@ -13,7 +13,7 @@ use Rattle.std.proofs.lemmas.Bool.Decides.{nat_tests}
 use Rattle.mq_pcap.specs.Tests.{first_that_holds}
 use Rattle.mq_pcap.proofs.Records.{length_of_header, captured_length-append}
 
--- how many bytes a record has, by its header's length field
+-- the bytes of a record, by its header's length field
 size_of : Form → List ℕ → ℕ
 size_of form bytes = 16 + captured_length form bytes
 

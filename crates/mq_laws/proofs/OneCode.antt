@@ -1,4 +1,4 @@
--- No two codes have one value.
+-- The values of codes, which all differ.
 use Rattle.std.proofs.Common.{◌≡◌, ℕ, ◌+◌, ◌-◌, ◌*◌, ◌/◌, ◌%◌, ◌^◌, ◌<◌, ◌≤◌, inl, inr, nat_lt, true, false, ap, sym, ◌∙◌, arith}
 use Rattle.std.proofs.Math.Nat.{mul-le-mul_left, mul-le-mul_right, mod-lt}
 use Rattle.std.proofs.lemmas.Nat.{pow-add, pow_pos, div-add-mod'}
@@ -40,7 +40,7 @@ same_parts b m n e f small_m small_n same =
       ]
     ]
 
--- a number of 16 parts, of which 8 are whole, in parts
+-- a number of 16 parts with 8 whole ones, in parts
 high_parts : (h l b : ℕ) → l < b → 8 * b ≤ h * b + l → h * b + l ≤ 16 * b - 1 → h ≡ 8 + h % 8
 high_parts h l b small low high =
     elim (leb_tells 16 h) [

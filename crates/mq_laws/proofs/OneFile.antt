@@ -1,4 +1,4 @@
--- A file is one capture, and some faults of a beginning are faults of the whole.
+-- The one capture of a file, and faults of its first bytes that are faults of the whole.
 use Rattle.std.proofs.Common.{◌≡◌, ◌≤◌, ◌<◌, ◌+◌, ℕ, false, List, [], ◌∷◌, ◌++◌, length, take, drop, Option, None, Some, Result, Ok, Err, refl, arith}
 use Rattle.std.proofs.Common.{sym, ◌∙◌, ap, inl, inr, length-append, append_assoc, subst}
 use Rattle.std.proofs.lemmas.Bool.{le-ltb, lt-ltb}

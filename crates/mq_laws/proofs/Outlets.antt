@@ -1,4 +1,4 @@
--- What the outlet answers has no part in what a link does next.
+-- The outlet's answers, which don't change the next work of a link.
 use Rattle.std.proofs.Common.{◌≡◌, ℕ, ◌+◌, not, refl, List, [], ◌∷◌, length, Option, None, Some, Result, Ok, Err, sym, ap, ◌∙◌, arith}
 use Rattle.std.specs.{List.count_by, Prelude.map as list_map}
 use Rattle.mq_count.specs.Streams.{counted_on}
@@ -37,7 +37,7 @@ verdicts_answers (Applied ∷ vs) c = verdicts_answers vs (count_verdict Applied
 verdicts_answers (Ignored ∷ vs) c = verdicts_answers vs (count_verdict Ignored c)
 verdicts_answers (Refused name ∷ vs) c = verdicts_answers vs (count_verdict (Refused name) c)
 
--- What is left, handed out and answered, but for sent and unsent, which stay.
+-- The state, the queries and the answer, without the counters of sent and unsent queries.
 pub record Alike (step : Step) (a b : Receipt) : Type 0 where
   pub state : unanswered a.step.state ≡ unanswered b.step.state
   pub queries : a.step.queries ≡ b.step.queries

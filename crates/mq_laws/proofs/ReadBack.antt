@@ -90,7 +90,7 @@ mld_back code high low group suppress robustness interval sources fits_code fits
     same_query _ _ _ _ _ _ _ _ _ _ _ _ is_group (ap value16 is_code) (suppress_back suppress robustness small)
     (robustness_back suppress robustness small) refl is_sources
 
--- how many bytes these are
+-- the number of these bytes
 pub length_igmp : (code high low group flags interval count : ℕ) (sources : List ℕ) →
     length (igmp_bytes code high low group flags interval count sources) ≡ 12 + length sources * 4
 length_igmp code high low group flags interval count sources = let all = length_sources 4 sources in omega (arith, all)

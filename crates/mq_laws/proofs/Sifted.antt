@@ -25,7 +25,7 @@ again_kept false any is = refl
 pub gone_after-again : (choice : Choice) (gone : List Gone) (packet : Captured) → comes_again choice gone packet ≡ true → gone_after choice gone packet ≡ gone
 gone_after-again choice gone packet is = rw (again_kept (is_compared choice packet) (list_any (is_again packet.moment (frame_out packet)) gone) is) refl
 
--- what the first of several packets adds, if it comes again, and if it doesn't
+-- the first of several packets, if it comes again and if it doesn't
 pub going_out-again : (choice : Choice) (gone : List Gone) (packet : Captured) (packets : List Captured) → comes_again choice gone packet ≡ true →
     going_out choice gone (packet ∷ packets) ≡ going_out choice gone packets
 going_out-again choice gone packet packets is =
@@ -56,7 +56,7 @@ once_by : (choice : Choice) (gone : List Gone) (packet : Captured) (packets : Li
 once_by choice gone packet packets true is rest after = rw (is, gone_after-again choice gone packet is) rest
 once_by choice gone packet packets false is rest after = rw (is, is) (ap (λ xs. packet ∷ xs) after)
 
--- what goes out goes out again as it is
+-- a second conversion of the packets changes nothing
 pub once_enough : (choice : Choice) (gone : List Gone) (packets : List Captured) → going_out choice gone (going_out choice gone packets)
     ≡ going_out choice gone packets
 once_enough choice gone [] = refl

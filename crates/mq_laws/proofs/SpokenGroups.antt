@@ -48,7 +48,7 @@ others_of_read at message None groups group is = others_of_message at message gr
 or_nothing : (a b : Bool) → b ≡ false → (a || b) ≡ a
 or_nothing a b h1 = grind arith
 
--- So of such a group a datagram names what the tick at its moment does, and one that spells no message of each group.
+-- A datagram lists such a group exactly if the tick at its moment does. One without a message does so for each group.
 module _ (config : Configuration) (envelope : Envelope) (bytes : List ℕ) (now : ℕ) (state : LinkState) (group : ℕ) where
   abbrev changed_when : Result (Message ℕ) WireFault → Bool
   changed_when read = let left = (tick_of config now state).state in

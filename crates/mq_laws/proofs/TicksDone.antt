@@ -9,7 +9,7 @@ use Rattle.mq_replay.specs.Report.{Replayed, ticked_at, ticked_before}
 use Rattle.mq_replay.specs.Ticks.{ticked_within}
 use Rattle.mq_replay.proofs.Growing.{next_in, tick_in}
 
--- what is known of ticks
+-- the facts about ticks
 abbrev pub KeepsForm : Type 0
 KeepsForm = (config : Configuration) (now : ℕ) (state : LinkState) → IsFaultless config → IsWellFormed config state →
     IsWellFormed config (tick_of config now state).state

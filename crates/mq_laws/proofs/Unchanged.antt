@@ -1,4 +1,4 @@
--- What records and datagrams leave as it was.
+-- The state that records and datagrams leave unchanged.
 use Rattle.std.proofs.Common.{◌≡◌, ℕ, Bool, true, false, cond, refl, List, Option, None, Some, Result, Ok, Err, ap, ◌∙◌, arith, eqb}
 use Rattle.std.proofs.lemmas.Bool.{eqb-true, Decides.nat_tests}
 use Rattle.std.specs.{Option.option_and_then, Ordering.nat_cmp, Ordering.eq_by_cmp}

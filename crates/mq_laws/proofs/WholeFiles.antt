@@ -20,7 +20,7 @@ use Rattle.mq_laws.proofs.AsItWas.{as_it_was_lem}
 use Rattle.mq_laws.proofs.FaultsStay.{faults_stay_lem}
 use Rattle.mq_laws.proofs.OneFile.{one_file_lem}
 
--- what is left of the file
+-- the rest of the file
 rest_of : (ahead : Option (List ℕ)) (file bytes : List ℕ) → Consumes (Some file) ahead bytes → (rest : List ℕ) × (ahead ≡ Some rest) × (file ≡ bytes ++ rest)
 rest_of None file bytes taken = absurd taken
 rest_of (Some rest) file bytes taken = (rest, refl, taken)

@@ -110,7 +110,7 @@ written_groups groups eight fit = by_count (nat_le 2 (longest_zeros groups).coun
         })
     by_count false short = inl (rw short (are_groups groups fit), eight)
 
--- an address that is written is spelled
+-- a written address has its text
 pub written : WrittenIsSpelled
 written = (
   λ address small. (small, refl),

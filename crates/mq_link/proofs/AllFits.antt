@@ -34,7 +34,7 @@ fit_append n (GeneralQuery ∷ xs) ys a b = fit_append n xs ys a b
 fit_append n (GroupQuery g f ∷ xs) ys a b = fit_append n xs ys a b
 fit_append n (SourcesQuery g f ss ∷ xs) ys a b = (a.0, fit_append n xs ys a.1 b)
 
--- what is due for a group
+-- the queries due for a group
 fits_if : (n : ℕ) (b : Bool) → AllFit n (cond b (GeneralQuery ∷ []) [])
 fits_if n true = tt
 fits_if n false = tt
@@ -42,7 +42,7 @@ fits_if n false = tt
 pub fits-general_messages : (n : ℕ) (configured : Timing) (now : ℕ) (e : ElectionState) → AllFit n (general_messages configured now e)
 fits-general_messages n configured now e = fits_if n (general_is_due now (returned configured now e).role)
 
--- what a tick sends
+-- the queries of a tick
 fits_each : (n : ℕ) (timing : Timing) (now : ℕ) (es : List (ℕ × ScheduledGroup)) →
     AllFit n (flat_map (λ (e : ℕ × ScheduledGroup). messages_due n timing now e.0 e.1) es)
 fits_each n timing now [] = tt
@@ -63,7 +63,7 @@ fits-tick_of config now state =
     (fits-general_messages (per_query config.family) config.timing moment state.election)
     (fits-queries_due config.family tick.timing moment (groups_expired moment state.groups))
 
--- what a record sends
+-- the queries of a record
 unless_refused : (n : ℕ) (name : Option Refusal) (before after : Groups) (queries : List SentQuery) → AllFit n queries →
     AllFit n (unless_passed name before after queries).queries
 unless_refused n (Some name) before after queries fit = tt
@@ -108,7 +108,7 @@ fits-all_judged at seen (r ∷ rs) groups =
     fit_append (per_query at.config.family) first.queries rest.queries (fits-judged at seen r groups)
     (fits-all_judged at (seen_after at.config r groups seen) rs first.groups)
 
--- what a datagram sends
+-- the queries of a datagram
 fits_taken : (config : Configuration) (envelope : Envelope) (message : Message ℕ) (tick : Step) → AllFit (per_query config.family) tick.queries →
     AllFit (per_query config.family) (taken_in config envelope message tick).step.queries
 unfolding taken_in

@@ -1,4 +1,4 @@
--- The conditions and the effect of a statement do not depend on comparisons.
+-- The conditions and the effect of a statement, whatever the comparisons.
 use Rattle.std.proofs.Common.{◌≡◌, ℕ, refl, ap, arith}
 use Rattle.mq_table.specs.Stored.{named_in}
 use Rattle.mq_sched.specs.Sending.{SentQuery}

@@ -1,5 +1,5 @@
--- What a BLOCK that is done leaves where its group stands: it has the outcome of the model, it puts a group in the place of one, and
--- another filter isn't forwarded of that group.
+-- A BLOCK done in place: it has the outcome of the model and replaces one group. It
+-- doesn't change what is forwarded of that group.
 use Rattle.std.proofs.Common.{◌≡◌, ℕ, ◌||◌, true, false, List, [], ◌∷◌, is_some, length, refl, sym, ap, ◌∙◌, subst}
 use Rattle.std.specs.FinMap as map
 use Rattle.std.specs.FinSet as set
@@ -34,18 +34,18 @@ use Rattle.mq_link.proofs.KeptGroups.{group_found}
 use Rattle.mq_link.proofs.OneNamed.{names-none}
 use Rattle.mq_link.proofs.RefreshedStates.{put_by_same, put_is}
 
--- a group of which some sources are asked for, and once what is due is sent
+-- a group with some sources asked for, once the due queries are sent
 abbrev pub asked_of : Setting → Set → ScheduledGroup → ScheduledGroup
 asked_of at asked e = acted (is_querier at.election.role) at.election.timing at.now false asked e
 
 abbrev pub after_of : Setting → Set → ScheduledGroup → ScheduledGroup
 after_of at asked e = after_round at.election.timing at.now (asked_of at asked e)
 
--- the groups of which one is asked for some sources
+-- the groups, with some sources of one asked for
 abbrev pub held_of : Setting → ℕ → Set → HeldState → HeldState
 held_of at a asked held = record held { groups = map.insert held.groups a (after_of at asked (group_at held.groups a)) }
 
--- what is sent then
+-- the queries sent then
 abbrev pub due_of : Setting → ℕ → Set → HeldState → List SentQuery
 due_of at a asked held = messages_due (per_query at.config.family) at.election.timing at.now a (asked_of at asked (group_at held.groups a))
 

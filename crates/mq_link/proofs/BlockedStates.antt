@@ -1,4 +1,4 @@
--- What a BLOCK comes to where its group stands.
+-- The outcome of a BLOCK in place.
 use Rattle.std.proofs.Common.{◌≡◌, ℕ, ◌+◌, ◌≤◌, ◌==◌, ◌⊎◌, inl, inr, Bool, true, false, cond, ◌&&◌, not, ◌||◌, List, [], ◌∷◌, Option, None, Some}
 use Rattle.std.proofs.Common.{is_some, refl, sym, ap, ◌∙◌, subst, arith, ltb}
 use Rattle.mq_link.proofs.GrownGroups.{one_at_most}
@@ -70,7 +70,7 @@ timer_stays gmi Include s t a = each_case (TimerThen gmi Include s) (both _ (λ 
 timer_stays gmi (Exclude m) s t a = each_case (TimerThen gmi (Exclude m) s) (both _ (λ _ there. absurd (true≢false (sym (there refl)))) (λ _ _. refl))
     (both _ (λ _ _. refl) (λ _ _. refl)) (λ d n. both _ (λ _ _. refl) (λ _ _. refl)) t a
 
--- it asks for those running ones that it names
+-- it asks for the running sources that it names
 query_of_running : (gmi : ℕ) (mode : FilterMode) (X Y A : Set) (s : ℕ) → X s ≡ true → Y s ≡ false → (table_row gmi mode Block X Y A).query s ≡ A s
 query_of_running gmi Include X Y A s runs none = ap (λ b. b && A s) runs
 query_of_running gmi (Exclude d) X Y A s runs none = ap (λ b. A s && not b) none ∙ and-true (A s)
@@ -139,7 +139,7 @@ module _ (timing : Timing) (now : ℕ) (a b : Set) (e : ScheduledGroup) (agree :
   acted_alike false = refl
   acted_alike true = asked_alike
 
--- what is asked for leaves a group as large
+-- asking keeps the size of a group
 acted_keeps_size : (q : Bool) (timing : Timing) (now : ℕ) (query : Set) (e : ScheduledGroup) → size_of (acted q timing now false query e).group
     ≡ size_of e.group
 acted_keeps_size false timing now query e = refl
@@ -151,8 +151,8 @@ acted_keeps_query : (q : Bool) (timing : Timing) (now : ℕ) (query : Set) (e : 
 acted_keeps_query false timing now query e = refl
 acted_keeps_query true timing now query e = refl
 
--- A BLOCK of a group that is held, for which nothing is due, and which no older host mutes; each source that it names is one that the
--- group has, or it is INCLUDE. `asked` has the sources that it names.
+-- A BLOCK of a held group for which nothing is due and no older host mutes it. The group has each source that the
+-- BLOCK names, or is in INCLUDE mode. `asked` has the named sources.
 module _ (at : Setting) (a : ℕ) (named : NamedSources) (groups : Groups) (sound : AreSound at groups) (held : map.contains_key groups a ≡ true)
     (quiet : IsQuietAt at.now (group_at groups a).schedule) (unmuted : has_older_hosts (group_at groups a) at.now ≡ false)
     (left : has_schedule_left at.config.limits groups (group_at groups a) ≡ true) (asked : Set) (is : (s : ℕ) → set.contains named s ≡ asked s)

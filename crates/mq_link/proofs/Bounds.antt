@@ -1,5 +1,5 @@
--- What the end of timers, rounds, the loss of the role and lowering leave of a group: no more sources and schedules than
--- it had, so that limits are kept.
+-- A group after the end of timers, rounds, the loss of the role and lowering. It has at most the sources and schedules that
+-- it had, so limits are kept.
 use Rattle.std.proofs.Common.{◌≡◌, ℕ, ◌+◌, ◌-◌, ◌≤◌, Bool, true, false, cond, Option, None, Some, IfSome, sym, subst, arith, ltb, leb}
 use Rattle.std.specs.Option.{option_and_then, unwrap_or, is_some}
 use Rattle.std.specs.Ordering.{nat_cmp}
@@ -126,7 +126,7 @@ sources_kept f groups no_more = total-kept sources_of f groups (λ k e. of_one (
     of_one None e h = tt
     of_one (Some a) e h = h.sources
 
--- Groups each of which has no more than before are within the limits that they were in.
+-- If each group has at most what it had, limits that held still hold.
 pub within-kept : (limits : Limits) (f : ℕ → ScheduledGroup → Option ScheduledGroup) (groups : Groups) →
     ((k : ℕ) (e : ScheduledGroup) → IfSome (f k e) (NoMore e)) → AreWithin limits groups → AreWithin limits (kept f groups)
 within-kept limits f groups no_more within = record {

@@ -1,4 +1,4 @@
--- The defaults of a family have no fault.
+-- The defaults of a family, which have no fault.
 use Rattle.std.proofs.Common.{◌≡◌, ℕ, Bool, true, not, cond, Some, None, Option, ap}
 use Rattle.mq_wire.specs.Family.{Family, Igmp, Mld}
 use Rattle.mq_link.specs.declared.configuration.ConfigFault.{ConfigFault}

@@ -1,4 +1,4 @@
--- Which groups records have changed, by the numbers of the groups: a record changes that which it speaks of alone.
+-- The groups that records have changed, by their numbers. A record changes only its own group.
 use Rattle.std.proofs.Common.{◌≡◌, ℕ, ◌+◌, ◌<◌, ◌≤◌, Bool, true, false, cond, ◌||◌, List, [], ◌∷◌, length, set, Option, None, Some, IfSome}
 use Rattle.std.proofs.Common.{MatchOption, refl, sym, ap, ◌∙◌, arith, leb, ltb}
 use Rattle.std.proofs.Math.Bool.{or-false}
@@ -43,7 +43,7 @@ pub changed_by_older : (version : OlderVersion) (timing : Timing) (now : ℕ) (b
 changed_by_older version timing now before after left changed is left_is =
     is ∙ sym (changes-older_host version timing now before after) ∙ ap (changes_filter before) (sym left_is)
 
--- where the groups are as they were none has another filter
+-- unchanged groups have unchanged filters
 pub none_changes : (groups left : Groups) → left ≡ groups → (address : ℕ) → changes groups left address ≡ false
 none_changes groups left same address = ap (λ gs. changes groups gs address) same ∙ unchanged (group_at groups address).group
 
@@ -64,7 +64,7 @@ module _ (groups : Groups) (address : ℕ) (e : ScheduledGroup) where
       ap (λ x. unwrap_or x unheld) (get-with_group groups address e other)
       ∙ ap (λ b. unwrap_or (cond b (cond (is_vacant e.group) None (Some e)) (map.get groups other)) unheld) differs
 
--- What is done behind the change of a group keeps its filter, so whether the group has another then is known when it is changed.
+-- The work after the change of a group keeps its filter. So the change alone decides whether the group has another filter.
 pub changed_then : (groups next : Groups) (address : ℕ) (before asked left : ScheduledGroup) (change : GroupChange) (q : Bool) (timing : Timing)
     (now : ℕ) (changed : Bool)
     → before ≡ group_at groups address → changed ≡ changes_filter before.group change.group → asked ≡ after_change q timing now change before.schedule
@@ -101,7 +101,7 @@ marked_still s left counts test same marked = record {
   each = λ address. marked.each address ∙ or_none (test address) _ (none_changes s.groups left same address);
 }
 
--- A group is put in the place of one, of which another filter is forwarded then or not.
+-- A group replaces one, with an equal filter or another.
 module _ (s next : HeldState) (numbered : AreNumbered s) (numbered_next : AreNumbered next) (keeps : KeepsNumbers s next) (address : ℕ)
     (e : ScheduledGroup) (left : next.groups ≡ with_group s.groups address e) (counts : List ℕ) (test : ℕ → Bool) (marked : AreMarked s counts test) where
   still : AreMet next counts marked.seen

@@ -1,4 +1,4 @@
--- How many sources a statement leaves a group at most.
+-- The most sources of a group after a statement.
 use Rattle.std.proofs.Common.{◌≡◌, ℕ, ◌+◌, ◌≤◌, Bool, true, false, cond, ◌||◌, List, [], ◌∷◌, ◌++◌, Option, None, Some, IfSome, length, refl, sym, ap}
 use Rattle.std.proofs.Common.{◌∙◌, subst, arith, length-append}
 use Rattle.std.specs.Prelude.{map as list_map}

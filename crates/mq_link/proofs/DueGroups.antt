@@ -1,4 +1,4 @@
--- The entries of the groups that have a moment at or before one, and what is so of the others.
+-- The entries of the groups that have a moment at or before a given one, and facts about the others.
 use Rattle.std.proofs.Common.{◌≡◌, ◌==◌, cond, ℕ, zero, suc, ◌+◌, ◌<◌, ◌≤◌, Bool, true, false, ◌||◌, not, refl, List, [], ◌∷◌, ◌++◌, length, Option}
 use Rattle.std.proofs.Common.{None, Some, IfSome, is_some, sym, ap, ◌∙◌, subst, arith, leb}
 use Rattle.std.specs.Prelude.{map as list_map}

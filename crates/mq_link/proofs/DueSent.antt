@@ -1,4 +1,4 @@
--- What a sender has taken of what is due at a moment.
+-- The due queries of a moment that a sender has taken.
 use Rattle.std.proofs.Common.{◌≡◌, ℕ, Bool, cond, [], ◌∷◌, ◌++◌, sym, subst}
 use Rattle.mq_wire.specs.Family.{Family}
 use Rattle.mq_table.specs.declared.timing.Timing.{Timing}

@@ -65,7 +65,7 @@ entries-kept f m = same_entries nat_cmp nat_cmp_total nat_cmp-IsAntisymmetric (m
     ∙ ap (option_and_then (f q)) (map.get-entries m q)
     ∙ sym (find-filtered f (map.entries m) q (map.entries_sorted m)))
 
--- what it holds, where no value grows
+-- the sums over its values, if no value grows
 abbrev values_of : {X : Type 0} → List (ℕ × X) → List X
 values_of es = list_map (λ (e : ℕ × _). e.1) es
 

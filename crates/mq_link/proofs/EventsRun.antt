@@ -20,7 +20,7 @@ RunsOn {O = O} takes events before old left now outlet =
 pub none_run : {O : Type 0} (takes : O → Outgoing → Bool → O → Type 0) (link : LinkValue) (outlet : O) → HasRun takes [] link link outlet outlet
 none_run takes link outlet = record { happenings = []; events_are = refl; runs = tt; leaves = refl; same_config = refl; handed = refl }
 
--- one that happens first
+-- an event that happens first
 happened : {O : Type 0} (takes : O → Outgoing → Bool → O → Type 0) (h : Happening) (events : List Event) (before between after : LinkValue) (old mid new : O)
     → Happens before.config before.state h → h.after ≡ between.state → between.config ≡ before.config → HandsOver takes old h.messages h.answers mid
     → HasRun takes events between after mid new → HasRun takes (h.event ∷ events) before after old new

@@ -53,12 +53,12 @@ left_false : (a b : Bool) → (a || b) ≡ false → a ≡ false
 left_false true b h = cc
 left_false false b h = refl
 
--- what a response code can say is in the range of a timing, for both families
+-- a value of a response code is in the range of a timing, for both families
 response_within : (family : Family) (n : ℕ) → IsWithin (response_unit family) (greatest_response family) n → IsWithin 1 8387584 n
 response_within Igmp n h = record { at_least = let a = h.at_least in omega arith; at_most = let b = h.at_most in omega arith }
 response_within Mld n h = record { at_least = let a = h.at_least in omega arith; at_most = let b = h.at_most in omega arith }
 
--- so many groups, each with so many sources, and so many sources and schedules in all
+-- the limits of groups, of sources of a group, and of all sources and schedules
 in_limits : (config : Configuration) → IsFaultless config → IsWithin 1 65535 config.limits.groups × IsWithin 1 1024 config.limits.group_sources ×
     IsWithin 1 65535 config.limits.sources × IsWithin 1 65535 config.limits.scheduled
 in_limits config h =

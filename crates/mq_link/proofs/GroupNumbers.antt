@@ -1,4 +1,4 @@
--- What the numbers of groups say of the groups.
+-- The groups, by their numbers.
 use Rattle.std.proofs.Common.{◌≡◌, ◌==◌, cond, ℕ, zero, suc, ◌+◌, ◌<◌, ◌≤◌, Bool, true, false, ◌||◌, refl, List, [], ◌∷◌, length, get_or, Some, sym}
 use Rattle.std.proofs.Common.{ap, ◌∙◌, subst, arith}
 use Rattle.std.specs.Prelude.{map as list_map}
@@ -33,7 +33,7 @@ numbered_item (x ∷ items) n is = by_test (x.number == n) refl is (numbered_ite
     by_test true same rest later = (zero, omega arith, λ i. record { number = eqb-true x.number n same i; key = x.key })
     by_test false other rest later = let found = later rest in (suc found.0, (let l = found.1 in omega arith), at_first found.0 _ found.2)
 
--- of a number of a group its address is known
+-- the number of a group has an address
 pub number_found : (s : HeldState) (n : ℕ) → IsNumber s n → HasNumber s (key_in s.order.items n) n
 number_found s n is = record { is = numbered_item s.order.items n is }
 
@@ -78,7 +78,7 @@ module _ (key : ℕ → ℕ) where
           let first : ◌≡◌ {A = ℕ} (cond (x == n) 1 0) 0 = ap (λ b. cond b 1 0) other in
           omega (arith, rest, total, first)
 
--- one that stands at a place is among them
+-- a number at a place is among them
 pub stands_at : (xs : List ℕ) (k n : ℕ) → k < length xs → get_or xs k 0 ≡ n → 1 ≤ times n xs
 stands_at [] k n within is = absurd (omega arith)
 stands_at (x ∷ xs) zero n within is =

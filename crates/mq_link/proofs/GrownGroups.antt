@@ -1,4 +1,4 @@
--- How many more groups records leave than there were.
+-- The number of groups that records add.
 use Rattle.std.proofs.Common.{ℕ, ◌+◌, ◌≤◌, Bool, true, false, cond, not, List, [], ◌∷◌, length, Option, None, Some, arith}
 use Rattle.std.specs.FinMap as map
 use Rattle.std.specs.FinSet as set

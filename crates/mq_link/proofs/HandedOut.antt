@@ -1,4 +1,4 @@
--- What a step hands out, from what a sender has taken of it.
+-- The datagrams of a step, by those that a sender has taken.
 use Rattle.std.proofs.Common.{◌≡◌, ℕ, Bool, not, refl, suc, List, [], ◌∷◌, length, sym, ap, ◌∙◌, subst}
 use Rattle.std.specs.Prelude.{map as list_map}
 use Rattle.std.specs.List.{count_by}
@@ -30,7 +30,7 @@ answered_each takes old (message ∷ messages) (answer ∷ answers) new h = ap s
 abbrev pub with_answers : Counters → (sent unsent : ℕ) → Counters
 with_answers c sent unsent = record c { sent = counted_on c.sent sent; unsent = counted_on c.unsent unsent }
 
--- a step with what its outlet was handed and answered
+-- a step with the datagrams and answers of its outlet
 pub record IsHanded {O : Type 0} (takes : O → Outgoing → Bool → O → Type 0) (config : Configuration) (step : Step) (after : LinkState)
     (old new : O) : Type 0 where
   pub messages : List Outgoing

@@ -1,4 +1,4 @@
--- What a sender has handed to its outlet after some queries.
+-- The datagrams that a sender has passed to its outlet after some queries.
 use Rattle.std.proofs.Common.{◌≡◌, ℕ, ◌+◌, Bool, not, List, [], ◌∷◌, ◌++◌, sym, ap, ◌∙◌, subst, arith, cond}
 use Rattle.std.specs.Prelude.{map as list_map}
 use Rattle.std.specs.List.{count_by}
@@ -50,7 +50,7 @@ counted_more old test answer answers one new first later =
     let all : count_by test (answer ∷ answers) ≡ one_if (test answer) + n = sum_by-cons (λ x. cond (test x) 1 0) answer answers in
     later ∙ ap (λ m. counted_on m n) first ∙ more_on old (one_if (test answer)) n ∙ ap (counted_on old) (sym all)
 
--- the queries that a sender takes are handed over
+-- a sender passes on the queries that it takes
 pub handed_all : {F O K E : Type 0} (takes : O → Outgoing → Bool → O → Type 0) (family : Family) (old : Sender F O K E) (queries : List SentQuery)
     (new : Sender F O K E)
     → AllFit (per_query family) queries → Sends (TakesQuery takes family) old queries new

@@ -1,5 +1,5 @@
--- The groups once a query has been heard: what is lowered where its group is held, and what the groups are still good for
--- once what was to go for them is dropped.
+-- The groups once a query has been heard: the lowered timers if its group is held, and the groups
+-- once their schedules are dropped.
 use Rattle.std.proofs.Common.{◌≡◌, ℕ, ◌+◌, ◌*◌, ◌≤◌, Bool, true, false, cond, refl, Option, None, Some, sym, ap, ◌∙◌, subst, arith, eqb}
 use Rattle.std.proofs.lemmas.Bool.{true≢false, eqb-true}
 use Rattle.std.proofs.lemmas.Bool.Decides.{nat_tests}
@@ -130,6 +130,6 @@ cleared_ready room more s t ready is wide = record {
   served = subst (AreServed more) (sym is) (cleared_served room more s.held.groups wide ready.served);
 }
 
--- what lowering so many sources takes in a group that has few
+-- the cost of lowering sources in a group with few
 pub spent_lowering : (sources digits : ℕ) → digits ≤ 11 → sources * (digits + 1) + 1 ≤ 12 * sources + 1
 spent_lowering sources digits few = grind arith

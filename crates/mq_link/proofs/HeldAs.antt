@@ -1,4 +1,4 @@
--- Each group goes on being as a link may hold it: after the end of timers, rounds, the loss of the role and lowering.
+-- Groups as a link may hold them, after the end of timers, rounds, the loss of the role and lowering.
 use Rattle.std.proofs.Common.{◌≡◌, ℕ, Bool, true, false, cond, inl, inr, refl, Option, None, Some, IfSome, sym, ap, ◌∙◌, subst, eqb, ltb}
 use Rattle.std.proofs.lemmas.Bool.{true≢false}
 use Rattle.std.specs.Option.{option_and_then}
@@ -25,7 +25,7 @@ use Rattle.mq_link.specs.Configuration.{Configuration}
 use Rattle.mq_link.specs.State.{Groups, IsSourceSpecific, IsHeldAs, IsSilent}
 use Rattle.mq_link.specs.Tick.{group_expired, if_held}
 
--- what holds of each group that is held
+-- a fact about each held group
 abbrev pub All : (ℕ → ScheduledGroup → Type 0) → Groups → Type 0
 All P groups = (group : ℕ) (e : ScheduledGroup) → map.get groups group ≡ Some e → P group e
 

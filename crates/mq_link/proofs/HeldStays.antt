@@ -1,4 +1,4 @@
--- What a statement makes of a group that is held is held: its sources stay, with lowered timers.
+-- A held group after a statement, which is held: its sources stay, with lowered timers.
 use Rattle.std.proofs.Common.{◌≡◌, ℕ, Bool, true, false, cond, Option, None, Some, IfSome}
 use Rattle.std.specs.Option.{option_map}
 use Rattle.std.specs.FinSet as set

@@ -1,4 +1,4 @@
--- What becomes of one record, by what it enters with.
+-- The outcome of one record, by its entrance.
 use Rattle.std.proofs.Common.{◌≡◌, ℕ, ◌+◌, ◌-◌, ◌*◌, ◌≤◌, Bool, true, false, cond, not, refl, length, Option, None, Some, ap, ◌∙◌, ltb}
 use Rattle.std.proofs.lemmas.Bool.{ltb-false}
 use Rattle.std.specs.FinMap as map
@@ -35,7 +35,7 @@ module _ (at : Setting) (seen : Seen) (r : RecordView ℕ) (groups : Groups) whe
       ap (judged_from at seen r groups) is
       ∙ ap (λ b. cond b (leaving groups (Refused Repeated)) (stated at r.group (RecordOf kind (set.from_list r.sources)) groups)) first
 
--- What a record counts, spends and moves, by what it enters with.
+-- The counters, comparisons and moves of a record, by its entrance.
 module _ (at : Setting) (seen : Seen) (r : RecordView ℕ) (groups : Groups) where
   pub record IsCounted (after : Seen) (least most moved : ℕ) : Type 0 where
     pub seen_is : seen_after at.config r groups seen ≡ after

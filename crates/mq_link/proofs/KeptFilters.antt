@@ -1,4 +1,4 @@
--- What is done for a group without changing its filter: its queries are counted down, sources that run are asked for, and it is put back.
+-- Work on a group that keeps its filter: its queries are counted down, running sources are asked for, and it is put back.
 use Rattle.std.proofs.Common.{◌≡◌, ℕ, Bool, true, false, not, cond, ltb, Option, None, Some, refl, sym, ap, ◌∙◌}
 use Rattle.std.specs.Option.{option_map}
 use Rattle.std.specs.Ordering.{nat_cmp}
@@ -108,7 +108,7 @@ pub change_keeps_filter : (is_querier : Bool) (timing : Timing) (now : ℕ) (cha
 change_keeps_filter is_querier timing now change schedule =
     acted_keeps_filter is_querier timing now change.query_group change.query (record { group = change.group; schedule = settled change.group schedule })
 
--- of a group that isn't held nothing is forwarded
+-- a group that isn't held forwards nothing
 pub filter_of_unheld : filter_of unheld.group ≡ nothing
 filter_of_unheld =
     let none = set.same_set nat_cmp_total map.nat_cmp-IsAntisymmetric (filter_of unheld.group).sources set.empty (λ s.
@@ -121,7 +121,7 @@ none_named : (mode : FilterMode) → names mode None ≡ false
 none_named Include = refl
 none_named (Exclude d) = refl
 
--- nor of one that is INCLUDE without sources
+-- a group in INCLUDE mode without sources forwards nothing
 pub vacant_filter : (g : GroupState) → is_vacant g ≡ true → filter_of g ≡ nothing
 vacant_filter g is =
     let parts = and_parts (is_include g.mode) _ is in
@@ -131,7 +131,7 @@ vacant_filter g is =
     ∙ sym (ap (names Include) (map.get-empty nat_cmp s)))
     ∙ filter_of_unheld
 
--- so one that is put back has the filter that it had
+-- so a group that is put back keeps its filter
 pub kept_filter : (e : ScheduledGroup) → filter_of (kept_as e).group ≡ filter_of e.group
 kept_filter e = by_vacant (is_vacant e.group) refl
   where

@@ -1,4 +1,4 @@
--- What the number of a group, or the spot where it would go, says of the groups.
+-- The groups, by the number of a group or the place where it would go.
 use Rattle.std.proofs.Common.{◌≡◌, ◌==◌, ℕ, ◌+◌, ◌<◌, ◌≤◌, Bool, true, false, cond, refl, length, get_or, Option, None, Some, is_some, Result, Ok}
 use Rattle.std.proofs.Common.{Err, MatchResult, sym, ap, ◌∙◌, arith, ◌⊎◌, inl, inr}
 use Rattle.std.specs.Option.{unwrap_or}

@@ -150,7 +150,7 @@ entries_by-with_values f rule known is [] = refl
 entries_by-with_values f rule known is (k ∷ ks) =
     (λ i. with_entry k (is k i) (entries_by-with_values f rule known is ks i)) ∙ with_entry-with_values f k (known k) (entries_by known ks)
 
--- What is done to each value of a map of known values.
+-- A change of each value of a map of known values.
 pub kept_as : {X Y : Type 0} (f : X → Y) (what : ℕ → Y → Option Y) (known : ℕ → X → Option X) →
     ((k : ℕ) (x : X) → what k (f x) ≡ option_map f (known k x)) → (es : Entries X) → kept what (map.from_entries (with_values f es))
     ≡ map.from_entries (with_values f (kept_in known es))

@@ -1,4 +1,4 @@
--- After a tick the next moment is later than its own.
+-- The next moment after a tick, which is later than that of the tick.
 use Rattle.std.proofs.Common.{◌≡◌, ℕ, ◌<◌, Bool, true, false, cond, refl, Option, None, Some, IfSome, sym, ◌∙◌, subst, arith}
 use Rattle.std.specs.Option.{option_and_then}
 use Rattle.std.specs.FinMap as map
@@ -24,7 +24,7 @@ use Rattle.mq_link.proofs.HeldAs.{All, some_is}
 use Rattle.mq_link.proofs.Ticked.{ticked_timing}
 use Rattle.mq_link.proofs.Quiet.{IsBeyond, AllAbove, above_beyond, values_above, least_above}
 
--- what a map has after its values were replaced or left out
+-- the values of a map, once they are replaced or left out
 all_then : (P Q : ℕ → ScheduledGroup → Type 0) (f : ℕ → ScheduledGroup → Option ScheduledGroup) (groups : Groups) →
     ((k : ℕ) (e : ScheduledGroup) → P k e → IfSome (f k e) (Q k)) → All P groups → All Q (kept f groups)
 all_then P Q f groups gives all group e is = by_group (map.get groups group) refl (sym (get-kept f groups group) ∙ is)

@@ -1,4 +1,4 @@
--- Bytes that spell a message are no fewer than its least length: each source that it names takes four bytes at least, and
+-- The least length of a message's bytes: each named source takes at least four bytes, and
 -- each record eight besides.
 use Rattle.std.proofs.Common.{◌≡◌, ℕ, zero, suc, ◌+◌, ◌*◌, ◌≤◌, Bool, true, false, cond, List, [], ◌∷◌, ◌++◌, length, Ok, drop, replicate, sum, arith}
 use Rattle.std.proofs.Math.Nat.{mul-le-mul_left}

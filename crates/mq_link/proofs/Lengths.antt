@@ -1,4 +1,4 @@
--- How many bytes a query has that one message holds.
+-- The bytes of a query in one message.
 use Rattle.std.proofs.Common.{◌≡◌, ℕ, ◌+◌, ◌*◌, ◌≤◌, ◌++◌, Bool, false, List, [], length, take, drop, arith, ◌∙◌}
 use Rattle.std.specs.List.{refill}
 use Rattle.std.proofs.lemmas.List.{take-append-le, take-take}
@@ -50,7 +50,7 @@ within_longest family terms (GroupQuery group s) fits =
 within_longest family terms (SourcesQuery group s sources) fits =
     let t = terms.timing in length_sent family terms.own group t.last_member_interval t s sources fits
 
--- what stands in front of a list that was lent and given back
+-- the front of a list that was given and returned
 pub written_back : (n count : ℕ) (before after : List ℕ) → count ≤ n → count ≤ length after → take count (refill n before after) ≡ take count after
 written_back n count before after within inside =
     take-take count n (after ++ drop (length after) before) within

@@ -1,4 +1,4 @@
--- What a datagram makes of a link.
+-- A link after a datagram.
 use Rattle.std.proofs.Common.{◌≡◌, ℕ, Bool, refl, List, [], ◌++◌, append-nil, Option, None, Some, Result, Ok, Err, sym, ap, ◌∙◌, subst}
 use Rattle.mq_wire.specs.Family.{Family}
 use Rattle.mq_wire.specs.declared.message.Message.{Message}
@@ -95,7 +95,7 @@ is_dropped takes sink envelope read reason old between new is counted dropped =
       answer_is = refl;
     })
 
--- one that isn't is counted, and its message taken
+-- a datagram that isn't dropped is counted, and its message taken
 pub is_taken : (envelope : Envelope) (message : Message ℕ) (old between : RouterValue)
     → drop_reason old.at.config envelope (Ok message) ≡ None → between ≡ record old { counters = count_read (Ok message) old.counters }
     → receipt_after old.at.config envelope (Ok message) (silent_step (state_of old)) ≡ taken_in between.at.config envelope message

@@ -1,4 +1,4 @@
--- What is stored of a link, at its start and after its calls.
+-- The storage of a link, at its start and after its calls.
 use Rattle.std.proofs.Common.{◌≡◌, ℕ, ◌*◌, ◌<◌, ◌≤◌, List, [], ◌∷◌, false, Some, refl, sym, ap, ◌∙◌, subst, arith, leb}
 use Rattle.std.specs.List.{list_any}
 use Rattle.std.specs.Option.{unwrap_or}
@@ -25,7 +25,7 @@ use Rattle.mq_link.proofs.Quiet.{AllAbove, above_least, above_values}
 use Rattle.mq_link.proofs.Receipts.{sound_in}
 use Rattle.mq_link.proofs.Silent.{from-each, not_reached}
 
--- of a group that isn't held nothing is forwarded
+-- a group that isn't held forwards nothing
 pub none_forwarded : (source : ℕ) → forwards_in unheld.group source ≡ false
 none_forwarded source = ap is_running (map.get-empty nat_cmp source)
 
@@ -76,7 +76,7 @@ none_due state now before group e is =
     none_reached now (moments_of e)
     (from-each (λ _ e. AllAbove now (moments_of e)) (map.entries state.groups) each group e (sym (map.get-entries state.groups group) ∙ is))
 
--- what is stored after a call: the groups are sound still, and the rooms stay
+-- the storage after a call: the groups are still sound, and the rooms stay
 pub stored_next : {K A : Type 0} (status after : Setting) (storage next : Storage K A)
     → IsStored status storage → after.config ≡ status.config → AreSound after next.held.groups → KeepsRooms storage next → IsStored after next
 stored_next status after storage next was same sound kept = record {

@@ -1,4 +1,4 @@
--- What a tick makes of a router.
+-- A router after a tick.
 use Rattle.std.proofs.Common.{◌≡◌, ℕ, Bool, max, ◌++◌, sym, ap, ◌∙◌, subst}
 use Rattle.mq_wire.specs.Family.{Family}
 use Rattle.mq_table.specs.Variables.{AreInRange}
@@ -19,7 +19,7 @@ use Rattle.mq_link.proofs.LinkStored.{well_formed_at}
 use Rattle.mq_link.proofs.Receipts.{sound_in}
 use Rattle.mq_link.proofs.Ticked.{IsWellFormed-tick_at}
 
--- what the work of a moment leaves, and what the sender has taken by it
+-- the state after the work of a moment, and the queries that the sender has taken
 pub record HasDone {F O K E : Type 0} (takes : O → Outgoing → Bool → O → Type 0) (family : Family) (moment : ℕ) (before after : RouterValue)
     (old new : Sender F O K E) : Type 0 where
   pub status_is : after.at ≡ record before.at { election = ticked before.at.config.timing moment before.at.election; now = moment }

@@ -1,4 +1,4 @@
--- What lists of the addresses of groups that a call changed are lent, and leave.
+-- The lists of the addresses of changed groups, before and after a call.
 use Rattle.std.proofs.Common.{◌≡◌, ℕ, zero, suc, ◌+◌, ◌*◌, ◌/◌, ◌≤◌, min, Bool, false, ◌||◌, List, length, ap, ◌∙◌, arith, sym}
 use Rattle.std.proofs.Math.Bool.{or-false}
 use Rattle.std.specs.Prelude.{map as list_map, slice_index}
@@ -25,7 +25,7 @@ those_so same are = record { ascending = are.ascending; each = λ address. are.e
 pub those_alone : {test : ℕ → Bool} {addresses : List ℕ} → AreThose test addresses → AreThose (λ address. test address || false) addresses
 those_alone {test} are = those_so (λ address. sym (or-false (test address))) are
 
--- how many there are in a workspace, by what is inside of it
+-- the length of the list in a workspace, by its inside
 pub few_inside : {K A : Type 0} (number : K → ℕ) (lists : Lists K A) (w lent : WorkspaceState) (most : ℕ) → w ≡ lent →
     w.changed ≡ list_map number lists.changed.items → length lent.changed ≤ most → length lists.changed.items ≤ most
 few_inside number lists w lent most is inside few =

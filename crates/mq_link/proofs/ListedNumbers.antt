@@ -86,7 +86,7 @@ module _ (counts numbers : List ℕ) (known : AreListed counts numbers) (number 
     had_none : counts_so (slice_index counts number) ≡ 0
     had_none = ap counts_so none
 
-    -- there is room in the list for one that isn't
+    -- there is room in the list for a number that isn't listed
     pub room_for_one : length numbers < length counts
     room_for_one =
         let all = known.count in
@@ -94,7 +94,7 @@ module _ (counts numbers : List ℕ) (known : AreListed counts numbers) (number 
         let same = length-set counts number count in
         omega (arith, all, changed, has_one, had_none, most, same)
 
-    -- one that isn't is put behind the others
+    -- a number that isn't listed is put after the others
     pub listed_first : AreListed counted (numbers ++ number ∷ [])
     listed_first = record {
       once = λ n. by_number n (eq_by_cmp nat_cmp n number) refl;

@@ -42,7 +42,7 @@ module _ {X : Type 0} (f : ℕ → X → X) where
       ∙ length-filtered (map.entries m)
       ∙ sym (map.len-entries m)
 
--- one that has a sending after a count has another beside the next before it
+-- a source with a sending after a count had one more before it
 more_than_one : (timer : Option SourceTimer) → ltb 0 (sendings_of (option_and_then (λ t. Some (source_counted t)) timer)) ≡ ltb 1 (sendings_of timer)
 more_than_one None = refl
 more_than_one (Some Stopped) = refl
@@ -64,7 +64,7 @@ some_after_count number g row up is =
     test : (s : ℕ) → has_sendings (sendings_counted g) s ≡ ltb 1 (sendings_of (map.get g.sources s))
     test s = ap (λ timer. ltb 0 (sendings_of timer)) (get-kept (λ s timer. Some (source_counted timer)) g.sources s) ∙ more_than_one (map.get g.sources s)
 
--- whether the sources are due again after a round in which they are
+-- the test whether sources that are due in a round are due again after it
 pub due_again : (timing : Timing) (now : ℕ) (g : GroupState) (due : Option ℕ) (some : Bool) → is_due now due ≡ true →
     some_source (has_sendings (sendings_counted g)) (sendings_counted g) ≡ some →
     some ≡ is_some (cond (is_due now due) (sources_due_next timing now (cond (is_due now due) (sendings_counted g) g)) due)

@@ -32,7 +32,7 @@ unmarked s counts none = record {
   each = λ address. ap (λ x. ltb 0 (unwrap_or x 0)) (map.get-empty {X = ℕ} nat_cmp address);
 }
 
--- What is so of the numbers of the groups of some state.
+-- Facts about the numbers of the groups of a state.
 pub record AreNumbered (s : HeldState) : Type 0 where
   pub held : (address : ℕ) → map.contains_key s.groups address ≡ true → (number : ℕ) × HasNumber s address number
   pub of_one : (address number : ℕ) → HasNumber s address number → map.contains_key s.groups address ≡ true

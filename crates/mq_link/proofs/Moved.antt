@@ -1,4 +1,4 @@
--- How what is moved adds up, with what is put by for the rows of sources to be packed again.
+-- The sum of moves, with those put by for the next packing of the rows of sources.
 use Rattle.std.proofs.Common.{◌≡◌, ℕ, ◌+◌, ◌≤◌, arith}
 use Rattle.mq_count.specs.Spending.{Spends}
 use Rattle.mq_count.proofs.Spent.{Spends-none, Spends-within, Spends-join_within}
@@ -24,7 +24,7 @@ paid_join budget h k few =
     let b = k.paid in
     record { moved = h.moved + k.moved; spends = Spends-join_within 0 (h.moved + k.moved) h.spends k.spends (omega arith) (omega arith); paid = omega arith }
 
--- what is moved is no more than the budget and what was put by
+-- the moves are at most the budget and those put by
 pub paid_moves : (most : ℕ) {budget before after old new : ℕ} → IsPaid budget before after old new → before + budget ≤ most → Spends 0 most old new
 paid_moves most h few = let paid = h.paid in Spends-within 0 most h.spends (omega arith) (omega arith)
 

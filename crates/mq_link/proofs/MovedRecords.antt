@@ -1,4 +1,4 @@
--- What a record moves, with what is left for the records behind it, is no more than what was left before it and what it brings.
+-- The bound of a record's moves: with those left for later records, at most those left before it and its own.
 use Rattle.std.proofs.Common.{◌≡◌, ℕ, ◌+◌, ◌*◌, ◌≤◌, Bool, true, false, cond, ◌&&◌, refl, List, [], ◌∷◌, length, subst, arith, leb}
 use Rattle.std.proofs.lemmas.Bool.{leb-false}
 use Rattle.std.proofs.lemmas.List.Sums.{sum_by-cons}
@@ -48,7 +48,7 @@ record_moves_pay at seen r groups = by_entrance (entrance at.config r)
     by_entrance (Stops verdict) = omega arith
     by_entrance (GoesOn kind) = by_tests kind (map.contains_key groups r.group) (leb 4 (met seen r.group)) refl refl
 
--- What the records so far have moved leaves enough for those that are left.
+-- The moves of the records so far leave enough for the rest.
 pub record IsMovedSoFar (all : List (RecordView ℕ)) (held : Groups) (from from_put_by : ℕ) (left : List (RecordView ℕ)) (seen : Seen)
     (groups : Groups) (moved put_by : ℕ) : Type 0 where
   pub budget : ℕ
@@ -81,7 +81,7 @@ all_moved all held from from_put_by left seen groups moved put_by so_far none =
     let enough = h.enough in
     paid_within (24 * sources_in held + sum_by own_moves all) h.paid (omega (arith, enough))
 
--- What the records of a Report bring is within 256 for each byte that they take.
+-- The records of a Report bring at most 256 moves for each of their bytes.
 pub report_moves_within : (rs : List (RecordView ℕ)) → sum_by own_moves rs + 65 * length rs ≤ 256 * sum_by (λ r. 8 + 4 * length r.sources) rs
 report_moves_within [] = omega arith
 report_moves_within (r ∷ rs) =

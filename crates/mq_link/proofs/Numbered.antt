@@ -26,7 +26,7 @@ same_message (OldReport version group) = refl
 same_message (Leave group) = refl
 same_message (Report records) = refl
 
--- what the readers of the messages promise is what bytes are read as
+-- the promise of the readers of messages is the message of the bytes
 pub read_as : (family : Family) (pseudo bytes : List ℕ) (read : Result (Message ℕ) WireFault)
     → ((message : Message ℕ) → (read ≡ Ok message) ↔ Spells family pseudo bytes message)
     → ((fault : WireFault) → (read ≡ Err fault) ↔ (fault_of family pseudo bytes ≡ Some fault))

@@ -1,4 +1,4 @@
--- The number of the sixteen octets of an address is the address.
+-- The number of an address's sixteen octets, which is the address.
 use Rattle.std.proofs.Common.{◌≡◌, ℕ, ◌+◌, ◌*◌, ◌/◌, ◌%◌, ◌^◌, ◌<◌, [], ◌∷◌, arith}
 use Rattle.std.proofs.Math.Nat.{div-div-eq-div-mul}
 use Rattle.std.specs.Int.{w128, to_be_bytes, from_be_bytes, byte_at}

@@ -1,4 +1,4 @@
--- What lists of no source and of one source name.
+-- The names of lists of no source and of one source.
 use Rattle.std.proofs.Common.{◌≡◌, ℕ, get_or, false, List, [], ◌∷◌, length, sym, ap, ◌∙◌, arith}
 use Rattle.std.proofs.Math.Bool.{or-false}
 use Rattle.std.specs.Ordering.{nat_cmp, eq_by_cmp}

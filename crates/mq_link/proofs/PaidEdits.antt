@@ -1,4 +1,4 @@
--- What a group that is put, made or taken out moves is paid by five for each of its sources, and by what is put by.
+-- The moves of a group that is put, made or taken out. Five for each of its sources, and those put by, pay them.
 use Rattle.std.proofs.Common.{◌≡◌, cond, ℕ, ◌+◌, ◌-◌, ◌*◌, ◌/◌, ◌<◌, ◌≤◌, Bool, true, false, not, min, ⊎_elim, None, Some, IfSome, refl, length, sym}
 use Rattle.std.proofs.Common.{ap, ◌∙◌, arith, leb, ltb, ◌⊎◌, inl, inr}
 use Rattle.mq_held.proofs.DueInOrder.{few-running}
@@ -23,14 +23,14 @@ use Rattle.mq_link.proofs.Entries.{total-kept}
 use Rattle.mq_link.proofs.HeldAs.{vacant_is}
 use Rattle.mq_link.proofs.Moved.{paid_by}
 
--- whether a group has a moment, as a number
+-- 1 for a group that has a moment, else 0
 abbrev runs : ScheduledGroup → ℕ
 runs e = one_if (not (is_vacant e.group))
 
 unheld_rests : runs unheld ≡ 0
 unheld_rests = ap (λ b. one_if (not b)) vacant_is
 
--- how many sources and moments there are once a group is set, or taken out
+-- the sources and moments once a group is set, or taken out
 module _ (groups : Groups) (a : ℕ) where
   pub sources_set : (e : ScheduledGroup) → sources_in (map.insert groups a e) + sources_of (group_at groups a) ≡ sources_in groups + sources_of e
   sources_set e =
@@ -42,7 +42,7 @@ module _ (groups : Groups) (a : ℕ) where
       let total = total-with (λ (x : ℕ × ScheduledGroup). runs x.1) groups a unheld_rests e in
       omega (arith, total, total-entries runs groups, total-entries runs (map.insert groups a e))
 
--- what is moved for a row is paid, by numbers alone
+-- the moves for a row are paid, by numbers alone
 row_paid : (limit room cells running ahead had has named left : ℕ) → named ≤ running + 1 → running ≤ room → had ≤ cells → cells + has ≤ limit + had →
     left ≤ running + 1
     → (cond (leb has had) has (cond (leb has ahead) has (has + (cells - had + named))))
@@ -112,7 +112,7 @@ put_paid s after a e old new few fits groups_are order_is room_is ahead_is moved
     (let all = few-running s.groups in omega (arith, all)) in
     paid_by (5 * sources_of e + 5 + bitlen (map.len s.groups)) moved (omega (arith, paid, digits))
 
--- the order of the addresses has few pages, none of which has many
+-- the order of the addresses has few pages, and no page has many
 module _ (s : HeldState) (few : map.len s.groups ≤ 65535) (filled : AreFilled s.order.pages)
     (few_pages : 128 * length s.order.pages ≤ map.len s.groups + 128) where
   pages_few : length s.order.pages ≤ 512
@@ -190,11 +190,11 @@ taken_out_paid s after budget low old new groups_are rooms room_is ahead_is move
     let rests : running_in (without_vacant s.groups) ≤ running_in s.groups = total-kept runs if_running s.groups runs_no_more in
     paid_by budget moved (omega (arith, after_is, fewer, rests))
 
--- what is put by is no more than what packing moves
+-- the moves put by are at most those of packing
 pub put_by_few : (s : HeldState) → put_by_rows s ≤ sources_in s.groups + map.len s.groups
 put_by_few s = let all = few-running s.groups in omega (arith, all)
 
--- what is spent where there is some is no more than where there is much
+-- the comparisons for some are at most those for many
 pub some_of : (some most : ℕ) → min 1 some * most ≤ most
 some_of some most = let few : min 1 some ≤ 1 = omega arith in let all = mul-le-mul_right most few in omega (arith, all)
 

@@ -1,5 +1,5 @@
--- What the records of a datagram may still spend on the sources of the groups that are held: each of the first four that
--- meet a group, six comparisons for each of its sources. What a record spends falls off it, but for what it brings.
+-- The comparisons that a datagram's records may still make on the sources of the held groups. Each of the first four that
+-- meet a group has six for each of its sources. A record takes away those that it makes, without those that it brings.
 use Rattle.std.proofs.Common.{◌≡◌, ℕ, zero, suc, ◌+◌, ◌-◌, ◌*◌, ◌<◌, ◌≤◌, Bool, true, false, cond, refl, List, [], ◌∷◌, Option, None, Some, is_some}
 use Rattle.std.proofs.Common.{sym, ap, ◌∙◌, subst, arith}
 use Rattle.std.proofs.Math.Nat.{mul-le-mul_left, mul-le-mul_right}
@@ -17,7 +17,7 @@ use Rattle.mq_held.proofs.Sorted.{tied}
 use Rattle.mq_held.proofs.Amounts.{no_sources, vacant_sources, total-with_group}
 use Rattle.mq_link.specs.Record.{Seen, met}
 
--- of a group of so many sources, that so many records have met
+-- the comparisons left for a group with these sources, once these records have met it
 abbrev pub left_for : (meetings sources : ℕ) → ℕ
 left_for meetings sources = (4 - meetings) * (6 * sources)
 
@@ -27,7 +27,7 @@ left_of seen e = left_for (met seen e.0) (sources_of e.1)
 abbrev pub potential : Seen → Groups → ℕ
 potential seen groups = sum_by (left_of seen) (map.entries groups)
 
--- What is left falls by what is met.
+-- The comparisons left fall by those of the met group.
 module _ (before after : ℕ × ScheduledGroup → ℕ) (no_more : (e : ℕ × ScheduledGroup) → after e ≤ before e) (a falls : ℕ) where
   pub sum-falls : (es : List (ℕ × ScheduledGroup)) (e : ScheduledGroup) → find nat_cmp a es ≡ Some e → after (a, e) + falls ≤ before (a, e) →
       sum_by after es + falls ≤ sum_by before es

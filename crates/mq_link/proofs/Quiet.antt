@@ -37,7 +37,7 @@ use Rattle.mq_link.proofs.Known.{same_answers}
 use Rattle.mq_link.proofs.Silent.{Each, each-entry, from-each, not_reached}
 use Rattle.mq_link.proofs.HeldAs.{All}
 
--- what is above a moment
+-- a list of moments above another
 abbrev pub AllAbove : ℕ → List ℕ → Type 0
 AllAbove m [] = Unit {0}
 AllAbove m (x ∷ xs) = (m < x) × AllAbove m xs
@@ -66,7 +66,7 @@ option_above : (m : ℕ) (x : Option ℕ) → IfSome x (λ d. m < d) → AllAbov
 option_above m None h = tt
 option_above m (Some d) h = (h, tt)
 
--- the same of the values of entries
+-- this fact for the values of entries
 pub above_values : {X : Type 0} (m : ℕ) (f : X → List ℕ) (es : List (ℕ × X)) → AllAbove m (flat_map f (list_map (λ (e : ℕ × X). e.1) es)) →
     Each (λ _ x. AllAbove m (f x)) es
 above_values m f [] h = tt

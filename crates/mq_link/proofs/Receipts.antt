@@ -31,7 +31,7 @@ use Rattle.mq_link.proofs.Ticked.{IsCarriedBy, IsWellFormed-query_heard}
 use Rattle.mq_link.specs.Sound.{AreSound}
 use Rattle.mq_link.proofs.Recorded.{stated_leaves, all_judged_leave}
 
--- the same of what bytes are read as
+-- this fact for the message of bytes
 abbrev pub IsCarriedWhere : Result (Message ℕ) WireFault → Type 0
 IsCarriedWhere (Ok message) = IsCarriedIn message
 IsCarriedWhere (Err fault) = Unit {0}
@@ -66,7 +66,7 @@ carried_query family bytes = by_length (eqb (length bytes) (group_end family))
     by_length true = tt
     by_length false = record { robustness = omega arith; query_seconds = value_at_most (slice_index bytes (group_end family + 1)) }
 
--- by the type of a message
+-- the cases of a message's type
 igmp_carried : (bytes : List ℕ) (code : ℕ) → IfSome (option_map (λ kind. message_of Igmp kind bytes) (type_named Igmp code)) IsCarriedIn
 igmp_carried bytes code = by_tests (eqb code 0x11) (eqb code 0x12) (eqb code 0x16) (eqb code 0x17) (eqb code 0x22) refl refl refl refl refl
   where
@@ -155,7 +155,7 @@ decided_leaves config envelope step (Err fault) None own carried is h = recounte
 decided_leaves config envelope step (Ok message) None own carried is h =
     taken_leaves config envelope message (counting_read (Ok message) step) own carried is (recounted config step.state _ h)
 
--- What is done after a tick leaves a well-formed state well-formed.
+-- The work after a tick leaves a well-formed state well-formed.
 pub IsWellFormed-receipt_after : (config : Configuration) (envelope : Envelope) (read : Result (Message ℕ) WireFault) (step : Step) →
     AreInRange config.timing → IsCarriedWhere read → IsWellFormed config step.state → IsWellFormed config (receipt_after config envelope read step).step.state
 IsWellFormed-receipt_after config envelope read step own carried h =

@@ -1,4 +1,4 @@
--- What a record takes, with what is left for the records behind it, is no more than what was left before it and what it
+-- The bound of a record's comparisons: with those left for later records, at most those left before it and those that it
 -- brings.
 use Rattle.std.proofs.Common.{◌≡◌, ℕ, ◌+◌, ◌-◌, ◌*◌, ◌≤◌, max, Bool, true, false, cond, ◌&&◌, refl, List, [], ◌∷◌, length, Option, None, Some, IfSome}
 use Rattle.std.proofs.Common.{sym, ◌∙◌, subst, arith, leb, add_assoc, add-zero, zero-add}
@@ -108,7 +108,7 @@ record_pays at seen r groups few_groups = by_entrance (entrance at.config r)
     by_entrance (Stops verdict) = omega arith
     by_entrance (GoesOn kind) = by_tests kind (map.contains_key groups r.group) (leb 4 (met seen r.group)) refl refl
 
--- What the records so far have spent, at least and at most, leaves enough for those that are left.
+-- The records so far have spent, at least and at most, so much that enough is left for the rest.
 pub record IsPaidSoFar (at : Setting) (all : List (RecordView ℕ)) (held : Groups) (from : ℕ) (left : List (RecordView ℕ)) (seen : Seen)
     (groups : Groups) (m : ℕ) : Type 0 where
   pub least : ℕ
@@ -147,7 +147,7 @@ all_paid at all held from left seen groups m so_far none =
     let whole : least_all at map.empty all held ≡ h.least = h.fewest ∙ add-zero h.least in
     Spends-within _ _ h.counted (omega (arith, whole)) (omega (arith, enough))
 
--- What the records of a Report bring is within 64 for each byte that they take, and so is what one statement takes.
+-- The records of a Report bring at most 64 comparisons for each of their bytes, and one statement takes at most as many.
 pub report_within : (rs : List (RecordView ℕ)) → sum_by own_cost rs + 7 * length rs ≤ 64 * sum_by (λ r. 8 + 4 * length r.sources) rs
 report_within [] = omega arith
 report_within (r ∷ rs) =

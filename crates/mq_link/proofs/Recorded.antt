@@ -53,7 +53,7 @@ use Rattle.mq_link.proofs.Bounds.{no_sources, round_size}
 use Rattle.mq_link.proofs.Known.{entries-known}
 use Rattle.mq_link.proofs.HeldAs.{All, vacant_is, lowered_include, settled_silent, silent_round}
 
--- what a record meets: a group that is held as it may be, or none
+-- the group that a record meets: a held group in a proper state, or none
 pub record IsReady (config : Configuration) (group : ℕ) (e : ScheduledGroup) : Type 0 where
   pub any : IsAnyGroup e.group
   pub fits : IsScheduleOf e.group e.schedule
@@ -169,7 +169,7 @@ stated_soundly config group mutes timing now (OlderJoin version) e h = joined_so
 stated_soundly config group mutes timing now OlderLeave e h =
     translated_soundly config group mutes (is_source_specific config group) timing now e ToIn set.empty h (unmuted_leave (is_source_specific config group))
 
--- what is asked of a group leaves its mode, and no more sources
+-- asking keeps a group's mode, and adds no source
 acted_include : (q : Bool) (timing : Timing) (now : ℕ) (asks : Bool) (query : Set) (e : ScheduledGroup) →
     is_include (acted q timing now asks query e).group.mode ≡ is_include e.group.mode
 acted_include false timing now asks query e = refl
@@ -218,7 +218,7 @@ still_vacant q timing now asks query e h =
     vacant_from (cond (is_due now a.schedule.sources_due) (sendings_counted a.group) a.group)
     (round_include a.group (is_due now a.schedule.sources_due) ∙ acted_include q timing now asks query e ∙ include) (omega arith)
 
--- what is left of a group after a change and what it sends
+-- a group after a change and its queries
 pub sound_after : (config : Configuration) (group : ℕ) (q : Bool) (timing : Timing) (now : ℕ) (change : GroupChange) (schedule : ScheduleState) →
     0 < timing.robustness → is_admitted config.family group ≡ true → IsSound config group schedule change →
     (let left = after_round timing now (after_change q timing now change schedule) in is_vacant left.group ≡ false → IsHeldAs config group left)
@@ -276,7 +276,7 @@ all-with_group P groups group e here all other found is = by_place (eq_by_cmp na
     by_place true t now_is = replaced (is_vacant e.group) refl (tied other group t) now_is
     by_place false t now_is = all other found now_is
 
--- what the four tests of the limits say where none holds
+-- the four tests of the limits, if none holds
 passes_none : (a b c d : Bool) (w x y z : Refusal) → first_named ((w, a) ∷ (x, b) ∷ (y, c) ∷ (z, d) ∷ []) ≡ None → (a ≡ false) × (b ≡ false) ×
     (c ≡ false) × (d ≡ false)
 passes_none true b c d w x y z h = cc

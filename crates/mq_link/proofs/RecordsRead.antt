@@ -1,4 +1,4 @@
--- A Report has no more records than its count can tell.
+-- The records of a Report, at most as many as its count can hold.
 use Rattle.std.proofs.Common.{◌≡◌, ℕ, ◌+◌, ◌<◌, ◌≤◌, Bool, true, false, List, length, drop, Option, None, Some, IfSome, Ok, refl, arith, eqb}
 use Rattle.std.proofs.lemmas.List.{get_or-drop}
 use Rattle.std.specs.Prelude.{slice_index}
@@ -29,7 +29,7 @@ HasFew message = length (records_in message) ≤ most_records
 few_of_report : (family : Family) (bytes : List ℕ) → AreOctets bytes → length (report_records family bytes) ≤ most_records
 few_of_report family bytes octets = rw (length_records (address_width family) (record_count bytes) 8 bytes) (few_counted bytes octets)
 
--- by the type of a message
+-- the cases of a message's type
 igmp_few : (bytes : List ℕ) (code : ℕ) → AreOctets bytes → IfSome (option_map (λ kind. message_of Igmp kind bytes) (type_named Igmp code)) HasFew
 igmp_few bytes code octets = by_tests (eqb code 0x11) (eqb code 0x12) (eqb code 0x16) (eqb code 0x17) (eqb code 0x22) refl refl refl refl refl
   where

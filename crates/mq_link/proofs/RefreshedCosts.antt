@@ -1,4 +1,4 @@
--- What is spent for a record that is heard from hosts that still want the sources that it names.
+-- The comparisons for a record of hosts that still want the named sources.
 use Rattle.std.proofs.Common.{◌≡◌, ℕ, zero, suc, ◌+◌, ◌*◌, ◌^◌, ◌/◌, ◌<◌, ◌≤◌, ◌==◌, Bool, true, false, cond, not, ◌&&◌, ◌||◌, List, [], ◌∷◌, length}
 use Rattle.std.proofs.Common.{get_or, min, Option, None, Some, IfSome, refl, sym, ap, ◌∙◌, arith, add-one}
 use Rattle.std.specs.List.{list_any}
@@ -111,7 +111,7 @@ none_stopped_in number row up none =
     let s = number_in number (get_or row k d) in
     ap is_stopped (sym (get-found number row k d s up within refl)) ∙ none s)
 
--- What a statement acts as, where it is such a record.
+-- The kind that a statement acts as, if it is such a record.
 abbrev pub ActsSo : StatementKind → Kind → Bool → Type 0
 ActsSo said kind is_emptied = (k : Kind) → said ≡ Record k → restarts k ≡ true → ◌≡◌ {A = Kind × Bool} (kind, is_emptied) (k, false)
 
@@ -145,7 +145,7 @@ merge_by number sources said kind is_emptied before left acts old between new ac
     by_count true one few is none = Spends-join_within 0 (bitlen sources) none (few refl) (omega arith) (omega arith)
     by_count false other few is none = Spends-join_within 0 (sources + length before) none merge (omega arith) (let n = ap length is in omega (arith, n))
 
-    -- of a BLOCK one source that is named is left
+    -- one named source of a BLOCK is left
     by_one : (b : Bool) → (length before == 1) ≡ b → kind ≡ Block → cond is_emptied set.empty (named_in number before) ≡ named_in number before →
         Spends 0 2 old between → Spends 0 (cond b (bitlen sources) (sources + length before) + 2) old new
     by_one false other is whole spent = let most = all spent in Spends-within 0 (sources + length before + 2) most (omega arith) (omega arith)
@@ -232,7 +232,7 @@ twice_bitlen n =
     below : (m n : ℕ) → n < 2 * m + 2 → n < 2 ^ (m + 1)
     below m n few = let rest = above m in let twice : 2 ^ (m + 1) ≡ 2 * 2 ^ m = ap (λ k. 2 ^ k) (add-one m) ∙ double m in omega (arith, rest, few, twice)
 
--- What was tried where the group stands, and is done on a copy then, is no more than six for each source, and so on.
+-- A statement tried in place, and then done on a copy, takes at most six comparisons for each source, and so on.
 pub tried_and_copied : (said : StatementKind) (sources named groups : ℕ) →
     most_tried said sources named + (most_blocked said sources named + most_copied said sources named groups) ≤ 6 * (sources + named) + 17 + bitlen groups
 tried_and_copied said sources named groups = by_said said
@@ -266,7 +266,7 @@ tried_and_copied said sources named groups = by_said said
     by_said (OlderJoin version) = others
     by_said OlderLeave = others
 
--- What a BLOCK spends that is done where its group stands is no more than that either.
+-- A BLOCK done in place takes no more than that either.
 pub blocked_few : (said : StatementKind) (sources named groups : ℕ) →
     most_tried said sources named + (most_blocked said sources named + 3 * sources + 5 + bitlen groups) ≤ 6 * (sources + named) + 17 + bitlen groups
 blocked_few said sources named groups = by_said said
@@ -308,7 +308,7 @@ set_few sources named groups = by_count (named == 1)
     by_count true = let few = bitlen-few sources in omega (arith, few)
     by_count false = let few = bitlen-few sources in omega (arith, few)
 
--- What a statement spends at least for its merge is no more than how many sources it names.
+-- The least comparisons of a statement's merge are at most its named sources.
 least_translated : (sources n : ℕ) (mutes muted : Bool) (hosts : Hosts) (kind : Kind) (named : NamedSources) → set.len named ≤ n →
     least_merge sources (translated mutes muted hosts kind named) ≤ min sources n
 least_translated sources n mutes true hosts kind named few = omega arith

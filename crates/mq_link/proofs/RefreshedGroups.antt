@@ -1,4 +1,4 @@
--- What a record leaves of a group whose sources it leaves as they are but for the timers of those that it names.
+-- A group after a record that changes only the timers of the sources that it names.
 use Rattle.std.proofs.Common.{List, [], ◌∷◌, ◌≡◌, ℕ, ◌+◌, Bool, true, false, cond, ◌&&◌, Option, None, Some, is_some, refl, sym, ap, ◌∙◌}
 use Rattle.mq_link.proofs.HeldAs.{is_from, same_tests}
 use Rattle.std.specs.Ordering.{nat_cmp}
@@ -95,7 +95,7 @@ timer_kept gmi mode ToIn s t a is = absurd (true≢false (sym is))
 timer_kept gmi mode ToEx s t a is = absurd (true≢false (sym is))
 timer_kept gmi mode Block s t a is = absurd (true≢false (sym is))
 
--- What such a record changes.
+-- The change of such a record.
 module _ (timing : Timing) (now : ℕ) (g : GroupState) (kind : Kind) (named : NamedSources) (is : restarts kind ≡ true)
     (none_stopped : g.mode ≡ Include → (s : ℕ) → stopped g s ≡ false) where
   abbrev pub gmi : ℕ

@@ -1,4 +1,4 @@
--- What a record comes to that is heard again of a group for which nothing is due.
+-- The outcome of a record that is heard again for a group without due queries.
 use Rattle.std.proofs.Common.{◌≡◌, ℕ, ◌+◌, ◌-◌, ◌*◌, ◌/◌, Bool, true, false, cond, not, List, [], Option, None, Some, is_some, refl, sym, ap, ◌∙◌, subst, arith}
 use Rattle.mq_link.proofs.HeldAs.{is_from}
 use Rattle.std.specs.Ordering.{nat_cmp, eq_by_cmp}
@@ -84,7 +84,7 @@ module _ (at : Setting) (a : ℕ) (kind : Kind) (named : NamedSources) (groups :
   pub no_stopped : before.group.mode ≡ Include → (s : ℕ) → is_stopped (timer_at before.group s) ≡ false
   no_stopped = let formed = held_as.held in formed.none_stopped
 
-  -- what such a change comes to
+  -- the outcome of such a change
   comes_to : (after : ScheduledGroup) → change_of at.election.timing at.now before.group kind named ≡ asking_nothing after.group →
       after.schedule ≡ before.schedule → after.group.mode ≡ before.group.mode
       → ((s : ℕ) → has_sendings after.group s ≡ has_sendings before.group s) → sources_of after ≡ sources_of before → IsHeld after.group
@@ -147,7 +147,7 @@ pub group_put : (groups : Groups) (a : ℕ) (e : ScheduledGroup) → group_at (m
 group_put groups a e = ap (λ (x : Option ScheduledGroup). unwrap_or x unheld)
     (map.get-insert nat_cmp_total groups a e a ∙ ap (λ b. cond b (Some e) (map.get groups a)) (ties a a refl))
 
--- what is put by stays, where a group is put that is as large
+-- the moves put by stay if the new group is as large
 pub put_by_same : (s after : HeldState) (a : ℕ) (e : ScheduledGroup) → after ≡ record s { groups = map.insert s.groups a e } →
     sources_of e ≡ sources_of (group_at s.groups a) → IsHeld e.group → IsHeld (group_at s.groups a).group → put_by_rows after ≡ put_by_rows s
 put_by_same s after a e is size formed was =
@@ -175,7 +175,7 @@ none_is_stopped at a groups e is sound include s = by_found (map.get groups a) r
         ap (λ (e : ScheduledGroup). is_stopped (timer_at e.group s)) same ∙
         formed.none_stopped (is_from x.group.mode (sym (ap (λ (e : ScheduledGroup). is_include e.group.mode) same) ∙ include)) s
 
--- what holds by what an option is
+-- a fact by the case of an option
 pub on_some : {X P : Type 0} (r : Option X) → (is_some r ≡ true → P) → OnSome r P
 on_some None there = tt
 on_some (Some x) there = there refl

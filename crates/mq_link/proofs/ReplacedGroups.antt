@@ -23,7 +23,7 @@ use Rattle.mq_held.proofs.Sorted.{tied, ties, ascending-sorted}
 use Rattle.mq_link.specs.State.{Groups}
 use Rattle.mq_link.proofs.PassedEntries.{GroupEntries}
 
--- whether an address is among some
+-- the test of an address for a list
 abbrev pub among : List ℕ → ℕ → Bool
 among = set_of (λ k. k)
 
@@ -100,7 +100,7 @@ module _ (f : ScheduledGroup → ScheduledGroup) (groups : Groups) (es : GroupEn
     next_found : map.get current next.0 ≡ Some next.1
     next_found = so_far.at next.0 ∙ ap (λ b. cond b (Some (f (group_at groups next.0))) (map.get groups next.0)) (next_apart i within) ∙ are.held i within
 
-    -- it is as it was before
+    -- it is unchanged
     pub next_group : group_at current next.0 ≡ next.1
     next_group = ap (λ (e : Option ScheduledGroup). unwrap_or e unheld) next_found
 

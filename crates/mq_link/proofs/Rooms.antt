@@ -1,4 +1,4 @@
--- What keeps room for groups and their sources.
+-- The steps that keep room for groups and their sources.
 use Rattle.std.proofs.Common.{◌≡◌, ℕ, ◌*◌, ◌≤◌, List, length, ◌&&◌, leb, true, refl, ◌∙◌, sym, subst, arith}
 use Rattle.std.proofs.lemmas.Bool.{le-leb, leb-true, and_parts}
 use Rattle.mq_link.specs.declared.configuration.Limits.{Limits}

@@ -1,4 +1,4 @@
--- A run is determined by its events and the outlet's answers; bytes are read as what they spell.
+-- The one run for events and the outlet's answers. Bytes are read as the message that they encode.
 use Rattle.std.proofs.Common.{◌≡◌, ◌↔◌, ℕ, Bool, refl, List, [], ◌∷◌, Option, None, Some, Result, Ok, Err, sym, ap, ◌∙◌, subst}
 use Rattle.std.specs.Option.{option_map}
 use Rattle.mq_wire.specs.declared.message.Message.{Message}

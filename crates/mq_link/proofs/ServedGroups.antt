@@ -1,4 +1,4 @@
--- What is left of a group that was served: its size and its form.
+-- The rest of a served group: its size and its form.
 use Rattle.std.proofs.Common.{◌≡◌, ℕ, ◌≤◌, false, sym, ap, ◌∙◌, subst, arith}
 use Rattle.mq_table.specs.declared.timing.Timing.{Timing}
 use Rattle.mq_table.specs.Group.{is_vacant, IsWellFormed as IsHeld}

@@ -1,4 +1,4 @@
--- What is said of each group of a map and of the list of its entries; and that a router that isn't querier sends nothing.
+-- Facts about each group of a map and about the list of its entries. A router that isn't querier sends nothing.
 use Rattle.std.proofs.Common.{◌≡◌, ℕ, ◌<◌, Bool, true, false, cond, ltb, leb, refl, List, [], ◌∷◌, ◌++◌, Option, None, Some, Result, Ok, Err, sym, ap}
 use Rattle.std.proofs.Common.{◌∙◌, subst, arith}
 use Rattle.std.proofs.lemmas.Bool.Decides.{nat_tests}
@@ -61,7 +61,7 @@ each-sorted P (e ∷ es) h all =
           (λ q x is. all q x (in_whole e es q x below is (eq_by_cmp nat_cmp q e.0) refl)),
     )
 
--- what is so at each key is so of each entry, and the other way round
+-- a fact at each key is a fact about each entry, and the other way round
 pub each-entry : {X : Type 0} (P : ℕ → X → Type 0) (m : FinMap nat_cmp X) → ((q : ℕ) (x : X) → map.get m q ≡ Some x → P q x) → Each P (map.entries m)
 each-entry P m all = each-sorted P (map.entries m) (map.entries_sorted m) (λ q x is. all q x (map.get-entries m q ∙ is))
 
@@ -74,7 +74,7 @@ from-each P (e ∷ es) h q x is = at_front P e es h.0 q x (eq_by_cmp nat_cmp q e
     at_front P e es here q x true same is later = let value : e.1 ≡ x = cc in subst (λ k. P k x) (sym (tied q e.0 same)) (subst (P e.0) value here)
     at_front P e es here q x false apart is later = later is
 
--- a group of which nothing is to go sends nothing
+-- a group without sendings left sends nothing
 pub silent_messages : (n : ℕ) (timing : Timing) (now group : ℕ) (e : ScheduledGroup) → IsSilent e → messages_due n timing now group e ≡ []
 silent_messages n timing now group e h = ap (λ s. messages_due n timing now group (record { group = e.group; schedule = s })) h.schedule
 

@@ -1,4 +1,4 @@
--- What holds of each message whose fields are whole, holds of what bytes are read as.
+-- Facts about the message of bytes, which hold for each message with whole fields.
 use Rattle.std.proofs.Common.{◌≡◌, ℕ, Bool, true, false, cond, List, length, None, Ok, IfSome, refl, subst, sym, eqb}
 use Rattle.mq_count.specs.declared.versions.OlderVersion.{OlderVersion}
 use Rattle.mq_wire.specs.declared.message.Message.{Message}
@@ -23,7 +23,7 @@ module _ (P : Family → List ℕ → Message ℕ → Type 0)
     P family bytes (OldReport version (group_of family bytes)))
     (of_leave : (family : Family) (bytes : List ℕ) → AreWhole bytes (older_spans family) → P family bytes (Leave (group_of family bytes)))
   where
-    -- by the type of a message
+    -- the cases of a message's type
     of_igmp : (bytes : List ℕ) (code : ℕ) →
         IfSome (type_named Igmp code) (λ kind. AreWhole bytes (spans_of Igmp kind bytes) → P Igmp bytes (message_of Igmp kind bytes))
     of_igmp bytes code = by_tests (eqb code 0x11) (eqb code 0x12) (eqb code 0x16) (eqb code 0x17) (eqb code 0x22) refl refl refl refl refl

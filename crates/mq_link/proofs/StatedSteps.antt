@@ -1,4 +1,4 @@
--- What a statement comes to, step by step, by what was done to its group.
+-- The outcome of a statement, step by step, by the work on its group.
 use Rattle.std.proofs.Common.{◌≡◌, ℕ, ◌+◌, ◌<◌, ◌≤◌, Bool, true, false, Option, None, Some, IfSome, List, length, sym, ap, ◌∙◌, subst, arith}
 use Rattle.std.specs.FinMap as map
 use Rattle.mq_sets.specs.Ascending.{set_of}
@@ -23,7 +23,7 @@ use Rattle.mq_link.proofs.ChangedSizes.{stated_few}
 use Rattle.mq_link.proofs.HeldStays.{held_stated, stays_held}
 use Rattle.mq_link.proofs.Recorded.{IsReady, ready, stated_soundly, sound_after, stated_leaves, acted_size, IsSound}
 
--- What was done to a group: the change, what it asks for, and the test of what it would leave.
+-- The work on a group: the change, the sources that it asks for, and the test of the group that it would leave.
 pub record IsChanged (at : Setting) (group : ℕ) (st : Statement) (groups : Groups) (before : ScheduledGroup) (change : GroupChange)
     (asked : ScheduledGroup) (passed : Option Refusal) : Type 0 where
   pub before_is : before ≡ group_at groups group
@@ -64,7 +64,7 @@ module _ (at : Setting) (group : ℕ) (st : Statement) (groups : Groups) (before
       (stated_soundly at.config group (v1_mutes_leave at.config.family) at.election.timing at.now st before
       (subst (λ e. IsReady at.config group e) (sym did.before_is) (ready at.config groups group sound.all)))
 
-  -- a group that is kept is one that may be held
+  -- a kept group may be held
   pub kept_is_held : 0 < at.election.timing.robustness → is_admitted at.config.family group ≡ true → AreSound at groups → (left : ScheduledGroup) →
       left ≡ after_round at.election.timing at.now asked → is_vacant left.group ≡ false → IsHeld left.group
   kept_is_held positive admitted sound left is not_vacant =
@@ -75,7 +75,7 @@ module _ (at : Setting) (group : ℕ) (st : Statement) (groups : Groups) (before
       ap (after_round at.election.timing at.now) did.asked_is in
       subst (λ (e : ScheduledGroup). is_vacant e.group ≡ false → IsHeld e.group) (sym left_is) (λ v. (held v).held) not_vacant
 
-  -- one that was held before stays
+  -- a group held before stays
   pub kept_stays : (left : ScheduledGroup) → left ≡ after_round at.election.timing at.now asked → IsHeld before.group → is_vacant left.group ≡ false
   kept_stays left is held =
       let changed_held = subst (λ c. IfSome c (λ (c : GroupChange). IsHeld c.group)) did.change_is
@@ -102,7 +102,7 @@ module _ (at : Setting) (group : ℕ) (st : Statement) (groups : Groups) (before
         let sums = sources-with_group groups group (after_sending at asked) in
         omega (arith, most, sums)
 
--- what is asked for leaves no source more
+-- asking adds no source
 pub asked_few : (q : Bool) (timing : Timing) (now : ℕ) (change : GroupChange) (schedule : ScheduleState) (asked : ScheduledGroup) →
     asked ≡ after_change q timing now change schedule → size_of asked.group ≤ size_of change.group
 asked_few q timing now change schedule asked is =
@@ -110,7 +110,7 @@ asked_few q timing now change schedule asked is =
     let same = ap (λ (e : ScheduledGroup). size_of e.group) is in
     omega (arith, few, same)
 
--- the sizes of what a statement makes of a group
+-- the sizes of a group after the steps of a statement
 pub record AreFew (old new after named : ℕ) : Type 0 where
   pub changed : new ≤ old + named
   pub asked : after ≤ new

@@ -1,4 +1,4 @@
--- What a router is at a moment stays what it may be.
+-- The status of a router, which stays proper.
 use Rattle.std.proofs.Common.{◌≡◌, ℕ, ◌≤◌, ◌^◌, Option, IfSome, sym, ◌∙◌, subst}
 use Rattle.mq_table.specs.Variables.{AreInRange}
 use Rattle.mq_sched.specs.declared.announced.Announced.{Announced}

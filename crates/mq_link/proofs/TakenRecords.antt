@@ -1,4 +1,4 @@
--- What the records of a datagram so far have come to, and what is left of them to come to the same.
+-- The outcome of a datagram's records so far, and of those left.
 use Rattle.std.proofs.Common.{◌≡◌, ℕ, ◌+◌, ◌<◌, ◌≤◌, Bool, true, false, cond, refl, List, [], ◌∷◌, length, Some, ap, ◌∙◌, subst, arith}
 use Rattle.std.specs.List.{count_by}
 use Rattle.std.proofs.lemmas.List.Sums.{sum_by-cons}
@@ -17,7 +17,7 @@ use Rattle.mq_link.specs.Record.{Setting, Seen, met, seen_after, judged, Outcome
 use Rattle.mq_link.specs.Sound.{AreSound}
 use Rattle.mq_link.proofs.Recorded.{judged_leaves}
 
--- the numbers of those that became what
+-- the numbers of records, by their outcome
 pub record Numbers : Type 0 where
   pub applied : ℕ
   pub ignored : ℕ

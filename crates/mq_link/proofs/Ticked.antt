@@ -120,7 +120,7 @@ heard_in_range configured value most own carried = by_test (eqb value 0) refl
     by_test true e = own
     by_test false e = record { at_least = omega (arith, eqb-false value 0 e); at_most = carried }
 
--- what a query announces is what its fields can carry
+-- a query's fields can carry the variables that it announces
 abbrev pub IsCarriedBy : Option Announced → Type 0
 IsCarriedBy announced = IfSome announced IsCarried
 

@@ -1,4 +1,4 @@
--- What a tick leaves of the groups of a link, and what it sends, group by group.
+-- The groups of a link after a tick, and its queries, group by group.
 use Rattle.std.proofs.Common.{◌≡◌, ℕ, Bool, true, false, cond, refl, List, [], ◌∷◌, ◌++◌, length, Option, None, Some, sym, ap, ◌∙◌, arith, eqb}
 use Rattle.std.proofs.lemmas.Bool.{and_parts}
 use Rattle.std.proofs.lemmas.List.{length-map}
@@ -25,7 +25,7 @@ use Rattle.mq_link.proofs.Entries.{filtered, entries-kept}
 use Rattle.mq_link.proofs.Quiet.{AllAbove, beyond, same_group}
 use Rattle.mq_link.proofs.PassedEntries.{GroupEntries, IsPassed}
 
--- what a tick makes of a group, and what it sends for it
+-- a group after a tick, and the queries sent for it
 abbrev pub ticked_group : Timing → (now : ℕ) → ℕ → ScheduledGroup → Option ScheduledGroup
 ticked_group timing now group e = option_map (after_round timing now) (if_held (group_expired now e))
 

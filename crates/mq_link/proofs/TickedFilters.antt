@@ -1,4 +1,4 @@
--- Which groups a tick changes: those that are due and have another filter once they are served.
+-- The groups that a tick changes: those that are due and have another filter once they are served.
 use Rattle.std.proofs.Common.{◌≡◌, ◌==◌, ℕ, ◌+◌, ◌<◌, ◌≤◌, Bool, true, false, cond, ◌&&◌, List, [], ◌∷◌, ◌++◌, length, take, filter, get_or, Option}
 use Rattle.std.proofs.Common.{None, Some, refl, sym, ap, ◌∙◌, subst, arith, append-nil}
 use Rattle.std.proofs.Math.Bool.{and-true}
@@ -49,7 +49,7 @@ pub named_where : {K : Type 0} (number : K → ℕ) (key : K) (address : ℕ) (a
 named_where number key address true test is same = ap Some is ∙ ap (λ b. cond b (Some address) None) same
 named_where number key address false test is same = ap (λ b. cond b (Some address) None) same
 
--- whether a group that is due changes as it is served
+-- the test whether a due group changes as it is served
 abbrev pub turned : Timing → (now : ℕ) → Groups → (address : ℕ) → Bool
 turned timing now groups address = let e = group_at groups address in changes_filter e.group (served_as timing now e).group
 
@@ -67,7 +67,7 @@ few_pass test (k ∷ ks) = by_test (test k) (few_pass test ks)
     by_test true few = omega (arith, few)
     by_test false few = omega (arith, few)
 
--- what is left of a group once those that are vacant are taken out
+-- a group once the vacant ones are removed
 group_left : (groups : Groups) (address : ℕ) → group_at (without_vacant groups) address ≡ kept_as (group_at groups address)
 group_left groups address = ap (λ (found : Option ScheduledGroup). unwrap_or found unheld) (get-kept if_running groups address) ∙
     by_found (map.get groups address)

@@ -1,4 +1,4 @@
--- The groups of a link while those that are due are served one after the other, by the numbers that were handed out.
+-- The groups of a link while the due ones are served one after the other, by the listed numbers.
 use Rattle.std.proofs.Common.{◌≡◌, cond, ℕ, ◌+◌, ◌*◌, ◌<◌, ◌≤◌, Bool, true, false, refl, List, [], ◌∷◌, ◌++◌, length, take, drop, get_or, Option}
 use Rattle.std.proofs.Common.{None, Some, is_some, sym, ap, ◌∙◌, subst, arith, append-nil}
 use Rattle.std.specs.Prelude.{map as list_map}
@@ -34,12 +34,12 @@ use Rattle.mq_link.proofs.Quiet.{not_vacant}
 use Rattle.mq_link.proofs.ReplacedGroups.{IsReplacedTo, addresses_of, among, entry_at, entry_sources, next_group, number_at, one_replaced, one_weighed}
 use Rattle.mq_link.proofs.TickedEntries.{ticked_group, queries_at, groups_ticked}
 
--- what is put back of a group that is served
+-- the entry put back for a served group
 abbrev pub served_as : Timing → (now : ℕ) → ScheduledGroup → ScheduledGroup
 served_as timing now e = kept_as (after_round timing now (group_expired now e))
 
--- The first i of those that are due are served: what is left of the groups, what was sent for it, and what was counted, by how many
--- sources these groups had.
+-- The first i due groups are served: the groups left, the queries sent, and the comparisons, by the
+-- sources that these groups had.
 pub record AreTickedTo {S : Type 0} (takes : S → SentQuery → S → Type 0) (n : ℕ) (timing : Timing) (now : ℕ) (groups : Groups) (from_sink : S)
     (from_count : ℕ) (i : ℕ) (current : Groups) (sink : S) (count weight : ℕ) : Type 0 where
   pub done : IsReplacedTo (served_as timing now) groups (due_entries now groups) (are_due now groups) i current
@@ -157,7 +157,7 @@ module _ (timing : Timing) (now room : ℕ) (groups : Groups) (are : AreServed r
           ap (λ b. cond b (Some (served_as timing now (group_at groups q))) (map.get groups q)) is in
           absurd (by_found (map.get groups q) refl held (ap (λ (e : Option ScheduledGroup). is_vacant (unwrap_or e unheld).group) (sym same) ∙ vacant))
 
-  -- so it is one of the numbers that were handed out
+  -- so it is one of the listed numbers
   pub vacant_named : (old now_held : HeldState) (numbers : List ℕ) → old.groups ≡ groups → now_held.groups ≡ current → now_held.order ≡ old.order
       → All (IsNumber old) numbers → list_map (key_in old.order.items) numbers ≡ addresses_due now groups
       → ((a n : ℕ) → HasNumber old a n → map.contains_key old.groups a ≡ true) → ((a m n : ℕ) → HasNumber old a m → HasNumber old a n → m ≡ n)

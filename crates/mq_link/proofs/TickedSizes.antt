@@ -1,5 +1,5 @@
--- A tick leaves no more groups and sources than were held, and so a datagram spends within what was held before both; and
--- at least what it takes on what the tick leaves.
+-- The groups and sources after a tick, at most those before. So a datagram spends within those held before both, and
+-- at least its costs on the groups that the tick leaves.
 use Rattle.std.proofs.Common.{◌≡◌, ℕ, ◌+◌, ◌*◌, ◌≤◌, max, List, Some, sym, ap, ◌∙◌, subst, arith}
 use Rattle.std.specs.FinMap as map
 use Rattle.std.proofs.Math.Nat.{max-le}
@@ -59,7 +59,7 @@ module _ (timing : Timing) (now : ℕ) (groups : Groups) where
       (paid_join (most_moved_by_tick groups + (24 * sources_in after + 22 * map.len after + 256 * length)) due taken (omega arith))
       (omega (arith, fewer, fewer_groups, few))
 
--- what a datagram spends at least on what the tick leaves
+-- the least comparisons of a datagram on the groups that the tick leaves
 pub least_after_tick : (family : Family) (config : Configuration) (envelope : Envelope) (bytes : List ℕ) (now moment : ℕ) (before after : LinkState)
     → config.family ≡ family → moment ≡ moment_of before now → after ≡ (tick_at config moment before).state
     → least_after (setting_of config after) envelope (read_in family envelope bytes) after.groups ≡ least_received config envelope bytes now before

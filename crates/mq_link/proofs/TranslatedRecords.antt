@@ -1,4 +1,4 @@
--- What holds of the changes that a record may come to, holds of what it changes while older hosts are there.
+-- Facts about the change of a record while older hosts are there, which hold for each change that it may make.
 use Rattle.std.proofs.Common.{Bool, true, false, cond, ◌&&◌, ◌||◌, ℕ, None, Some, IfSome}
 use Rattle.std.specs.FinSet as set
 use Rattle.std.specs.Option.{option_map}

@@ -1,4 +1,4 @@
--- No limit is passed, where a group that is held stays as large and its schedules are few enough.
+-- Limits that hold, since a held group stays as large and its schedules are few enough.
 use Rattle.std.proofs.Common.{◌≡◌, ℕ, ◌+◌, ◌≤◌, true, false, cond, not, [], ◌∷◌, None, ap, arith}
 use Rattle.std.specs.FinMap as map
 use Rattle.std.proofs.lemmas.Bool.{le-ltb}

@@ -1,4 +1,4 @@
--- How much the groups hold with one of them changed and what is due for it sent.
+-- The amounts of the groups with one of them changed and its due queries sent.
 use Rattle.std.proofs.Common.{◌≡◌, ℕ, ◌+◌, ◌-◌, ◌≤◌, Bool, true, false, cond, not, refl, sym, ap, ◌∙◌, arith}
 use mir.Val.{bool_byte}
 use Rattle.std.specs.FinMap as map

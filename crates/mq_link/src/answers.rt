@@ -4,7 +4,7 @@ ghost use Rattle.std.specs.Prelude.{◌≡◌, ◌<◌, ◌≤◌};
 ghost use Rattle.mq_link.specs.Counters.{reason_number};
 
 /// The result of a datagram.
-#[derive(Clone, Copy, Debug, PartialEq, Eq)]
+#[derive(Clone, Copy, PartialEq, Eq)]
 pub enum Received {
     /// The counts of a taken datagram's applied, ignored and refused records. An older Report, a Leave or a Done counts
     /// as one record, a query has none.
@@ -21,7 +21,7 @@ pub enum Received {
 }
 
 /// The reasons to drop a datagram, in the order of their numbers, 1 to 10.
-#[derive(Clone, Copy, Debug, PartialEq, Eq)]
+#[derive(Clone, Copy, PartialEq, Eq)]
 pub enum DropReason {
     /// A truncated field.
     Truncated,
@@ -68,7 +68,7 @@ impl DropReason {
 }
 
 /// The reasons to refuse a record, in the order of their numbers, 1 to 7.
-#[derive(Clone, Copy, Debug, PartialEq, Eq)]
+#[derive(Clone, Copy, PartialEq, Eq)]
 pub enum Refusal {
     /// A record that names more sources than a group may have.
     Long,
@@ -87,7 +87,7 @@ pub enum Refusal {
 }
 
 /// The kinds of parsed messages, as they are counted, with the dropped ones.
-#[derive(Clone, Copy, Debug, PartialEq, Eq)]
+#[derive(Clone, Copy, PartialEq, Eq)]
 pub enum MessageKind {
     /// A query of IGMPv3 or MLDv2.
     Query,

@@ -43,7 +43,7 @@ use std::marker::Model;
 
 /// The error of a call that did nothing. The workspace has room for fewer groups, or for fewer sources of one, than the
 /// link's limits allow.
-#[derive(Clone, Copy, Debug, PartialEq, Eq)]
+#[derive(Clone, Copy, PartialEq, Eq)]
 pub struct TooSmall;
 
 /// One link of a multicast router, whose calls use a workspace of the caller. Many links may use one in turn. Beside

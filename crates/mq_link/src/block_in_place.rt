@@ -1,5 +1,5 @@
-//! A BLOCK that is applied where its group's row is stored, without a copy. It names at most one source, which the
-//! group has, and no limit can be exceeded.
+//! A BLOCK that is applied where its group's row is stored, without a copy. It names at most one source. In EXCLUDE the
+//! group has that source, and no limit can be exceeded.
 
 ghost use Rattle.std.specs.Prelude.{◌≡◌, ℕ, ◌+◌, ◌*◌, ◌≤◌, [], ◌∷◌, ◌||◌, false, true, is_ok, is_some, length, min, if◌then◌else◌, IfSome, OnSome};
 ghost use Rattle.std.specs.FinMap as map;

@@ -6,7 +6,7 @@ use std::fmt;
 use thiserror::Error;
 
 /// The limits of what a link may hold.
-#[derive(Clone, Copy, Debug, PartialEq, Eq)]
+#[derive(Clone, Copy, PartialEq, Eq)]
 pub struct Limits {
     /// The most groups, from 1 to 65535.
     pub groups: u32,
@@ -20,7 +20,7 @@ pub struct Limits {
 }
 
 /// The default configuration of a link: the variables of RFC 3376 section 8 and RFC 3810 section 9, and the limits.
-#[derive(Clone, Copy, Debug, PartialEq, Eq)]
+#[derive(Clone, Copy, PartialEq, Eq)]
 pub struct Defaults {
     /// The Robustness Variable.
     pub robustness: u32,

@@ -1,10 +1,15 @@
 -- The request of the page for a querier.
 use Rattle.std.specs.Prelude.{◌≡◌, ℕ, ◌^◌, ◌-◌, ◌==◌, nat_lt, not, Bool, true, false, Option, None, Some, Result, Ok, Err, unwrap_or, if◌then◌else◌}
+use Rattle.std.specs.Int.{w128, from_be_bytes}
 use Rattle.mq_check.specs.declared.check_terms.CheckTerms.{CheckTerms}
+use Rattle.mq_convert.specs.declared.choice.Choice.{Choice}
+use Rattle.mq_convert.specs.declared.choice.Which.{Which}
+use Rattle.mq_convert.specs.declared.choice.Which.TheVariants as which
 use Rattle.mq_link.specs.Configuration.{Configuration, configuration_fault, IsFaultless}
 use Rattle.mq_link.specs.Configured.{variables, configured}
 use Rattle.mq_replay.specs.declared.asked.Asked.{Asked}
 use Rattle.mq_wire.specs.Family.{Family}
+use Rattle.mq_page.specs.declared.chosen.Chosen.{Chosen}
 use Rattle.mq_page.specs.declared.page_fault.PageFault.{PageFault}
 use Rattle.mq_page.specs.declared.page_fault.PageFault.TheVariants as fault
 use Rattle.mq_page.specs.declared.settings.Settings.{Settings}
@@ -31,6 +36,20 @@ check_asked s = record {
   additions = record { packets = false; cite = not (s.cite == 0); once = false };
   strict = false;
 }
+
+-- the interface of the packets to convert, by its number or by its name; 0 stands for all of them
+abbrev pub interface_asked : Chosen → Option Which
+interface_asked c =
+    if c.interface == 0 then None
+    else (if c.interface == 1 then Some (which.Number c.number) else Some (which.Name (from_be_bytes w128 c.name)))
+
+-- the network of the packets to convert; 2^64 - 1 stands for any packet
+abbrev pub vlan_asked : Chosen → Option ℕ
+vlan_asked c = if c.vlan == 2 ^ 64 - 1 then None else Some c.vlan
+
+-- the packets to convert
+abbrev pub choice_asked : Chosen → Choice
+choice_asked c = record { interface = interface_asked c; vlan = vlan_asked c; once = not (c.once == 0) }
 
 -- the moment is above the greatest one
 abbrev pub is_too_large : (until : Option ℕ) → Bool

@@ -35,20 +35,20 @@ block_sentence block.Moment = codes "a moment that has no place in a classic cap
 block_sentence block.Cut = codes "the file ends within it"
 block_sentence block.Endless = codes "too many blocks"
 
-abbrev pub limit_name : LimitName → List ℕ
-limit_name limit.Groups = codes "groups"
-limit_name limit.GroupSources = codes "group_sources"
-limit_name limit.Sources = codes "sources"
-limit_name limit.Scheduled = codes "scheduled"
+abbrev pub limit_sentence : LimitName → List ℕ
+limit_sentence limit.Groups = codes "the limit of groups is not within 1 to 65535"
+limit_sentence limit.GroupSources = codes "the limit of sources of a group is not within 1 to 1024"
+limit_sentence limit.Sources = codes "the limit of sources is not within 1 to 65535"
+limit_sentence limit.Scheduled = codes "the limit of schedules is not within 1 to 65535"
 
--- a fault of a configuration
+-- a fault of a configuration, in the words of include/mquerier.h
 abbrev pub configuration_sentence : ConfigFault → List ℕ
 configuration_sentence config.Robustness = codes "the robustness variable is not within 1 to 7"
 configuration_sentence config.QueryInterval = codes "the query interval is not within 1 to 31744 seconds"
-configuration_sentence config.ResponseInterval = codes "the query response interval is not below the query interval, or no code says it"
-configuration_sentence config.LastMember = codes "no code says the last member query interval"
-configuration_sentence (config.Limit which) = codes "the limit " ++ (limit_name which ++ codes " is out of its range")
-configuration_sentence config.OwnAddress = codes "the router's own address is none that it may send queries from"
+configuration_sentence config.ResponseInterval = codes "the response interval is out of range or not below the query interval"
+configuration_sentence config.LastMember = codes "the last member query interval is out of range"
+configuration_sentence (config.Limit which) = limit_sentence which
+configuration_sentence config.OwnAddress = codes "no router may send queries from the own address"
 
 abbrev pub sentence : PageFault → List ℕ
 sentence Full = codes "the text is longer than the memory for it"

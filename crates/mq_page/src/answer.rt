@@ -2,7 +2,7 @@
 
 /// The answer of a call.
 #[repr(C)]
-#[derive(Clone, Copy, Debug, PartialEq, Eq)]
+#[derive(Clone, Copy, PartialEq, Eq)]
 pub struct Answer {
     /// The status: 0 if all was done, or the number of its fault.
     pub status: u64,

@@ -1,6 +1,5 @@
 //! The conversion of a capture.
 
-ghost use Rattle.std.specs.Prelude.{None, false};
 ghost use Rattle.mq_page.specs.Calls.{ConvertsInto};
 
 use crate::answer::Answer;
@@ -11,9 +10,14 @@ use mq_convert::{Choice, convert};
 use mq_count::Watched;
 use mq_pcap::Ready;
 
-/// Writes all packets of a capture as one classic capture of Ethernet.
-pub(crate) fn convert_all(capture: &[u8], memory: &'static mut [u128], text: &mut [u8]) -> Answer
-    ensures { ConvertsInto (record { interface = None; vlan = None; once = false }) capture.now text.old text.new result }
+/// Writes the chosen packets of a capture as one classic capture of Ethernet.
+pub(crate) fn convert_chosen(
+    choice: Choice,
+    capture: &[u8],
+    memory: &'static mut [u128],
+    text: &mut [u8],
+) -> Answer
+    ensures { ConvertsInto choice capture.now text.old text.new result }
 {
     let Some(room) = WorkRoom::of(memory, text.len()) else {
         return told(Err(PageFault::Memory), &[], text);
@@ -22,11 +26,6 @@ pub(crate) fn convert_all(capture: &[u8], memory: &'static mut [u128], text: &mu
         text: written,
         rest,
     } = room;
-    let choice = Choice {
-        interface: None,
-        vlan: None,
-        once: false,
-    };
     let mut reader = Watched::new(capture);
     let mut writer = Watched::new(written);
     let outcome = match convert(&rest, choice, &Ready, &mut reader, &mut writer) {

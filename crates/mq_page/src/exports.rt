@@ -4,7 +4,7 @@ ghost use Rattle.std.specs.Prelude.{◌≡◌, ◌≤◌, None, false, length, m
 ghost use Rattle.std.specs.Int.{w32, w128, from_be_bytes};
 ghost use Rattle.mq_wire.specs.Family.{Igmp as FamilyIgmp, Mld as FamilyMld};
 ghost use Rattle.mq_page.specs.declared.page_fault.PageFault.{PageFault as ThePageFault};
-ghost use Rattle.mq_page.specs.Asked.{check_asked, configuration_asked, replay_asked};
+ghost use Rattle.mq_page.specs.Asked.{check_asked, choice_asked, configuration_asked, replay_asked};
 ghost use Rattle.mq_page.specs.Calls.{ChecksInto, ConvertsInto, ListsInto, ReplaysInto};
 ghost use Rattle.mq_page.specs.Sentences.{sentence};
 ghost use Rattle.mq_page.specs.Statuses.{number_of, status_of};
@@ -12,7 +12,8 @@ ghost use Rattle.mq_page.specs.Telling.{in_front};
 
 use crate::answer::Answer;
 use crate::checks::check_at;
-use crate::conversion::convert_all;
+use crate::chosen::Chosen;
+use crate::conversion::convert_chosen;
 use crate::listing::list;
 use crate::replays::replay_to;
 use crate::sentence::sentence_of;
@@ -20,6 +21,7 @@ use crate::settings::Settings;
 use crate::status_faults::fault_of;
 use crate::telling::put_in_front;
 use mq_arena::LentMemory;
+use mq_convert::Choice;
 use mq_count::{Addr4, Addr6};
 use mq_link::{Igmp, Mld};
 
@@ -36,7 +38,25 @@ pub extern "C" fn page_show(capture: &[u8], memory: LentMemory, text: &mut [u8])
 pub extern "C" fn page_convert(capture: &[u8], memory: LentMemory, text: &mut [u8]) -> Answer
     ensures { ConvertsInto (record { interface = None; vlan = None; once = false }) capture.now text.old text.new result }
 {
-    convert_all(capture, memory.into_units(), text)
+    let choice = Choice {
+        interface: None,
+        vlan: None,
+        once: false,
+    };
+    convert_chosen(choice, capture, memory.into_units(), text)
+}
+
+/// Writes the chosen packets of a capture as one classic capture of Ethernet.
+#[unsafe(no_mangle)]
+pub extern "C" fn page_convert_chosen(
+    chosen: &Chosen,
+    capture: &[u8],
+    memory: LentMemory,
+    text: &mut [u8],
+) -> Answer
+    ensures { ConvertsInto (choice_asked chosen.now) capture.now text.old text.new result }
+{
+    convert_chosen(chosen.choice(), capture, memory.into_units(), text)
 }
 
 /// Replays a capture to a querier of IGMP.

@@ -9,7 +9,7 @@ use mq_pcap::PcapFault;
 use mq_replay::CaptureFault;
 
 /// The reason why a call did not do all of its request.
-#[derive(Clone, Copy, Debug, PartialEq, Eq)]
+#[derive(Clone, Copy, PartialEq, Eq)]
 pub enum PageFault {
     /// A text longer than the memory for it.
     Full,

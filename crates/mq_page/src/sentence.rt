@@ -105,19 +105,17 @@ fn put_configuration(text: &mut Text, fault: ConfigFault)
 {
     match fault {
         ConfigFault::Robustness => put(text, b"the robustness variable is not within 1 to 7"),
-        ConfigFault::QueryInterval => {
-            put(text, b"the query interval is not within 1 to 31744 seconds");
-        }
+        ConfigFault::QueryInterval => put(
+            text,
+            b"the query interval is not within 1 to 31744 seconds",
+        ),
         ConfigFault::ResponseInterval => put(
             text,
-            b"the query response interval is not below the query interval, or no code says it",
+            b"the response interval is out of range or not below the query interval",
         ),
-        ConfigFault::LastMember => put(text, b"no code says the last member query interval"),
+        ConfigFault::LastMember => put(text, b"the last member query interval is out of range"),
         ConfigFault::Limit { which } => put_limit(text, which),
-        ConfigFault::OwnAddress => put(
-            text,
-            b"the router's own address is none that it may send queries from",
-        ),
+        ConfigFault::OwnAddress => put(text, b"no router may send queries from the own address"),
     }
 }
 
@@ -125,12 +123,13 @@ fn put_limit(text: &mut Text, which: LimitName)
     requires { array_vec_len text.old ≡ 0 }
     ensures { text.new.items ≡ text.old.items ++ configuration_sentence (ConfigFault.Limit which) }
 {
-    put(text, b"the limit ");
     match which {
-        LimitName::Groups => put(text, b"groups"),
-        LimitName::GroupSources => put(text, b"group_sources"),
-        LimitName::Sources => put(text, b"sources"),
-        LimitName::Scheduled => put(text, b"scheduled"),
+        LimitName::Groups => put(text, b"the limit of groups is not within 1 to 65535"),
+        LimitName::GroupSources => put(
+            text,
+            b"the limit of sources of a group is not within 1 to 1024",
+        ),
+        LimitName::Sources => put(text, b"the limit of sources is not within 1 to 65535"),
+        LimitName::Scheduled => put(text, b"the limit of schedules is not within 1 to 65535"),
     }
-    put(text, b" is out of its range");
 }

@@ -7,7 +7,7 @@ use crate::fault::PcapFault;
 use crate::form::Form;
 
 /// A packet of a capture. Its bytes are the first ones of the caller's buffer.
-#[derive(Clone, Copy, Debug, PartialEq, Eq)]
+#[derive(Clone, Copy, PartialEq, Eq)]
 pub struct Packet {
     /// The packet's time in milliseconds: its seconds, and the whole milliseconds of its fraction.
     pub stamp_ms: u64,
@@ -18,7 +18,7 @@ pub struct Packet {
 }
 
 /// The progress of a reader.
-#[derive(Clone, Copy, Debug, PartialEq, Eq)]
+#[derive(Clone, Copy, PartialEq, Eq)]
 pub enum Progress {
     /// Reading: a record may follow.
     Reading,

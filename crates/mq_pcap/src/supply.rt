@@ -10,7 +10,7 @@ pub trait Supply {
 }
 
 /// The supply of a stream that never waits.
-#[derive(Clone, Copy, Debug)]
+#[derive(Clone, Copy)]
 pub struct Ready;
 
 impl Supply for Ready {

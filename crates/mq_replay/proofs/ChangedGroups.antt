@@ -1,5 +1,5 @@
--- Which groups an event changes: only such that are held before it, and such that its datagram speaks of. So those among these that
--- the link tells are all that it tells.
+-- The groups that an event changes: only those held before it, and those that its datagram names. So those of these that
+-- the link lists are all that it lists.
 use Rattle.std.proofs.Common.{◌≡◌, ℕ, ◌<◌, Bool, true, false, cond, ◌&&◌, ◌||◌, ◌==◌, List, [], ◌∷◌, ◌++◌, Option, None, Some, Result, Ok, Err}
 use Rattle.std.proofs.Common.{is_some, refl, sym, ap, ◌∙◌, arith}
 use Rattle.std.specs.Prelude.{filter, map as list_map}
@@ -45,7 +45,7 @@ use Rattle.mq_link.proofs.KeptFilters.{unchanged}
 use Rattle.mq_link.proofs.KeptGroups.{absent_unheld, group_absent}
 use Rattle.mq_replay.specs.Report.{Datagram, changed_at, in_order, spoken_of, those_among}
 
--- whether a number is among some
+-- the test of a number for a list
 abbrev pub is_among : List ℕ → ℕ → Bool
 is_among ns n = list_any (eq_by_cmp nat_cmp n) ns
 
@@ -223,7 +223,7 @@ held_or_spoken_of config envelope bytes now state address changed =
     (changed_by_read (setting_of config left) read (drop_reason config envelope read) left.groups address) _ _
     (held_before config now state address) (read_spoken_of (setting_of config left) address read (drop_reason config envelope read) left.groups) changed
 
--- what a link tells is what a replay has
+-- the groups that a link lists are those of a replay
 pub ticked_those : (config : Configuration) (now : ℕ) (state : LinkState) (listed : List ℕ) → AreThose (changed_by_tick config now state) listed
     → those_among (changed_by_tick config now state) (map.keys state.groups) ≡ listed
 ticked_those config now state listed those = are_those (changed_by_tick config now state) (map.keys state.groups) listed (held_before config now state) those

@@ -84,7 +84,7 @@ groups_passed family groups place a b held left all passed =
     subst (λ (es : List Entry). Passes a b held left (flat_map (entry_line family) es))
     (take_all place (map.entries groups) (omega (arith, all, map.len-entries groups))) passed
 
--- what is written at the end is written of the link that the ticks left
+-- the lines at the end are those of the link after the ticks
 pub end_text : (changes : Bool) (config : Configuration) (family : Family) (moment : ℕ) (before mid : LinkValue) → config ≡ before.config →
     config.family ≡ family
     → mid.state ≡ (ticked_before before.config (moment + 1) (begun_with changes before.state)).link

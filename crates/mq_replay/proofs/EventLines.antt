@@ -20,7 +20,7 @@ use Rattle.mq_replay.specs.Report.{Replayed, after_step, all_sent, ticked_at, wi
 use Rattle.mq_replay.specs.Steps.{PutsReplayed, begun_with}
 use Rattle.mq_replay.proofs.ChangedGroups.{ticked_those}
 
--- a step whose messages were handed out and put, is one of a replay
+-- a step whose messages were passed on and put is a step of a replay
 step_put : {T E : Type 0} (changes : Bool) (family : Family) (now : ℕ) (before after : LinkValue) (step : Step) (old new : Option (List ℕ))
     (held left : List ℕ) (r : Result T E) (messages : List Outgoing) (answers : List Bool)
     → family ≡ before.config.family → after.config ≡ before.config → HandsOut before.config step messages answers after.state

@@ -17,7 +17,7 @@ flushed_whole old new held left none passed =
     subst (λ (t : List ℕ). Appends old new t)
     (sym (sym (append-nil held) ∙ passed.parts ∙ ap (λ (l : List ℕ). passed.written ++ l) none ∙ append-nil passed.written)) passed.grows
 
--- what a buffer that held nothing passed on was written whole, or a prefix of it
+-- an empty buffer wrote all that it passed on, or a prefix
 pub all_written : (before mid after : Option (List ℕ)) (left text : List ℕ) → Passes before mid [] left text → Appends mid after left →
     Appends before after text
 all_written before mid after left text passed rest =

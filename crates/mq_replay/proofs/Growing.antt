@@ -1,4 +1,4 @@
--- What a replay comes to doesn't depend on the text before: that stays in front.
+-- The result of a replay, which doesn't depend on the text before: that stays in front.
 use Rattle.std.proofs.Common.{◌≡◌, ℕ, refl, List, ◌++◌, Option, None, Some, append_assoc, append-nil, sym, ap, ◌∙◌}
 use Rattle.std.specs.FinMap as map
 use Rattle.mq_pcap.specs.Frame.{Carried}
@@ -85,7 +85,7 @@ pub next_packet : (config : Configuration) (moment number : ℕ) (carried : Carr
 next_packet config moment number carried r = ap (with_packet config moment number carried) (sym (as_behind r)) ∙
     packet_behind config moment number carried r.text (begun_with r.changes r.link)
 
--- whether the lines of changes are asked for stays as it is
+-- the choice of lines of changes stays
 pub ticked_changes : (config : Configuration) (moment : ℕ) (r : Replayed) → (ticked_at config moment r).changes ≡ r.changes
 unfolding ticked_at
 ticked_changes config moment r = refl

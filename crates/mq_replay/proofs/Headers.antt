@@ -1,4 +1,4 @@
--- Of the header of a capture.
+-- The header of a capture.
 use Rattle.std.proofs.Common.{◌≡◌, ℕ, ◌<◌, List, length, Err, refl}
 use Rattle.std.proofs.lemmas.Bool.{lt-ltb}
 use Rattle.mq_pcap.specs.declared.fault.PcapFault.TheVariants as fault

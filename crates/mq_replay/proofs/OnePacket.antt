@@ -1,4 +1,4 @@
--- What a replay does with one packet.
+-- The work of a replay on one packet.
 use Rattle.std.proofs.Common.{◌≡◌, ℕ, Bool, refl, List, ◌++◌, Option, None, Some, Result, Ok, Err, IfOk, sym, ap, subst, ◌∙◌}
 use Rattle.mq_pcap.specs.Frame.{Carried}
 use Rattle.mq_wire.specs.Family.{Family}

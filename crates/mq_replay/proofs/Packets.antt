@@ -44,7 +44,7 @@ some_said Other = (codes "other\n", refl)
 some_said Cut = (codes "cut\n", refl)
 some_said Fragment = (codes "fragment\n", refl)
 
--- what is said of a packet was put behind its number and its moment
+-- the text of a packet was put after its number and its moment
 pub put_as_packet : {T E : Type 0} (old mid new : Option (List ℕ)) (held more left : List ℕ) (number moment : ℕ) (found carried : Carried)
     (r : Result T E) → found ≡ carried
     → Passes old mid held more (place_text number moment) → PutsSaid mid new more left found r → PutsPacket old new held left number moment carried r

@@ -1,4 +1,4 @@
--- What an outlet that prints queries has put after some of them.
+-- The text that an outlet has put after some queries.
 use Rattle.std.proofs.Common.{◌≡◌, ℕ, Bool, true, ◌||◌, List, [], ◌∷◌, Option, Result, Ok, Err, is_ok, is_err, refl, ap, sym, subst, ◌∙◌}
 use Rattle.std.specs.Prelude.{IfOk, map as list_map}
 use Rattle.std.proofs.Math.Bool.{or-false}
@@ -42,7 +42,7 @@ module _ {W : Type 0} (contents : W → Option (List ℕ)) (family : Family) whe
       let first : handed.0 ≡ old = subst (λ (r : Result Unit LineFault). PutsQuery contents family old message handed.0 r) broken handed.1.puts in
       stays_broken handed.0 messages answers new fault (ap (λ (q : QueryLines W). q.answer) first ∙ broken) handed.2 ∙ first
 
-  -- Where no write had failed, the lines of all messages were put, or of those before a write failed a beginning.
+  -- If no write had failed, the lines of all messages were put, or a prefix of them until a write failed.
   pub record PrintedBy (moment : ℕ) (old : QueryLines W) (messages : List Outgoing) (answers : List Bool) (new : QueryLines W)
       (answer : Result Unit LineFault) : Type 0 where
     pub put : Puts (contents (inner_of old.writer.now)) (contents (inner_of new.writer.now)) old.buffer.now.items new.buffer.now.items

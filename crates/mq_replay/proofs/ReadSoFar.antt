@@ -10,7 +10,7 @@ use Rattle.mq_pcap.specs.Capture.{Captured, AreRecords, captured_length, is_read
 use Rattle.mq_pcap.specs.Filling.{InputState}
 use Rattle.mq_pcap.specs.Reading.{IsAnswerTo, IsBegun, IsKnownThere, Reads}
 
--- of lists one after the other it doesn't matter which two are put together first
+-- lists one after the other can be joined in any order
 pub AreRecords-assoc : (form : Form) (number : ℕ) (first second rest : List ℕ) (some more others : List Captured) (end : Option PcapFault)
     → AreRecords form number (first ++ (second ++ rest)) (some ++ (more ++ others)) end → AreRecords form number ((first ++ second) ++ rest)
     ((some ++ more) ++ others) end
@@ -40,7 +40,7 @@ begun_ends form number [] begun = (None, refl)
 begun_ends form number (byte ∷ bytes) begun =
     by_number form number (byte ∷ bytes) (omega arith) begun (nat_lt number endless) refl (nat_lt (length (byte ∷ bytes)) 16) refl
 
--- the same of what the code names otherwise
+-- this fact for the names of the code
 pub read_as : (form form' : Form) (number number' : ℕ) (mid new : InputState) (buffer : List ℕ) (a a' : Result (Option Packet) PcapFault) →
     form' ≡ form → number' ≡ number → a' ≡ a
     → Reads form' number' mid new buffer a' → Reads form number mid new buffer a
@@ -53,7 +53,7 @@ pub none_left : {X : Type 0} (o : Option X) → ((x : X) → o ≡ Some x → �
 none_left None unlike = refl
 none_left (Some x) unlike = absurd (unlike x refl)
 
--- what is known of the bytes where a read failed, and where they have a fault
+-- the facts about the bytes if a read failed, and if they have a fault
 pub begun_answer : (form : Form) (number : ℕ) (new : InputState) (buffer bytes : List ℕ) (f : PcapFault) → is_read f ≡ true →
     IsAnswerTo form number new buffer bytes (Err f) → IsBegun form bytes
 begun_answer form number new buffer bytes fault.Read is answers = answers

@@ -162,7 +162,7 @@ module _ {X : Type 0} (state : X → ReplayState) where
         (stepped_at config asked before first) y here old new y' e walks
 
     module _ (w : Walked) (walks : WalksUpToGap inner takes old new y y' (Ok w)) where
-      -- what stays
+      -- the unchanged parts
       pub kept : ((state (inner y')).asked ≡ asked) × ((out (inner y')).failed ≡ before.failed)
       kept =
           let at = come_to_the_end (replay_of config asked) Is out held before first inner takes (passed_at config asked before first)

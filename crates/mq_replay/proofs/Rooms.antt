@@ -13,7 +13,7 @@ room_of_filled size slice items same filled =
     let whole : length slice ≡ size = ap (λ (xs : List ℕ). length xs) same ∙ ap (λ (xs : List ℕ). length xs) filled ∙ length-replicate size 0 in
     omega (arith, whole)
 
--- what was taken stays taken with a fault that isn't refused memory
+-- granted memory stays granted with a fault that isn't refused memory
 pub taken_at_fault : (T : Type 0) {bytes old new : ℕ} (f : CaptureFault) → (f ≡ answer.Memory → ⊥) → Takes bytes old new true →
     Takes bytes old new (is_granted {T = T} (Err f))
 taken_at_fault T (answer.Pcap f) other takes = takes

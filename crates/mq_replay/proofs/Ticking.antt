@@ -30,7 +30,7 @@ through_within next tick next' tick' f same_next same_tick (suc most) limit s =
       | false ↦ refl
     ]
 
--- what each tick keeps stays
+-- a fact that each tick keeps stays
 pub kept_within : {S : Type 0} (next : S → ℕ) (tick : S → S) (P : S → Type 0) → ((s : S) → P s → P (tick s)) → (most limit : ℕ) (s : S) → P s →
     P (ticked_within next tick most limit s)
 kept_within {S} next tick P keeps most limit s is =

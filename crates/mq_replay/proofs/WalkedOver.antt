@@ -53,8 +53,8 @@ module _ {X E : Type 0} (takes : PlacedPacket → X → X → Result Unit E → 
   steps_counted link at to (packet ∷ packets) x x' steps =
       let rest = steps_counted link (place_behind at packet.stamp) to packets steps.0 x' steps.2 in omega (arith, rest)
 
-  -- Some bytes behind the file's header were read as packets, which the step took. Whatever follows, its records are
-  -- those behind these packets.
+  -- Some bytes after the file's header were read as packets, which the step took. Whatever follows, its records are
+  -- those after these packets.
   pub record IsWalkedTo (form : Form) (old now : InputState) (x : X) (to : Place) (x' : X) : Type 0 where
     pub bytes : List ℕ
     pub packets : List Captured

@@ -17,7 +17,7 @@ pub then_nothing : (T E : Type 0) (a b c : Option (List ℕ)) (held mid left tex
 then_nothing T E a b c held mid left text r passed put =
     put_as a c held left (text ++ []) text r (append-nil text) (then_put a b c held mid left text [] r passed put)
 
--- the same of the line of a packet
+-- this fact for the line of a packet
 pub packet_then_nothing : (T E : Type 0) (a b c : Option (List ℕ)) (held mid left : List ℕ) (number moment : ℕ) (carried : Carried) (x : T) (r : Result T E)
     → PutsPacket {T = T} {E = E} a b held mid number moment carried (Ok x) → Puts b c mid left [] r → PutsPacket a c held left number moment carried r
 packet_then_nothing T E a b c held mid left number moment carried x r line put =
@@ -32,7 +32,7 @@ still_linked : {T E : Type 0} (after : LinkValue) (replayed : Replayed) (r : Res
 still_linked after replayed (Ok x) same = same
 still_linked after replayed (Err e) same = tt
 
--- the same of a packet that was replayed
+-- this fact for a replayed packet
 pub replayed_then_nothing : (T E : Type 0) (before after : LinkValue) (replayed : Replayed) (a b c : Option (List ℕ)) (held mid left : List ℕ) (x : T)
     (r : Result T E)
     → PutsReplayed {T = T} {E = E} before after replayed a b held mid (Ok x) → Puts b c mid left [] r → PutsReplayed before after replayed a c held left r

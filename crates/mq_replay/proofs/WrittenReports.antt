@@ -1,4 +1,4 @@
--- The report of work over a capture was put: what the work comes to once what the buffer holds is written, or was not.
+-- The result of work over a capture whose report was put, once the held bytes are written, or were not.
 use Rattle.std.proofs.Common.{◌≡◌, ◌⊎◌, ℕ, ◌+◌, Bool, true, false, if◌then◌else◌, List, [], length, Option, None, Some, Result, Ok, Err, refl}
 use Rattle.std.proofs.Common.{ap, sym, subst, ◌∙◌, length-append, inl, inr, arith}
 use Rattle.std.proofs.KnownBytes.{Appends-nil}
@@ -21,7 +21,7 @@ use Rattle.mq_replay.specs.Walking.{ReadCapture}
 use Rattle.mq_replay.proofs.Finished.{all_written, begun_text}
 use Rattle.mq_replay.proofs.Headers.{cut_header}
 
--- of no text a part is left
+-- an empty text has no proper prefix
 none_begun : (before after : Option (List ℕ)) → GrowsByBeginning before after [] → ⊥
 none_begun before after begun = let some = begun.some_left in let parts = ap length begun.parts ∙ length-append begun.written begun.left in
     omega (arith, some, parts)
@@ -30,7 +30,7 @@ abbrev one_of : {T : Type 0} → Bool → Report T → Report T → Report T
 one_of b x y = elim b [ true ↦ x | false ↦ y ]
 
 module _ {S T : Type 0} (work : Work S T) where
-  -- what was put where no write failed
+  -- the text that was put if no write failed
   put_whole : (c : ReadCapture) (new : InputState) (before mid : Option (List ℕ)) (held left : List ℕ) (r : Result T CaptureFault) → held ≡ [] →
       is_failed_write r ≡ false → IsPutBy (is_failed_write r) work c new before mid held left r → Passes before mid [] left (text_by work c r)
   put_whole c new before mid held left r none unlike put =
@@ -103,7 +103,7 @@ module _ {S T : Type 0} (work : Work S T) where
         let course = course_of work c.header c.packets in
         fault_behind (length c.packets + 1) c.end course.fault course e is
 
-    -- one that ends well is that of a file without a fault
+    -- a course that ends well is that of a file without a fault
     whole_behind : (number : ℕ) (end : Option PcapFault) (fault : Option CaptureFault) (course : Course S) (x : T)
         → (reported work number end fault course).answer ≡ Ok x → end ≡ None
     whole_behind number end (Some f) course x is = absurd (cc is)

@@ -1,4 +1,4 @@
--- What asking for a group or for sources lowers, and that it keeps a schedule fitting its group.
+-- The timers that asking for a group or for sources lowers. The schedule still fits its group.
 use Rattle.std.proofs.Common.{◌≡◌, ℕ, Bool, true, cond, List, [], ◌∷◌, IsSome, refl, sym, ap, ◌∙◌, inl, inr, eqb, arith}
 use Rattle.std.proofs.lemmas.Bool.{false≢true, or_left, or_right, or_cases, eqb-true, eq-eqb}
 use Rattle.std.specs.List.{list_any}
@@ -21,7 +21,7 @@ pub timer_at-sources_asked : (timing : Timing) (now : ℕ) (asked : Set) (e : Sc
     (option_map (source_asked (lowered_to timing now) (last_member_count timing)) (timer_at e.group s)) (timer_at e.group s)
 timer_at-sources_asked timing now asked e s = grind (arith, get-kept)
 
--- a test passes for some source exactly where there is one that the group holds
+-- a test passes for some source exactly if the group holds such a source
 any_at : (p : ℕ → Bool) (ks : List ℕ) (q : ℕ) → list_any (λ x. eqb q x) ks ≡ true → p q ≡ true → list_any p ks ≡ true
 any_at p [] q listed passes = absurd (false≢true listed)
 any_at p (k ∷ ks) q listed passes = elim (or_cases (eqb q k) (list_any (λ x. eqb q x) ks) listed) [

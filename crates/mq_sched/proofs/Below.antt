@@ -61,7 +61,7 @@ pub ones-below : (n node : ℕ) → 1 ≤ sum_below (λ _. 1) n node
 unfolding sum_below
 ones-below n node = ones-to_depth n n node
 
--- what is not due counts for no leaf
+-- a node that isn't due counts for no leaf
 one-if_later : (nodes : List ℕ) (now leaf node : ℕ) → now < get_or nodes node 0 → one_if_due nodes now leaf node ≡ 0
 one-if_later nodes now leaf node later = rw (and_right (node == leaf) (nat_le (get_or nodes node 0) now) (lt-leb (get_or nodes node 0) now later)) refl
 
@@ -84,7 +84,7 @@ module _ (nodes : List ℕ) (lefts : List Bool) (now leaf : ℕ) (known : IsTree
   unfolding sum_below
   none_below node some later = none-to_depth (length lefts) node some later
 
--- the two nodes below a node, of which the first has its deadline
+-- the two nodes below a node. The first has its deadline.
 pub record AreBelow (nodes : List ℕ) (count node first_node second_node : ℕ) : Type 0 where
   pub sums : (f : ℕ → ℕ) → sum_below f count node ≡ sum_below f count first_node + sum_below f count second_node
   pub first : get_or nodes first_node 0 ≡ get_or nodes node 0

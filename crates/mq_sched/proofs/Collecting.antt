@@ -55,7 +55,7 @@ module _ {K : Type 0} (number : K → ℕ) (n group : ℕ) (flag : Bool) where
       subst (λ queries. Sends takes old queries end) (sym (full_message items source rest positive length_is))
       (Sends-append takes old new end (SourcesQuery group flag (list_map number (items ++ source ∷ [])) ∷ []) (sources_queries n group flag rest) first second)
 
-  -- one that isn't full waits
+  -- a message that isn't full waits
   pub waits : {S : Type 0} (takes : S → SentQuery → S → Type 0) (sink : S) (items pushed : List K) (source : K) (rest : List ℕ) → pushed ≡ items ++ source ∷ []
       → SendsOn takes sink (sources_queries n group flag (list_map number items ++ (number source ∷ rest))) sink
       (sources_queries n group flag (list_map number pushed ++ rest))
@@ -92,7 +92,7 @@ none_goes limit flag (x ∷ xs) none =
     stays true is = ap (λ t. t && is_ahead limit (deadline_of (Some x.timer))) is
     stays false is = ap (λ t. t && not (is_ahead limit (deadline_of (Some x.timer)))) is
 
--- so those of a part go, outside of which there is none that has a sending to go
+-- so those of a part go, if no other source has a sending left
 pub going_between : {K : Type 0} (number : K → ℕ) (limit : ℕ) (flag : Bool) (row : List (Source K)) (first end : ℕ) →
     PassesBetween item_has_sendings first end row → going_with number limit flag (slice_range row first end) ≡ going_with number limit flag row
 going_between {K = K} number limit flag row first end between =

@@ -1,4 +1,4 @@
--- How many items of a list pass a test.
+-- The number of a list's items that pass a test.
 use Rattle.std.proofs.Common.{ℕ, ◌+◌, ◌<◌, ◌≤◌, ◌≡◌, Bool, true, false, cond, arith, refl, List, [], ◌∷◌, length, get_or, map, ap}
 use Rattle.std.specs.List.{All, count_by}
 use Rattle.std.proofs.lemmas.List.Elements.{All-head, All-tail}

@@ -17,8 +17,8 @@ pub leaf_written : {X : Type 0} (f : X → ℕ) (nodes : List ℕ) (leaves : Lis
     (take from leaves) + sum_below (one_if_due nodes now leaf) n node
 leaf_written f nodes leaves x h1 n now from leaf h2 h3 h4 = grind (arith, sum_below-leaf, le-leb, and-true, take_more_set, sum_by_push)
 
--- what is spent below a node that is due: at the node that has its deadline, and on a look at the other one and, where
--- it is due too, at that
+-- the comparisons below a due node: at the node with its deadline, for a look at the other one, and,
+-- if that one is due too, there
 module _ {old mid seen : ℕ} (first all other height : ℕ) (some : 1 ≤ first) (within : first ≤ all) (more : 1 ≤ other)
     (one : Spends (min first (all - 1)) (min (all - 1) (first * height)) old mid) (look : Spends 1 1 mid seen) where
   pub spent_on_one : Spends (min first (all + other - 1)) (min (all + other - 1) (first * (height + 1))) old seen

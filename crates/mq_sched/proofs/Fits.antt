@@ -1,4 +1,4 @@
--- A schedule goes on fitting its group.
+-- A schedule that still fits its group.
 use Rattle.std.proofs.Common.{◌≡◌, ℕ, ◌+◌, ◌-◌, ◌<◌, Bool, true, false, cond, ◌&&◌, Option, None, Some, IsSome, IfSome, refl, sym, ap, ◌∙◌, arith, ltb, leb}
 use Rattle.std.proofs.lemmas.Bool.{false≢true, true≢false, ltb-true, lt-ltb, false_from_ne_true}
 use Rattle.std.specs.List.{list_any}

@@ -1,4 +1,4 @@
--- No query of a round has more sources than one message holds.
+-- The queries of a round, each with at most the sources that one message holds.
 use Rattle.std.proofs.Common.{ℕ, zero, suc, Bool, List, [], ◌∷◌, ◌++◌, length, drop, arith}
 use Rattle.std.specs.Prelude.{map as list_map}
 use Rattle.std.proofs.lemmas.List.{length-take}

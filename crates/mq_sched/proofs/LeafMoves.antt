@@ -1,9 +1,9 @@
--- Where the leaves of a tree go as one of them is given up.
+-- The new leaves of a tree once one is removed.
 use Rattle.std.proofs.Common.{ℕ, ◌+◌, ◌*◌, ◌<◌, ◌≤◌, ◌≡◌, arith}
 use Rattle.std.proofs.lemmas.Bool.Decides.{nat_tests}
 use Rattle.mq_sched.specs.DeadlineTree.{leaf_before, leaf_after}
 
--- a leaf that is not given up is one of those that are left, and its deadline the one that comes there
+-- each other leaf is among those left, and keeps its deadline
 pub after_given_up : (last given_up later leaf : ℕ) → last + 1 ≤ given_up → given_up < 2 * last + 2 → 2 * last ≤ later → later < 2 * last + 2 →
     last + 1 ≤ leaf → leaf < 2 * last + 2 → (leaf ≡ given_up → ⊥)
     → (last ≤ leaf_after last given_up later leaf) × (leaf_after last given_up later leaf < 2 * last) ×
@@ -11,7 +11,7 @@ pub after_given_up : (last given_up later leaf : ℕ) → last + 1 ≤ given_up 
 after_given_up last given_up later leaf from below tail end low high other =
     (grind (arith, nat_tests), grind (arith, nat_tests), grind (arith, nat_tests))
 
--- and each that is left has the deadline of one that was not given up
+-- each leaf left has the deadline of another leaf than the removed one
 pub before_given_up : (last given_up later leaf : ℕ) → last + 1 ≤ given_up → given_up < 2 * last + 2 → 2 * last ≤ later → later < 2 * last + 2 →
     last ≤ leaf → leaf < 2 * last
     → (last + 1 ≤ leaf_before last given_up later leaf) × (leaf_before last given_up later leaf < 2 * last + 2) ×

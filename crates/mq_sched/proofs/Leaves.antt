@@ -1,4 +1,4 @@
--- The sum over all leaves of a tree is that below its top node.
+-- The sum over all leaves of a tree, which is that below its top node.
 use Rattle.std.proofs.Common.{ℕ, zero, suc, ◌+◌, ◌-◌, ◌*◌, ◌<◌, ◌≤◌, ◌≡◌, ◌==◌, arith, refl, List, get_or, sym, ap, ◌∙◌, ⊎_elim, ◌⊎◌, inl, inr}
 use Rattle.std.specs.Prelude.{nat_le, if◌then◌else◌}
 use Rattle.std.proofs.lemmas.Bool.{cases_lt, cases_eq, lt-ltb, le-ltb, le-leb, lt-leb, eq-eqb, ne_eqb, and_left}

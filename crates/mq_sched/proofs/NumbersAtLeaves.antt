@@ -27,7 +27,7 @@ same-key q k is = grind (arith, nat_tests)
 other-key : (q k : ℕ) → (q ≡ k → ⊥) → eq_by_cmp nat_cmp q k ≡ false
 other-key q k differs = grind (arith, nat_tests)
 
--- a list of which each number tells its place stands in no place twice
+-- a list whose numbers each know their place has no number twice
 pub once-by_place : (f : ℕ → ℕ) (xs : List ℕ) (base q : ℕ) → ((k : ℕ) → k < length xs → f (get_or xs k 0) ≡ base + k) → times q xs ≤ 1
 once-by_place f [] base q tells = omega arith
 once-by_place f (x ∷ xs) base q tells =
@@ -53,7 +53,7 @@ pub record IsLeafOf (numbers : List ℕ) (count leaf number : ℕ) : Type 0 wher
   pub has : get_or numbers leaf 0 ≡ number
 
 module _ (nodes leaves numbers : List ℕ) (count : ℕ) (known : AreNumbered leaves numbers count) where
-  -- a number's leaf is that which is told
+  -- a number's leaf is that of the list
   pub leaf-told : (leaf q : ℕ) → IsLeafOf numbers count leaf q → get_or leaves q 0 ≡ leaf
   leaf-told leaf q is =
       ap (λ n. get_or leaves n 0) (sym is.has) ∙ known.leaf leaf is.from is.below
@@ -94,7 +94,7 @@ module _ (nodes leaves numbers : List ℕ) (count : ℕ) (known : AreNumbered le
       neither true = refl
       neither false = refl
 
-  -- whether a number is due, by the leaf that is told
+  -- the test for a due number, by the leaf of the list
   pub due-at : (now q : ℕ) → IsLeafOf numbers count (get_or leaves q 0) q → is_number_due (moments_at nodes leaves numbers count) now q
       ≡ nat_le (get_or nodes (get_or leaves q 0) 0) now
   due-at now q is = ap (has_come now) (get-moments_at q ∙ moment-there (get_or leaves q 0) q is)
@@ -469,7 +469,7 @@ pub record HasLeaf (leaves numbers : List ℕ) (count n : ℕ) : Type 0 where
   pub within : n < length leaves
   pub told : (read : ℕ) → read ≡ get_or leaves n read → read ≡ leaf
 
--- what is known of a number that is there, or isn't
+-- the facts about a number that is there, or isn't
 module _ (nodes leaves numbers : List ℕ) (count n : ℕ) (known : AreNumbered leaves numbers count) where
   pub below-room : (leaf : ℕ) → IsLeafOf numbers count leaf n → n < length leaves
   below-room leaf is = omega (arith, is.has, known.below leaf is.from is.below)

@@ -1,4 +1,4 @@
--- How many bytes the sources of a message take: few, where an address is small.
+-- The bytes of a message's sources, which are few for small addresses.
 use Rattle.std.proofs.Common.{ℕ, ◌+◌, ◌-◌, ◌*◌, ◌≤◌, ◌<◌, max, arith}
 use Rattle.std.proofs.Math.Nat.{mod-le}
 use prog.Memory.{up}
@@ -16,7 +16,7 @@ greater a b first second = omega arith
 times : (size : ℕ) → size ≤ 16 → 366 * size ≤ 5856
 times size small = omega arith
 
--- what is collected for a message: two fields of one address, a flag and a number, and the room for 366 addresses
+-- the collected parts of a message: two fields of one address, a flag and a number, and the room for 366 addresses
 module _ (align size : ℕ) (small_align : align ≤ 16) (small_size : size ≤ 16) where
   abbrev fields : ℕ
   fields = max (max align 1) 8

@@ -1,4 +1,4 @@
--- What a round asks for, counts down and leaves.
+-- The sources that a round asks for, counts down and leaves.
 use Rattle.std.proofs.Common.{◌≡◌, ℕ, ◌+◌, ◌-◌, ◌<◌, Bool, true, false, cond, not, ◌&&◌, ◌||◌, List, [], ◌∷◌, ◌++◌, filter, Option, None, Some}
 use Rattle.std.proofs.Common.{IfSome, refl, sym, ap, ◌∙◌, arith, eqb, ltb}
 use Rattle.std.proofs.lemmas.Bool.{false≢true, true≢false, and_parts, eqb-true, ltb-true, ltb-false, leb-false, lt-leb}
@@ -138,7 +138,7 @@ counted_down n timing now group e s positive asked =
     (timer_at-after_round timing now e s ∙ ap (λ b. cond b (option_map source_counted (timer_at e.group s)) (timer_at e.group s)) parts.0)
     ∙ one_fewer (timer_at e.group s) parts.1
 
--- and any other is as it was
+-- and any other is unchanged
 pub others_stay : (n : ℕ) (timing : Timing) (now group : ℕ) (e : ScheduledGroup) (s : ℕ) → 0 < n → asked_in (messages_due n timing now group e) s
     ≡ false → timer_at (after_round timing now e).group s ≡ timer_at e.group s
 others_stay n timing now group e s positive unasked =
@@ -171,7 +171,7 @@ group_stays n timing now group e unasked = grind (arith, asks_group-messages_due
 pub quiet_after_round : (timing : Timing) (now : ℕ) (e : ScheduledGroup) → 0 < timing.last_member_interval → IsQuietAt now (after_round timing now e).schedule
 quiet_after_round timing now e positive = grind (arith, leb-false)
 
--- what is quiet isn't due
+-- a quiet schedule isn't due
 pub group_not_due : (now : ℕ) (q : Option QuerySchedule) → IfSome q (λ q. now < q.due) → is_due now (group_due q) ≡ false
 group_not_due now None h = refl
 group_not_due now (Some q) h = lt-leb q.due now h

@@ -16,7 +16,7 @@ module _ (nodes : List ℕ) (last leaf first second x y : ℕ) (room : (leaf < l
   pub went_to : (at : ℕ) → get_or (set (set nodes leaf x) last y) at 0 ≡ get_or nodes (leaf_before last leaf second at) 0
   went_to at = grind (arith, eq-eqb, get_or-set_same, length-set, written, ne_eqb, get_or-set_other, cases_eq)
 
-  -- and a node that is neither is as it was, as is the node above the last two where it keeps the earlier deadline
+  -- any other node is unchanged, and so is the node above the last two if it keeps the earlier deadline
   pub stayed : (at : ℕ) → (at ≡ leaf → ⊥) → (at ≡ last → (first ≡ leaf → ⊥) × (get_or nodes last 0 ≡ get_or nodes first 0)) →
       get_or (set (set nodes leaf x) last y) at 0 ≡ get_or nodes at 0
   stayed at off keeps = grind (arith, get_or-set_same, length-set, get_or-set_other, cases_eq)

@@ -1,4 +1,4 @@
--- How many nodes are written above one that has another deadline.
+-- The number of nodes written above a node whose deadline changed.
 use Rattle.std.proofs.Common.{ℕ, zero, suc, ◌+◌, ◌-◌, ◌*◌, ◌/◌, ◌%◌, ◌<◌, ◌≤◌, ◌≡◌, ◌&&◌, Bool, true, false, cond, eqb, leb, not, refl, arith, sym}
 use Rattle.std.proofs.Common.{ap, ◌∙◌, List, length, get_or, set, ⊎_elim}
 use Rattle.std.specs.Bool.{beq}
@@ -12,7 +12,7 @@ one_more : (b : Bool) (more : ℕ) → cond b 0 (1 + more) ≤ 1 + more
 one_more true more = omega arith
 one_more false more = omega arith
 
--- whether a node above another is one at which the writing ends
+-- the test whether the writing ends at a node
 abbrev pub stays : (before after : List Bool) → ℕ → Bool
 stays before after node = keeps_other before (node / 2) node && keeps_other after (node / 2) node
 
@@ -64,7 +64,7 @@ module _ (before after : List Bool) where
   pub written-few : (node : ℕ) → written_above before after node node ≤ bitlen (node / 2)
   written-few node = few-levels node node (omega arith)
 
--- whether a node has the deadline of the other one below it, by its side
+-- the test whether a node has the deadline of the other one below, by its side
 pub keeps_other-told : (side is_right : Bool) (node : ℕ) → is_right ≡ eqb (node % 2) 1 →
     not (eqb (cond side (2 * (node / 2)) (2 * (node / 2) + 1)) node) ≡ cond side is_right (not is_right)
 keeps_other-told side is_right node is = grind (arith, eqb-true, ne_eqb, eq-eqb, eqb-false, cases_lt)

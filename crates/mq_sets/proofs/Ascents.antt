@@ -55,7 +55,7 @@ IsAscending-map number f (x ∷ xs) up =
     (All-map (λ y. number (f x) < number y) f xs (IsAscending-head (λ x. number (f x)) x xs up))
     (IsAscending-map number f xs (IsAscending-tail (λ x. number (f x)) x xs up))
 
--- a filter that no item passes, and one that each does
+-- a filter that no item passes, and a filter that each passes
 pub filter-none : {X : Type 0} (p : X → Bool) (xs : List X) → All (λ x. p x ≡ false) xs → filter p xs ≡ []
 filter-none p [] none = refl
 filter-none p (x ∷ xs) none =

@@ -17,7 +17,7 @@ map-agree f g [] same = refl
 map-agree f g (x ∷ xs) same =
     rw (All-head (λ y. f y ≡ g y) x xs same, map-agree f g xs (All-tail (λ y. f y ≡ g y) x xs same)) refl
 
--- whether an element of a list of cells is this cell
+-- 1 for an element of a list of cells that is this cell, else 0
 abbrev pub is_cell : ℕ → ℕ → ℕ
 is_cell cell other = cond (other == cell) 1 0
 
@@ -52,7 +52,7 @@ module _ {T : Type 0} where
   item_in-get (x ∷ cells) zero d within = refl
   item_in-get (x ∷ cells) (suc cell) d within = item_in-get cells cell d (omega arith)
 
-  -- what stands in cells that there are
+  -- the items of cells within the list
   pub items_in-map : (cells : List T) (order : List ℕ) (d : T) → All (IsCell cells) order → items_in cells order ≡ map (λ cell. get_or cells cell d) order
   items_in-map cells [] d within = refl
   items_in-map cells (cell ∷ order) d within =

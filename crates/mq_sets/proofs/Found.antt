@@ -1,4 +1,4 @@
--- What a number finds in a list.
+-- The item of a list that a number finds.
 use Rattle.std.proofs.Common.{ℕ, ◌≡◌, ◌==◌, arith, refl, List, [], ◌∷◌, map, ◌∙◌, ⊎_elim}
 use Rattle.std.specs.Option.{option_map}
 use Rattle.std.specs.Ordering.{nat_cmp, eq_by_cmp}

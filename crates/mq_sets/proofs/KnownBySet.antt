@@ -1,4 +1,4 @@
--- An ascending list is known by its set.
+-- The one ascending list of a set.
 use Rattle.std.proofs.Common.{ℕ, ◌<◌, ◌≤◌, ◌≡◌, true, false, ◌==◌, arith, refl, List, [], ◌∷◌, sym, ◌∙◌, ⊎_elim}
 use Rattle.std.specs.List.{All}
 use Rattle.std.proofs.lemmas.Bool.{cases_lt, eq-eqb, false≢true}

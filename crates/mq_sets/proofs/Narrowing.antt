@@ -28,7 +28,7 @@ spent_by_halving all left less some within half before one =
 
 module _ {X : Type 0} (number : X → ℕ) (xs : List X) (n middle : ℕ) (x : X) (up : IsAscending number xs) (in_list : middle < length xs)
     (here : x ≡ get_or xs middle x) where
-  -- what stands at or before an item below n is below n
+  -- items up to one below n are below n
   below_to : number x < n → AllWithin (λ y. number y < n) xs 0 (middle + 1)
   below_to low k d from upto =
       let at : number (get_or xs middle d) < n = at_read xs (λ y. number y < n) middle x in_list here low d in
@@ -37,7 +37,7 @@ module _ {X : Type 0} (number : X → ℕ) (xs : List X) (n middle : ℕ) (x : X
       (λ past. let same : middle ≡ k = omega arith in subst (λ j. number (get_or xs j d) < n) same at)
       (cases_lt k middle)
 
-  -- what stands at or behind an item above n is above n
+  -- items from one above n on are above n
   above_from : n < number x → AllWithin (λ y. n < number y) xs middle (length xs)
   above_from high k d from upto =
       let at : n < number (get_or xs middle d) = at_read xs (λ y. n < number y) middle x in_list here high d in
@@ -68,7 +68,7 @@ module _ {X : Type 0} (number : X → ℕ) (xs : List X) (n middle : ℕ) (x : X
     spent = spent_by_halving (length xs) (high - low) (middle - low) (omega arith) (omega (arith, known.within)) (omega arith) known.spent one;
   }
 
--- what was spent where the item was found
+-- the comparisons if the item was found
 pub spent_to_found : {X : Type 0} (number : X → ℕ) (xs : List X) (n : ℕ) {old m new low high : ℕ} → IsNarrowed number xs n old m low high →
     low < high → Spends 1 1 m new → Spends (min 1 (length xs)) (bitlen (length xs)) old new
 spent_to_found number xs n {low = low} {high = high} known some one =

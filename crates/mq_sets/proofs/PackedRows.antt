@@ -20,7 +20,7 @@ none = record { start = 0; length = 0 }
 abbrev pub size_of : List Extent → ℕ → ℕ
 size_of extents n = (get_or extents n none).length
 
--- extents of which each two have no cell in common
+-- extents without common cells, pair by pair
 pub AreApart-from_pairs : (extents : List Extent) →
     ((a b : ℕ) (d : Extent) → a < b → b < length extents → IsApart (get_or extents a d) (get_or extents b d)) → AreApart extents
 AreApart-from_pairs [] pairs = tt
@@ -226,13 +226,13 @@ module _ {T : Type 0} (cells : List T) (from : List Extent) where
       (λ (past : length from ≤ n). absurd (omega (arith, some, ap (λ (e : Extent). e.length) (get_or_past from n none past))))
       (cases_lt n (length from)))
 
--- a number that a list of which each is there once has next is none of those before
+-- the next number of a list without repeats is none of those before
 pub absent-yet : (numbers : List ℕ) (k x : ℕ) → k < length numbers → x ≡ get_or numbers k x → ((n : ℕ) → times n numbers ≤ 1) → times x (take k numbers) ≡ 0
 absent-yet numbers k x in_list here once =
     let upto = sum_by_more_le (is_cell x) numbers k x in_list in
     omega (arith, upto, once x, is_cell-same x (get_or numbers k x) (sym here))
 
--- what is so of the next row, before it is copied
+-- the facts about the next row, before it is copied
 pub record IsNext {T : Type 0} (cells packed : List T) (from : List Extent) (numbers : List ℕ) (x : ℕ) (e : Extent) : Type 0 where
   pub in_list : x < length from
   pub absent : times x numbers ≡ 0

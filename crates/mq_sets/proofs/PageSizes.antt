@@ -1,4 +1,4 @@
--- How full pages are: what an insert, a split and a list of full pages keep of it.
+-- The sizes of pages, after an insert, a split and in a list of full pages.
 use Rattle.std.proofs.Common.{ℕ, zero, suc, ◌+◌, ◌-◌, ◌*◌, min, refl, ⊎_elim, ◌<◌, ◌≤◌, ◌≡◌, List, [], ◌∷◌, ◌++◌, length, set, get_or, arith, sum}
 use Rattle.std.proofs.Common.{length-append, length-set}
 use Rattle.std.specs.List.{All}
@@ -64,7 +64,7 @@ small_pairs-halved (x ∷ y ∷ xs) ys some none =
     (omega (arith, none, small_pairs-tail x (y ∷ (xs ++ 511 ∷ ys)))) in
     omega (arith, rest, none)
 
--- what holds of each page, where one page becomes two
+-- a fact about each page, if one page becomes two
 All-halved : (P : ℕ → Type 0) (xs ys : List ℕ) (x a b : ℕ) → P a → P b → All P (xs ++ x ∷ ys) → All P (xs ++ a ∷ b ∷ ys)
 All-halved P [] ys x a b at_a at_b all = All-cons P a (b ∷ ys) at_a (All-cons P b ys at_b (All-tail P x ys all))
 All-halved P (y ∷ xs) ys x a b at_a at_b all =
@@ -124,7 +124,7 @@ All-at : (P : ℕ → Type 0) (xs : List ℕ) (x : ℕ) (ys : List ℕ) → All 
 All-at P [] x ys all = All-head P x ys all
 All-at P (z ∷ xs) x ys all = All-at P xs x ys (All-tail P z (xs ++ x ∷ ys) all)
 
--- a page loses a number and takes in the one behind it
+-- a page loses a number and joins the next page
 pub filled-right : (xs ys : List ℕ) (s less y : ℕ) → s ≡ less + 1 → min (min less y) (less + y - 255) ≡ 0 → AreFilled (xs ++ s ∷ y ∷ ys) →
     AreFilled (xs ++ (less + y) ∷ ys)
 filled-right xs ys s less y one small known =

@@ -10,7 +10,7 @@ use Rattle.std.proofs.lemmas.List.Edits.{insert-append_left, insert-append_right
 use Rattle.mq_sets.specs.NumberedKeys.{PagesState, numbers_in, AreFilled}
 use Rattle.mq_sets.proofs.PageSizes.{AreFilled-grown, AreFilled-halved, few_pages}
 
--- the state of pages and of so many in all
+-- the state of pages with this limit
 abbrev pub paged : List (List ℕ) → ℕ → PagesState
 paged pages limit = record { pages = pages; limit = limit }
 
@@ -30,7 +30,7 @@ pub numbers-parts : (pages : List (List ℕ)) (i : ℕ) → i < length pages →
     (get_or pages i [] ++ numbers_in (drop (suc i) pages))
 numbers-parts pages i within = ap numbers_in (sym (set-get_or pages i [])) ∙ numbers-set pages i (get_or pages i []) within
 
--- how many numbers there are
+-- the number of numbers
 pub length-numbers : (pages : List (List ℕ)) → length (numbers_in pages) ≡ sum (map length pages)
 length-numbers pages = length-flat_map (λ p. p) pages ∙ sym (sum-map length pages)
 
@@ -106,7 +106,7 @@ room-halved pages i limit within full known room =
     let long = length-append (take i pages) (take 255 (get_or pages i []) ∷ drop 255 (get_or pages i []) ∷ drop (suc i) pages) in
     omega (arith, few, total, same, count, long, room, length-take i pages, length-drop (suc i) pages, within)
 
--- what stands before the two halves
+-- the pages before the two halves
 front-halved : (pages : List (List ℕ)) (i : ℕ) → i < length pages → take i (halved pages i) ≡ take i pages
 front-halved pages i within = take_at (take i pages) (take 255 (get_or pages i []) ∷ drop 255 (get_or pages i []) ∷ drop (suc i) pages) i
     (omega (arith, length-take i pages, within))

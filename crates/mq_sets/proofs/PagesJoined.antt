@@ -71,7 +71,7 @@ module _ (pages : List (List ℕ)) (i place : ℕ) (within : i < length pages) (
   size-at : (k : ℕ) → k < length pages → get_or (map length pages) k 0 ≡ length (get_or pages k [])
   size-at k in_list = get_or-map length pages k [] 0 in_list
 
-  -- the page goes together with the one behind it
+  -- the page joins the next one
   pub filled-joined : i + 1 < length pages → min (min (length (get_or left_of i [])) (length (get_or left_of (i + 1) [])))
       (length (get_or left_of i []) + length (get_or left_of (i + 1) []) - 255) ≡ 0 → AreFilled (map length (joined left_of i))
   filled-joined more small =
@@ -142,7 +142,7 @@ module _ (pages : List (List ℕ)) (i place : ℕ) (within : i < length pages) (
       subst AreFilled (sym (sizes-left ∙ set_split sizes i gone in_list))
       (filled-less (take i sizes) (drop (suc i) sizes) (get_or sizes i 0) gone (size-at i within ∙ one) front back before)
 
--- what tells whether two neighbours have to become one page
+-- the test whether two neighbours have to become one page
 pub least-is : (pages : List (List ℕ)) (k : ℕ) → k + 1 < length pages →
     above_least (map length pages) k ≡ min (min (length (get_or pages k [])) (length (get_or pages (k + 1) [])))
     (length (get_or pages k []) + length (get_or pages (k + 1) []) - 255)

@@ -1,4 +1,4 @@
--- How many items are moved where a number leaves its page.
+-- The moved items if a number leaves its page.
 use Rattle.std.proofs.Common.{ℕ, ◌+◌, ◌-◌, ◌<◌, ◌≤◌, ◌≡◌, min, List, [], length, map, set, get_or, arith, ⊎_elim}
 use Rattle.std.specs.Prelude.{cond}
 use Rattle.std.specs.List.{remove}
@@ -33,13 +33,13 @@ pub sizes-left : (pages : List (List ℕ)) (i place : ℕ) → i < length pages 
     map length (set pages i (remove (get_or pages i []) place)) ≡ set (map length pages) i (get_or (map length pages) i 0 - 1)
 sizes-left pages i place within inside = grind (arith, length-remove, get_or-map, map-set)
 
--- what is moved by a removal, with what its joins move
+-- the moves of a removal, with those of its joins
 pub moved-remove : (pages left : List (List ℕ)) (spot : Spot) → spot.page < length pages → spot.place < length (get_or pages spot.page []) →
     left ≡ set pages spot.page (remove (get_or pages spot.page []) spot.place) → moved_by_remove (map length pages) spot
     ≡ length (get_or pages spot.page []) - spot.place + moved_by_joins (map length left) spot.page
 moved-remove pages left spot within inside is = grind (arith, sizes-left, get_or-map)
 
--- what a join moves, by the pages themselves
+-- the moves of a join, by the pages themselves
 pub moved-join : (pages : List (List ℕ)) (i : ℕ) → i + 1 < length pages → moved_by_join (map length pages) i
     ≡ length (get_or pages (i + 1) []) + (length pages - 1 - i)
 moved-join pages i two = omega (arith, get_or-map length pages (i + 1) [] 0 two, length-map pages length)

@@ -78,7 +78,7 @@ pub with_parts : {T : Type 0} (before : PoolState T) (old rows new : List (List 
 with_parts before old rows new limit was_ahead ahead left was same same_ahead =
     rw (same, same_ahead, ap (λ (s : PoolState _). s.cell_limit) was) refl
 
--- what is left behind the last cell, and what was moved, once a longer row is written behind it
+-- the cells left after the last one, and the moves, once a longer row is written there
 module _ (old_size row_size size cells_size ahead others : ℕ) (longer : old_size < row_size) (fits : cells_size ≤ size)
     (ahead_is : ahead ≡ size - cells_size) where
   pub ahead-written : (copied all : ℕ) → copied ≡ (if nat_le (cells_size + row_size) size then cells_size else others) → all ≡ others + row_size
@@ -90,7 +90,7 @@ module _ (old_size row_size size cells_size ahead others : ℕ) (longer : old_si
       ≡ (if nat_le row_size old_size then row_size else if nat_le row_size ahead then row_size else row_size + (all - old_size + named))
   moved-written named all all_is = grind (arith, nat_tests)
 
--- what is moved is paid: by numbers alone
+-- the moves are paid: by numbers alone
 paid : (old_size row_size rows limit ahead cells named all : ℕ) → named ≤ rows → cells ≤ limit → all + old_size ≡ cells + row_size → all ≤ limit
     → (if nat_le row_size old_size then row_size else if nat_le row_size ahead then row_size else row_size + (cells - old_size + named))
     + min (4 * (limit / 4 + rows

@@ -1,4 +1,4 @@
--- What a rule makes of each item of an ascending list, number by number.
+-- The results of a rule for each item of an ascending list, number by number.
 use Rattle.std.proofs.Common.{ℕ, ◌<◌, ◌≡◌, arith, refl, List, [], ◌∷◌, Option, None, Some, sym, ap, subst, ◌∙◌, ⊎_elim}
 use Rattle.std.specs.List.{All, filter_map, cons_option}
 use Rattle.std.specs.Option.{option_and_then}
@@ -11,7 +11,7 @@ use Rattle.mq_sets.proofs.WholeMerge.{merged-ascending, merged-at}
 use Rattle.mq_sets.proofs.Ascents.{IsAscending-head, IsAscending-tail, IsAscending-cons, item_with-above}
 
 module _ {X Y : Type 0} (number_x : X → ℕ) (number_y : Y → ℕ) (rule : X → Option Y) (keeps : KeepsNumbers number_x number_y rule) where
-  -- what holds of the numbers of all items holds of those that the rule makes
+  -- a fact about the numbers of all items holds for the results
   All-made : (P : ℕ → Type 0) (x : X) (xs : List X) (made : Option Y) → rule x ≡ made → P (number_x x) →
       All (λ y. P (number_y y)) (filter_map rule xs) → All (λ y. P (number_y y)) (cons_option made (filter_map rule xs))
   All-made P x xs None is here rest = rest
@@ -23,7 +23,7 @@ module _ {X Y : Type 0} (number_x : X → ℕ) (number_y : Y → ℕ) (rule : X 
   All-filter_map P (x ∷ xs) all =
       All-made P x xs (rule x) refl (All-head (λ x. P (number_x x)) x xs all) (All-filter_map P xs (All-tail (λ x. P (number_x x)) x xs all))
 
-  -- what the rule makes of an ascending list is ascending
+  -- the results for an ascending list are ascending
   IsAscending-made : (x : X) (xs : List X) (made : Option Y) → rule x ≡ made → All (λ y. number_x x < number_y y) (filter_map rule xs) →
       IsAscending number_y (filter_map rule xs) → IsAscending number_y (cons_option made (filter_map rule xs))
   IsAscending-made x xs made is above up = grind (arith, IsAscending-cons)
@@ -35,7 +35,7 @@ module _ {X Y : Type 0} (number_x : X → ℕ) (number_y : Y → ℕ) (rule : X 
       (All-filter_map (λ n. number_x x < n) xs (IsAscending-head number_x x xs up))
       (IsAscending-filter_map xs (IsAscending-tail number_x x xs up))
 
-  -- at each number it is what the rule makes of the item there
+  -- the result at each number is that of the item there
   item_with-made : (x : X) (xs : List X) (n : ℕ) (made : Option Y) → rule x ≡ made → IsAscending number_x (x ∷ xs) →
       item_with number_y (filter_map rule xs) n ≡ option_and_then rule (item_with number_x xs n) →
       item_with number_y (cons_option made (filter_map rule xs)) n ≡ option_and_then rule (item_with number_x (x ∷ xs) n)

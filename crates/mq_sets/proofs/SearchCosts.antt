@@ -1,4 +1,4 @@
--- How many comparisons a search among pages takes.
+-- The comparisons of a search among pages.
 use Rattle.std.proofs.Common.{ℕ, zero, suc, ◌+◌, ◌-◌, ◌*◌, ◌/◌, ◌<◌, ◌≤◌, ◌≡◌, min, List, [], ◌∷◌, length, map, get_or, sym, ap, ◌∙◌, ⊎_elim, arith}
 use Rattle.std.proofs.lemmas.Bool.{cases_lt}
 use Rattle.std.proofs.lemmas.List.{append-nil, get_or-map, length-map}
@@ -41,7 +41,7 @@ only (page ∷ []) (suc i) within single = absurd (omega arith)
 only (page ∷ other ∷ pages) i within single = absurd (omega arith)
 
 module _ (pages : List (List ℕ)) (known : AreFilled (map length pages)) where
-  -- how many pages there are
+  -- the number of pages
   pub directory : 128 * length pages ≤ length (numbers_in pages) + 128
   directory = omega (arith, few_pages (map length pages) known.pairs, length-numbers pages, length-map pages length)
 

@@ -13,7 +13,7 @@ use Rattle.mq_sets.specs.Search.{IsPlaceFor}
 use Rattle.mq_sets.proofs.Ascents.{IsAscending-cons, IsAscending-head, IsAscending-tail}
 use Rattle.mq_sets.proofs.PagedNumbers.{numbers-parts, length-numbers-take}
 
--- what holds of the last of two lists, and of the first
+-- a fact about the last of two lists, and about the first
 All-back : {X : Type 0} (P : X → Type 0) (xs ys : List X) → All P (xs ++ ys) → All P ys
 All-back P [] ys all = all
 All-back P (x ∷ xs) ys all = All-back P xs ys (All-tail P x (xs ++ ys) all)
@@ -26,7 +26,7 @@ module _ {X : Type 0} (number : X → ℕ) where
   pub IsAscending-front : (xs ys : List X) → IsAscending number (xs ++ ys) → IsAscending number xs
   IsAscending-front xs ys up = grind (arith, length-append, get_or_append_left)
 
-  -- what stands before an item is below it
+  -- the items before one are below
   before_one : (xs : List X) (y : X) (ys : List X) → IsAscending number (xs ++ y ∷ ys) → All (λ x. number x < number y) xs
   before_one [] y ys up = All-nil (λ x. number x < number y)
   before_one (x ∷ xs) y ys up =
@@ -85,7 +85,7 @@ module _ (key_of : ℕ → ℕ) where
   below-first n xs (y ∷ page) ys some up below =
       All-weaker (λ x. key_of x < key_of y) (λ x. key_of x < n) (λ x h. omega (arith, below, h)) xs (before_one key_of xs y (page ++ ys) up)
 
-  -- what stands before the page that a search among the first numbers names
+  -- the numbers before the page that a search among the first numbers finds
   before-page : (pages : List (List ℕ)) (i n : ℕ) → i < length pages → (2 ≤ length pages → All (λ page. 1 ≤ length page) pages) →
       IsAscending key_of (numbers_in pages) → IsPlaceFor (first_key key_of) (drop 1 pages) n i → All (λ x. key_of x < n) (numbers_in (take i pages))
   before-page pages zero n within some up directory = All-nil (λ x. key_of x < n)
@@ -99,7 +99,7 @@ module _ (key_of : ℕ → ℕ) where
       ap (first_key key_of) (get_or-drop 1 pages i [] ∙ ap (λ k. get_or pages k []) index) in
       below-first n (numbers_in (take (suc i) pages)) (get_or pages (suc i) []) (numbers_in (drop (suc (suc i)) pages)) filled whole (omega (arith, at, same))
 
-  -- and what stands behind it
+  -- and the numbers after that page
   behind-page : (pages : List (List ℕ)) (i n : ℕ) → i < length pages → (2 ≤ length pages → All (λ page. 1 ≤ length page) pages) →
       IsAscending key_of (numbers_in pages) → IsPlaceFor (first_key key_of) (drop 1 pages) n i → All (λ x. n < key_of x) (numbers_in (drop (suc i) pages))
   behind-page pages i n within some up directory =
@@ -150,7 +150,7 @@ module _ (key_of : ℕ → ℕ) where
       (IsAscending-back key_of (numbers_in (take i pages)) (get_or pages i [] ++ numbers_in (drop (suc i) pages))
       (subst (IsAscending key_of) (numbers-parts pages i within) up))
 
--- what holds of all numbers holds of those of a page
+-- a fact about all numbers holds for those of a page
 pub All-page : (P : ℕ → Type 0) (pages : List (List ℕ)) (i : ℕ) → i < length pages → All P (numbers_in pages) → All P (get_or pages i [])
 All-page P pages i within all =
     let whole : All P (numbers_in (take i pages) ++ (get_or pages i [] ++ numbers_in (drop (suc i) pages))) =
@@ -159,7 +159,7 @@ All-page P pages i within all =
     λ k d in_list. subst P (get_or_append_left (get_or pages i []) (numbers_in (drop (suc i) pages)) d k in_list)
     (back k d (omega (arith, in_list, length-append (get_or pages i []) (numbers_in (drop (suc i) pages)))))
 
--- what is so of each item, where it is so of each of a map of them
+-- a fact about each item, if it holds for each result of a map
 module _ {X Y : Type 0} (items : X → Y) where
   pub All-unmap : (P : Y → Type 0) (xs : List X) → All P (map items xs) → All (λ x. P (items x)) xs
   All-unmap P xs all k d in_list = subst P (get_or-map items xs k d (items d) in_list) (all k (items d) (omega (arith, in_list, length-map xs items)))

@@ -54,7 +54,7 @@ map-insert f xs i x = rw (map-append f (take i xs) (x ∷ drop i xs), take-map f
 pub map-remove : {X Y : Type 0} (f : X → Y) (xs : List X) (i : ℕ) → map f (remove xs i) ≡ remove (map f xs) i
 map-remove f xs i = rw (map-append f (take i xs) (drop (suc i) xs), take-map f i xs, drop-map f (suc i) xs) refl
 
--- what the lengths say depends on the lengths alone
+-- a statement about lengths depends on the lengths alone
 pub cells_said-by_lengths : (xs ys : List Extent) → map (λ (e : Extent). e.length) xs ≡ map (λ (e : Extent). e.length) ys → cells_said xs ≡ cells_said ys
 cells_said-by_lengths xs ys same =
     sym (sum-map (λ (e : Extent). e.length) xs) ∙ ap (sum_by (λ (n : ℕ). n)) same ∙ sum-map (λ (e : Extent). e.length) ys
@@ -100,7 +100,7 @@ pub length-row : {T : Type 0} (cells : List T) (extents : List Extent) (place : 
 length-row cells extents place d in_list here within =
     rw (get_or-map (cells_of cells) extents place d [] in_list, ← here) (length-cells_of cells d (subst (IsWithin cells) (sym here) (within place d in_list)))
 
--- what the state of a pool says of its extents, and of the one at a place
+-- the extents of a pool's state, and the extent at a place
 pub record Shows {T : Type 0} (state : PoolState T) (extents : List Extent) (limit ahead place : ℕ) (d : Extent) : Type 0 where
   pub count : length state.rows ≡ length extents
   pub in_list : place < length extents
@@ -132,7 +132,7 @@ IsStored-over cells written row_length extents kept place d in_list here within 
       cells_fit = omega (arith, part, size_then, fits, known.used_is);
     }
 
--- a list that was lent whole and comes back as long as it was
+-- a whole list that is given and returned with its length
 pub whole_again : {X : Type 0} (xs new : List X) (size : ℕ) → length new ≡ length xs → size ≡ length xs → take size (new ++ drop (length new) xs) ≡ new
 whole_again xs new size same is =
     ap (take size) (ap (λ ys. new ++ ys) (drop_all (length new) xs (omega (arith, same))) ∙ append-nil new) ∙ take_all size new (omega (arith, same, is))

@@ -1,4 +1,4 @@
--- What a whole merge hands out.
+-- The items of a whole merge.
 use Rattle.std.proofs.Common.{ℕ, ◌<◌, ◌≤◌, ◌≡◌, Bool, true, false, cond, ◌==◌, ltb, arith, refl, List, [], ◌∷◌, map, Option, None, Some, ◌∙◌, ⊎_elim}
 use Rattle.std.specs.List.{All, filter}
 use Rattle.std.specs.Option.{option_or}
@@ -37,7 +37,7 @@ module _ {X : Type 0} (number : X → ℕ) (p : X → Bool) (n : ℕ) where
       (eqb_tells (number y) n)
 
 module _ {L R : Type 0} (left_number : L → ℕ) (right_number : R → ℕ) where
-  -- what holds of the numbers of both sides holds of the numbers handed out
+  -- a fact about the numbers of both sides holds for the merged numbers
   all_merged : (P : ℕ → Type 0) (left : List L) (right : List R) → All (λ x. P (left_number x)) left → All (λ y. P (right_number y)) right →
       All (λ p. P (number_of left_number right_number p)) (merged_lists left_number right_number left right)
   all_merged P [] right all_l all_r = All-map (λ p. P (number_of left_number right_number p)) (λ y. (None, Some y)) right all_r
@@ -75,7 +75,7 @@ module _ {L R : Type 0} (left_number : L → ℕ) (right_number : R → ℕ) whe
       (All-weaker (λ p. left_number x < number_of left_number right_number p) (λ p. left_number x ≤ number_of left_number right_number p)
       (λ p h. omega arith) rest above))
 
-  -- of right items alone, what the right has
+  -- the item of the right side, if only the right has items
   item_with-map_right : (right : List R) (n : ℕ) → item_with (number_of left_number right_number) (map (λ y. (None, Some y)) right) n
       ≡ paired {L = L} None (item_with right_number right n)
   item_with-map_right [] n = refl

@@ -1,4 +1,4 @@
--- What is written over the front of a row that has no cell in common with another.
+-- A write over the front of a row that has no cell in common with another.
 use Rattle.std.proofs.Common.{◌≡◌, ℕ, zero, suc, ◌+◌, ◌-◌, ◌<◌, ◌≤◌, List, [], ◌∷◌, ◌++◌, length, take, drop, set, get_or, refl, sym, ap, ◌∙◌, subst}
 use Rattle.std.proofs.Common.{arith, inl, inr, append_assoc, length-append, length-take}
 use Rattle.std.specs.List.{All, splice}

@@ -18,7 +18,7 @@ pub above_is_lowered : (limit count : ℕ) (t : SourceTimer) → source_asked li
 above_is_lowered limit count Stopped = refl
 above_is_lowered limit count (Running d n) = refl
 
--- what a source is, asked for or not, above the limit or not
+-- the new source, asked for or not, above the limit or not
 abbrev pub made_at : {K : Type 0} → (limit count : ℕ) → (asks is_above : Bool) → Source K → Source K
 made_at limit count asks is_above x = record { address = x.address; timer = cond (asks && is_above) (Running limit count) x.timer }
 
@@ -90,7 +90,7 @@ stays limit count asks is_above xs place held is_held not_lowered =
     ap (λ b. let x : Source _ = record { address = held.address; timer = cond b (Running limit count) held.timer } in set xs place x) not_lowered
     ∙ ap (set xs place) is_held ∙ set-get_or xs place held
 
--- behind the last of those asked for, no source changes
+-- no source after the last one asked for changes
 pub none_ahead : {K : Type 0} (number : K → ℕ) (limit count : ℕ) (asked : List K) (rest : List (Source K)) →
     found_in_order number [] rest ≡ are_asked number asked rest → (map (source_if_asked number limit count (set_of number asked)) rest ≡ rest) ×
     (list_any (is_asked_above number limit (set_of number asked)) rest ≡ false)

@@ -46,7 +46,7 @@ module _ {X : Type 0} (number : X → ℕ) (n : ℕ) (f : X → X) (p : X → Bo
       let rest = one_changes xs i d (IsAscending-tail number x xs up) (omega arith) is in
       (ap (λ y. y ∷ set xs i (f (get_or xs i d))) (sym first.0) ∙ ap (λ ys. f x ∷ ys) rest.0, ap (λ b. b || list_any p xs) first.1 ∙ rest.1)
 
--- what asking for one address makes of a list of sources, and whether its timer is above the limit
+-- a list of sources once one address is asked for, and the test of its timer for the limit
 module _ {K : Type 0} (number : K → ℕ) (limit count : ℕ) (q : K) where
   abbrev made : Source K → Source K
   made = source_if_asked number limit count (set_of number (q ∷ []))

@@ -30,7 +30,7 @@ use Rattle.mq_table.proofs.Groups.{same_sources}
 use Rattle.mq_table.proofs.TableRows.{timer_by-nothing, timer_at-change_of}
 use Rattle.mq_table.proofs.SourceLists.{get-timers_in}
 
--- Of each source a row of the tables sees its timer before and whether it is named.
+-- A row of the tables depends, for each source, on its timer before and on whether it is named.
 row-timer : (gmi : ℕ) (mode : FilterMode) (kind : Kind) (g : GroupState) (A : Set) (s : ℕ) →
     timer_by (table_row gmi mode kind (running g) (stopped g) A) gmi mode s (timer_at g s) ≡ timer_after gmi mode kind (timer_at g s) (A s)
 row-timer gmi mode kind g A s = grind arith
@@ -75,7 +75,7 @@ module _ {K : Type 0} (number : K → ℕ) (rule : Rule) where
   asked_keeps : KeepsNumbers (number_of (number_in number) number) number (source_asked rule)
   asked_keeps = grind (arith, address-if)
 
-  -- what the rules make of what both sides have at one number
+  -- the result of the rules for the items of both sides at one number
   made_at : (held : Option (Source K)) (named : Option K) →
       option_map (λ (x : Source K). x.timer) (option_and_then (source_made rule) (paired held named))
       ≡ timer_after rule.interval_end rule.mode rule.kind (option_map (λ (x : Source K). x.timer) held) (is_some named)

@@ -1,4 +1,4 @@
--- To let timers end at one moment and then at a later one is to let them end at the later one.
+-- The end of timers at one moment, and then at a later one.
 use Rattle.std.proofs.Common.{◌≡◌, ℕ, ◌≤◌, true, false, cond, Option, None, Some, refl, sym, ap, ◌∙◌, arith, eqb}
 use Rattle.std.proofs.lemmas.Bool.{and_parts}
 use Rattle.std.proofs.lemmas.Bool.Decides.{nat_tests}
@@ -13,7 +13,7 @@ use Rattle.mq_table.proofs.Maps.{get-kept}
 use Rattle.mq_table.proofs.Groups.{same_sources}
 use Rattle.mq_table.proofs.Held.{nothing_held, get_of_empty}
 
--- what the end of timers leaves, before it is known whether the group is held
+-- the rest after the end of timers, before it is known whether the group is held
 abbrev pub ended_at : ℕ → GroupState → GroupState
 ended_at now g = record {
   mode = mode_expired now g.mode;
@@ -53,7 +53,7 @@ include_stays b (Exclude d) e = grind (arith, nat_tests)
 empty_has_no_keys : {X : Type 0} (m : FinMap nat_cmp X) → ((s : ℕ) → map.get m s ≡ None) → eqb (map.len m) 0 ≡ true
 empty_has_no_keys m none = ap (λ n. eqb (map.len n) 0) (nothing_held m none) ∙ ap (λ n. eqb n 0) (map.len-empty nat_cmp _)
 
--- what the end of timers makes of a group that is vacant is vacant
+-- a vacant group stays vacant at the end of timers
 vacant_stays : (b : ℕ) (g : GroupState) → is_vacant g ≡ true → is_vacant (ended_at b g) ≡ true
 vacant_stays b g e = grind (arith, and_parts, empty_has_no_keys, get-kept, get_of_empty, include_stays)
 
@@ -63,7 +63,7 @@ vacant_is_vacant = ap (λ n. eqb n 0) (map.len-empty nat_cmp SourceTimer)
 held_of_vacant : (g : GroupState) → is_vacant g ≡ true → held_or_vacant g ≡ vacant
 held_of_vacant g e = ap (λ b. cond b vacant g) e
 
--- whether the group is vacant at once or only at the later moment
+-- two expiries, if the group is vacant at once or only at the later moment
 pub expired-expired : (g : GroupState) (a b : ℕ) → a ≤ b → expired b (expired a g) ≡ expired b g
 expired-expired g a b le =
     elim (is_vacant (ended_at a g)) as (λ v. is_vacant (ended_at a g) ≡ v → held_or_vacant (ended_at b (cond v vacant (ended_at a g))) ≡ expired b g) [

@@ -1,4 +1,4 @@
--- What the end of timers leaves of a list of sources.
+-- The sources of a list that the end of timers leaves.
 use Rattle.std.proofs.Common.{◌≡◌, ℕ, List, Option, ap, arith}
 use Rattle.std.specs.List.{filter_map}
 use Rattle.std.specs.Option.{option_and_then}
@@ -22,7 +22,7 @@ module _ {K : Type 0} (number : K → ℕ) (mode : FilterMode) (now : ℕ) where
   timers_left xs up = timers_in-filter_map number (source_left mode now) (λ s. source_expired mode now) left_keeps
       (λ x. timer-source_with x.address (source_expired mode now x.timer)) xs up
 
--- what is left of a group, made of its parts
+-- the rest of a group, made of its parts
 module _ {K : Type 0} (number : K → ℕ) (now : ℕ) (mode : FilterMode) (v1 v2 : Option ℕ) (xs : List (Source K)) (up : IsAscending (number_in number) xs) where
   pub expired_of : (g : GroupState) → record { mode = mode; sources = timers_in number xs; v1 = v1; v2 = v2 } ≡ g
       → (new_mode : FilterMode) (left : List (Source K)) (left_v1 left_v2 : Option ℕ) (after : GroupState)

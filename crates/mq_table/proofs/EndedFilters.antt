@@ -38,7 +38,7 @@ filter_of_vacant g e =
 filter_of_held : (g : GroupState) → filter_of (held_or_vacant g) ≡ filter_of g
 filter_of_held g = grind (arith, filter_of_vacant)
 
--- of each source, where the mode stays alike
+-- the facts of each source, if the mode stays alike
 at_one_source : (mode after : FilterMode) (now : ℕ) → is_include mode ≡ is_include after → (timer : SourceTimer) →
     not (beq (names mode (Some timer)) (names after (source_expired after now timer))) ≡ timer_runs_out now timer
 at_one_source mode after now e timer = grind (arith, true≢false)
@@ -103,7 +103,7 @@ module _ {K : Type 0} (number : K → ℕ) (now : ℕ) where
         ap (λ ys. is_some (item_with (number_in number) ys s)) (none_out xs none)))
         (λ alike some. let one = one_out xs some in (one.0, turned_where_out (not_unlike _ _ alike) one.0 ∙ sym (found_out xs up one.0) ∙ one.1))
 
-    -- The same of what is left when the group may not be held any more, of values that are known by equations.
+    -- These facts if the group may end, about values that are known by equations.
     pub expired_changes : (g : GroupState) → before ≡ g → (ran_out unlike : Bool) (left : GroupState) → left ≡ expired now g →
         ran_out ≡ list_any (runs_out now) xs → unlike ≡ not (beq (is_include mode) (is_include (mode_expired now mode))) →
         changes_filter g left ≡ (ran_out || unlike)

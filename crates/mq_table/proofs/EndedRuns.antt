@@ -70,7 +70,7 @@ behind_run xs moved place run d as_before =
     ∙ get_or-drop (place + run) xs 0 d ∙ ap (λ n. get_or xs n d) here
     ∙ sym (get_or-drop place xs run d)
 
--- a source whose timer doesn't run on becomes what its mode says
+-- a source whose timer ends changes as its mode says
 pub ended_leaves : {K : Type 0} (mode : FilterMode) (now : ℕ) (x : Source K) → lies_ahead now (deadline_of (Some x.timer)) ≡ false →
     source_left mode now x ≡ source_with x.address (at_zero mode)
 ended_leaves mode now x is = grind arith
@@ -79,7 +79,7 @@ one_or_none : (o : Option ℕ) → length (option_to_list o) ≡ compared o
 one_or_none None = refl
 one_or_none (Some moment) = refl
 
--- how many of some sources run, where one more is counted
+-- the number of running sources, with one more counted
 pub running_among-more : {K : Type 0} (sources : List (Source K)) (place : ℕ) (x : Source K) → place < length sources → x ≡ get_or sources place x →
     running_among (take (place + 1) sources) ≡ running_among (take place sources) + compared (deadline_of (Some x.timer))
 running_among-more sources place x within here =
@@ -106,7 +106,7 @@ all_run now (suc run) (x ∷ row) within ahead =
     one Stopped is = absurd (true≢false (sym is))
     one (Running d n) is = refl
 
--- how many run of those that were passed and of such a run behind them
+-- the number of running sources among the passed ones and the run after them
 pub running_among-run : {K : Type 0} (now place run : ℕ) (xs row : List (Source K)) → row ≡ drop place xs → run ≤ length row →
     AllWithin (λ x. lies_ahead now (deadline_of (Some x.timer)) ≡ true) row 0 run → running_among (take (place + run) xs) ≡ running_among (take place xs) + run
 running_among-run now place run xs row is within ahead =
@@ -122,7 +122,7 @@ runs_out_here : {K : Type 0} (now : ℕ) (x : Source K) → lies_ahead now (dead
     runs_out now x ≡ is_some (deadline_of (Some x.timer))
 runs_out_here now x is = grind arith
 
--- of a run that lies ahead none runs out
+-- no source of a run that lies ahead runs out
 none_out : {K : Type 0} (now run : ℕ) (row : List (Source K)) → run ≤ length row →
     AllWithin (λ x. lies_ahead now (deadline_of (Some x.timer)) ≡ true) row 0 run → list_any (runs_out now) (take run row) ≡ false
 none_out now zero row within ahead = refl
@@ -135,7 +135,7 @@ nothing_more : (b : Bool) → (b || false) ≡ b
 nothing_more true = refl
 nothing_more false = refl
 
--- whether one of those that were passed ran out, with such a run behind them
+-- the test for a source that ran out, over the passed ones and the run after them
 pub any_out-run : {K : Type 0} (now place run : ℕ) (xs row : List (Source K)) → row ≡ drop place xs → run ≤ length row →
     AllWithin (λ x. lies_ahead now (deadline_of (Some x.timer)) ≡ true) row 0 run → list_any (runs_out now) (take (place + run) xs)
     ≡ list_any (runs_out now) (take place xs)

@@ -1,4 +1,4 @@
--- What the filter of a group names, and when two states of a group have the same one.
+-- The sources that a group's filter names, and the states of a group that have equal filters.
 use Rattle.std.proofs.Common.{◌≡◌, ℕ, Bool, true, false, not, cond, ◌&&◌, ◌||◌, List, [], ◌∷◌, Option, is_some, refl, sym, ap, ◌∙◌, arith}
 use Rattle.std.specs.Prelude.{filter}
 use Rattle.std.specs.Bool.{beq}
@@ -47,7 +47,7 @@ beq-itself false = refl
 beq-equal : (a b : Bool) → beq a b ≡ true → a ≡ b
 beq-equal a b e = grind (arith, true≢false)
 
--- what isn't unlike is equal
+-- two tests that aren't unlike are equal
 pub not_unlike : (a b : Bool) → not (beq a b) ≡ false → a ≡ b
 not_unlike a b e = grind (arith, true≢false)
 

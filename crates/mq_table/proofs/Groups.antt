@@ -1,4 +1,4 @@
--- When two groups are the same.
+-- Conditions for two equal groups.
 use Rattle.std.proofs.Common.{◌≡◌, ℕ, Option}
 use Rattle.std.specs.Ordering.{nat_cmp}
 use Rattle.std.specs.Cmp.{nat_cmp_total}

@@ -1,4 +1,4 @@
--- When a group is held, and that records and the end of timers leave one that is, or nothing.
+-- Conditions for a held group. Records and the end of timers leave such a group, or nothing.
 use Rattle.std.proofs.Common.{◌≡◌, ◌≢◌, ℕ, ◌+◌, Bool, true, false, cond, not, inl, inr, List, [], ◌∷◌, length, Option, None, Some, IsSome, refl, sym}
 use Rattle.std.proofs.Common.{ap, ◌∙◌, arith, eqb}
 use Rattle.std.proofs.lemmas.Option.{none-some}
@@ -66,7 +66,7 @@ pub IsWellFormed-change_of : (timing : Timing) (now : ℕ) (g : GroupState) (kin
     IsWellFormed (change_of timing now g kind named).group
 IsWellFormed-change_of timing now g kind named held = grind (arith, was_included, runs_on, none_stopped_of)
 
--- and of one that isn't held it makes one that is, or none
+-- a record for a group that isn't held makes a held one, or none
 vacant_after : (timing : Timing) (now : ℕ) (kind : Kind) (named : NamedSources) → IsAnyGroup (change_of timing now vacant kind named).group
 vacant_after timing now IsIn named = held_if_included _ None None (none_stopped_of timing now vacant IsIn named refl) (λ _. (refl, refl))
 vacant_after timing now Allow named = held_if_included _ None None (none_stopped_of timing now vacant Allow named refl) (λ _. (refl, refl))
@@ -93,7 +93,7 @@ none_stopped_at now t = grind arith
 pub IsAnyGroup-expired : (now : ℕ) (g : GroupState) → IsAnyGroup (expired now g)
 IsAnyGroup-expired now g = grind (arith, IsAnyGroup-held_or_vacant, get-kept, none_stopped_at)
 
--- An INCLUDE group with a source stays; one that has none is vacant.
+-- An INCLUDE group with a source stays. Without sources it is vacant.
 pub held_or_vacant-some : (m n : FinMap nat_cmp SourceTimer) (v1 v2 : Option ℕ) (k : ℕ) (t : SourceTimer) → map.get n k ≡ Some t →
     ((s : ℕ) → map.get m s ≡ map.get n s) → held_or_vacant (record { mode = Include; sources = m; v1 = v1; v2 = v2 })
     ≡ record { mode = Include; sources = n; v1 = v1; v2 = v2 }

@@ -38,7 +38,7 @@ some_held number (q ∷ qs) [] held = absurd (false≢true (held (number q) (or_
 some_held number (q ∷ qs) (x ∷ xs) held = omega arith
 
 module _ {K : Type 0} (number : K → ℕ) where
-  -- source by source, whether the first of the addresses ahead is its own; one that is found is passed
+  -- source by source, the test whether the first of the addresses ahead is its own; a found address is passed
   abbrev pub found_in_order : List K → List (Source K) → List Bool
   found_in_order qs [] = []
   found_in_order qs (x ∷ xs) = is_first number qs (number x.address) ∷ found_in_order (cond (is_first number qs (number x.address)) (drop 1 qs) qs) xs

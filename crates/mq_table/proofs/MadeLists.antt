@@ -98,7 +98,7 @@ unlowered timing now n g absent =
 module _ {X : Type 0} (rule : X → Option X) (initial xs : List X) (left place : ℕ) (held : X) (behind : left ≤ place)
     (within : place < length initial) (long : length xs ≡ length initial) (made : take left xs ≡ filter_map rule (take place initial))
     (rest : drop place xs ≡ drop place initial) (is_held : held ≡ get_or xs place held) where
-  -- the item at the place, and those behind it, are as they were
+  -- the item at the place and the later ones are unchanged
   pub as_they_were : (get_or xs place held ≡ get_or initial place held) × (drop (place + 1) xs ≡ drop (place + 1) initial)
   as_they_were =
       let here : get_or xs place held ∷ drop (place + 1) xs ≡ get_or initial place held ∷ drop (place + 1) initial =

@@ -1,4 +1,4 @@
--- What a map that is given key by key answers at each key.
+-- The value at each key of a map that is given key by key.
 use Rattle.std.proofs.Common.{◌≡◌, ℕ, Bool, true, false, cond, ◌||◌, List, [], ◌∷◌, ◌++◌, Option, None, Some, refl, sym, ap, ◌∙◌, arith}
 use Rattle.std.specs.Prelude.{map as list_map}
 use lib.Dec.{T}

@@ -1,4 +1,4 @@
--- Sources that have no sending to go, and the places outside of which there are no others.
+-- Sources without sendings left, and the places that all others have.
 use Rattle.std.proofs.Common.{◌≡◌, ◌++◌, ℕ, ◌+◌, ◌-◌, ◌<◌, Bool, true, false, ltb, ◌||◌, List, [], ◌∷◌, length, take, drop, set, get_or, Some, refl}
 use Rattle.std.proofs.Common.{sym, ap, ◌∙◌, arith}
 use Rattle.std.specs.Prelude.{map as list_map}
@@ -45,7 +45,7 @@ pub made_of_none : {K : Type 0} (recount : Recount) (xs : List (Source K)) → l
     filter_map (λ x. Some (source_recounted recount x)) xs ≡ xs
 made_of_none recount xs none = made_of_all (source_recounted recount) xs ∙ sources_stay recount xs none
 
--- whether an item passes a test, one place on: where it is another item then, and where it stays
+-- the test of the items up to one more place, whose item has changed or stays
 pub any_with_set : {X : Type 0} (p : X → Bool) (xs : List X) (place : ℕ) (y : X) → place < length xs → list_any p (take (place + 1) (set xs place y))
     ≡ (list_any p (take place xs) || p y)
 any_with_set p xs place y within = grind (arith, take_more_set, list_any-append, or-false)

@@ -1,4 +1,4 @@
--- A list to which the items are pushed that a rule makes of the pairs of a merge, one after another.
+-- A list to which a rule's results for the pairs of a merge are pushed, one after another.
 use Rattle.std.proofs.Common.{◌≡◌, ℕ, ◌+◌, ◌≤◌, Bool, true, false, ◌||◌, refl, List, [], ◌∷◌, ◌++◌, length, Option, None, Some, sym, ap, ◌∙◌, arith}
 use Rattle.std.proofs.Common.{append_assoc, length-append}
 use Rattle.std.specs.List.{filter_map, cons_option, list_any}
@@ -6,7 +6,7 @@ use Rattle.std.specs.Option.{option_to_list}
 use Rattle.mq_sets.specs.declared.merge_state.Merged.{Merged}
 use Rattle.mq_sets.specs.Merging.{left_of, right_of}
 
--- what the rule makes of the first pair is pushed; what it makes of the others is still ahead
+-- the result for the first pair is pushed; those for the others are still ahead
 cons_pushed : {X : Type 0} (xs : List X) (made : Option X) (rest : List X) → (xs ++ option_to_list made) ++ rest ≡ xs ++ cons_option made rest
 cons_pushed xs None rest = append_assoc xs [] rest
 cons_pushed xs (Some x) rest = append_assoc xs (x ∷ []) rest
@@ -20,7 +20,7 @@ or_assoc : (a b c : Bool) → ((a || b) || c) ≡ (a || (b || c))
 or_assoc true b c = refl
 or_assoc false b c = refl
 
--- whether the first pair passes a test is known; whether one of the others does is still ahead
+-- the test of the first pair is known; that of the others is still ahead
 pub tested_next : {P : Type 0} (f : P → Bool) (so_far now : Bool) (p : P) (ahead rest : List P) (all : Bool) → now ≡ (so_far || f p) →
     ahead ≡ p ∷ rest → (so_far || list_any f ahead) ≡ all → (now || list_any f rest) ≡ all
 tested_next f so_far now p ahead rest all is first before =

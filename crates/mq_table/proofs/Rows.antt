@@ -1,4 +1,4 @@
--- What a group holds, by the list of its sources.
+-- The state of a group, by the list of its sources.
 use Rattle.std.proofs.Common.{◌≡◌, ℕ, ◌<◌, Bool, true, false, cond, ◌||◌, List, [], ◌∷◌, take, drop, filter, Option, None, Some, is_some, IsSome}
 use Rattle.std.proofs.Common.{refl, sym, ap, ◌∙◌, subst, arith}
 use lib.Dec.{T}
@@ -118,7 +118,7 @@ module _ {K : Type 0} (number : K → ℕ) where
           ap (λ (y : Source K). (number y.address, y.timer)) (is x) in
           λ i. first i ∷ rest i
 
-  -- what the group holds is among the items
+  -- a source of the group is among the items
   pub held_in_row : (xs : List (Source K)) (s : ℕ) → IsSome (map.get (timers_in number xs) s) → set_of (number_in number) xs s ≡ true
   held_in_row xs s held =
       sym (found_where_member (number_in number) xs s) ∙ mapped (item_with (number_in number) xs s) ∙ ap is_some (sym (get-timers_in number xs s)) ∙ held

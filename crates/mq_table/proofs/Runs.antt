@@ -13,7 +13,7 @@ use Rattle.mq_sets.proofs.Ascents.{IsAscending-tail}
 use Rattle.mq_sets.proofs.Merges.{merged-left_first, merged-right_first, merged-both_first}
 use Rattle.mq_table.proofs.Pushed.{pushed_next, tested_next}
 
--- what is left of an ascending list is ascending
+-- the rest of an ascending list is ascending
 pub IsAscending-drop : {X : Type 0} (number : X → ℕ) (n : ℕ) (xs : List X) → IsAscending number xs → IsAscending number (drop n xs)
 IsAscending-drop number zero xs up = up
 IsAscending-drop number (suc n) [] up = up
@@ -23,7 +23,7 @@ IsAscending-drop number (suc n) (x ∷ xs) up = IsAscending-drop number n xs (Is
 pub one-IsAscending : {X : Type 0} (number : X → ℕ) (x : X) → IsAscending number (x ∷ [])
 one-IsAscending number x i j d before within = absurd (omega (arith, before, within))
 
--- what stands behind a place from whose item on all are above a number
+-- the items from a place on are above a number, if the item there is
 pub above_place : {X : Type 0} (number : X → ℕ) (xs : List X) (n place : ℕ) (x : X) → IsAscending number xs → place < length xs →
     x ≡ get_or xs place x → n < number x → AllWithin (λ y. n < number y) xs place (length xs)
 above_place number xs n place x up within here above k d from upto =
@@ -104,7 +104,7 @@ module _ {L R : Type 0} (left_number : L → ℕ) (right_number : R → ℕ) whe
       first [] above = refl
       first (x ∷ rest) above = merged-right_first left_number right_number x rest y right (All-head (λ z. right_number y < left_number z) x rest above)
 
--- what a rule makes of items alone that it keeps
+-- the results of a rule that keeps items alone
 kept_alone : {L R : Type 0} (f : Option L × Option R → Option L) (run : List L) → All (λ x. f (Some x, None) ≡ Some x) run →
     filter_map f (map (λ x. (Some x, None)) run) ≡ run
 kept_alone f [] all = refl
@@ -119,7 +119,7 @@ none_alone f (x ∷ run) all =
     let P : _ → Type 0 = λ x. f (Some x, None) ≡ None in
     rw (All-head P x run all) (none_alone f run (All-tail P x run all))
 
--- a run that is kept, and what is made of the pair behind it, are pushed; what is made of the others is still ahead
+-- a kept run, and the result for the pair after the run, are pushed; the other results are still ahead
 pub run_pushed : {L R : Type 0} (f : Option L × Option R → Option L) (xs with_run pushed run : List L) (p : Option L × Option R)
     (ahead rest : List (Option L × Option R)) (all : List L) → All (λ x. f (Some x, None) ≡ Some x) run
     → with_run ≡ xs ++ run → pushed ≡ with_run ++ option_to_list (f p) → ahead ≡ map (λ x. (Some x, None)) run ++ p ∷ rest → xs ++
@@ -138,7 +138,7 @@ run_passed f xs pushed run p ahead rest all none is_pushed is_ahead so_far =
     ∙ ap (λ ps. xs ++ filter_map f ps) (sym is_ahead)
     ∙ so_far)
 
--- a run of which no pair passes a test is passed, and whether the pair behind it does is known
+-- a run without a pair that passes a test is passed, and the test of the next pair is known
 none_passes_alone : {L R : Type 0} (f : Option L × Option R → Bool) (run : List L) (rest : List (Option L × Option R)) →
     All (λ x. f (Some x, None) ≡ false) run → list_any f (map (λ x. (Some x, None)) run ++ rest) ≡ list_any f rest
 none_passes_alone f [] rest all = refl
@@ -177,12 +177,12 @@ pub last_run_passed : {L R Y : Type 0} (f : Option L × Option R → Option Y) (
 last_run_passed f xs run ahead all none is_ahead so_far =
     sym (append-nil xs) ∙ ap (λ ys. xs ++ ys) (sym (none_alone f run none)) ∙ ap (λ ps. xs ++ filter_map f ps) (sym is_ahead) ∙ so_far
 
--- of a pair no more than one item is made
+-- a pair has at most one result
 at_most_one : {X : Type 0} (made : Option X) → length (option_to_list made) ≤ 1
 at_most_one None = omega arith
 at_most_one (Some x) = omega arith
 
--- so no more are pushed than were handed out
+-- so at most as many are pushed as pairs were taken
 pub few_pushed : {X L : Type 0} (made : Option X) (xs with_run pushed run : List X) (left rest : List L) (all i : ℕ) → with_run ≡ xs ++ run →
     pushed ≡ with_run ++ option_to_list made → length run + length rest ≤ length left → length xs + length left ≤ all + i →
     length pushed + length rest ≤ all + (i + 1)

@@ -36,7 +36,7 @@ module _ {K : Type 0} (number : K → ℕ) where
       none_found None e = refl
       none_found (Some x) e = absurd (true≢false e)
 
--- In an ascending list the item at a place is the one that its number finds.
+-- The number of an item in an ascending list finds this item.
 module _ {X : Type 0} (number : X → ℕ) where
   pub item_with-at : (xs : List X) (i : ℕ) (d : X) (n : ℕ) → IsAscending number xs → i < length xs → number (get_or xs i d) ≡ n →
       item_with number xs n ≡ Some (get_or xs i d)

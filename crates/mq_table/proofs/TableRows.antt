@@ -1,4 +1,4 @@
--- What a row of the tables does to one source.
+-- The effect of a row of the tables on one source.
 use Rattle.std.proofs.Common.{◌≡◌, ℕ, ◌+◌, Bool, true, false, Option, None, Some, IsSome, sym, subst, arith}
 use Rattle.std.proofs.lemmas.Bool.{false≢true}
 use Rattle.std.specs.FinSet as set
@@ -34,13 +34,13 @@ pub timer_by-nothing : (gmi : ℕ) (mode : FilterMode) (kind : Kind) (X Y A : Se
     timer_by (table_row gmi mode kind X Y A) gmi mode s None ≡ None
 timer_by-nothing gmi mode kind X Y A s x y a = grind arith
 
--- what the new group has of a source: what the one rule says of it
+-- the timer of a source in the new group, by the one rule
 pub timer_at-change_of : (timing : Timing) (now : ℕ) (g : GroupState) (kind : Kind) (named : NamedSources) (s : ℕ) →
     timer_at (change_of timing now g kind named).group s ≡ timer_by (table_row_met timing now g kind named)
     (now + membership_interval timing) g.mode s (timer_at g s)
 timer_at-change_of timing now g kind named s = grind (arith, get-by_rule_everywhere, timer_by-nothing)
 
--- What one source sees of a row depends on that source alone: on its timer, and whether it is named.
+-- The effect on one source depends on that source alone: on its timer, and whether it is named.
 pub at_source : (P : Bool → Bool → Bool → FilterMode → Option SourceTimer → Type 0) → (gmi : ℕ) (mode : FilterMode) (kind : Kind) (g : GroupState)
     (A : Set) (s : ℕ)
     → (let l = table_row_at gmi mode kind (timer_at g s) (A s) in P (l.restart s) (l.copy s) (l.query s) l.mode (timer_by l gmi mode s (timer_at g s)))
@@ -58,7 +58,7 @@ at_source P gmi (Exclude d) Block g A s p = p
 at_source P gmi (Exclude d) ToEx g A s p = p
 at_source P gmi (Exclude d) ToIn g A s p = p
 
--- the same of the new group
+-- this fact for the new group
 pub at_source_of : (P : Bool → Bool → Bool → FilterMode → Option SourceTimer → Type 0) → (timing : Timing) (now : ℕ) (g : GroupState) (kind : Kind)
     (named : NamedSources) (s : ℕ)
     → (let gmi = now + membership_interval timing in let l = table_row_at gmi g.mode kind (timer_at g s) (set.contains named s) in
@@ -69,7 +69,7 @@ at_source_of P timing now g kind named s p =
     subst (P (l.restart s) (l.copy s) (l.query s) l.mode) (sym (timer_at-change_of timing now g kind named s))
     (at_source P (now + membership_interval timing) g.mode kind g (set.contains named) s p)
 
--- a source that a record asks for is one that the new group has
+-- the new group has each source that a record asks for
 asked_then : (gmi : ℕ) (mode : FilterMode) (kind : Kind) (s : ℕ) (t : Option SourceTimer) (a : Bool) → (table_row_at gmi mode kind t a).query s ≡ true
     → IsSome (timer_then gmi mode kind s t a)
 asked_then gmi mode kind s t a h1 = grind arith

@@ -11,7 +11,7 @@ use std::marker::Model;
 /// The variables, each in its range, and what is computed from them (RFC 3376 section 8, RFC 3810 section 9). They are
 /// the Robustness Variable, the Query Interval, the Query Response Interval and the Last Member (for MLD: Last
 /// Listener) Query Interval. A contract sees these four.
-#[derive(Clone, Copy, Debug, PartialEq, Eq)]
+#[derive(Clone, Copy, PartialEq, Eq)]
 pub struct Timing {
     robustness: u32,
     query_seconds: u32,

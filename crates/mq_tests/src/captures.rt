@@ -2,7 +2,8 @@
 //! at each length, other headers and moments.
 
 use crate::facts::expect_none_wrong_at;
-use mq_count::{Faulty, Watched};
+use crate::faulty::Faulty;
+use mq_count::Watched;
 use mq_pcap::{GREATEST_PACKET, Packet, PcapFault, PcapReader};
 use std::alloc::Global;
 use std::io::Read;

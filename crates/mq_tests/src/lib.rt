@@ -16,6 +16,8 @@ mod codes;
 #[cfg(test)]
 mod facts;
 #[cfg(test)]
+mod faulty;
+#[cfg(test)]
 mod groups;
 #[cfg(test)]
 mod links;

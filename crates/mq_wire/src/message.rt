@@ -30,7 +30,7 @@ pub(crate) enum MessageType {
 
 /// The reason why bytes encode no message: the first that holds, in this order. Exception: a field after the checksum
 /// is checked only once the type and the length of a query are known.
-#[derive(Clone, Copy, Debug, PartialEq, Eq)]
+#[derive(Clone, Copy, PartialEq, Eq)]
 pub enum WireFault {
     /// A truncated field.
     Truncated {

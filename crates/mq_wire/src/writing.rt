@@ -16,7 +16,7 @@ use byteorder::{BigEndian, ByteOrder};
 const CHECKSUM: usize = 2;
 
 /// The error of too few bytes for a query.
-#[derive(Clone, Copy, Debug, PartialEq, Eq)]
+#[derive(Clone, Copy, PartialEq, Eq)]
 pub struct Small {
     /// The length of the query.
     pub needed: usize,

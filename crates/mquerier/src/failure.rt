@@ -22,7 +22,7 @@ pub const FOUND: u8 = 3;
 pub const UNJUDGED: u8 = 4;
 
 /// The reason why the program failed.
-#[derive(Clone, Copy, Debug, PartialEq, Eq)]
+#[derive(Clone, Copy, PartialEq, Eq)]
 pub enum Failure {
     /// An MLD message without the addresses of its packet.
     NoAddresses,

@@ -3,6 +3,6 @@ use Rattle.std.specs.List.{list_any}
 use Rattle.mq_convert.specs.Tallies.{is_of}
 use Rattle.mq_convert.proofs.unread.has.Given as goal
 
--- whether one of the rows so far is
+-- the test of the rows so far
 abbrev pub invariant-loop-row : goal.invariant-loop-row
 invariant-loop-row l = l.found ≡ list_any (is_of l.link) (take l.row-index l.rows)

@@ -15,7 +15,7 @@ use Rattle.mq_held.proofs.earliest.earliest_with_row.Given.{Over}
 use Rattle.mq_held.proofs.earliest.earliest_with_row.Goals as goal
 use Rattle.mq_held.proofs.earliest.earliest_with_row.Goals.{then-loop-start-test+else-place-row, else-loop-start-test}
 
--- the moments are the first that was found, and those of the sources behind it
+-- the moments are the first one found and those of the later sources
 moments_so : (g : Over) (c : goal.After-earliest_with g) → option_to_list c.args.first ++ flat_map timer_moments c.args.row.now
     ≡ option_to_list (Some c.in-Some.start) ++ flat_map timer_moments (drop c.loop-start.place c.args.row.now)
 moments_so g c =

@@ -5,7 +5,7 @@ use Rattle.mq_table.specs.MadeSources.{item_counted}
 use Rattle.mq_table.specs.SendingPlaces.{item_has_sendings}
 use Rattle.mq_held.proofs.queries_in_place.count_in_row.Given as goal
 
--- the places passed have what is made of their sources; those ahead, and the other rows, are as they were
+-- the passed places have the results of their sources; the rest, and the other rows, are unchanged
 abbrev pub invariant-loop-place : goal.invariant-loop-place
 invariant-loop-place g l = record {
   rows : l.rows ≡ record l.initial.rows { rows = set l.initial.rows.rows l.fn.number (get_or l.rows.rows l.fn.number []) };

@@ -4,7 +4,7 @@ use Rattle.mq_table.specs.Stored.{number_in}
 use Rattle.mq_held.specs.Restarted.{StandsFrom}
 use Rattle.mq_held.proofs.several_in_place.place_from.Given as goal
 
--- the source stands at the place or behind it
+-- the source stands at the place or after
 abbrev pub invariant-loop-place : goal.invariant-loop-place
 invariant-loop-place g l = record {
   from : l.fn.from ≤ l.place;

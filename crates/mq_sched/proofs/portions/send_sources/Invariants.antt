@@ -6,7 +6,7 @@ use Rattle.mq_sched.specs.Sink.{SendsOn}
 use Rattle.mq_sched.specs.Collected.{going_with}
 use Rattle.mq_sched.proofs.portions.send_sources.Given as goal
 
--- what is still to go are the sources collected and those ahead that go
+-- the sources left are those collected and those ahead that go
 abbrev pub invariant-loop-source : goal.invariant-loop-source
 invariant-loop-source g l = record {
   group : l.collected.group ≡ l.fn.group;

@@ -4,7 +4,7 @@ use Rattle.mq_count.specs.Spending.{Spends}
 use Rattle.mq_table.specs.MadeSources.{running_among, runs_out, source_left}
 use Rattle.mq_table.proofs.expiry.leave_sources.Given as goal
 
--- the places up to `left` have what is left of the sources passed; those ahead are as they were
+-- the places up to `left` have the rest of the passed sources; those ahead are unchanged
 abbrev pub invariant-loop-place : goal.invariant-loop-place
 invariant-loop-place g l = record {
   behind : l.left ≤ l.place;

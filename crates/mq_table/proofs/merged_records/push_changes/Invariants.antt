@@ -6,8 +6,8 @@ use Rattle.mq_table.specs.Stored.{number_in}
 use Rattle.mq_table.specs.MergedRecord.{source_made, source_asked, source_turned}
 use Rattle.mq_table.proofs.merged_records.push_changes.Given as goal
 
--- What is pushed, and what the pairs ahead give, are what the whole merge gives; no more was pushed than
--- both sides have handed out; and the comparisons so far and those ahead are all.
+-- The pushed results and those of the pairs ahead are all results of the merge. At most as many were pushed as
+-- both sides have passed. The comparisons so far and those ahead are all.
 abbrev pub invariant-loop-item : goal.invariant-loop-item
 invariant-loop-item g l =
     let number = number_in g.K.Key.number in

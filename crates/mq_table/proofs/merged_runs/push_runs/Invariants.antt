@@ -7,8 +7,8 @@ use Rattle.mq_table.specs.Stored.{number_in}
 use Rattle.mq_table.specs.MergedRecord.{source_made, source_asked, source_turned, LeavesAlone}
 use Rattle.mq_table.proofs.merged_runs.push_runs.Given as goal
 
--- What is pushed, and what the pairs ahead give, are what the whole merge gives; no more was pushed than both sides have
--- handed out; and each source that was passed took a comparison, and each name one more at most.
+-- The pushed results and those of the pairs ahead are all results of the merge. At most as many were pushed as both
+-- sides have passed. Each passed source took a comparison, and each name at most one more.
 abbrev pub invariant-loop-name : goal.invariant-loop-name
 invariant-loop-name g l =
     let number = number_in g.K.Key.number in

@@ -6,7 +6,7 @@ use Rattle.mq_table.specs.AskedSources.{source_if_asked, is_asked_above}
 use Rattle.mq_table.proofs.InOrder.{found_in_order, are_asked}
 use Rattle.mq_table.proofs.sendings.ask_each.Given as goal
 
--- the places passed have what asking makes of their sources; those ahead are as they were, and the
+-- the passed places have the sources once asked for; the rest is unchanged, and the
 -- addresses ahead are those of the sources ahead that are asked for
 abbrev pub invariant-loop-place : goal.invariant-loop-place
 invariant-loop-place g l = record {

@@ -4,7 +4,7 @@ use Rattle.mq_table.specs.MadeSources.{source_recounted}
 use Rattle.mq_table.specs.SendingPlaces.{item_has_sendings}
 use Rattle.mq_table.proofs.sendings.recount_each.Given as goal
 
--- the places passed have what is made of their sources; those ahead are as they were
+-- the passed places have the results of their sources; the rest is unchanged
 abbrev pub invariant-loop-place : goal.invariant-loop-place
 invariant-loop-place g l = record {
   len : length l.sources.items ≡ length l.initial.sources.items;

@@ -1,4 +1,4 @@
--- `shrink` is the trait's: it answers what the trait's body answers. Assumes `Logic`.
+-- The function `shrink`, which is the trait's: it returns the result of the trait's body. Assumes `Logic`.
 use mathlib.Core.List.{[], ◌∷◌}
 use mathlib.Core.Path.{refl}
 use mir.MapTy.{inst_fn}

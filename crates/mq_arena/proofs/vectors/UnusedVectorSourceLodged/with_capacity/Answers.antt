@@ -12,7 +12,7 @@ suffices size count left fits small =
     let some : count ≤ count * max 1 size = le-mul_of_pos_right {m = max 1 size} count (omega arith) in
     (omega (arith, more), omega (arith, some))
 
--- what is left behind it, where it was granted
+-- the rest after the request, if it was granted
 is_left : {T E : Type 0} (r : Result T E) (size count old new : ℕ) → IfOk r (λ _. new + size_of_block (count * size) ≡ old) → is_ok r ≡ true
     → old + 1 ≤ new + 1 + size_of_block (count * max 1 size)
 is_left (Ok x) size count old new left is =

@@ -1,4 +1,4 @@
--- `of` takes the pointer of what is lent.
+-- The function `of`, which takes the pointer of a borrowed value.
 use Rattle.std.proofs.Common.{◌≡◌, Some, refl}
 use base.Logic.{emp}
 use contract.Monad.{fact_i}

@@ -1,4 +1,4 @@
--- it is none of those so far, come again
+-- A frame that is none of those so far.
 use Rattle.std.proofs.Common.{◌≡◌, drop}
 use Rattle.std.specs.List.{list_any}
 use Rattle.mq_convert.specs.Frames.{framed}

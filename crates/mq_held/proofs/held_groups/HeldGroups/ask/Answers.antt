@@ -54,7 +54,7 @@ timer_is g c has =
     let l = located g.K.Key.number c.self.inside c.self.invariant c.self.view_is c.requires.number in
     ap (λ (e : ScheduledGroup). timer_at e.group (g.K.Key.number c.args.source)) (l.group has) ∙ timer-held l (placed_so g c)
 
--- whether a timer is above the limit
+-- the test for a timer above the limit
 above_by : {K : Type 0} {b : Bool} {limit lowered : ℕ} {told : Option ℕ} {x y : Source K} → b ≡ is_ahead limit told → limit ≡ lowered
     → told ≡ deadline_of (Some y.timer) → x ≡ y → b ≡ is_ahead lowered (deadline_of (Some x.timer))
 above_by {lowered = lowered} b limit told same =

@@ -57,7 +57,7 @@ leave_due-requires g c =
           (c.all.ensures.numbers ∙ ap (λ s. numbers_in s.order.items) c.self.view_is);
     }
 
--- what is left of all numbers, where few are due
+-- the numbers left, if few are due
 left_few : (g : Over) (c : goal.After-put_in_order g) → c.put_in_order.new.ordered.items ≡ filter (is_due_at c.args.self.now c.args.now)
     (numbers_in c.args.self.now.order.items)
 left_few g c =

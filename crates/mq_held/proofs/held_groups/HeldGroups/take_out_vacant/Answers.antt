@@ -25,7 +25,7 @@ keep-requires-clause-parts g c = parts-left g.K.Key.number c.self.invariant.0 c.
 pub keep-requires-clause-in_order : goal.keep-requires-clause-in_order
 keep-requires-clause-in_order g c = order-left g.K.Key.number c.self.invariant.0 c.self.view_is c.part-kept.ensures.kept
 
--- what is left, where they are removed one by one
+-- the items left, if they are removed one by one
 left_few : (g : Over) (c : goal.After-remove_each g) →
     c.remove_each.new.order.items ≡ filter (λ x. not (is_vacant_at c.args.self.now x.number)) c.self.inside.order.items
 left_few g c = c.remove_each.ensures.items ∙

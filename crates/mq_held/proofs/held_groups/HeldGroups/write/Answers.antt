@@ -29,7 +29,7 @@ group_so : (g : Over) (c : After-head g)
     → group_of g.K.Key.number (head_of g c) c.sources.result.now ≡ record { group = c.args.group.now.state; schedule = c.args.schedule }
 group_so g c = group-of-parts g.K.Key.number c.head.result c.args.schedule c.sources.result.now c.args.group.now.state c.sources.ensures.timers c.head.ensures
 
--- what is stored then
+-- the storage then
 stored_so : (g : Over) (c : After-head g)
     → IsStoredWith g.K.Key.number c.self.inside c.args.number (head_of g c) c.sources.result.now c.earliest_moment-due.result
 stored_so g c =

@@ -58,7 +58,7 @@ do_due-requires-clause-in_range g c =
 at_moment : (g : Over) (c : After-do_due g) → c.later-now.result ≡ max c.self.inside.status.now c.args.now
 at_moment g c = c.later-now.ensures.later ∙ ap (λ n. max n c.args.now) c.moment.ensures
 
--- what is due then is done
+-- the due work is done
 did : (g : Over) (c : After-do_due g) → (let parts = c.self.inside in
     HasDone g.O.QueryOutlet.takes g.F.Family.FAMILY c.later-now.result (router_of parts.status parts.storage parts.counts)
     (router_of c.do_due.new.self c.do_due.new.storage parts.counts) c.args.sender.now c.do_due.new.sender)

@@ -25,7 +25,7 @@ use Rattle.mq_link.proofs.router.Router.take_in.Given.{Over}
 use Rattle.mq_link.proofs.router.Router.take_in.Goals as goal
 use Rattle.mq_link.proofs.router.Router.take_in.Goals.{After-take_message, After-count_dropped}
 
--- what the datagram is read as, and before what
+-- the message of the datagram, and the state before it
 abbrev bytes_read : (g : Over) → Envelope → List ℕ → Result (Message ℕ) WireFault
 bytes_read g around bytes = read_of g.F.Family.FAMILY (pseudo_of g.F.Family.FAMILY around bytes) bytes
 

@@ -58,7 +58,7 @@ numbered_so g c =
 pub count_changed-requires : goal.count_changed-requires
 count_changed-requires g c = record { number = within_so g c }
 
--- what is applied in place is counted if the filter changed
+-- a statement applied in place is counted if the filter changed
 pub returns-in-Some-clause-effect : goal.returns-in-Some-clause-effect
 returns-in-Some-clause-effect g c =
     let storage = c.args.storage.now in
@@ -97,7 +97,7 @@ returns-in-Some-clause-spent g c =
     let spent = rw c.as_slice.ensures.members at c.in-Some.ensures.spent in
     Spends-within _ _ spent (omega (arith, least)) (omega arith)
 
--- what is heard again is done where it stands
+-- a statement heard again is done in place
 pub returns-in-Some-clause-in_place : goal.returns-in-Some-clause-in_place
 returns-in-Some-clause-in_place g c heard = (rw c.as_slice.ensures.members at c.apply_in_place.ensures.moves) heard
 
@@ -113,7 +113,7 @@ apply_to_copy-requires g c =
     subst (λ (s : Storage _ _). CanApply g.F.Address.Key.number c.args.self.now s c.args.work.now c.args.lookup) (sym none)
     (can_apply_still c.apply_in_place.new.storage.meter c.requires)
 
--- the effect of the copy with its comparisons, by the storage and the sink as they were
+-- the effect of the copy with its comparisons, by the storage and the sink before
 copied_so : (g : Over) (c : goal.After-apply_to_copy g) → (let number = g.F.Address.Key.number in
     let at = c.args.self.now in
     let address = number c.args.lookup.address in

@@ -51,7 +51,7 @@ use Rattle.mq_link.proofs.status.Status.apply_to_copy.Goals.{After-change, After
 use Rattle.mq_link.proofs.status.Status.apply_to_copy.Goals.{After-round, After-lemma_is_numbered-2, After-count_changed}
 use Rattle.mq_link.specs.Limits.{IsChangeAt}
 
--- whether the group is to be asked for, where something changes
+-- the test whether the group is to be asked for, if something changes
 abbrev asks_of : Option Loaded → Option Bool
 asks_of = option_map (λ (loaded : Loaded). loaded.asks_group)
 
@@ -100,7 +100,7 @@ started_in g c = record { group = c.ask.new.self.group.state; schedule = c.ask.n
 mutes_so : (g : Over) (c : After-change g) → c.V1_MUTES_LEAVE.result ≡ v1_mutes_leave c.args.self.now.config.family
 mutes_so g c = c.V1_MUTES_LEAVE.ensures ∙ g.met.F.Family.v1_mutes_leave ∙ ap v1_mutes_leave (sym c.lemma_is_sound.ensures.family)
 
--- what is written is the change of the statement, in its setting
+-- the written group is the change of the statement, in its setting
 written : (g : Over) (c : After-change g) → change_in c.args.self.now (address_in g c) (said_in g c) c.args.storage.now.held.groups
     ≡ change_written g.F.Address.Key.number c.change.new.self.group.state c.change.new.self.asked.items (asks_of c.change.result)
 written g c =
@@ -109,7 +109,7 @@ written g c =
     let before = sym c.look-stored.ensures.group in
     (λ i. change_stated (sym (mutes_so g c) i) (sym muted i) (f i).timing (f i).moment (said_in g c) (before i).group) ∙ c.change.ensures.changes
 
--- what the change has spent is at least the work on the group
+-- the change has spent at least the work on the group
 spent_changing : (g : Over) (c : After-change g) → Spends (least_in g c) (changing_in g c) c.args.storage.now.meter c.change.new.m
 spent_changing g c =
     let members = c.args.work.now.named.members in
@@ -121,7 +121,7 @@ spent_changing g c =
     subst (λ (p : Bool × Bool × ScheduledGroup × ℕ). Spends (least p) (most p.2) c.args.storage.now.meter c.change.new.m)
     (λ i. (mutes_so g c i, muted i, before i, (f i).moment)) c.change.ensures.spent
 
--- what is asked for is that of the change
+-- the started queries are those of the change
 started_so : (g : Over) (c : After-ask g)
     → started_in g c ≡ changed_by c.args.self.now (address_in g (changed_of g c)) c.args.storage.now.held.groups (change_of g c)
 started_so g c =
@@ -192,7 +192,7 @@ judged : (g : Over) (c : After-refusal g) {passed : Option Refusal} → c.refusa
     stated at (address_in g change) (said_in g change) groups ≡ unless_passed passed groups after (sent_at_once at (address_in g change) e))
 judged g c is = stated_judged _ _ _ _ _ _ _ _ (subst (DidBy g c) is (did g c))
 
--- what it has spent until its limits are checked
+-- the comparisons until its limits are checked
 spent_checking : (g : Over) (c : After-refusal g) → (let change = changed_of g (asked_of g c) in
     Spends (least_in g change) (changing_in g change + asking_in g change + 2) c.args.storage.now.meter c.refusal.new.self.meter)
 spent_checking g c =
@@ -262,7 +262,7 @@ refusal-requires-clause-few g c =
 pub refusal-requires-clause-change : goal.refusal-requires-clause-change
 refusal-requires-clause-change g c = (g.F.Address.Key.number c.args.lookup.address, change_at g c)
 
--- what is refused leaves the groups
+-- a refused statement leaves the groups
 pub returns-in-Some-refusal-clause-effect : goal.returns-in-Some-refusal-clause-effect
 returns-in-Some-refusal-clause-effect g c =
     let at = c.args.self.now in
@@ -354,7 +354,7 @@ count_changed-requires g c =
     let counts = c.ask.ensures.changed ∙ c.change.ensures.changed in
     record { number = subst (λ (xs : List ℕ). IfSome c.keep-kept.result (λ n. n < length xs)) (sym counts) (within_so g c.before) }
 
--- what was done when the group was kept, by the storage and the group before
+-- the work when the group was kept, by the storage and the group before
 record IsKept {K A : Type 0} (address : ℕ) (from : Storage K A × ScheduledGroup) (left : Storage K A) : Type 0 where
   groups : left.held.groups ≡ with_group from.0.held.groups address from.1
   numbers : KeepsNumbers from.0.held left.held
@@ -401,7 +401,7 @@ marked_so g c before marked =
     (marked_by held left numbered numbered_next kept.numbers address (after_sending at started) kept.groups c.args.work.now.changed before marked
     loaded.changes_filter c.keep-kept.result so c.keep-kept.ensures.number (within_so g c.before.before))
 
--- what is applied is kept and counted
+-- an applied statement is kept and counted
 pub returns-clause-effect : goal.returns-clause-effect
 returns-clause-effect g c =
     let at = c.args.self.now in

@@ -19,7 +19,7 @@ use Rattle.mq_link.proofs.Moved.{spends_none}
 use Rattle.mq_held.proofs.DueInOrder.{few-running}
 use Rattle.mq_link.proofs.status.Status.ask.Goals as goal
 
--- a router that isn't querier asks for nothing, and one that is asks
+-- a router that isn't querier asks for nothing; a querier asks
 pub returns-then-at-clause-groups : goal.returns-then-at-clause-groups
 returns-then-at-clause-groups g c address has =
     let at = c.args.self.now in

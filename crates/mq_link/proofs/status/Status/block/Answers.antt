@@ -50,7 +50,7 @@ some_so g c = some_named (length c.args.named.now) c.is_empty.result c.is_empty.
 list_so : (g : Over) (c : goal.After-ask-arg-2-1 g) → c.args.named.now ≡ c.index-named-0.result ∷ []
 list_so g c = one_item c.args.named.now c.index-named-0.result (some_so g c) c.index-named-0.is
 
--- what is done, where no source is named
+-- the work if no source is named
 done_empty : (g : Over) (c : Then-is_empty g) → (let number = g.F.Address.Key.number in
     IsDone g.S.Sink.takes c.args.self.now (number c.args.lookup.address) c.args.said (named_in number c.args.named.now) c.args.storage.now.held.groups
     c.number_blocked.new.storage.held.groups c.args.sink.now c.args.sink.now)
@@ -62,7 +62,7 @@ done_empty g c =
     c.number_blocked.new.storage.held c.requires.sound facts.can facts.kind (ap (λ (s : Storage _ _). s.held) facts.left)
     none c.args.sink.now
 
--- where the group has the one that is named
+-- the case that the group has the named source
 there_then : (g : Over) (c : Then-there g) → (let number = g.F.Address.Key.number in
     let e = group_at c.args.storage.now.held.groups (number c.args.lookup.address) in
     (is_include e.group.mode || is_some (timer_at e.group (number c.index-named-0.result))) ≡ true)

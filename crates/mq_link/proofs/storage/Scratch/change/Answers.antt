@@ -30,7 +30,7 @@ blocked g c k said is =
     (subst (λ (said : StatementKind). acts_as c.args.muting.v1_mutes_leave c.args.muting.is_muted hosts (statement_of said named)
     ≡ with_sources named (Some (c.in_ok-kind.kind, c.in_ok-kind.is_emptied))) (said ∙ ap Record (blocks_is k is)) (c.in_ok-kind.ensures.acts named))
 
--- what the change has spent, whatever it does for an older host
+-- the comparisons of the change, whatever it does for an older host
 merged : (g : Over) (c : After-load_changed-loaded g) →
     (let acts = acts_as c.args.muting.v1_mutes_leave c.args.muting.is_muted
     (hosts_of (group_stored g.K.Key.number c.args.stored.now) c.args.at.now.moment)

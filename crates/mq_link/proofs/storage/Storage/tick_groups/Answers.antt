@@ -176,7 +176,7 @@ returns-clause-sent g c family is =
     in
     subst (λ qs. Sends g.S.Sink.takes c.args.sink.now qs c.loop-number.sink) queries c.loop-number.invariant.0.1.sent
 
--- how many were handed out, and what was spent on it
+-- the number of listed groups, and the comparisons for that
 pub returns-clause-spent : goal.returns-clause-spent
 returns-clause-spent g c =
     let now = c.args.at.now.moment in

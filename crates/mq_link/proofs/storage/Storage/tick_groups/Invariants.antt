@@ -6,8 +6,8 @@ use Rattle.mq_link.proofs.TickedFilters.{turned_to}
 use Rattle.mq_link.proofs.TickedNumbers.{AreTickedTo}
 use Rattle.mq_link.proofs.storage.Storage.tick_groups.Given as goal
 
--- the groups of the numbers so far are served, what was sent for them are the queries, what was moved for them is paid, and those
--- that have another filter are listed
+-- the groups of the numbers so far are served; the sent queries are theirs; the moves for them are paid; and those
+-- with another filter are listed
 abbrev pub invariant-loop-number : goal.invariant-loop-number
 invariant-loop-number g l =
     ((weight : ℕ)

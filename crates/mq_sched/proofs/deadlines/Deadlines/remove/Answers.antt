@@ -38,7 +38,7 @@ give_up_number-requires g c =
       below = search rules;
     }
 
--- what is left then
+-- the rest then
 left_so : (g : Over) (c : goal.After-count g) →
     (let i = c.self.inside in let given = c.give_up_number.new.leaves in let kept = c.truncate.new.self.items in let last = i.tree.count - 1 in
     AreNumbered given kept last ×

@@ -31,7 +31,7 @@ size_so g c k =
     let within = left-within c.args.self.now.pages c.args.spot.page c.args.spot.place k c.requires.taken.0 c.requires.taken.1 c.requires.filled in
     omega (arith, ap (λ xs. length (get_or xs k [])) (left_so g c), within)
 
--- how many are moved
+-- the moves
 moved_so : (g : Over) (c : After-take_out g) → (let P = c.args.self.now.pages in let i = c.args.spot.page in let sizes = map length c.take_out.new.self.pages in
     moved_by_remove (map length P) c.args.spot ≡ length (get_or P i []) - c.args.spot.place + moved_by_joins sizes i)
 moved_so g c = moved-remove c.args.self.now.pages c.take_out.new.self.pages c.args.spot c.requires.taken.0 c.requires.taken.1 (left_so g c)

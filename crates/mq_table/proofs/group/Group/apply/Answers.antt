@@ -13,7 +13,7 @@ use Rattle.mq_table.proofs.SourceLists.{len-timers_in}
 use Rattle.mq_table.proofs.Changed.{made_ascends, asked_ascends, recorded_group, recorded_query, recorded_query_group}
 use Rattle.mq_table.proofs.group.Group.apply.Goals as goal
 
--- what holds, holds after an error
+-- a fact that holds also holds after an error
 on_error : {T E P : Type 0} (r : Result T E) → P → OnErr r P
 on_error (Ok x) p = tt
 on_error (Err e) p = p

@@ -24,7 +24,7 @@ push_within-turned-requires-clause-asked_room g c =
 interval_end : (g : Over) (c : goal.After-changes_mode g) → c.after.result ≡ c.args.now + membership_interval c.args.timing.now
 interval_end g c = c.after.ensures.later ∙ ap (λ n. c.args.now + n) c.membership_interval.ensures
 
--- what was pushed
+-- the pushed sources
 made : (g : Over) (c : goal.After-changes_mode g) → c.push_within-turned.new.sources.items
     ≡ filter_map (source_made (record { kind = c.args.kind; mode = c.args.head.now.mode; interval_end = c.after.result }))
     (merged_lists (number_in g.K.Key.number) g.K.Key.number c.args.row.now c.args.named.now.members)

@@ -1,0 +1,3 @@
+"""The version. tools/wheel adds the date and hash of the commit."""
+
+__version__ = "2.1.0"
