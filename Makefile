@@ -183,6 +183,7 @@ live-test: needs-live live bin/mquerier
 	@examples/routed
 	@daemon/test
 	@daemon/switches
+	@daemon/routes
 	@conform/vectors --seconds $(SECONDS)
 
 # So many seconds of random joins and leaves at the ports of two bridges. It wants to be root, and the program.
@@ -237,10 +238,11 @@ bench: bin/mquerier
 # of bridges with its service and its file of options, which isn't replaced, and the manual pages. `install-strip` leaves symbols out.
 # DESTDIR stands before each folder. `uninstall` removes these files, and the options if nobody changed them.
 LIVE_OPTIONS := $(SYSCONFDIR)/mquerier-live/options
+ROUTE_OPTIONS := $(SYSCONFDIR)/mquerier-live/route
 MAN := $(PREFIX)/share/man
 INSTALLED := $(addprefix $(PREFIX)/,bin/mquerier sbin/mquerier-live include/mquerier.h include/mquerier-link.h) \
     $(addprefix $(LIBDIR)/,libmquerier.a libmquerier.so $(SONAME) $(notdir $(CAPTURES)) pkgconfig/libmquerier.pc) \
-    $(UNITDIR)/mquerier-live@.service $(MAN)/man1/mquerier.1 $(MAN)/man3/libmquerier.3 $(MAN)/man8/mquerier-live.8
+    $(UNITDIR)/mquerier-live@.service $(UNITDIR)/mquerier-route.service $(MAN)/man1/mquerier.1 $(MAN)/man3/libmquerier.3 $(MAN)/man8/mquerier-live.8
 install: bin/mquerier lib/libmquerier.a lib/$(SONAME) $(CAPTURES) bin/mquerier-live
 	install -d $(sort $(dir $(addprefix $(DESTDIR),$(INSTALLED) $(LIVE_OPTIONS))))
 	install -m 755 $(STRIP) bin/mquerier $(DESTDIR)$(PREFIX)/bin
@@ -255,7 +257,9 @@ install: bin/mquerier lib/libmquerier.a lib/$(SONAME) $(CAPTURES) bin/mquerier-l
 	install -m 644 man/libmquerier.3 $(DESTDIR)$(MAN)/man3
 	install -m 644 man/mquerier-live.8 $(DESTDIR)$(MAN)/man8
 	sed 's|@PREFIX@|$(PREFIX)|; s|@SYSCONFDIR@|$(SYSCONFDIR)|' daemon/mquerier-live@.service.in > $(DESTDIR)$(UNITDIR)/mquerier-live@.service
+	sed 's|@PREFIX@|$(PREFIX)|; s|@SYSCONFDIR@|$(SYSCONFDIR)|' daemon/mquerier-route.service.in > $(DESTDIR)$(UNITDIR)/mquerier-route.service
 	test -e $(DESTDIR)$(LIVE_OPTIONS) || install -m 644 daemon/options.example $(DESTDIR)$(LIVE_OPTIONS)
+	test -e $(DESTDIR)$(ROUTE_OPTIONS) || install -m 644 daemon/route.example $(DESTDIR)$(ROUTE_OPTIONS)
 
 install-strip:
 	@$(MAKE) --no-print-directory STRIP=-s install
@@ -263,6 +267,7 @@ install-strip:
 uninstall:
 	rm -f $(addprefix $(DESTDIR),$(INSTALLED))
 	cmp -s daemon/options.example $(DESTDIR)$(LIVE_OPTIONS) && rm $(DESTDIR)$(LIVE_OPTIONS) || true
+	cmp -s daemon/route.example $(DESTDIR)$(ROUTE_OPTIONS) && rm $(DESTDIR)$(ROUTE_OPTIONS) || true
 	rmdir $(DESTDIR)$(dir $(LIVE_OPTIONS)) 2> /dev/null || true
 
 # The release of this commit: an archive and the wheel, with their sums in dist/SHA256SUMS.

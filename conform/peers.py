@@ -1,5 +1,6 @@
 """The routers on which conform is tested. Each is started at one end of a lab's link."""
 
+import glob
 import os
 import re
 import shutil
@@ -128,6 +129,19 @@ def live_switch(lab, family):
     return ["--upstream", "v0"]
 
 
+def live_route(lab, family):
+    """bin/mquerier-live as a multicast router between the two links."""
+    if not os.access(LIVE, os.X_OK):
+        raise Failed("bin/mquerier-live is not there: `make live` builds it")
+    lab.both()
+    own = "--own6" if family == "mld" else "--own"
+    place = f"/tmp/{lab.space}.run"
+    words = ["route", "--upstream", "u0", "q0", "--scope", "8", "--family", family, own, OWN[family], *LIMITS, "--ports", "1", "--run", place]
+    lab.start(LIVE, *words)
+    wait_for(f"{place}/u0/status")
+    return ["--upstream", "v0"]
+
+
 def debian_13():
     """Returns a folder with Debian 13 and its FRR, and makes it if it is missing. The FRR of Debian 12 has no pim6d."""
     place = f"{UNPACKED}/trixie"
@@ -186,7 +200,7 @@ def igmpproxy(lab, family):
 
 def wait_for(place, seconds=10):
     limit = time.monotonic() + seconds
-    while not os.path.exists(place):
+    while not glob.glob(f"{place}*"):
         if time.monotonic() > limit:
             raise Failed(f"{place} doesn't come")
         time.sleep(0.05)
@@ -197,6 +211,7 @@ PEERS = {
     "bridge": bridge,
     "live-bridge": live_bridge,
     "live-switch": live_switch,
+    "live-route": live_route,
     "frr": frr,
     "pimd": pimd,
     "igmpproxy": igmpproxy,

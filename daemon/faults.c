@@ -28,6 +28,9 @@ const char *const fault_names[FAULT_KINDS] = {
     [FAULT_OVERRUN] = "netlink_overruns",   [FAULT_NETLINK] = "netlink_refusals",
     [FAULT_PORTS] = "ports_unserved",       [FAULT_MISSING] = "settings_missing",
     [FAULT_STATUS] = "status_refused",      [FAULT_CLOCK] = "clock_jumps",
+    [FAULT_JOINS] = "joins_refused",        [FAULT_WIDER] = "joins_without_sources",
+    [FAULT_ROUTES] = "routes_refused",      [FAULT_ELSEWHERE] = "senders_elsewhere",
+    [FAULT_EVICTED] = "routes_evicted",     [FAULT_UPCALLS] = "upcalls_delayed",
 };
 uint64_t fault_counts[FAULT_KINDS];
 

@@ -24,6 +24,12 @@ enum fault {
     FAULT_MISSING,   /* addresses and settings that are missing */
     FAULT_STATUS,    /* readers of the status that were turned away */
     FAULT_CLOCK,     /* times when nothing ran for more than a Query Interval */
+    FAULT_JOINS,     /* groups that the kernel did not join upstream */
+    FAULT_WIDER,     /* groups joined upstream for all sources, because the kernel's bounds do not allow the list */
+    FAULT_ROUTES,    /* interfaces and entries that the kernel's multicast routing rejected */
+    FAULT_ELSEWHERE, /* senders at an interface that the route to them does not take */
+    FAULT_EVICTED,   /* entries of multicast routing removed for others, beyond --entries */
+    FAULT_UPCALLS,   /* times when new senders had to wait, beyond --upcalls */
     FAULT_KINDS
 };
 extern const char *const fault_names[FAULT_KINDS];

@@ -4,6 +4,7 @@
 #include "advice.h"
 #include "faults.h"
 #include "ports.h"
+#include "route.h"
 #include "service.h"
 #include "setup.h"
 #include "status.h"
@@ -45,8 +46,14 @@ void loop_open(struct querier *querier) {
     wait_for(timer);
     wait_for(querier->ring.packets);
     wait_for(querier->news);
-    for (size_t at = 0; at < querier->bridges_count && !querier->options->is_interface; at++)
-        wait_for(querier->bridges[at].listening);
+    for (size_t at = 0; at < 2 && querier->route != NULL; at++)
+        if (querier->route->tables[at].file >= 0)
+            wait_for(querier->route->tables[at].file);
+    if (querier->route != NULL)
+        wait_for(querier->route->listening);
+    for (size_t at = 0; at < querier->bridges_count; at++)
+        if (!querier->bridges[at].is_port)
+            wait_for(querier->bridges[at].listening);
 }
 
 /* Reads the options again. Those of memory and sockets stay. The links of a family begin again if its timing changed. */
@@ -56,13 +63,15 @@ static void reload(struct querier *querier, int count, char **words) {
     const char *why = options_read(&options, count, words);
     if (why == NULL)
         why = querier_fault(&options);
+    if (why == NULL && querier->route != NULL)
+        why = route_reload(querier, &options, moment());
     if (why != NULL) {
         fault(FAULT_MISSING, "reload", why);
         return;
     }
     options_replace(used, &options);
     for (size_t at = 0; at < 2; at++)
-        if (used->serves[at] && family_retime(&querier->families[at], &options.configuration[at]))
+        if (used->serves[at] && family_retime(&querier->families[at], &options.configuration[at]) && querier->route == NULL)
             querier_begin_all(querier, at == 1, moment());
     querier->is_stale = true; /* the Query Interval may have changed */
     ports_refresh(querier, moment());
@@ -115,10 +124,13 @@ static void handle(struct querier *querier, int file, int count, char **words) {
     } else if (file == timer) {
         if (read(timer, &expired, sizeof expired) < 0 && errno != EAGAIN)
             fail(STATUS_FAILED, "timer", strerror(errno));
-    } else {
+    } else if (querier->route != NULL && file == querier->route->listening) {
+        route_count(querier, moment());
+        status_answer(querier, file, NULL, moment());
+    } else if (!route_hear(querier, file, moment())) {
         for (size_t at = 0; at < querier->bridges_count; at++)
             if (querier->bridges[at].listening == file)
-                status_answer(querier, &querier->bridges[at], moment());
+                status_answer(querier, file, &querier->bridges[at], moment());
     }
 }
 

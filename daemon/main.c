@@ -6,6 +6,7 @@
 #include "files.h"
 #include "loop.h"
 #include "ports.h"
+#include "route.h"
 #include "service.h"
 #include "setup.h"
 #include "status.h"
@@ -94,6 +95,8 @@ static void open_bridges(void) {
     uint32_t snoops;
     char folder[4096];
     for (size_t at = 0; at < querier.bridges_count; at++) {
+        if (querier.bridges[at].is_port)
+            continue;
         index_of(options.names[at], &found);
         if (!interface_setting(&found, false, IFLA_BR_MCAST_SNOOPING, &snoops))
             fail(STATUS_FAILED, options.names[at], "it is no bridge, or the kernel can't snoop");
@@ -102,6 +105,8 @@ static void open_bridges(void) {
     }
     make_folder(options.run);
     for (size_t at = 0; at < querier.bridges_count; at++) {
+        if (querier.bridges[at].is_port)
+            continue;
         snprintf(folder, sizeof folder, "%s/%s", options.run, options.names[at]);
         make_folder(folder);
     }
@@ -118,10 +123,18 @@ static void run(int count, char **words) {
     }
     querier_open(&querier, &options);
     ports_open(&querier);
+    for (size_t at = 0; at < options.count; at++)
+        querier.bridges[querier.bridges_count++] =
+            (struct bridge){.name = options.names[at],
+                            .is_port = options.is_interface || (options.is_route && !options.interfaces[at].is_bridge),
+                            .before = -1,
+                            .listening = -1};
+    if (options.is_route) { /* it starts a process, which shares no ring */
+        make_folder(options.run);
+        route_open(&querier);
+    }
     if (ring_open(&querier.ring) < 0)
         fail(STATUS_FAILED, "packets", strerror(errno));
-    for (size_t at = 0; at < options.count; at++)
-        querier.bridges[querier.bridges_count++] = (struct bridge){.name = options.names[at], .before = -1, .listening = -1};
     if (options.is_interface)
         open_interface();
     else

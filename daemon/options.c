@@ -2,6 +2,7 @@
 #include "options.h"
 
 #include "faults.h"
+#include "mroute.h"
 #include "ring.h"
 
 #include <arpa/inet.h>
@@ -21,14 +22,19 @@
 static const char HELP[] =
     "Usage: mquerier-live interface INTERFACE igmp|mld --own ADDR [OPTION]..\n"
     "       mquerier-live bridge BRIDGE.. [OPTION]..\n"
+    "       mquerier-live route --upstream INTERFACE INTERFACE.. [OPTION]..\n"
     "       mquerier-live status BRIDGE [--json | --metrics] [--run DIR]\n"
     "       mquerier-live --version\n"
     "\n"
-    "A multicast querier on Linux. `interface` serves one link of one family, and prints a line for each message and query.\n"
-    "`bridge` serves all ports of these bridges: each bridge forwards to each port what the hosts there want. `status` prints\n"
-    "the state of a running `bridge`.\n"
-    "It needs root, or the capability CAP_NET_RAW, with a bridge also CAP_NET_ADMIN. Once its sockets are open it drops its\n"
-    "privileges; with a bridge it keeps CAP_NET_ADMIN alone. This program is not proved. The decisions of its library are.\n"
+    "A multicast querier and router on Linux. `interface` serves one link of one family, and prints a line for each message and "
+    "query.\n"
+    "`bridge` serves all ports of these bridges: each bridge forwards to each port what the hosts there want. `route` is a\n"
+    "multicast router: it serves interfaces, joins upstream what their hosts want, and forwards it. `status` prints the state of "
+    "a\n"
+    "running `bridge` or `route`.\n"
+    "It needs root, or the capability CAP_NET_RAW, except for `interface` without a bridge also CAP_NET_ADMIN. Once its\n"
+    "sockets are open it drops its privileges, or keeps CAP_NET_ADMIN alone. This program is not proved. The decisions of its "
+    "library are.\n"
     "\n"
     "  --own ADDR           source of queries: an address of the interface, for mld a link-local one. By default `bridge`\n"
     "                       takes the first addresses of the bridge\n"
@@ -48,7 +54,14 @@ static const char HELP[] =
     "  --mdb BRIDGE PORT    make the bridge BRIDGE forward to its port PORT what is forwarded of each group, by entries of its\n"
     "                       multicast database. INTERFACE is PORT, or BRIDGE if all hosts are at one port\n"
     "\n"
-    "For `bridge` only:\n"
+    "For `route` only. Interfaces downstream are INTERFACE, `bridge:BRIDGE`, or with variables of its own INTERFACE,qi=60,rv=3:\n"
+    "  --upstream WORDS     INTERFACE, or with commas INTERFACE=PREFIX/LENGTH,..: the interface for groups by the longest prefix\n"
+    "  --scope N            least scope of groups that cross between upstream and downstream, 3 to 14 (14). 239.0.0.0/8 has 8\n"
+    "  --entries N          most forwarding entries, 16 to 65536 (4096)\n"
+    "  --unused S           seconds after which an entry without datagrams ends (180)\n"
+    "  --upcalls N          most new senders a second, 100 to 1000000 (10000)\n"
+    "\n"
+    "For `bridge` and `route`:\n"
     "  --own6 ADDR          link-local source of queries of MLD. Then --own is that of IGMP\n"
     "  --family F           serve only igmp, or only mld\n"
     "  --ports N            most ports of all bridges, up to 1024 (64). Memory is allocated for all of them\n"
@@ -92,6 +105,11 @@ enum { COUNT = sizeof NUMBERS / sizeof *NUMBERS };
 enum { NUMBER_GROUPS = 4, NUMBER_SCHEDULED = 7, PORT_GROUPS = 4096 };
 enum {
     OWN = COUNT,
+    UPSTREAM,
+    SCOPE,
+    ENTRIES,
+    UNUSED,
+    UPCALLS,
     OWN6,
     FAMILY,
     SSM,
@@ -109,6 +127,11 @@ enum {
 };
 static const struct option OTHERS[] = {
     {"own", required_argument, NULL, OWN},
+    {"upstream", required_argument, NULL, UPSTREAM},
+    {"scope", required_argument, NULL, SCOPE},
+    {"entries", required_argument, NULL, ENTRIES},
+    {"unused", required_argument, NULL, UNUSED},
+    {"upcalls", required_argument, NULL, UPCALLS},
     {"own6", required_argument, NULL, OWN6},
     {"family", required_argument, NULL, FAMILY},
     {"ssm", no_argument, NULL, SSM},
@@ -184,6 +207,16 @@ static const char *read_router(struct options *options, const char *port) {
     return NULL;
 }
 
+static const char *read_between(uint32_t *to, const char *text, uint32_t least, uint32_t most) {
+    bool is_read = read_number(text, to) && *to >= least && *to <= most;
+    return is_read ? NULL : wrong("a number is out of its range: ", text);
+}
+
+static const char *read_upstream(struct options *options, const char *words) {
+    const char *why = prefixes_read(&options->upstream, words);
+    return why == NULL ? NULL : wrong("--upstream: ", why);
+}
+
 static const char *read_run(struct options *options, const char *text) {
     if (strlen(text) >= sizeof options->run)
         return wrong("too long a name: ", text);
@@ -208,6 +241,11 @@ static const char *read_option(struct options *options, int found, int count, ch
         return wrong("that option is for bridge, not for interface: --", OTHERS[found - COUNT].name);
     switch (found) {
     case OWN: return read_address(options, !options->serves[false], optarg);
+    case UPSTREAM: return read_upstream(options, optarg);
+    case SCOPE: return read_between(&options->scope, optarg, 3, 14);
+    case ENTRIES: return read_between(&options->entries, optarg, 16, 65536);
+    case UNUSED: return read_between(&options->unused, optarg, 1, 86400);
+    case UPCALLS: return read_between(&options->upcalls, optarg, 100, 1000000);
     case OWN6: return read_address(options, true, optarg);
     case FAMILY: return read_family(options, optarg);
     case SSM: options->configuration[0].source_specific = options->configuration[1].source_specific = true; break;
@@ -276,7 +314,7 @@ static const char *read_file(struct options *options) {
         words[count++] = word;
     size_t names = options->count;
     const char *why = read_words(options, count, words);
-    if (why == NULL && options->count != names)
+    if (why == NULL && options->count != names && !options->is_route)
         why = wrong("the file of options has a word that is none: ", options->names[names]);
     return why;
 }
@@ -290,9 +328,45 @@ static const char *finish_interface(struct options *options) {
     return options->has_own[!options->serves[0]] ? NULL : wrong("--own is needed", "");
 }
 
+/* Returns whether an interface downstream is named twice, or is upstream too. */
+static bool has_twice(const struct options *options) {
+    for (size_t at = 0; at < options->count; at++) {
+        for (size_t before = 0; before < at; before++)
+            if (strcmp(options->names[before], options->names[at]) == 0)
+                return true;
+        for (size_t above = 0; above < options->upstream.names_count; above++)
+            if (strcmp(options->upstream.names[above], options->names[at]) == 0)
+                return true;
+    }
+    return false;
+}
+
+/* Checks the words of `route`: interfaces downstream, and --upstream. */
+static const char *finish_route(struct options *options) {
+    for (size_t at = 0; at < options->count; at++) {
+        const char *why = interfaces_read(options->names[at], &options->interfaces[at]);
+        if (why != NULL)
+            return wrong(options->names[at], why);
+        options->names[at] = options->interfaces[at].name;
+    }
+    if (has_twice(options))
+        return wrong("an interface is named twice", "");
+    if (options->count == 0 || options->upstream.names_count == 0)
+        return wrong("route needs --upstream, and an interface downstream", "");
+    if (options->count + options->upstream.names_count > GREATEST_VIFS)
+        return wrong("the kernel routes multicast between 32 interfaces at most", "");
+    return NULL;
+}
+
 const char *options_read(struct options *options, int count, char **words) {
     static const uint8_t placeholders[2][16] = {{192, 0, 2, 1}, {0xfe, 0x80, [15] = 1}}; /* the bridge's address replaces it */
-    *options = (struct options){.serves = {true, true}, .ports = 64, .run = "/run/mquerier-live"};
+    *options = (struct options){.serves = {true, true},
+                                .ports = 64,
+                                .run = "/run/mquerier-live",
+                                .scope = 14,
+                                .entries = 4096,
+                                .unused = 180,
+                                .upcalls = 10000};
     for (int at = 0; at < 2; at++)
         options->configuration[at] = mq_config_defaults(at == 1, placeholders[at]);
     options->is_interface = count > 0 && strcmp(words[0], "interface") == 0;
@@ -302,8 +376,9 @@ const char *options_read(struct options *options, int count, char **words) {
     }
     if (count > 0 && (strcmp(words[0], "--help") == 0 || strcmp(words[0], "--version") == 0))
         return read_option(options, words[0][2] == 'h' ? ASKED_HELP : VERSION, count, words);
-    if (!options->is_interface && (count == 0 || strcmp(words[0], "bridge") != 0))
-        return wrong("the first word is interface, bridge or status", "");
+    options->is_route = count > 0 && strcmp(words[0], "route") == 0;
+    if (!options->is_interface && !options->is_route && (count == 0 || strcmp(words[0], "bridge") != 0))
+        return wrong("the first word is interface, bridge, route or status", "");
     if (options->is_interface && count > 1 && words[count - 1] != NULL)
         for (int at = 1; at < count; at++) /* --own depends on the family, which may come later */
             if (strcmp(words[at], "igmp") == 0 || strcmp(words[at], "mld") == 0)
@@ -321,7 +396,7 @@ const char *options_read(struct options *options, int count, char **words) {
         return wrong("--mdb is for an interface", "");
     if (options->reports && options->router_count == 0)
         return wrong("--report is for a --router-port", "");
-    return options->count > 0 ? NULL : wrong("a bridge is needed", "");
+    return options->is_route ? finish_route(options) : options->count > 0 ? NULL : wrong("a bridge is needed", "");
 }
 
 /* Returns the name of an option whose value differs and cannot change while the program runs, or NULL. */

@@ -197,7 +197,7 @@ static bool read_ports(struct querier *querier, struct bridge *bridge, uint64_t 
     struct interface found;
     struct search search = {querier, bridge, now};
     const uint32_t without = RTEXT_FILTER_SKIP_STATS, master = (uint32_t)bridge->index;
-    if (querier->options->is_interface) {
+    if (bridge->is_port) {
         bool is_read = interface_read(querier->netlink, bridge->name, &found) == 0;
         if (is_read)
             take_port(&search, &found);
@@ -283,7 +283,7 @@ static bool read_bridge(struct querier *querier, struct bridge *bridge, uint64_t
         fault(FAULT_NETLINK, bridge->name, strerror(error)); /* the copy stays */
         return false;
     }
-    const char *why = error == ENODEV ? "it is gone" : querier->options->is_interface ? NULL : unserved(&found);
+    const char *why = error == ENODEV ? "it is gone" : bridge->is_port ? NULL : unserved(&found);
     if (why == NULL)
         return take_bridge(querier, bridge, &found, now);
     if (error == 0 || bridge->index != 0)

@@ -4,6 +4,7 @@
 #include "faults.h"
 #include "heard.h"
 #include "hello.h"
+#include "route.h"
 #include "text.h"
 #include "upstream.h"
 
@@ -91,9 +92,8 @@ struct port *querier_port(const struct querier *querier, int index) {
 }
 
 bool querier_place(const struct querier *querier, const struct port *port, bool is_mld, struct place *place) {
-    bool is_interface = querier->options->is_interface;
     *place = (struct place){querier->netlink, port->bridge->index, port->index, is_mld};
-    if (is_interface) {
+    if (port->bridge->is_port) {
         place->bridge = querier->kept_bridge;
         place->port = querier->kept_port;
     }
@@ -216,7 +216,7 @@ static void follow(struct querier *querier, struct port *port, bool is_mld, uint
     struct served *served = &port->served[is_mld];
     struct place place;
     bool keeps = querier_place(querier, port, is_mld, &place), prints = querier->options->prints_changes;
-    size_t count = keeps || prints ? link_changed(&served->link, querier->changed) : 0;
+    size_t count = keeps || prints || querier->route != NULL ? link_changed(&served->link, querier->changed) : 0;
     for (size_t at = 0; at < count; at++) {
         if (prints)
             print_change(querier, port, &served->link, querier->changed[at], filter_of(&served->link, querier->changed[at]), now);
@@ -224,6 +224,8 @@ static void follow(struct querier *querier, struct port *port, bool is_mld, uint
             keeper_update(&served->keeper, &served->link, &place, querier->changed[at]);
         upstream_note(querier, port, is_mld, querier->changed[at], now);
     }
+    if (querier->route != NULL)
+        route_follow(querier, port, is_mld, count, now);
     set_deadline(querier, port, is_mld);
 }
 
@@ -238,8 +240,11 @@ uint64_t querier_settling(const struct querier *querier) {
 void querier_begin(struct querier *querier, struct port *port, bool is_mld, uint64_t now) {
     struct served *served = &port->served[is_mld];
     struct family *family = &querier->families[is_mld];
-    mq_config configuration = family->configuration;
+    const struct bridge *bridge = port->bridge;
+    mq_config configuration = bridge->is_configured[is_mld] ? bridge->configuration[is_mld] : family->configuration;
     print_ends(querier, port, served, now);
+    if (querier->route != NULL && served->is_on)
+        route_inherit(querier, port, is_mld);
     memcpy(configuration.own, port->bridge->own[is_mld], sizeof configuration.own);
     uint32_t status = mq_link_init(configuration, now, served->memory, family->link_size, &family->workspace, &served->link);
     served->is_on = served->is_first = status == MQ_DONE;
@@ -264,6 +269,8 @@ void querier_forget(struct querier *querier, struct port *port) {
         port->served[at].keeper.rows.count = 0;
         set_deadline(querier, port, at == 1);
     }
+    if (querier->route != NULL)
+        route_forget(querier);
     upstream_note_all(querier, port->bridge, moment());
 }
 
@@ -372,6 +379,8 @@ void querier_tick(struct querier *querier, uint64_t now) {
     for (size_t first; deadlines->moments[first = deadlines_first(deadlines)] <= now;) {
         if (first < 2 * querier->room) {
             tick(querier, querier->ports + first / 2, first % 2, now);
+        } else if (first == 2 * querier->room + DEADLINE_ROUTE) {
+            route_tick(querier, now);
         } else if (first == 2 * querier->room + DEADLINE_REPAIR) {
             querier->is_stale = true;
             deadlines_set(deadlines, first, MQ_NONE); /* the repair sets the next one */

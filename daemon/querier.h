@@ -17,17 +17,20 @@
 /* A bridge, or the one interface, which is its own only port. */
 struct bridge {
     const char *name;
-    int index; /* 0 while it cannot be served */
+    bool is_port; /* it is an interface, and its own only port */
+    int index;    /* 0 while it cannot be served */
     uint8_t mac[MAC];
     bool has_own[2];
     uint8_t own[2][LONG_ADDRESS]; /* the sources of queries, by family */
     bool is_missed[2];            /* a line said that there is none */
-    uint64_t settles;             /* when its links know what hosts want, or MQ_NONE while they wait for an address */
-    bool is_settled;              /* that time is over */
-    bool is_late;                 /* a family got an address after that, and the kernel has to flood again */
-    uint32_t change[3];           /* flags and a timer of the last change of the spanning tree */
-    int before;                   /* the file of the settings before --setup, or -1 */
-    int listening;                /* the socket of the status, or -1 */
+    bool is_configured[2];        /* it has a configuration of its own */
+    mq_config configuration[2];
+    uint64_t settles;   /* when its links know what hosts want, or MQ_NONE while they wait for an address */
+    bool is_settled;    /* that time is over */
+    bool is_late;       /* a family got an address after that, and the kernel has to flood again */
+    uint32_t change[3]; /* flags and a timer of the last change of the spanning tree */
+    int before;         /* the file of the settings before --setup, or -1 */
+    int listening;      /* the socket of the status, or -1 */
 };
 
 /* A link of a port. */
@@ -70,6 +73,7 @@ struct querier {
     size_t ports_count;
     struct deadlines deadlines; /* two for each port, then those below */
     struct ring ring;
+    struct route *route; /* the router, or NULL */
     int netlink, news;
     int kept_bridge, kept_port; /* those of --mdb, or 0 */
     uint8_t (*changed)[LONG_ADDRESS];
@@ -78,7 +82,7 @@ struct querier {
 };
 
 /* The deadlines after those of links. */
-enum { DEADLINE_REPAIR, DEADLINE_SECOND, DEADLINE_REPORTS, DEADLINES_BESIDE };
+enum { DEADLINE_REPAIR, DEADLINE_SECOND, DEADLINE_REPORTS, DEADLINE_ROUTE, DEADLINES_BESIDE };
 
 /* Returns NULL, or the fault of a served family's configuration as text. */
 const char *querier_fault(const struct options *options);

@@ -1,6 +1,7 @@
 #include "report.h"
 
 #include "faults.h"
+#include "routed.h"
 #include "text.h"
 
 #include <inttypes.h>
@@ -45,7 +46,16 @@ static size_t walk_groups(const mq_link *link, void (*each)(const mq_link *, con
 }
 
 static bool has_link(const struct querier *querier, const struct port *port, const struct bridge *bridge) {
-    return port->index != 0 && port->bridge == bridge && querier->room > 0;
+    return port->index != 0 && (bridge == NULL || port->bridge == bridge) && querier->room > 0;
+}
+
+/* The kind of what the status is of, and its name: that of a router is its first interface upstream. */
+static const char *kind_of(const struct bridge *bridge) {
+    return bridge == NULL ? "router" : "bridge";
+}
+
+static const char *name_of(const struct querier *querier, const struct bridge *bridge) {
+    return bridge == NULL ? querier->options->upstream.names[0] : bridge->name;
 }
 
 /* Prints who is querier on a link. */
@@ -105,7 +115,7 @@ static void text_timing(const struct querier *querier, FILE *to) {
 }
 
 static void report_text(const struct querier *querier, const struct bridge *bridge, uint64_t now, FILE *to) {
-    fprintf(to, "bridge %s, %" PRIu64 " ms since the start\n", bridge->name, now);
+    fprintf(to, "%s %s, %" PRIu64 " ms since the start\n", kind_of(bridge), name_of(querier, bridge), now);
     text_timing(querier, to);
     fprintf(to, "datagrams %" PRIu64 ", queries %" PRIu64 "\n", querier->heard, querier->sent);
     for (int at = 0; at < FAULT_KINDS; at++)
@@ -124,6 +134,8 @@ static void report_text(const struct querier *querier, const struct bridge *brid
             if (querier->options->serves[family])
                 text_link(port, family == 1, now, to);
     }
+    if (bridge == NULL)
+        routed_text(querier, to);
 }
 
 static void json_moment(const char *name, uint64_t deadline, uint64_t now, FILE *to) {
@@ -188,11 +200,11 @@ static void report_json(const struct querier *querier, const struct bridge *brid
     const mq_config *it = querier->options->configuration;
     bool is_first = true;
     fprintf(to,
-            "{\"bridge\":\"%s\",\"now\":%" PRIu64 ",\"robustness\":%" PRIu32 ",\"query_interval\":%" PRIu32
+            "{\"%s\":\"%s\",\"now\":%" PRIu64 ",\"robustness\":%" PRIu32 ",\"query_interval\":%" PRIu32
             ",\"response_interval\":%" PRIu32 ",\"last_member_interval\":%" PRIu32 ",\"datagrams\":%" PRIu64 ",\"queries\":%" PRIu64
             ",\"faults\":{",
-            bridge->name, now, it->robustness, it->query_interval, it->response_interval, it->last_member_interval, querier->heard,
-            querier->sent);
+            kind_of(bridge), name_of(querier, bridge), now, it->robustness, it->query_interval, it->response_interval,
+            it->last_member_interval, querier->heard, querier->sent);
     for (int at = 0; at < FAULT_KINDS; at++)
         fprintf(to, "%s\"%s\":%" PRIu64, at > 0 ? "," : "", fault_names[at], fault_counts[at]);
     fputs("},\"ports\":[", to);
@@ -202,7 +214,10 @@ static void report_json(const struct querier *querier, const struct bridge *brid
         json_port(querier, querier->ports + at, is_first, now, to);
         is_first = false;
     }
-    fputs("]}\n", to);
+    putc(']', to);
+    if (bridge == NULL)
+        routed_json(querier, to);
+    fputs("}\n", to);
 }
 
 static void count_group(const mq_link *link, const mq_group *group, size_t number, uint64_t now, FILE *to) {
@@ -231,8 +246,8 @@ static void metric(const struct querier *querier, const struct bridge *bridge, i
         const struct port *port = querier->ports + at / 2;
         const struct served *served = &port->served[at % 2];
         if (has_link(querier, port, bridge) && served->is_on)
-            fprintf(to, "mquerier_%s%s{bridge=\"%s\",port=\"%s\",family=\"%s\"} %" PRIu64 "\n", name, end, bridge->name, port->name,
-                    family_names[at % 2], metric_of(served, which, to));
+            fprintf(to, "mquerier_%s%s{%s=\"%s\",port=\"%s\",family=\"%s\"} %" PRIu64 "\n", name, end, kind_of(bridge),
+                    name_of(querier, bridge), port->name, family_names[at % 2], metric_of(served, which, to));
     }
 }
 
@@ -242,6 +257,8 @@ static void report_metrics(const struct querier *querier, const struct bridge *b
                 fault_counts[at]);
     for (int which = 0; which < METRICS; which++)
         metric(querier, bridge, which, to);
+    if (bridge == NULL)
+        routed_metrics(querier, to);
 }
 
 void report(const struct querier *querier, const struct bridge *bridge, char form, uint64_t now, FILE *to) {

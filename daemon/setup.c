@@ -177,7 +177,8 @@ void setup_apply(struct querier *querier) {
         bool tells = told[at] != bridge->index,
              has_ports = !options->is_interface && (has_addresses(querier, bridge) || !options->sets_up);
         told[at] = bridge->index;
-        if (bridge->index == 0 || (options->is_interface && (!tells || options->bridge == NULL)))
+        if (bridge->index == 0 || (bridge->is_port && !options->is_interface)
+            || (options->is_interface && (!tells || options->bridge == NULL)))
             continue;
         if (options->sets_up) /* first, so that no query of the kernel leaves */
             rules_apply(querier, bridge);
@@ -194,7 +195,7 @@ void setup_apply(struct querier *querier) {
 void setup_settle(struct querier *querier, uint64_t now) {
     for (size_t at = 0; at < querier->bridges_count; at++) {
         struct bridge *bridge = &querier->bridges[at];
-        if (bridge->index == 0 || bridge->is_settled || now < bridge->settles)
+        if (bridge->is_port || bridge->index == 0 || bridge->is_settled || now < bridge->settles)
             continue;
         bridge->is_settled = true;
         if (querier->options->sets_up)
@@ -263,6 +264,8 @@ void setup_open(struct querier *querier) {
         rules_open();
     for (size_t at = 0; at < querier->bridges_count; at++) {
         struct bridge *bridge = &querier->bridges[at];
+        if (bridge->is_port)
+            continue;
         if (!files_name(name, sizeof name, querier->options->run, bridge->name, "before"))
             fail(STATUS_FAILED, bridge->name, strerror(ENAMETOOLONG));
         bridge->before = open(name, O_RDWR | O_CREAT | O_APPEND | O_CLOEXEC, 0600);

@@ -28,19 +28,23 @@ static bool name_socket(const char *run, const char *bridge, struct sockaddr_un 
     return files_name(at->sun_path, sizeof at->sun_path, run, bridge, "status");
 }
 
-void status_open(struct querier *querier) {
+int status_listen(const char *run, const char *name) {
     struct sockaddr_un at;
-    for (size_t number = 0; number < querier->bridges_count; number++) {
-        struct bridge *bridge = &querier->bridges[number];
-        bridge->listening = socket(AF_UNIX, SOCK_STREAM | SOCK_CLOEXEC | SOCK_NONBLOCK, 0);
-        if (bridge->listening < 0 || !name_socket(querier->options->run, bridge->name, &at))
-            fail(STATUS_FAILED, bridge->name, "no socket for its status");
-        unlink(at.sun_path);
-        mode_t before = umask(0077);
-        if (bind(bridge->listening, (struct sockaddr *)&at, sizeof at) < 0 || listen(bridge->listening, WAITING) < 0)
-            fail(STATUS_FAILED, at.sun_path, strerror(errno));
-        umask(before);
-    }
+    int listening = socket(AF_UNIX, SOCK_STREAM | SOCK_CLOEXEC | SOCK_NONBLOCK, 0);
+    if (listening < 0 || !name_socket(run, name, &at))
+        fail(STATUS_FAILED, name, "no socket for its status");
+    unlink(at.sun_path);
+    mode_t before = umask(0077);
+    if (bind(listening, (struct sockaddr *)&at, sizeof at) < 0 || listen(listening, WAITING) < 0)
+        fail(STATUS_FAILED, at.sun_path, strerror(errno));
+    umask(before);
+    return listening;
+}
+
+void status_open(struct querier *querier) {
+    for (size_t at = 0; at < querier->bridges_count; at++)
+        if (!querier->bridges[at].is_port)
+            querier->bridges[at].listening = status_listen(querier->options->run, querier->bridges[at].name);
 }
 
 void status_reap(void) {
@@ -69,15 +73,15 @@ static void serve(struct querier *querier, const struct bridge *bridge, int read
     _exit(0);
 }
 
-void status_answer(struct querier *querier, const struct bridge *bridge, uint64_t now) {
-    int reader = accept4(bridge->listening, NULL, NULL, SOCK_CLOEXEC);
+void status_answer(struct querier *querier, int listening, const struct bridge *bridge, uint64_t now) {
+    int reader = accept4(listening, NULL, NULL, SOCK_CLOEXEC);
     if (reader < 0)
         return;
     pid_t child = readers < READERS ? fork() : -1;
     if (child == 0)
         serve(querier, bridge, reader, now);
     if (child < 0)
-        fault(FAULT_STATUS, bridge->name, readers < READERS ? strerror(errno) : "too many readers of the status");
+        fault(FAULT_STATUS, "status", readers < READERS ? strerror(errno) : "too many readers of the status");
     else
         readers++;
     close(reader);
@@ -101,7 +105,7 @@ int status_print(int count, char **words) {
             bridge = words[word];
     }
     if (bridge == NULL || !name_socket(run, bridge, &at))
-        fail(STATUS_USAGE, "status", "a bridge is needed (--help says more)");
+        fail(STATUS_USAGE, "status", "a bridge or an interface upstream is needed (--help says more)");
     int server = socket(AF_UNIX, SOCK_STREAM | SOCK_CLOEXEC, 0);
     if (server < 0 || connect(server, (struct sockaddr *)&at, sizeof at) < 0 || write(server, &form, 1) != 1)
         fail(STATUS_FAILED, at.sun_path, strerror(errno));

@@ -6,8 +6,11 @@
 
 /* Opens the socket of each bridge: DIR/BRIDGE/status. Ends the program if that fails. */
 void status_open(struct querier *querier);
-/* Answers one reader of a bridge's socket, in a child process with a copy of the present state. */
-void status_answer(struct querier *querier, const struct bridge *bridge, uint64_t now);
+/* Opens a socket DIR/NAME/status. Ends the program if that fails. */
+int status_listen(const char *run, const char *name);
+/* Answers one reader of a socket, in a child process with a copy of the present state: of a bridge, or of the router if that is
+   NULL. */
+void status_answer(struct querier *querier, int listening, const struct bridge *bridge, uint64_t now);
 /* Waits for the child processes of readers that ended. */
 void status_reap(void);
 

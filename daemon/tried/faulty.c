@@ -45,6 +45,14 @@ static bool fails(uint32_t *calls) {
 /* The function of the C library with this name. */
 #define BEHIND(name) __extension__((__typeof__(name) *)dlsym(RTLD_NEXT, #name))
 
+int socket(int family, int type, int protocol) {
+    if (family == AF_INET6 && getenv("FAULTY_NO_IPV6") != NULL) {
+        errno = EAFNOSUPPORT;
+        return -1;
+    }
+    return BEHIND(socket)(family, type, protocol);
+}
+
 ssize_t send(int to, const void *bytes, size_t length, int flags) {
     static uint32_t calls;
     return fails(&calls) ? -1 : BEHIND(send)(to, bytes, length, flags);

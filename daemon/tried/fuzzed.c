@@ -1,9 +1,10 @@
-/* Frames and messages of netlink from a fuzzer. `daemon/tried/fuzz SECONDS` builds this file with those of the program, and
-   afl-fuzz runs it. The first byte of an input is its kind. For netlink the rest is the bytes of each read after their length in
-   two bytes. Their sequence numbers are corrected. */
+/* Frames, messages of netlink and upcalls from a fuzzer. `daemon/tried/fuzz SECONDS` builds this file with those of the program, and
+   afl-fuzz runs it. The first byte of an input is its kind. For netlink and upcalls the rest is the bytes of each read after their
+   length in two bytes. Sequence numbers of netlink are corrected. */
 #define _GNU_SOURCE
 #include "faults.h"
 #include "hello.h"
+#include "inherit.h"
 #include "ports.h"
 
 #include <errno.h>
@@ -70,6 +71,37 @@ static void read_as_netlink(void) {
     querier_repair(&querier, moment());
 }
 
+/* Makes a router of two interfaces downstream and one upstream, without the kernel's tables. */
+static void open_route(void) {
+    static struct route route;
+    querier.route = &route;
+    prefixes_read(&options.upstream, "up0");
+    route = (struct route){.downstream = 2, .count = 3, .listening = -1};
+    for (int at = 0; at < 3; at++)
+        route.vifs[at] = (struct vif){.name = "dn0", .index = at + 1};
+    for (int at = 0; at < 2; at++)
+        route.tables[at] = (struct mroute){.file = STDIN_FILENO, .is_mld = at == 1};
+    entries_open(&route.entries, 16);
+    joins_open(&route.joins, 16);
+    route.was_querier = take(2 * querier.room, sizeof *route.was_querier);
+}
+
+/* Reads entries of the kernel's, then upcalls. */
+static void read_as_route(struct route *route) {
+    bool is_mld = input[0] & 2;
+    querier.route = route;
+    for (struct route_entry *entry; (entry = entries_at(&route->entries, 0)) != NULL;)
+        entries_remove(&route->entries, entry);
+    if (input[0] & 4)
+        inherit_read(&querier, is_mld);
+    route->slice_ends = UINT64_MAX;
+    route->slice_left = 1000;
+    forward_hear(&querier, &route->tables[is_mld], moment());
+    forward_all(&querier, is_mld, true, moment());
+    forward_poll(&querier, 16, moment());
+    querier.route = NULL;
+}
+
 int main(void) {
     static char bridge[] = "bridge", name[] = "br0", ports[] = "--ports", four[] = "4", groups[] = "--groups", few[] = "16";
     static char *words[] = {bridge, name, ports, four, groups, few, NULL};
@@ -80,6 +112,8 @@ int main(void) {
     querier.bridges_count = 1;
     querier.bridges[0] = (struct bridge){.name = name, .before = -1, .listening = -1};
     querier.netlink = querier.news = querier.ring.packets = -1;
+    open_route();
+    struct route *route = querier.route;
 #ifdef __AFL_LOOP
     while (__AFL_LOOP(10000))
 #endif
@@ -89,6 +123,8 @@ int main(void) {
         end = length > 0 ? (size_t)length : 1;
         if (input[0] & 1)
             read_as_frame();
+        else if (input[0] & 8)
+            read_as_route(route);
         else
             read_as_netlink();
     }
