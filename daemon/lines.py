@@ -29,7 +29,7 @@ def leaves_many(fabric, count):
 
 def limits_have_lines():
     """A host may leave 1,100 groups at once. With smaller limits, each that refuses has one line at each port, with its option."""
-    for words, limit, count in (([], None, 1100), (["--scheduled", "256"], "--scheduled", 300), (["--groups", "200"], "--groups", 300)):
+    for words, limit, count in (([], None, 1100), (["--scheduled", "32"], "--scheduled", 300), (["--groups", "200"], "--groups", 300)):
         with Fabric(2, 1) as fabric:
             fabric.words = words
             querier, refused = leaves_many(fabric, count)
