@@ -149,7 +149,7 @@ mutants: needs-gate
 # A querier on Linux for an interface or for whole bridges, over the library, in C and outside of the proofs. `live-checked` is the
 # same with the compiler's checks of memory and of undefined behaviour, for tests.
 LIVE := $(wildcard daemon/*.c daemon/*.h) examples/frames.c examples/frames.h include/mquerier.h include/mquerier-link.h
-LIVE_FLAGS := -std=c99 -O2 -Wall -Wextra -Iinclude -Iexamples -DVERSION='"$(VERSION)"'
+LIVE_FLAGS := -std=c99 -O2 -Wall -Wextra -Iinclude -Iexamples -DMQUERIER_VERSION='"$(VERSION)"'
 # It reads frames of anybody with privileges, so it is built with the compiler's defences. The flags of the user come last.
 HARDENED := -U_FORTIFY_SOURCE -D_FORTIFY_SOURCE=2 -fstack-protector-strong -fstack-clash-protection -fPIE
 HARDENED_LINKS := -pie -Wl,-z,relro,-z,now,-z,noexecstack

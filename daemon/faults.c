@@ -9,8 +9,15 @@
 #include <sys/mman.h>
 #include <time.h>
 
-/* The most lines of a kind at once. Afterwards each second allows one more. An allocation of LARGE bytes is not from the heap. */
-enum { LINES_AT_ONCE = 4, LARGE = 1 << 20 };
+/* The most lines of a kind at once. Afterwards each second allows one more. */
+enum { LINES_AT_ONCE = 4 };
+
+/* An allocation of LARGE bytes is not from the heap, where AddressSanitizer would check it. */
+#ifdef __SANITIZE_ADDRESS__
+enum { LARGE = 1 << 20 };
+#else
+enum { LARGE = 1 << 17 };
+#endif
 
 const char *const fault_names[FAULT_KINDS] = {
     [FAULT_LOST] = "frames_lost",           [FAULT_LIMITS] = "records_refused",

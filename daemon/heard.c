@@ -32,7 +32,7 @@ static void tell_refused(const struct port *port, struct served *served, uint32_
 
 /* RFC 3376 section 7.1, RFC 3810 section 8.1. */
 unsigned heard_version(bool is_mld, const struct datagram *it) {
-    if (it->length < OLDER_IGMP || it->body[0] != (is_mld ? MLD_QUERY : IGMP_QUERY))
+    if (it->length < (is_mld ? OLDER_MLD : OLDER_IGMP) || it->body[0] != (is_mld ? MLD_QUERY : IGMP_QUERY))
         return 0;
     if (is_mld)
         return it->length == OLDER_MLD ? 1 : 2;

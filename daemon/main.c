@@ -23,10 +23,6 @@
 #include <sys/syscall.h>
 #include <unistd.h>
 
-#ifndef VERSION /* `make` sets it, with the date and hash of the commit */
-#define VERSION MQ_VERSION_TEXT
-#endif
-
 enum { NOBODY = 65534 };
 /* The bytes that standard output buffers. */
 enum { PRINTED = 1 << 16 };
@@ -158,8 +154,6 @@ static void run(int count, char **words) {
 }
 
 int main(int count, char **words) {
-    if (count > 1 && strcmp(words[1], "--version") == 0)
-        return puts("mquerier-live " VERSION) < 0;
     if (count > 1 && strcmp(words[1], "status") == 0)
         return status_print(count - 1, words + 1);
     run(count - 1, words + 1);

@@ -15,6 +15,10 @@
 #include <string.h>
 #include <unistd.h>
 
+#ifndef MQUERIER_VERSION /* `make` sets it, with the date and hash of the commit */
+#define MQUERIER_VERSION MQ_VERSION_TEXT
+#endif
+
 static const char HELP[] =
     "Usage: mquerier-live interface INTERFACE igmp|mld --own ADDR [OPTION]..\n"
     "       mquerier-live bridge BRIDGE.. [OPTION]..\n"
@@ -253,7 +257,7 @@ static const char *read_option(struct options *options, int found, int count, ch
     case REPORT: options->reports = true; break;
     case RUN: return read_run(options, optarg);
     case FILE_OF: options->file = optarg; break;
-    case VERSION: exit(puts("mquerier-live " MQ_VERSION_TEXT) < 0 || fflush(stdout) != 0 ? STATUS_FAILED : 0);
+    case VERSION: exit(puts("mquerier-live " MQUERIER_VERSION) < 0 || fflush(stdout) != 0 ? STATUS_FAILED : 0);
     default: fputs(HELP, stderr); exit(STATUS_USAGE);
     }
     return NULL;

@@ -1,4 +1,4 @@
-// The top of the page: the verdict, the first findings, and steps from finding to finding.
+// The verdict and the first findings at the top of the page, and steps from finding to finding at the picture.
 
 const FIRST = 5;
 
@@ -12,10 +12,6 @@ export class Findings {
     document.addEventListener("keydown", (event) => this.key(event));
   }
 
-  part(name) {
-    return this.section.querySelector(`#${name}`);
-  }
-
   clear() {
     this.section.hidden = true;
     this.marks = [];
@@ -26,10 +22,10 @@ export class Findings {
     Object.assign(this, { marks, times, current: null });
     this.section.hidden = false;
     this.section.dataset.kind = kind;
-    this.part("sentence").textContent = sentence;
+    document.getElementById("sentence").textContent = sentence;
     const first = [...marks.slice(0, FIRST)].map((mark) => this.entry(mark, lineOf(mark)));
-    this.part("first").replaceChildren(...first);
-    this.part("steps").hidden = marks.length === 0;
+    document.getElementById("first").replaceChildren(...first);
+    document.getElementById("steps").hidden = marks.length === 0;
     this.tellPlace();
   }
 
@@ -50,7 +46,7 @@ export class Findings {
   tellPlace() {
     const at = this.current === null ? -1 : this.marks.indexOf(this.current);
     const count = this.marks.length.toLocaleString("en");
-    this.part("place").textContent = at < 0 ? `${count} in all` : `${(at + 1).toLocaleString("en")} of ${count}`;
+    document.getElementById("place").textContent = at < 0 ? `${count} in all` : `${(at + 1).toLocaleString("en")} of ${count}`;
   }
 
   // The place of the finding before or after the chosen mark. From a mark that is none it goes by time, and from nothing to an end.

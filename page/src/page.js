@@ -262,7 +262,8 @@ function select(selection, from) {
 
 function showFinding(mark) {
   select({ mark }, "verdict");
-  $("timeline").scrollIntoView({ block: "nearest" });
+  const { top } = $("timeline").getBoundingClientRect();
+  if (top < 0 || top > innerHeight / 2) $("steps").scrollIntoView();
 }
 
 // A line that belongs to no mark and no bar was chosen.

@@ -70,7 +70,6 @@ def prints_the_version(top):
     want(re.fullmatch(r"3\.4\.5\+2\d{7}\.[0-9a-f]{8}\n", said), "the version of a commit", said)
     git(top, "tag", "v3.4.4")
     want(run(top, version) == (0, said), "the version with a tag of another one", said)
-    git(top, "tag", "--delete", "v3.4.4")
     git(top, "tag", "v3.4.5")
     want(run(top, version) == (0, "3.4.5\n"), "the version of a tag", run(top, version))
     for text, wanted in (("3.4.4+20261129.01234567", "3.4.4+20261129.g01234567"), ("3.4.4+20261129.0123456f", "3.4.4+20261129.0123456f")):

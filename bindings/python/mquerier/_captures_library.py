@@ -14,8 +14,8 @@ from ._types import FamilyName
 
 DONE, FULL, MEMORY = 0, 1, 2
 LEAST_TEXT, LEAST_WORK, MOST_WORK = 1 << 16, 1 << 27, 1 << 36
-# The text of a listing or a conversion has at most so many bytes for each byte of a capture. Few other texts have as many.
-TEXT_A_BYTE = 4
+# The most bytes of a text for each byte of a capture: of a listing and a conversion. Few replays and checks have as many.
+TEXT_A_BYTE = {"show": 4, "convert": 4, "replay": 64, "check": 64}
 LONGEST_SENTENCE, LONGEST_NAME = 256, 16
 NO_END = NO_VLAN = 2**64 - 1
 SETTINGS = (*VARIABLES, "source_specific", "changes", "within", "cite")
@@ -87,16 +87,26 @@ def library() -> Dict[str, Any]:
     return calls
 
 
+def reserved(room: int, work: int) -> Tuple[Memory, Memory]:
+    """Returns memory for a text and for the work, which includes room for the text. If the system has less, the text gets less."""
+    while True:
+        try:
+            return Memory(room), Memory(work + room + UNIT)
+        except OSError:
+            if room <= LEAST_TEXT:
+                raise
+            room = max(LEAST_TEXT, room // 4)
+
+
 def run(call: str, data: bytes, request: Optional[Union[Querier, Choice]] = None, before: int = 0) -> Outcome:
-    """Makes a call, and repeats it with more memory if that was too little. The work memory includes room for the text. `before` is added
-    to the number of a record that has a fault."""
+    """Makes a call, and repeats it with more memory if that was too little. `before` is added to the number of a record that has a fault."""
     function = library()[call + (request.suffix if request else "")]
     asked = request.arguments if request else ()
-    room, work = LEAST_TEXT + TEXT_A_BYTE * len(data), LEAST_WORK
+    room, work = LEAST_TEXT + TEXT_A_BYTE[call] * len(data), LEAST_WORK
     while True:
-        text, memory = Memory(room), Memory(work + room + UNIT)
-        raw = function(*asked, data, len(data), memory.units, text.at, room)
-        if raw.status == FULL:
+        text, memory = reserved(room, work)
+        raw = function(*asked, data, len(data), memory.units, text.at, text.size)
+        if raw.status == FULL and text.size == room:
             room *= 4
         elif raw.status == MEMORY and work < MOST_WORK:
             work *= 2

@@ -12,11 +12,12 @@ import pathlib
 import pickle
 import subprocess
 import sys
+import typing
 
 import mquerier
 import pytest
 from conftest import TOP, used
-from mquerier import CaptureFault, Fault, _captures_library, _records
+from mquerier import CaptureFault, Fault, _captures_library, _records, lines
 
 SAMPLE = f"{TOP}/samples/igmp.pcap"
 VARIABLES = {"response_interval": 2000, "last_member_interval": 500}
@@ -126,9 +127,9 @@ def test_a_router_with_two_links():
         assert (len(found), found.unjudged) == (0, None)
 
 
-def ipv4(source, destination, message):
+def ipv4(source, destination, message, ttl=1):
     """Returns a packet of IGMP with Router Alert."""
-    words = [0x46C0, 24 + len(message), 0, 0, 0x0102, 0]
+    words = [0x46C0, 24 + len(message), 0, 0, ttl * 256 + 2, 0]
     ends = [ipaddress.ip_address(it).packed for it in (source, destination)]
     return b"".join(it.to_bytes(2, "big") for it in words) + b"".join(ends) + b"\x94\x04\0\0" + message
 
@@ -141,11 +142,33 @@ def test_packets_of_a_link_type_that_is_not_read():
 def test_memory_grows_until_it_suffices(monkeypatch):
     wanted = mquerier.check(DATA, "10.9.0.1").text
     monkeypatch.setattr(_captures_library, "LEAST_WORK", 16)
-    monkeypatch.setattr(_captures_library, "LEAST_TEXT", 1 - 4 * len(DATA))
+    monkeypatch.setattr(_captures_library, "LEAST_TEXT", 1)
+    monkeypatch.setattr(_captures_library, "TEXT_A_BYTE", {"check": 0})
     assert mquerier.check(DATA, "10.9.0.1").text == wanted
     monkeypatch.setattr(_captures_library, "MOST_WORK", 16)
     with pytest.raises(CaptureFault, match="out of memory"):
         mquerier.check(DATA, "10.9.0.1")
+
+
+def test_less_memory_than_was_asked_for(monkeypatch):
+    wanted, memory = mquerier.replay(DATA, "10.9.0.1", changes=True).text, _captures_library.Memory
+
+    def limited(size):
+        if size > most:
+            raise OSError(12, "no memory")
+        return memory(size)
+
+    monkeypatch.setattr(_captures_library, "Memory", limited)
+    most = _captures_library.LEAST_WORK + 2 * _captures_library.LEAST_TEXT
+    assert mquerier.replay(DATA, "10.9.0.1", changes=True).text == wanted
+    monkeypatch.setattr(_captures_library, "LEAST_TEXT", 1000)
+    most = _captures_library.LEAST_WORK + 2000
+    with pytest.raises(CaptureFault, match="the text is longer than the memory for it") as fault:
+        mquerier.replay(DATA, "10.9.0.1", changes=True)
+    assert 0 < len(fault.value.lines.text) < len(wanted) and wanted.startswith(fault.value.lines.text)
+    most = 1000
+    with pytest.raises(OSError):
+        mquerier.replay(DATA, "10.9.0.1", changes=True)
 
 
 def test_calls_give_their_memory_back():
@@ -297,6 +320,23 @@ def test_events_add_up():
     change = next(it for it in events if isinstance(it, mquerier.Change) and it.filter == "include")
     assert f"{change.time} change {change.group} include {' '.join(map(str, change.sources))}\n" in events.text
     assert [it.time for it in events if isinstance(it, mquerier.End)] == [11983]
+
+
+def test_texts_of_fields_are_those_of_their_types():
+    words = {name: set(typing.get_args(getattr(lines, name))) for name in ("Why", "Filter", "Kind")}
+    words["FamilyName"] = set(typing.get_args(mquerier.FamilyName))
+    seen = {name: set() for name in words}
+    for file in CAPTURES[::2]:
+        data = mquerier.convert(file).data
+        for own in QUERIERS:
+            events = mquerier.replay(data, own, changes=True)
+            seen["Why"] |= {it.why for it in events if isinstance(it, mquerier.Skipped)}
+            seen["Filter"] |= {it.filter for it in events if isinstance(it, mquerier.Change)}
+            seen["Kind"] |= {it.kind for it in mquerier.check(data, own)}
+        seen["FamilyName"] |= {it.family for it in mquerier.packets(data)} - {None}
+    header = mquerier.convert(cooked([(0, 1, ipv4("10.0.0.9", "224.0.0.1", bytes.fromhex("1164ec1e00000000027d0000"), ttl=2))])).data
+    seen["Kind"] |= {it.kind for it in mquerier.check(header, "10.0.0.9")}
+    assert seen == words
 
 
 def basis_line(it):

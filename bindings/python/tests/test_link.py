@@ -61,7 +61,7 @@ def test_faults_have_a_base():
 
 
 def test_version():
-    assert mquerier.__version__ == re.search('MQ_VERSION_TEXT "(.*)"', HEADER)[1]
+    assert mquerier.__version__.split("+")[0] == re.search('MQ_VERSION_TEXT "(.*)"', HEADER)[1]
 
 
 def test_another_querier():
