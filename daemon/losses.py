@@ -1,5 +1,8 @@
 """Cases of `switches` that count datagrams while the querier starts, stops and waits. It never takes what a host wants."""
 
+import os
+import shutil
+import signal
 import socket
 import time
 
@@ -63,6 +66,25 @@ def started(fabric):
     querier.settled()
     time.sleep(2.5)
     return querier
+
+
+def a_slow_start():
+    """After a kill `nft` takes longer than the links need to know what hosts want. Entries stay until the late queries are answered."""
+    with Fabric(4, 1) as fabric:
+        snooping(fabric, 1)
+        wanted = members(fabric)
+        first = started(fabric)
+        fabric.gets("b0h4", wanted, 10)
+        name = f"{fabric.run}/path/nft"
+        os.mkdir(os.path.dirname(name))
+        with open(name, "w", encoding="ascii") as to:
+            to.write(f'#!/bin/sh\nsleep 2.4\nexec {shutil.which("nft")} "$@"\n')
+        os.chmod(name, 0o755)
+        stream = Stream(fabric, "b0h4", wanted)
+        first.end(signal.SIGKILL)
+        fabric.querier(env={"PATH": f"{os.path.dirname(name)}:{os.environ['PATH']}"}).settled()
+        time.sleep(1)
+        stream.end()
 
 
 def restarts_where_the_kernel_asks():
@@ -191,5 +213,5 @@ def the_tree_moves_elsewhere():
     the_tree_moves("br0")
 
 
-CASES = [restarts_where_the_kernel_asks, restarts_where_the_kernel_floods, the_tree_moves_here, the_tree_moves_elsewhere]
+CASES = [a_slow_start, restarts_where_the_kernel_asks, restarts_where_the_kernel_floods, the_tree_moves_here, the_tree_moves_elsewhere]
 CASES += [without_an_address_where_the_kernel_asks, without_an_address_where_the_kernel_floods, without_ipv6]

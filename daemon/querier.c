@@ -193,12 +193,22 @@ static void set_deadline(struct querier *querier, const struct port *port, bool 
     deadlines_set(&querier->deadlines, 2 * (size_t)(port - querier->ports) + is_mld, next);
 }
 
+/* Returns the milliseconds after which a link knows what hosts want. They have answered a startup query then, even if all but the
+   last were lost (RFC 3376 sections 8.6 and 8.7, RFC 3810 sections 9.6 and 9.7). */
+static uint64_t settling(const mq_config *it) {
+    uint64_t interval = SECOND * (uint64_t)it->query_interval / 4;
+    return (it->robustness - 1) * interval + it->response_interval + LATE;
+}
+
 /* Sends the queries that a call on a link wrote. */
 static void send_queries(struct querier *querier, struct port *port, bool is_mld, mq_answer answer, uint64_t now) {
-    const mq_link *link = &port->served[is_mld].link;
+    struct served *served = &port->served[is_mld];
     mq_query query;
-    for (size_t at = 0; mq_link_next_query(link, answer, &at, &query);)
+    for (size_t at = 0; mq_link_next_query(&served->link, answer, &at, &query);)
         send_query(querier, port, is_mld, &query, now);
+    if (answer.sent > 0 && served->is_first) /* much may have delayed the first query since the link began */
+        served->keeper.settles = now + settling(&querier->families[is_mld].configuration);
+    served->is_first &= answer.sent == 0;
 }
 
 /* Prints the filters that the last call on a link changed, and corrects their entries. */
@@ -219,13 +229,6 @@ static void follow(struct querier *querier, struct port *port, bool is_mld, uint
     set_deadline(querier, port, is_mld);
 }
 
-/* Returns the milliseconds after which a link knows what hosts want. They have answered a startup query then, even if all but the
-   last were lost (RFC 3376 sections 8.6 and 8.7, RFC 3810 sections 9.6 and 9.7). */
-static uint64_t settling(const mq_config *it) {
-    uint64_t interval = SECOND * (uint64_t)it->query_interval / 4;
-    return (it->robustness - 1) * interval + it->response_interval + LATE;
-}
-
 uint64_t querier_settling(const struct querier *querier) {
     uint64_t longest = 0;
     for (int at = 0; at < 2; at++)
@@ -244,7 +247,7 @@ void querier_begin(struct querier *querier, struct port *port, bool is_mld, uint
         route_inherit(querier, port, is_mld);
     memcpy(configuration.own, port->bridge->own[is_mld], sizeof configuration.own);
     uint32_t status = mq_link_init(configuration, now, served->memory, family->link_size, &family->workspace, &served->link);
-    served->is_on = status == MQ_DONE;
+    served->is_on = served->is_first = status == MQ_DONE;
     memcpy(served->own, port->bridge->own[is_mld], sizeof served->own);
     if (!served->is_on)
         fault(FAULT_MISSING, port->bridge->name, mq_status_text(status));

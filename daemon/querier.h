@@ -36,6 +36,7 @@ struct bridge {
 /* A link of a port. */
 struct served {
     bool is_on;                /* the link has begun */
+    bool is_first;             /* its first query was not sent yet */
     uint8_t told;              /* the limits that a line told of: a bit for each place in `refused_by` */
     uint8_t own[LONG_ADDRESS]; /* the own address that it began with */
     mq_link link;

@@ -9,7 +9,7 @@ struct table {
     uint8_t *rows;
     size_t size, width, room, count; /* the bytes of a row and of a key; the most rows, and the present ones */
     size_t begun;                    /* the places that were used before */
-    uint32_t *order; /* the places of all rows: first the present ones in order of their keys, then free places */
+    uint32_t *order;                 /* the places of all rows: first the present ones in order of their keys, then free places */
 };
 
 /* Allocates the memory of a table. */
