@@ -193,6 +193,12 @@ static void set_deadline(struct querier *querier, const struct port *port, bool 
     deadlines_set(&querier->deadlines, 2 * (size_t)(port - querier->ports) + is_mld, next);
 }
 
+/* Returns the configuration of a port's link: that of its interface, or that of all. */
+static const mq_config *configuration_of(const struct querier *querier, const struct port *port, bool is_mld) {
+    const struct bridge *bridge = port->bridge;
+    return bridge->is_configured[is_mld] ? &bridge->configuration[is_mld] : &querier->families[is_mld].configuration;
+}
+
 /* Returns the milliseconds after which a link knows what hosts want. They have answered a startup query then, even if all but the
    last were lost (RFC 3376 sections 8.6 and 8.7, RFC 3810 sections 9.6 and 9.7). */
 static uint64_t settling(const mq_config *it) {
@@ -207,7 +213,7 @@ static void send_queries(struct querier *querier, struct port *port, bool is_mld
     for (size_t at = 0; mq_link_next_query(&served->link, answer, &at, &query);)
         send_query(querier, port, is_mld, &query, now);
     if (answer.sent > 0 && served->is_first) /* much may have delayed the first query since the link began */
-        served->keeper.settles = now + settling(&querier->families[is_mld].configuration);
+        served->keeper.settles = now + settling(configuration_of(querier, port, is_mld));
     served->is_first &= answer.sent == 0;
 }
 
@@ -240,8 +246,7 @@ uint64_t querier_settling(const struct querier *querier) {
 void querier_begin(struct querier *querier, struct port *port, bool is_mld, uint64_t now) {
     struct served *served = &port->served[is_mld];
     struct family *family = &querier->families[is_mld];
-    const struct bridge *bridge = port->bridge;
-    mq_config configuration = bridge->is_configured[is_mld] ? bridge->configuration[is_mld] : family->configuration;
+    mq_config configuration = *configuration_of(querier, port, is_mld);
     print_ends(querier, port, served, now);
     if (querier->route != NULL && served->is_on)
         route_inherit(querier, port, is_mld);
