@@ -198,6 +198,7 @@ conform-test: needs-conform live bin/mquerier
 	@conform/test agree
 	@conform/test lines
 	@conform/test faults
+	@conform/test orders
 	@conform/test peers
 
 # The page: static files in page/dist, with the proved code as WebAssembly inside (docs/PAGE.md).

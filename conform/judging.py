@@ -88,6 +88,11 @@ def is_link_local(address):
     return address[0] == 0xFE and address[1] >> 6 == 2
 
 
+def content(frame):
+    """The last octets of a frame, which tell a datagram of a forwarding case from all others."""
+    return frame[-len(MAGIC) - 4 :]
+
+
 def destination(frame, packet):
     return packet.to or frame[30:34]
 
@@ -194,9 +199,9 @@ class Judge:
         """Returns whether the case judges a finding."""
         if it.kind == "general":
             return "general" in cast.case.judged
-        wants_general = any(not any(group) for _, group, _, _ in cast.wanted())
+        kinds = {not any(group) for _, group, _, _ in cast.wanted()} or {False}
         at = it.at - cast.shift(it.group)
-        return it.kind in cast.case.judged and it.is_general == wants_general and cast.begin - self.options.within <= at < cast.until
+        return it.kind in cast.case.judged and it.is_general in kinds and cast.begin - self.options.within <= at < cast.until
 
     def compare(self, cast, frames, found, began):
         """Keeps the findings about fields that the case does not judge, and the compared queries."""
@@ -213,19 +218,21 @@ class Judge:
 
     def forwarded(self, cast, frames, began, sent, seen):
         """Returns the datagrams whose forwarding contradicts the filter of a replay at their time, and a tolerance before and after
-        it."""
+        it. It also returns the capture with the forwarded datagrams."""
         history, wrong, within = self.history(cast, frames, began), {}, self.options.within
+        frames = sorted([*frames, *seen.values()], key=lambda it: it.stamp)
+        numbers = {content(it.frame): at for at, it in enumerate(frames, 1)}
         for payload, (stamp, group, source) in sorted(sent.items(), key=lambda it: it[1][0]):
             at = (stamp - began) / 10**6
             wanted = {passes(it, source) for it in filters_of(history.get(group, []), at - within, at + within)}
             if at < cast.until and len(wanted) == 1 and wanted != {payload in seen}:
-                wrong.setdefault((group, source, payload in seen), []).append(round(at))
+                wrong.setdefault((group, source, payload in seen), []).append((round(at), numbers.get(payload, 0)))
         found = []
-        for (group, source, was), moments in wrong.items():
-            more = f", and {len(moments) - 1} datagrams after it" if moments[1:] else ""
-            text = f"{'forwarded' if was else 'not forwarded'} at {moments[0]} {text_of(group)} {text_of(source)}{more}"
-            found.append(Finding(moments[0], "forwarding", text))
-        return found if sent else [Finding(0, "forwarding", "no datagram was sent")]
+        for (group, source, was), ones in wrong.items():
+            (at, number), more = ones[0], f", and {len(ones) - 1} datagrams after it" if ones[1:] else ""
+            text = f"{'forwarded' if was else 'not forwarded'} at {at} {text_of(group)} {text_of(source)}{more}"
+            found.append(Finding(at, "forwarding", text, packet=number))
+        return (found if sent else [Finding(0, "forwarding", "no datagram was sent")]), frames
 
     def history(self, cast, frames, began):
         """The filters of each group in a replay of a case's capture, with their moments."""
@@ -316,6 +323,12 @@ class Judge:
         hops = it.packet.hops if self.family is not IGMP else it.frame[22]
         return "" if hops == 1 else f"{'TTL' if self.family is IGMP else 'hop limit'} {hops}, wanted 1"
 
+    def mac(self, it):
+        to = destination(it.frame, it.packet)
+        wanted = wire.in_ethernet(b"", to)[:6]
+        is_multicast = to[0] >> 4 == 14 if self.family is IGMP else to[0] == 0xFF
+        return "" if it.frame[:6] == wanted or not is_multicast else f"to {it.frame[:6].hex(':')}, wanted {wanted.hex(':')} for {text_of(to)}"
+
     def alert(self, it):
         if self.family is not IGMP:
             return "" if it.packet.alert else "no Router Alert"
@@ -346,4 +359,4 @@ class Judge:
         return f"reserved bits 0x{reserved:02x}" if reserved else ""
 
 
-HEADERS = {name: getattr(Judge, name) for name in ("ttl", "alert", "service", "source", "checksum", "octets")}
+HEADERS = {name: getattr(Judge, name) for name in ("mac", "ttl", "alert", "service", "source", "checksum", "octets")}

@@ -15,9 +15,11 @@ LIVE = f"{TOP}/bin/mquerier-live"
 UNPACKED = f"{TOP}/bin/peers"
 LIMITS = "--groups 4096 --sources 65535 --group-sources 1024 --scheduled 4096".split()
 FRR = {
-    "igmp": "ip pim rp 10.9.9.254\ninterface q0\n ip igmp\n ip pim\ninterface u0\n ip pim\n",
-    "mld": "interface q0\n ipv6 mld\ninterface u0\n ipv6 pim\n",
+    "igmp": "ip pim rp 10.9.9.254\ninterface q0\n ip igmp\n{} ip pim\ninterface u0\n ip pim\n",
+    "mld": "interface q0\n ipv6 mld\n{}interface u0\n ipv6 pim\n",
 }
+# FRR's names of variables, whose spans are seconds and tenths of one.
+FRR_NAMES = {"--qi": ("query-interval", 1), "--qri": ("query-max-response-time", 100)}
 # The packages of Debian 13 that pim6d needs in addition.
 FRR_13 = "frr libcares2 libjson-c5 liblua5.3-0 libpcre2-8-0 libprotobuf-c1 libreadline8t64 libunwind8 libxxhash0 libyang3"
 # One at a time installs.
@@ -75,19 +77,25 @@ def put(lab, name, text):
     return place
 
 
-# Each answers the options of conform besides the family and the router, and says its version.
+# Each answers the options of conform besides the family, the router and its variables.
 
 
-def live(lab, family, variables=("--lmqi", "1000")):
-    """bin/mquerier-live with a Last Member Query Interval. It keeps the source-specific range and can be restarted."""
+def live(lab, family, variables=()):
+    """bin/mquerier-live. It keeps the source-specific range and can be restarted."""
     if not os.access(LIVE, os.X_OK):
         raise Failed("bin/mquerier-live is not there: `make live` builds it")
     lab.both()
-    words = [LIVE, "interface", "q0", family, "--own", OWN[family], *variables[:2], *LIMITS, "--ssm"]
+    words = [LIVE, "interface", "q0", family, "--own", OWN[family], *without_within(variables), *LIMITS, "--ssm"]
     place = put(lab, "restart", f"#!/bin/sh\nkill $(cat /tmp/{lab.space}.pid)\nsleep 0.3\nexec /bin/sh /tmp/{lab.space}.start\n")
     put(lab, "start", f"chrt -r 1 {' '.join(words)} < /dev/null > /tmp/{lab.space}.live 2>&1 &\necho $! > /tmp/{lab.space}.pid\n")
     run(*lab.words("sh", f"/tmp/{lab.space}.start"))
     return ["--ssm", "--restart", f"sh {place}"]
+
+
+def without_within(variables):
+    """The variables that a router has: all but the tolerance."""
+    pairs = zip(variables[::2], variables[1::2])
+    return [word for pair in pairs for word in pair if pair[0] != "--within"]
 
 
 def bridge(lab, family):
@@ -125,7 +133,7 @@ def live_switch(lab, family):
     own = "--own6" if family == "mld" else "--own"
     place = f"/tmp/{lab.space}.run"
     lab.start(LIVE, "bridge", "br0", "--setup", "--family", family, own, OWN[family], *LIMITS, "--ports", "2", "--run", place)
-    wait_for(f"{place}/br0/status")
+    wait_for(f"{place}/br0/status-*")
     return ["--upstream", "v0"]
 
 
@@ -156,7 +164,7 @@ def debian_13():
     return place
 
 
-def frr(lab, family):
+def frr(lab, family, variables=()):
     """FRR: its pimd of Debian 12, its pim6d of Debian 13."""
     daemon = f"/usr/lib/frr/{'pimd' if family == 'igmp' else 'pim6d'}"
     root = "" if family == "igmp" else debian_13()
@@ -165,7 +173,10 @@ def frr(lab, family):
     lab.both()
     place = f"/tmp/{lab.space}.frr"
     os.makedirs(f"{root}{place}", exist_ok=True)
-    for name, text in (("zebra", ""), ("pim", FRR[family])):
+    said = [(FRR_NAMES[name], int(value)) for name, value in zip(variables[::2], variables[1::2])]
+    prefix = {"igmp": "ip igmp", "mld": "ipv6 mld"}[family]
+    lines = [f" {prefix} {name} {value // unit}\n" for (name, unit), value in said]
+    for name, text in (("zebra", ""), ("pim", FRR[family].format("".join(lines)))):
         with open(f"{root}{place}/{name}.conf", "w", encoding="utf-8") as it:
             it.write(text)
     if not root:
@@ -199,6 +210,7 @@ def igmpproxy(lab, family):
 
 
 def wait_for(place, seconds=10):
+    """Waits until there is a file with a name, or of a pattern."""
     limit = time.monotonic() + seconds
     while not glob.glob(f"{place}*"):
         if time.monotonic() > limit:

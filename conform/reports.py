@@ -9,6 +9,7 @@ import subprocess
 from xml.etree import ElementTree
 
 import link
+from hints import hint
 from table import TOP, text_of
 
 STYLE = """
@@ -59,11 +60,14 @@ def end(run, seconds, say):
                 to.write(link.written([(one.stamp, one.frame) for one in it.frames]))
     number = {what: sum(it.what == what for it in verdicts) for what in ORDER}
     late = f"{number['late']} not judged, " if number["late"] else ""
+    common = hint(run)
     total = f"{number['pass']} passed, {number['FAIL']} failed, {number['not applicable']} not applicable, {late}{span_of(seconds)}"
     with open(os.path.join(out, "report.xml"), "wb") as to:
         to.write(junit(run, seconds))
     with open(os.path.join(out, "report.html"), "w", encoding="utf-8") as to:
-        to.write(page(run, total))
+        to.write(page(run, f"{total}. {common}" if common else total))
+    if common:
+        say.note(common)
     say.line(f"{total}; report in {out}/")
     if number["FAIL"]:
         return 3

@@ -2,14 +2,16 @@
 
 import dataclasses
 import os
+import random
 import struct
 import subprocess
 import threading
 import time
 
 import link
-from judging import MAGIC, Judge, heard
-from table import ALONE, BURST, IGMP, QUICK, Cast, Site, Variables, Wrong, cases_of, text_of, wire
+from judging import MAGIC, Judge, content, heard
+from presence import ONLY_ONE, Presence
+from table import BURST, QUICK, Cast, Site, Variables, Wrong, cases_of, text_of, wire
 
 # Milliseconds between the beginnings of two cases that run side by side, before a stage begins, and after a case ends.
 GAP, BEFORE, BEHIND = 30, 300, 100
@@ -41,17 +43,20 @@ class Run:
         variables = Variables(options.rv, options.qi, options.qri, options.lmqi)
         self.site = Site(self.family, *addresses(options), link.mac_of(options.interface), variables)
         self.judge = Judge(options.program, self.site, options)
+        self.presence = Presence(options, self.site, self.judge)
         self.number, self.verdicts, self.queries = 0, [], []
-        self.left, self.fault = 0, None
+        self.left, self.fault, self.unasked = 0, None, set()
+        # The stamp of the run's begin.
+        self.began = time.time_ns()
+        # The moment from which on no query for a group is pending; whether another router may have the role; whether it kept that.
+        self.calm, self.is_unsure, self.is_gone = 0, False, False
 
     # Which cases are played.
 
     def why_not(self, case):
-        """Why a case isn't played, if it isn't."""
+        """Why a case can't be played, if it can't."""
         if case.needs and not getattr(self.options, case.needs):
             return f"without --{case.needs}"
-        if self.options.words and not any(word in case.name for word in self.options.words):
-            return "not asked for"
         if any(word in case.name for word in self.options.without):
             return "left out"
         cast = Cast(case, 0, self.site)
@@ -69,72 +74,23 @@ class Run:
     def all(self):
         """Plays all that applies."""
         cases = cases_of(self.options.family)
-        played = [it for it in cases if not self.why_not(it)]
-        for case in cases:
-            if why := self.why_not(case):
-                if why != "not asked for":
-                    self.verdicts.append(Verdict(case, "not applicable", why=why))
+        asked = [it for it in cases if is_asked(it, self.options.words)]
+        able = [it for it in cases if not self.why_not(it)]
+        self.verdicts += [Verdict(it, "not applicable", why=self.why_not(it)) for it in asked if it not in able]
         os.makedirs(f"{self.options.out}/captures", exist_ok=True)
-        self.find_router()
-        self.left = sum(not it.of for it in played)
-        stages = [[it for it in played if it.stage == stage and not it.of] for stage in ["", *ALONE]]
-        for cases in filter(None, stages):
-            self.stage(cases)
-        for case in played:
-            if case.of:
-                self.over_all(case)
+        self.presence.find()
+        self.be_calm(time.monotonic())
+        fields = [it for it in asked if it.of and it in able]
+        played = [it for it in able if not it.of and (fields or it in asked)]
+        self.unasked = {it.name for it in played if it not in asked}
+        if self.unasked:
+            self.say.note(f"{fields[0].name} is judged over the queries of all cases, so all are played")
+        self.left = len(played)
+        for stage in stages(played, self.options.order):
+            self.stage(stage)
+        for case in fields:
+            self.over_all(case)
         return self.verdicts
-
-    # The router.
-
-    def find_router(self):
-        """Reports if the querier isn't the router, or isn't alone."""
-        recording, sender = link.Recording(self.options.interface), link.Sender(self.options.interface)
-        cast = Cast(Probe, 0, self.site)
-        began = time.monotonic_ns() + 10**8
-        wanted = [(0, self.who_has())] + [(10**6 * step.at, step.frame) for step in cast.steps]
-        sender.play(wanted, began)
-        limit = time.monotonic() + self.site.variables.lmqi / 1000 + 3
-        while time.monotonic() < limit and not self.askers(recording, cast):
-            time.sleep(0.05)
-        time.sleep(0.2)
-        recording.end()
-        self.judge.mac = self.answered(recording)
-        askers = self.askers(recording, cast)
-        name, router = self.options.interface, text_of(self.site.router)
-        own = {it for it in askers if self.judge.is_router(*it)}
-        if not askers:
-            raise Wrong(f"{router} asks nothing on {name}: no query came in {self.site.variables.lmqi / 1000 + 3:.0f} s after groups were left")
-        if not own:
-            raise Wrong(f"the querier on {name} is {', '.join(sorted(text_of(it) for it, _ in askers))}, and not {router}")
-        if askers - own:
-            raise Wrong(f"{', '.join(sorted(text_of(it) for it, _ in askers - own))} asks on {name} too: the router has to be the only querier there")
-        self.judge.mac = next(iter(own))[1]
-
-    def askers(self, recording, cast):
-        """Returns the senders of queries for the groups of a case: addresses, and those of their interfaces."""
-        found = [heard(self.family, it) for it in list(recording.found) if not it[2]]
-        return {(it.packet.source, it.frame[6:12]) for it in found if it.is_query() and any(map(cast.is_own, it.groups()))}
-
-    def who_has(self):
-        """A request of ARP, or a Neighbor Solicitation, for the router's address."""
-        router, host, mac = self.site.router, self.site.host, self.site.mac
-        if self.family is IGMP:
-            return b"\xff" * 6 + mac + bytes.fromhex("0806 0001 0800 0604 0001") + mac + host + bytes(6) + router
-        to = bytes.fromhex("ff0200000000000000000001ff") + router[13:]
-        body = bytes.fromhex("87000000 00000000") + router + b"\1\1" + mac
-        body = wire.with_checksum(self.family, body, host, to)
-        frame = wire.in_ethernet(wire.in_ipv6(body, host, to, options=None, hops=255), to)
-        return frame[:6] + mac + frame[12:]
-
-    def answered(self, recording):
-        """The interface's address that the router answered with, if it did."""
-        for _, frame, is_sent in recording.found:
-            if self.family is IGMP and not is_sent and frame[12:14] == b"\x08\x06" and frame[20:22] == b"\0\2" and frame[28:32] == self.site.router:
-                return frame[22:28]
-            if self.family is not IGMP and not is_sent and frame[12:14] == b"\x86\xdd" and frame[54:55] == b"\x88" and frame[62:78] == self.site.router:
-                return frame[6:12]
-        return None
 
     # A stage.
 
@@ -144,15 +100,14 @@ class Run:
         while cases and tries < TRIES:
             tries += 1
             casts = [self.cast(it) for it in cases]
+            self.be_ready(casts)
             verdicts = self.play(casts, tries)
             again = [it for it in verdicts if it.what == "late"] if tries < TRIES else []
-            if again and cases[0].stage:
-                again = verdicts
             cases = [it.case for it in again]
-            done = [it for it in verdicts if it not in again]
-            self.verdicts += done
+            self.verdicts += [it for it in verdicts if it not in again and it.case.name not in self.unasked]
             for it in again:
-                self.say.again(it)
+                if it.case.name not in self.unasked:
+                    self.say.again(it)
 
     def play(self, casts, tries):
         """Plays cases once, and judges each when it is over."""
@@ -163,38 +118,40 @@ class Run:
         stamp = time.time_ns() + BEFORE * 10**6
         begins = [0 if is_alone else at * GAP * 10**6 for at in range(len(casts))]
         wanted = [(begin + step.at * 10**6, self.action(cast, step, recording, sender)) for cast, begin in zip(casts, begins) for step in cast.steps]
+        wanted = sorted(dict.fromkeys(wanted), key=lambda it: it[0])
         probes = Probes(self.options, self.site, zip(casts, begins)) if any(it.case.probes for it in casts) else None
         self.shortfall = {}
-        threads = [self.sending(sender, sorted(wanted, key=lambda it: it[0]), began)]
+        threads = [self.sending(sender, wanted, began)]
         threads += [self.sending(probes.sender, probes.wanted, began)] if probes else []
         records, verdicts = Records(self.family, recording), []
         behind = (2 * self.options.within + BEHIND) * 10**6
         for cast, begin in sorted(zip(casts, begins), key=lambda it: it[0].end * 10**6 + it[1]):
-            end = began + begin + cast.end * 10**6 + behind
-            self.wait(end)
-            verdict = self.verdict(cast, casts if is_alone else [cast], records, stamp + begin, tries, pauses, probes)
-            verdicts.append(verdict)
-            if verdict.what != "late" or tries == TRIES:
-                self.left -= 1
-                self.say.case(verdict)
+            self.wait(began + begin + cast.end * 10**6 + behind)
+            verdicts.append(self.verdict(cast, casts if is_alone else [cast], records, stamp + begin, tries, pauses, probes))
+            self.tell(verdicts[-1])
         for thread in threads:
             thread.join()
         if probes:
             probes.recording.end()
         pauses.is_over = True
-        lost = recording.end()
-        self.queries += [it for it in records.read() if it.is_query() and self.judge.is_from_router(it)]
-        self.others(records.read())
-        if lost:
+        if lost := recording.end():
             self.say.note(f"{lost} frames were lost by this machine")
+        self.look_back(casts, records.read(), (began + (wanted[-1][0] if wanted else 0)) / 10**9)
         return verdicts
+
+    def tell(self, verdict):
+        """Has a verdict's line printed, if it is the last one of its case."""
+        if verdict.what != "late" or verdict.tries == TRIES:
+            self.left -= 1
+            if verdict.case.name not in self.unasked:
+                self.say.case(verdict)
 
     def action(self, cast, step, recording, sender):
         if step.what == "restart":
             return lambda: subprocess.run(self.options.restart, shell=True, check=False)
         if step.what == "burst":
             return lambda: self.burst(cast, recording, sender)
-        return (lambda: None) if step.what else step.frame
+        return None if step.what else step.frame
 
     def burst(self, cast, recording, sender):
         recording.ignore_outgoing(True)
@@ -228,7 +185,7 @@ class Run:
         known = records.read()
         findings, frames = self.judge.judged(cast, stage, known, began)
         if cast.case.probes:
-            findings = self.judge.forwarded(cast, frames, began, probes.sent(cast), probes.seen(cast, known))
+            findings, frames = self.judge.forwarded(cast, frames, began, probes.sent(cast), probes.seen(cast, known))
         it = Verdict(cast.case, "FAIL" if findings else "pass", findings, frames, began, tries, cast=cast)
         if why := self.was_late(cast, known, began, pauses):
             it.what, it.why = "late", why
@@ -236,7 +193,8 @@ class Run:
 
     def was_late(self, cast, known, began, pauses):
         """Returns whether this machine was late during a case: by timestamps of packets, by pauses, or by a short burst."""
-        most, latest = self.options.late, 0
+        # The interval of general queries has a greater tolerance.
+        most, latest = max(self.options.late, cast.names["QI"] // 100 if cast.case.own == "general" else 0), 0
         stamps = {}
         for it in known:
             if it.is_sent and it.stamp >= began - 10**9:
@@ -260,11 +218,45 @@ class Run:
         moments = [step.at for step in cast.steps] + ([] if cast.case.own else [it[0] for it in cast.wanted()])
         return [(at - within, at + span + within) for at in moments if at < cast.end] or [(0, cast.end)]
 
-    def others(self, known):
-        """Reports another querier that was heard."""
-        found = {it.packet.source for it in known if not it.is_sent and it.is_query() and not self.judge.is_from_router(it)}
-        if found:
-            raise Wrong(f"{', '.join(sorted(map(text_of, found)))} asks on {self.options.interface} too: the router has to be the only querier there")
+    # Between two stages.
+
+    def look_back(self, casts, known, last):
+        """Keeps from a stage's frames what later cases need. The last frame was sent at a moment."""
+        queries = [it for it in known if it.is_query() and not it.is_sent]
+        self.queries += [it for it in queries if self.judge.is_from_router(it)]
+        others = {text_of(it.packet.source) for it in queries if not self.judge.is_from_router(it)}
+        if others:
+            raise Wrong(f"{', '.join(sorted(others))} asks on {self.options.interface} too: {ONLY_ONE}")
+        self.be_calm(last)
+        wide = {step.frame for cast in casts for step in cast.wide() if step.frame}
+        stamps = [it.stamp + self.options.within * 10**6 for it in known if it.is_sent and it.frame in wide] or [0]
+        does_ask = any(it.stamp > min(stamps) for it in self.queries)
+        self.is_unsure, self.is_gone = bool(wide) and not does_ask, self.is_gone and not does_ask
+        self.presence.see(it for it in queries if it.stamp > max(stamps))
+
+    def be_calm(self, last):
+        """Notes from when on no query is pending, if a group may have been left at a moment."""
+        its = self.site.variables
+        self.calm = last + its.rv * its.lmqi / 1000
+
+    def be_ready(self, casts):
+        """Waits until the router asks, with its own variables. Before queries of other routers waits until none of the router's is
+        pending, since some routers don't hear them otherwise."""
+        if not self.is_gone and not any(step.what == "restart" for it in casts for step in it.steps):
+            if self.is_unsure:
+                self.is_gone = not self.presence.asks_again(self.say.note)
+                self.be_calm(time.monotonic())
+            if not self.is_gone and self.presence.has_changed():
+                self.wait_for_calm()
+                self.presence.bring_back(self.say.note)
+                self.be_calm(time.monotonic())
+        firsts = [step.at / 1000 for it in casts for step in it.wide()]
+        if firsts:
+            self.wait_for_calm(min(firsts))
+
+    def wait_for_calm(self, earlier=0):
+        """Waits until so many seconds before no query is pending."""
+        time.sleep(max(0, self.calm - earlier - time.monotonic()))
 
     def over_all(self, case):
         found = self.judge.over_all(case, self.queries)
@@ -298,15 +290,15 @@ class Probes:
         """Returns the sent datagrams of a case by their contents: the timestamp, the group and the source of each."""
         found = {}
         for stamp, frame, is_sent in self.recording.found:
-            of = self.whose.get(frame[-len(MAGIC) - 4 :]) if is_sent else None
+            of = self.whose.get(content(frame)) if is_sent else None
             if of and of[0] == cast.number:
-                found[frame[-len(MAGIC) - 4 :]] = stamp, of[1], of[2]
+                found[content(frame)] = stamp, of[1], of[2]
         return found
 
     def seen(self, cast, known):
-        """The contents of the datagrams that were forwarded to the link."""
-        ends = (it.frame[-len(MAGIC) - 4 :] for it in known if not it.is_sent and it.packet is None)
-        return {it for it in ends if self.whose.get(it, (None,))[0] == cast.number}
+        """Returns the datagrams that were forwarded to the link, by their contents."""
+        found = [it for it in known if not it.is_sent and it.packet is None]
+        return {payload: it for it in found if self.whose.get(payload := content(it.frame), (None,))[0] == cast.number}
 
 
 def datagram(mac, source, group, payload):
@@ -337,17 +329,24 @@ class Records:
         return self.found
 
 
-class Probe:
-    """Packets after which any querier sends a query: groups are left, in each way."""
+def is_asked(case, words):
+    """Returns whether words ask for a case: a word is a part of its name, or `=` and its name."""
+    return not words or any(word == f"={case.name}" or word in case.name for word in words)
 
-    name, title, stage, own = "probe", "", "", ""
-    begin, until, sees, probes = "0", "1000", [], []
-    steps = [
-        ("0", "TO_EX G + ALLOW H a".split()),
-        ("0", "older I".split()),
-        ("500", "TO_IN G + BLOCK H a".split()),
-        ("510", "leave I".split()),
-    ]
+
+def stages(cases, order):
+    """The cases of each stage, in the order of the table, in the reversed order, or in an order drawn by a number."""
+    found = {}
+    for case in cases:
+        found.setdefault(case.stage, []).append(case)
+    found = list(found.values())
+    if order == "reversed":
+        return [its[::-1] for its in reversed(found)]
+    if order != "table":
+        draw = random.Random(int(order))
+        for its in (*found, found):
+            draw.shuffle(its)
+    return found
 
 
 def addresses(options):

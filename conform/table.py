@@ -14,14 +14,15 @@ import wire
 from wire import IGMP, KINDS, text_of
 
 KIND_OF = {name: kind for kind, name in KINDS.items()}
-ALONE = ["bad-queries", "higher", "burst", "thousand", "lower", "startup"]
 ALL_REPORTS = {"igmp": "224.0.0.22", "mld": "ff02::16"}
 ALL_ROUTERS = {"igmp": "224.0.0.2", "mld": "ff02::2"}
 # As many sources as take several queries.
 MANY = {"igmp": 400, "mld": 120}
 BURST = {"rate": 10000, "seconds": 5}
-# Where the groups of G~N begin, and how many milliseconds apart they come: twelve of them within a second, since some routers
-# look at their timers once a second.
+# Octets behind the fields of a message.
+ADDITIONAL = b"\5\6\7\10"
+# Where the groups of G~N begin, and how many milliseconds apart they come by default: twelve within a second, since some routers look
+# at their timers once a second. In cases of minutes they are further apart, since some routers count general queries.
 EACH, SPREAD = 64, 83
 # How long a case may be that a quick run plays, in milliseconds.
 QUICK = 20000
@@ -78,6 +79,7 @@ class Case:
     needs: str = ""
     of: tuple = ()
     finds: tuple = ()
+    spread: int = SPREAD
 
     def cite(self):
         """The section and its level, as a report has them."""
@@ -96,6 +98,7 @@ WORDS = {
     "needs": lambda case, rest: setattr(case, "needs", rest),
     "of": lambda case, rest: setattr(case, "of", tuple(rest.split())),
     "finds": lambda case, rest: setattr(case, "finds", tuple(rest.split())),
+    "spread": lambda case, rest: setattr(case, "spread", int(rest)),
     "see": lambda case, rest: case.sees.append(rest.split()),
     "probe": lambda case, rest: case.probes.append(rest.split()),
 }
@@ -178,11 +181,11 @@ class Cast:
 
     def __init__(self, case, number, site):
         self.case, self.number, self.site, self.names = case, number, site, site.names()
-        self.family, self.name = site.family, case.name
+        self.family, self.name, self.spread = site.family, case.name, case.spread
         self.begin, self.until = self.at(case.begin), self.at(case.until) if case.until else 0
         self.number_each = max((int(word.split("~")[1]) for _, words in case.steps for word in words if "~" in word), default=0)
         # The moment up to which the last of the groups is judged.
-        self.end = self.until + SPREAD * max(0, self.number_each - 1)
+        self.end = self.until + self.spread * max(0, self.number_each - 1)
         self.steps = [step for moment, words in case.steps for step in self.said(self.at(moment), words)]
 
     def at(self, text):
@@ -208,7 +211,7 @@ class Cast:
     def shift(self, group):
         """The milliseconds between the first group of G~N and this group."""
         at = int.from_bytes(group, "big") - int.from_bytes(self.group_at(EACH), "big")
-        return SPREAD * at if 0 <= at < self.number_each else 0
+        return self.spread * at if 0 <= at < self.number_each else 0
 
     def groups(self, word):
         """The groups of a word: a letter, G*N, or each Kth of them, G*N/K."""
@@ -243,7 +246,7 @@ class Cast:
 
     def each(self, words):
         """For words of G~N, those of each of N groups, and how much later than the first one it comes."""
-        return [(SPREAD * at, [f"G@{at}" if word.startswith("G~") else word for word in words]) for at in range(self.number_each)]
+        return [(self.spread * at, [f"G@{at}" if word.startswith("G~") else word for word in words]) for at in range(self.number_each)]
 
     # Packets.
 
@@ -259,7 +262,7 @@ class Cast:
         if what == "burst":
             return [Step(at, b"", f"{BURST['rate']} Reports a second for {BURST['seconds']} s", False, what)]
         if what in ("lower", "higher"):
-            return [self.asks(at, getattr(self.site, what), words[2:], what)]
+            return [self.asks(at, getattr(self.site, what), words[1:], what)]
         if what == "bad":
             return self.bad(at, words[1], words[2:])
         if what in ("older", "v1", "leave"):
@@ -283,7 +286,10 @@ class Cast:
         return [self.report(at, it, told, source, additional) for it in [*found, taken]]
 
     def report(self, at, records, told, source=None, additional=False):
-        body = wire.report(self.family, records, b"\1\2\3\4" if additional else b"") + (b"\5\6" if additional else b"")
+        body = wire.report(self.family, records)
+        if additional:
+            one = wire.report(self.family, records[:1], b"\1\2\3\4")
+            body = body[:8] + one[8:] + wire.report(self.family, records[1:])[8:] + ADDITIONAL
         return Step(at, self.frame(body, ALL_REPORTS[self.family.name], source), told)
 
     def older(self, at, what, word):
@@ -293,9 +299,10 @@ class Cast:
         return Step(at, self.frame(wire.older(self.family, kinds[what], group), to), f"{what} {word}")
 
     def asks(self, at, source, words, who):
-        """A query of another router: `QRV n`, `QQIC n`, `S`, and then a group and its sources."""
-        words, fields = list(words), {"QRV": self.site.variables.rv, "QQIC": self.site.variables.qi}
-        is_set = False
+        """A query of another router: `additional`, `asks`, then `QRV n`, `QQIC n`, `S`, and then a group and its sources."""
+        told, fields = f"{who} {' '.join(words)}", {"QRV": self.site.variables.rv, "QQIC": self.site.variables.qi}
+        behind = ADDITIONAL if words[0] == "additional" else b""
+        words, is_set = words[words.index("asks") + 1 :], False
         while words and words[0] in ("QRV", "QQIC", "S"):
             name = words.pop(0)
             if name == "S":
@@ -303,9 +310,9 @@ class Cast:
             else:
                 fields[name] = self.at(words.pop(0))
         group = self.group(words[0]) if words else self.family.zero()
-        body = self.query(group, self.sources(words[1:]), is_set, fields["QRV"], fields["QQIC"])
+        body = self.query(group, self.sources(words[1:]), is_set, fields["QRV"], fields["QQIC"]) + behind
         to = text_of(group) if words else text_of(self.family.everyone)
-        return Step(at, self.frame(body, to, source), f"{who} asks {' '.join([*words])}", True)
+        return Step(at, self.frame(body, to, source), told, True)
 
     def query(self, group, sources, is_set, qrv, qqic):
         it, is_igmp = self.site.variables, self.family is IGMP
@@ -392,7 +399,7 @@ class Cast:
         words = [word.split("*")[0] for _, its in self.case.steps for word in its]
         groups = [f"{it} is {text_of(self.group(it))}" for it in "GHIR" if it in words]
         if self.number_each:
-            groups.append(f"G~{self.number_each} are {self.number_each} groups from {text_of(self.group('G@0'))} on, {SPREAD} ms apart")
+            groups.append(f"G~{self.number_each} are {self.number_each} groups from {text_of(self.group('G@0'))} on, {self.spread} ms apart")
         return [*groups, *(f"{it} is {text_of(self.sources([it])[0])}" for it in "abcd" if it in words)]
 
     def wide(self):
