@@ -22,7 +22,6 @@ ARCHIVE := $(archive_for_$(TARGET))
 ABI := $(shell sed -n 's/^\#define MQ_VERSION \(.*\)$$/\1/p' include/mquerier.h)
 SONAME := libmquerier.so.$(ABI)
 SHARED := $(dir $(ARCHIVE))$(SONAME)
-CAPTURES := lib/libmquerier-captures.so.$(ABI)
 # The interpreter that makes and tests the package for Python.
 PYTHON ?= /usr/bin/python3
 ifeq ($(ARCHIVE),)
@@ -34,7 +33,7 @@ $(error TARGET=$(TARGET): only `make lib` takes another processor than that of t
 endif
 endif
 
-.PHONY: all run try lib wheel quick test kept live live-checked live-test live-soak conform-test page page-test bindings-test arm-test
+.PHONY: all run try lib wheel quick test kept live live-checked live-test live-soak vlan-test conform-test page page-test bindings-test arm-test
 .PHONY: mutants bench install install-strip uninstall dist clean
 
 # Both archives are of what is built in one folder, so one is made after the other. tools/build works side by side by itself.
@@ -53,7 +52,7 @@ needs-cross:
 needs-gate:
 	@tools/needs rt bash git python3
 needs-test:
-	@tools/needs rt bash git python3 cc c++ clang-format-14 nm valgrind
+	@tools/needs rt bash git python3 python3-jsonschema cc c++ clang-format-14 nm valgrind
 needs-live:
 	@tools/needs rt bash python3 $(CC) ip bridge tc nft setpriv
 needs-conform:
@@ -111,22 +110,12 @@ $(AARCH64)/$(SONAME): $(AARCH64)/libmquerier.a include/libmquerier.map | needs-c
 	@ln -sf $(SONAME) $(@D)/libmquerier.so
 	@echo "$@ is built"
 
-# The package for Python, with both shared libraries inside.
+# The package for Python, with the shared library and the program inside.
 WHEEL := dist/mquerier-$(shell tools/version python)-py3-none-manylinux2014_x86_64.whl
 wheel: $(WHEEL)
 
-$(WHEEL): lib/$(SONAME) $(CAPTURES) $(wildcard bindings/python/*.* bindings/python/mquerier/*.*) tools/wheel | needs-wheel
-	@PYTHON=$(PYTHON) tools/wheel $(filter lib/%,$^)
-	@echo "$@ is built"
-
-# The crate of the page for this processor, as a shared library whose calls read captures.
-.SECONDARY: lib/libmq_page.a crates/mq_page/out/mq_page.wasm
-lib/libmq_page.a: $(SOURCES) | needs-library
-	@tools/build --captures
-	@cp crates/mq_page/out/libmq_page.a $@
-
-$(CAPTURES): lib/libmq_page.a include/libmquerier-captures.map | needs-library
-	@$(CC) $(SHARING)
+$(WHEEL): lib/$(SONAME) bin/mquerier $(wildcard bindings/python/*.* bindings/python/mquerier/*.*) tools/wheel | needs-wheel
+	@PYTHON=$(PYTHON) tools/wheel $(filter lib/% bin/%,$^)
 	@echo "$@ is built"
 
 # Shows that it holds here: proofs, tests, and runs of the program with refused calls. The last line counts what passed.
@@ -191,6 +180,13 @@ SOAK := 3600
 live-soak: needs-live live-checked bin/mquerier
 	@LIVE=bin/mquerier-live-checked daemon/soak $(SOAK)
 
+# The querier at bridges with VLANs, in a virtual machine with a kernel of Debian. It installs what it needs, wants to be root, and
+# takes at most ten minutes. VLANS=quick is what the gate runs.
+VLANS :=
+vlan-test: live
+	@tools/needs --install qemu-system-x86_64 busybox cpio depmod mke2fs xz ip bridge nft chrt python3
+	@daemon/machine daemon/vlans $(VLANS)
+
 # conform, which holds any router to the standards (docs/CONFORM.md), held to routers here: faulty ones of its own, each of which
 # has to be found by the cases that name its fault, and bin/mquerier-live, a bridge of the kernel and routers of Debian, which are
 # installed where they are missing. It wants to be root, and takes an hour.
@@ -205,6 +201,7 @@ conform-test: needs-conform live bin/mquerier
 PAGE := page/make $(wildcard page/src/*) $(wildcard samples/*.pcap samples/*.pcapng)
 page: page/dist/index.html
 
+.SECONDARY: crates/mq_page/out/mq_page.wasm
 page/dist/index.html: crates/mq_page/out/mq_page.wasm $(PAGE)
 	@page/make
 
@@ -235,20 +232,19 @@ bench: bin/mquerier
 	@bench/spent $(WRITE)
 	@bench/links $(WRITE)
 
-# The program, the library for C in both forms with its headers and its entry for pkg-config, the library that reads captures, the querier
-# of bridges with its service and its file of options, which isn't replaced, and the manual pages. `install-strip` leaves symbols out.
-# DESTDIR stands before each folder. `uninstall` removes these files, and the options if nobody changed them.
+# The program, the library for C in both forms with its headers and its entry for pkg-config, the querier of bridges
+# with its service and its file of options, which isn't replaced, and the manual pages. `install-strip` leaves symbols out. DESTDIR stands before each folder. `uninstall` removes these files, and the options if nobody changed them.
 LIVE_OPTIONS := $(SYSCONFDIR)/mquerier-live/options
 ROUTE_OPTIONS := $(SYSCONFDIR)/mquerier-live/route
 MAN := $(PREFIX)/share/man
 INSTALLED := $(addprefix $(PREFIX)/,bin/mquerier sbin/mquerier-live include/mquerier.h include/mquerier-link.h) \
-    $(addprefix $(LIBDIR)/,libmquerier.a libmquerier.so $(SONAME) $(notdir $(CAPTURES)) pkgconfig/libmquerier.pc) \
+    $(addprefix $(LIBDIR)/,libmquerier.a libmquerier.so $(SONAME) pkgconfig/libmquerier.pc) \
     $(UNITDIR)/mquerier-live@.service $(UNITDIR)/mquerier-route.service $(MAN)/man1/mquerier.1 $(MAN)/man3/libmquerier.3 $(MAN)/man8/mquerier-live.8
-install: bin/mquerier lib/libmquerier.a lib/$(SONAME) $(CAPTURES) bin/mquerier-live
+install: bin/mquerier lib/libmquerier.a lib/$(SONAME) bin/mquerier-live
 	install -d $(sort $(dir $(addprefix $(DESTDIR),$(INSTALLED) $(LIVE_OPTIONS))))
 	install -m 755 $(STRIP) bin/mquerier $(DESTDIR)$(PREFIX)/bin
 	install -m 755 $(STRIP) bin/mquerier-live $(DESTDIR)$(PREFIX)/sbin
-	install -m 644 $(STRIP) lib/$(SONAME) $(CAPTURES) $(DESTDIR)$(LIBDIR)
+	install -m 644 $(STRIP) lib/$(SONAME) $(DESTDIR)$(LIBDIR)
 	install -m 644 lib/libmquerier.a $(DESTDIR)$(LIBDIR)
 	ln -sf $(SONAME) $(DESTDIR)$(LIBDIR)/libmquerier.so
 	install -m 644 include/mquerier.h include/mquerier-link.h $(DESTDIR)$(PREFIX)/include
@@ -271,9 +267,10 @@ uninstall:
 	cmp -s daemon/route.example $(DESTDIR)$(ROUTE_OPTIONS) && rm $(DESTDIR)$(ROUTE_OPTIONS) || true
 	rmdir $(DESTDIR)$(dir $(LIVE_OPTIONS)) 2> /dev/null || true
 
-# The release of this commit: an archive and the wheel, with their sums in dist/SHA256SUMS.
-dist: bin/mquerier bin/mquerier-live lib/libmquerier.a lib/$(SONAME) page wheel
+# The release of this commit: an archive and the wheel, with their sums in dist/SHA256SUMS. Its program is bin/mquerier-dated.
+dist: bin/mquerier-live lib/libmquerier.a lib/$(SONAME) page | needs-wheel
 	@tools/linked --dated
+	@PYTHON=$(PYTHON) tools/wheel lib/$(SONAME) bin/mquerier-dated
 	@PYTHON=$(PYTHON) tools/dist
 
 clean:

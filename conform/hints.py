@@ -20,12 +20,7 @@ def hint(run):
 
 def moments(verdict):
     """The wanted moments of queries that are missing: by the clock in nanoseconds, each with its group and its source."""
-    found = []
-    for it in verdict.findings:
-        words = it.text.split()
-        if words[0] == "missing":
-            found.append((verdict.began + it.at * 10**6, it.group, words[4] if words[4:] else None))
-    return found
+    return [(verdict.began + it.at * 10**6, it.group, it.source) for it in verdict.findings if it.is_missing]
 
 
 def silent(run, failed):

@@ -2,16 +2,18 @@
 
 import collections
 import dataclasses
+import json
 import os
-import re
 import subprocess
 
 import link
 from table import IGMP, text_of, wire
 
 LIMITS = ["--groups=65535", "--group-sources=1024", "--sources=65535", "--scheduled=65535"]
-LINE = re.compile(r"(\d+) (missing|extra|differs|general) (.*?)(?: \((RFC [^)]*)\))?")
-DIFFERS = re.compile(r"(.*): (\w+) \S+, wanted \S+")
+# The judged property for each finding that isn't about a field.
+KINDS = {"missing": "asks", "extra": "asks", "interval": "general", "silence": "general", "header": "header"}
+# The filter of a group that nobody has named.
+NONE = ("include", set())
 MAGIC = b"conform"
 IP_PRECEDENCE = 0xC0
 # Gives a program the usual priority: conform itself has a higher one. A call between fork and exec would do it too. But it copies the
@@ -43,7 +45,7 @@ class Heard:
 
 @dataclasses.dataclass
 class Finding:
-    """A finding about the router: its time in the case, its group, and its packet in the capture."""
+    """A finding about the router: its time in the case, its group and source, and its packet in the capture."""
 
     at: int
     kind: str
@@ -53,6 +55,8 @@ class Finding:
     cite: str = ""
     case: str = ""
     group: bytes = b""
+    source: str = None
+    is_missing: bool = False
 
 
 def heard(family, record):
@@ -73,15 +77,27 @@ def heard(family, record):
 
 def filters_of(history, begin, end):
     """The filters that were in force between two moments: the last one before, and those that began in between."""
-    before = [words for at, words in history if at <= begin]
-    return [before[-1] if before else ["none"]] + [words for at, words in history if begin < at <= end]
+    before = [it for at, it in history if at <= begin]
+    return [before[-1] if before else NONE] + [it for at, it in history if begin < at <= end]
 
 
-def passes(words, source):
-    """Returns whether a filter forwards a source. The filter is `none`, `include S ..` or `exclude !S ..`."""
-    if words[0] == "exclude":
-        return f"!{text_of(source)}" not in words
-    return words[0] == "include" and text_of(source) in words
+def filter_in(change):
+    """Returns the mode of a group's filter, and the sources that are forwarded or stopped in it."""
+    is_stopped = change["filter"] == "exclude"
+    return change["filter"], {it["source"] for it in change["sources"] if (it["timer"] is None) == is_stopped}
+
+
+def passes(mode, sources, source):
+    """Returns whether a filter forwards a source."""
+    return (text_of(source) in sources) == (mode == "include")
+
+
+def words_of(it, moment):
+    """A finding of a check in words, at its moment in the case."""
+    subject = [word for word in (it["group"], it["source"]) if word is not None]
+    field = f": {it['field']} {it['seen']}, wanted {it['wanted']}" if it["finding"] == "differs" else ""
+    span = f"{it['seen']} ms, wanted {it['wanted']}" if it["finding"] in ("interval", "silence") else ""
+    return " ".join(filter(None, [it["finding"], f"at {moment}", *subject, span])) + field
 
 
 def is_link_local(address):
@@ -146,16 +162,17 @@ class Judge:
         return wire.in_ethernet(wire.in_ipv6(body, self.site.router, to), to)
 
     def run(self, words, frames, name):
-        """The program's text for frames. Its status is 0, 3, or 4 if a check has nothing to judge."""
+        """The program's objects for frames. Its status is 0, 3, or 4 if a check has nothing to judge."""
         place = os.path.join(self.options.out, "captures", f"{name}.mended.pcap")
         with open(place, "wb") as to:
             to.write(link.written(frames))
         its = [*self.site.variables.words(), *LIMITS, *(["--ssm"] if self.options.ssm else [])] if words[1:] else []
-        ran = subprocess.run([*AS_OTHERS, self.program, *words, *its, place], capture_output=True, text=True, check=False)
+        words = [self.program, words[0], "--json", *words[1:], *its, place]
+        ran = subprocess.run([*AS_OTHERS, *words], capture_output=True, text=True, check=False)
         os.unlink(place)
         if ran.returncode not in (0, 3, 4):
-            raise OSError(f"{' '.join([self.program, *words])}: status {ran.returncode}: {ran.stderr.strip()}")
-        return ran.stdout.splitlines()
+            raise OSError(f"{' '.join(words)}: status {ran.returncode}: {ran.stderr.strip()}")
+        return [json.loads(line) for line in ran.stdout.splitlines()]
 
     # Findings.
 
@@ -175,25 +192,19 @@ class Judge:
             return [Finding(0, "asks", "nothing was recorded")]
         offset = (frames[0].stamp - began) / 10**6
         until = max(0, round(cast.end - offset))
-        words = ["check", self.family.name, f"--querier={text_of(self.site.router)}", f"--within={within}", "--cite", "--strict", f"--until={until}"]
-        lines = self.run(words, [(it.stamp, self.mended(it)) for it in frames], cast.name)
-        found = [self.finding(LINE.fullmatch(line), cast, frames, offset) for line in lines if LINE.fullmatch(line)]
+        words = ["check", self.family.name, f"--querier={text_of(self.site.router)}", f"--within={within}", "--strict", "--began", f"--until={until}"]
+        objects = self.run(words, [(it.stamp, self.mended(it)) for it in frames], cast.name)
+        found = [self.finding(it, cast, offset) for it in objects if "finding" in it]
         self.compare(cast, frames, found, began)
         return [it for it in found if self.is_judged(it, cast)]
 
-    def finding(self, match, cast, frames, offset):
-        """A line of a check as a finding."""
-        at, what, rest, cite = int(match[1]), match[2], match[3], match[4] or ""
-        moment = round(at + offset)
-        field = DIFFERS.fullmatch(rest) if what == "differs" else None
-        kind = field[2] if field else "general" if what == "general" else "asks"
-        group = self.family.zero() if what == "general" else wire.address((field[1] if field else rest).split()[0])
-        milliseconds = [it.stamp // 10**6 - frames[0].stamp // 10**6 for it in frames]
-        if what == "missing":
-            packet = max((at_ for at_, it in enumerate(milliseconds, 1) if it <= at), default=1)
-        else:
-            packet = next((at_ for at_, it in enumerate(milliseconds, 1) if it >= at and not frames[at_ - 1].is_sent), len(frames))
-        return Finding(moment, kind, f"{what} at {moment} {rest}", not any(group), packet, cite, cast.name, group)
+    def finding(self, it, cast, offset):
+        """A finding of a check, at its time in the case."""
+        moment, group = round(it["time"] + offset), wire.address(it["group"]) if it["group"] else self.family.zero()
+        kind = KINDS.get(it["finding"]) or it["field"]
+        cite = f"RFC {it['rfc']} section {', '.join(it['sections'])}"
+        is_missing = it["finding"] == "missing"
+        return Finding(moment, kind, words_of(it, moment), not any(group), it["packet"] or 0, cite, cast.name, group, it["source"], is_missing)
 
     def is_judged(self, it, cast):
         """Returns whether the case judges a finding."""
@@ -224,7 +235,7 @@ class Judge:
         numbers = {content(it.frame): at for at, it in enumerate(frames, 1)}
         for payload, (stamp, group, source) in sorted(sent.items(), key=lambda it: it[1][0]):
             at = (stamp - began) / 10**6
-            wanted = {passes(it, source) for it in filters_of(history.get(group, []), at - within, at + within)}
+            wanted = {passes(*it, source) for it in filters_of(history.get(group, []), at - within, at + within)}
             if at < cast.until and len(wanted) == 1 and wanted != {payload in seen}:
                 wrong.setdefault((group, source, payload in seen), []).append((round(at), numbers.get(payload, 0)))
         found = []
@@ -240,11 +251,11 @@ class Judge:
             return {}
         offset = (frames[0].stamp - began) / 10**6
         words = ["replay", self.family.name, f"--own={text_of(self.site.router)}", "--changes", f"--until={max(0, round(cast.end - offset))}"]
-        lines = self.run(words, [(it.stamp, self.mended(it)) for it in frames], cast.name)
+        objects = self.run(words, [(it.stamp, self.mended(it)) for it in frames], cast.name)
         found = {}
-        for moment, what, *rest in map(str.split, lines):
-            if what == "change":
-                found.setdefault(wire.address(rest[0]), []).append((int(moment) + offset, rest[1:]))
+        for it in objects:
+            if it.get("event") == "change":
+                found.setdefault(wire.address(it["group"]), []).append((it["time"] + offset, filter_in(it)))
         return found
 
     # Rules of cases.

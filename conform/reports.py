@@ -6,11 +6,15 @@ import importlib.util
 import json
 import os
 import subprocess
-from xml.etree import ElementTree
+import sys
 
 import link
 from hints import hint
 from table import TOP, text_of
+
+sys.path.append(f"{TOP}/bindings/python")
+# pylint: disable=wrong-import-position
+from mquerier.junit import Case, Suite, junit  # noqa: E402
 
 STYLE = """
 body { max-width: 75rem; margin: 0 auto; padding: 0 1rem 2rem; }
@@ -63,7 +67,7 @@ def end(run, seconds, say):
     common = hint(run)
     total = f"{number['pass']} passed, {number['FAIL']} failed, {number['not applicable']} not applicable, {late}{span_of(seconds)}"
     with open(os.path.join(out, "report.xml"), "wb") as to:
-        to.write(junit(run, seconds))
+        to.write(junit([suite_of(run, seconds)]))
     with open(os.path.join(out, "report.html"), "w", encoding="utf-8") as to:
         to.write(page(run, f"{total}. {common}" if common else total))
     if common:
@@ -77,24 +81,17 @@ def end(run, seconds, say):
 # report.xml.
 
 
-def junit(run, seconds):
+OUTCOMES = {"pass": "passed", "FAIL": "failure", "late": "error", "not applicable": "skipped"}
+
+
+def suite_of(run, seconds):
     """A test suite of JUnit: a case for each, by the sections of the standard."""
-    number = {what: sum(it.what == what for it in run.verdicts) for what in ORDER}
-    counts = {"tests": len(run.verdicts), "failures": number["FAIL"], "errors": number["late"], "skipped": number["not applicable"]}
-    its = {"name": f"conform {run.options.family} {run.options.router}", "time": f"{seconds:.1f}", **{key: str(it) for key, it in counts.items()}}
-    top = ElementTree.Element("testsuites")
-    suite = ElementTree.SubElement(top, "testsuite", its)
+    cases = []
     for it in run.verdicts:
-        span = it.cast.end / 1000 if it.cast else 0
-        case = ElementTree.SubElement(suite, "testcase", {"classname": it.case.cite(), "name": it.case.name, "time": f"{span:.1f}"})
-        if it.what == "FAIL":
-            ElementTree.SubElement(case, "failure", {"message": it.findings[0].text}).text = "\n".join(map(finding_line, it.findings))
-        elif it.what == "late":
-            ElementTree.SubElement(case, "error", {"message": it.why})
-        elif it.what == "not applicable":
-            ElementTree.SubElement(case, "skipped", {"message": it.why})
-    ElementTree.indent(top)
-    return ElementTree.tostring(top, encoding="utf-8", xml_declaration=True)
+        line = it.findings[0].text if it.what == "FAIL" else it.why
+        text = "\n".join(map(finding_line, it.findings)) if it.what == "FAIL" else ""
+        cases.append(Case(it.case.name, it.case.cite(), OUTCOMES[it.what], line, text, it.cast.end / 1000 if it.cast else 0))
+    return Suite(f"conform {run.options.family} {run.options.router}", cases, seconds)
 
 
 # report.html.
@@ -112,8 +109,8 @@ def page(run, total):
     """The report as one file."""
     make, family = page_make(), run.options.family
     failed = [it for it in run.verdicts if it.what == "FAIL"]
-    texts = {it.case.name: said for it in failed if (said := texts_of(run, it))}
-    data = json.dumps({"family": family, "cases": texts}).replace("<", "\\u003c")
+    objects = {it.case.name: said for it in failed if (said := objects_of(run, it))}
+    data = json.dumps({"family": family, "cases": objects}).replace("<", "\\u003c")
     style = make.text_of("page.css").replace("#timeline", ".timeline") + STYLE
     site = run.site
     names = f"{family.upper()}, router {text_of(site.router)} on {run.options.interface}"
@@ -128,8 +125,8 @@ def page(run, total):
         "<h2>Cases</h2>",
         listing(run.verdicts),
         "<h2>Failures</h2>" if failed else "",
-        '<ul id="legend"></ul>' if texts else "",
-        *[failure(it, it.case.name in texts) for it in failed],
+        '<ul id="legend"></ul>' if objects else "",
+        *[failure(it, it.case.name in objects) for it in failed],
     ]
     return (
         '<!doctype html>\n<html lang="en">\n<head>\n<meta charset="utf-8">\n'
@@ -216,8 +213,8 @@ def wanted_line(group, sources, is_set):
     return f"{'S set, ' if is_set else ''}{text_of(group)} {named}".strip()
 
 
-def texts_of(run, it):
-    """Returns the texts of a failed case's capture for its timeline, or None if it has no capture of its own."""
+def objects_of(run, it):
+    """Returns the objects of a failed case's capture for its timeline, or None if it has no capture of its own."""
     if it.cast is None or not it.frames or len(it.frames) > 5000:
         return None
     judge, frames = run.judge, [(one.stamp, run.judge.mended(one)) for one in it.frames]
@@ -225,13 +222,9 @@ def texts_of(run, it):
     family, router = run.options.family, text_of(run.site.router)
     try:
         return {
-            "listing": said(judge.run(["show"], frames, it.case.name)),
-            "replay": said(judge.run(["replay", family, f"--own={router}", "--changes", until], frames, it.case.name)),
-            "check": said(judge.run(["check", family, f"--querier={router}", f"--within={run.options.within}", "--cite", "--strict", until], frames, it.case.name)),
+            "listing": judge.run(["show"], frames, it.case.name),
+            "replay": judge.run(["replay", family, f"--own={router}", "--changes", until], frames, it.case.name),
+            "check": judge.run(["check", family, f"--querier={router}", f"--within={run.options.within}", "--strict", "--began", until], frames, it.case.name),
         }
     except (OSError, subprocess.SubprocessError):
         return None
-
-
-def said(lines):
-    return "".join(f"{line}\n" for line in lines)

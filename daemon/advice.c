@@ -12,7 +12,8 @@ static void tell_ports(const struct querier *querier, const struct bridge *bridg
     char line[240];
     size_t count = 0;
     for (size_t at = querier->ports_count; at > 0; at--)
-        if (querier->by_index[at - 1].port->bridge == bridge && is_told(querier, querier->by_index[at - 1].port)) {
+        if (querier->by_index[at - 1].port->bridge == bridge && is_told(querier, querier->by_index[at - 1].port)
+            && (at == 1 || querier->by_index[at - 2].index != querier->by_index[at - 1].index)) {
             first = querier->by_index[at - 1].port;
             count++;
         }

@@ -74,15 +74,18 @@ void fail(int status, const char *what, const char *why) {
     exit(status);
 }
 
-void *take(uint64_t count, uint64_t size) {
-    void *memory = NULL;
+void *grab(uint64_t count, uint64_t size) {
     if (size > 0 && count >= LARGE / size) { /* no reserve, so that a small machine can fork */
         uint64_t length = count > SIZE_MAX / size ? SIZE_MAX : count * size;
-        memory = mmap(NULL, length, PROT_READ | PROT_WRITE, MAP_PRIVATE | MAP_ANONYMOUS | MAP_NORESERVE, -1, 0);
-    } else {
-        memory = calloc(count > 0 ? count : 1, size);
+        void *memory = mmap(NULL, length, PROT_READ | PROT_WRITE, MAP_PRIVATE | MAP_ANONYMOUS | MAP_NORESERVE, -1, 0);
+        return memory == MAP_FAILED ? NULL : memory;
     }
-    if (memory == NULL || memory == MAP_FAILED)
+    return calloc(count > 0 ? count : 1, size);
+}
+
+void *take(uint64_t count, uint64_t size) {
+    void *memory = grab(count, size);
+    if (memory == NULL)
         fail(STATUS_FAILED, "memory for --ports, --groups and --sources", strerror(errno));
     return memory;
 }

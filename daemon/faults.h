@@ -44,5 +44,7 @@ void fault(enum fault kind, const char *what, const char *why);
 void fail(int status, const char *what, const char *why) __attribute__((noreturn));
 /* Returns zeroed memory, only at the start. The program ends if allocation fails. */
 void *take(uint64_t count, uint64_t size);
+/* Returns zeroed memory that is never freed, or NULL with `errno`. */
+void *grab(uint64_t count, uint64_t size);
 
 #endif

@@ -26,7 +26,7 @@ static void tell_refused(const struct port *port, struct served *served, uint32_
         served->told |= (uint8_t)(1u << at);
         snprintf(why, sizeof why, "a record of %s exceeds %s and is refused; more are only counted", families[served->link.is_mld],
                  limits[at]);
-        tell(port->name, why);
+        tell(port->label, why);
     }
 }
 
@@ -50,13 +50,13 @@ static void tell_querier(const struct port *port, bool is_mld, const struct data
     *link_put_address(link, address, datagram->envelope.source) = '\0';
     snprintf(why, sizeof why, "%s sends queries of %sv%u%s", address, families[is_mld], version,
              is_older ? ", an older version: give all routers there the same" : ", and is querier there now");
-    fault(FAULT_ROUTERS, port->name, why);
+    fault(FAULT_ROUTERS, port->label, why);
 }
 
 void heard_hello(const struct querier *querier, struct port *port, const struct datagram *hello, uint64_t now) {
     bool is_served = querier->options->is_interface || port->keeps_router || options_is_router(querier->options, port->name);
     if (port->hello_until <= now && !is_served)
-        fault(FAULT_ROUTERS, port->name,
+        fault(FAULT_ROUTERS, port->label,
               "a router of PIM is there: it gets Reports and all groups with --router-port and --report");
     port->hello_until = now + SECOND * (uint64_t)hello_seconds(hello);
 }

@@ -11,6 +11,7 @@
 #include <stdio.h>
 #include <string.h>
 #include <sys/socket.h>
+#include <sys/syscall.h>
 #include <sys/un.h>
 #include <sys/wait.h>
 #include <unistd.h>
@@ -114,7 +115,7 @@ static void serve(int from, int listening, const char *words) {
     struct sigaction ignored = {.sa_handler = SIG_IGN};
     dup2(from, STDIN_FILENO);
     dup2(listening, STDOUT_FILENO);
-    close_range(STDOUT_FILENO + 1, ~0U, 0);
+    syscall(__NR_close_range, STDOUT_FILENO + 1, ~0U, 0); /* glibc has the call from 2.34 on */
     sigaction(SIGTERM, &ignored, NULL);
     sigaction(SIGINT, &ignored, NULL);
     sigaction(SIGHUP, &ignored, NULL);

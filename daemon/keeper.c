@@ -8,9 +8,11 @@
 /* In one call all groups may end, and as many begin. */
 enum { ROWS_FOR_A_GROUP = 2 };
 
-void keeper_open(struct keeper *keeper, size_t groups) {
+bool keeper_open(struct keeper *keeper, size_t groups) {
     size_t room = ROWS_FOR_A_GROUP * groups;
-    *keeper = (struct keeper){{take(room, sizeof(struct row)), 0, room}, MQ_NONE, false};
+    if (keeper->rows.all == NULL)
+        *keeper = (struct keeper){.rows = {grab(room, sizeof(struct row)), 0, room}, .settles = MQ_NONE};
+    return keeper->rows.all != NULL;
 }
 
 void keeper_begin(struct keeper *keeper, uint64_t settles, bool inherits_others) {
@@ -25,6 +27,22 @@ static bool is_always_forwarded(const mq_link *link, const uint8_t *group) {
     return !link->is_mld && group[0] == 224 && group[1] == 0 && group[2] == 0;
 }
 
+/* Returns what the link forwards of a group, and what static groups say. Its sources stand until the next call. */
+static struct filter wanted_of(const struct keeper *keeper, const mq_link *link, bool is_mld, const uint8_t *group) {
+    static uint8_t sources[2 * PAGE_SOURCES][LONG_ADDRESS];
+    struct filter filter = {MODE_NONE, 0, NULL}, always = filter;
+    if (link != NULL)
+        filter = filter_of(link, group);
+    if (keeper->tuned.tunings != NULL)
+        always = tunings_static(&keeper->tuned, is_mld, group);
+    if (always.mode == MODE_NONE)
+        return filter;
+    filter = filter_join(&filter, &always);
+    memcpy(sources, filter.sources, filter.count * LONG_ADDRESS);
+    filter.sources = (const uint8_t(*)[LONG_ADDRESS])sources;
+    return filter;
+}
+
 /* Makes the entry of a group, and its row. */
 static void make_entry(struct keeper *keeper, const struct place *place, const uint8_t *group, const struct filter *filter,
                        bool is_inherited) {
@@ -37,7 +55,7 @@ static void make_entry(struct keeper *keeper, const struct place *place, const u
 
 void keeper_update(struct keeper *keeper, const mq_link *link, const struct place *place, const uint8_t *group) {
     struct row *row = rows_find(&keeper->rows, group);
-    struct filter filter = filter_of(link, group);
+    struct filter filter = wanted_of(keeper, link, place->is_mld, group);
     struct entry entry;
     bool is_new = row == NULL && keeper->inherits_others && keeper->settles != MQ_NONE && filter.mode != MODE_NONE;
     bool may_inherit = is_new || (row != NULL && row->is_inherited);
@@ -61,10 +79,8 @@ void keeper_update(struct keeper *keeper, const mq_link *link, const struct plac
 struct filter keeper_filter(const struct keeper *keeper, const mq_link *link, const struct place *place, const uint8_t *group) {
     static uint8_t sources[2 * PAGE_SOURCES][LONG_ADDRESS];
     const struct row *row = rows_find(&keeper->rows, group);
-    struct filter filter = {MODE_NONE, 0, NULL};
+    struct filter filter = wanted_of(keeper, link, place->is_mld, group);
     struct entry entry;
-    if (link != NULL)
-        filter = filter_of(link, group);
     if (row == NULL || !row->is_inherited || mdb_read(place, group, &entry) != 0 || entry.maker == MAKER_OTHER)
         return filter;
     filter = filter_join(&filter, &entry.filter);
@@ -107,9 +123,7 @@ void keeper_note(struct keeper *keeper, const mq_link *link, const struct entry 
     struct row *row = rows_put(&keeper->rows, entry->group);
     if (row == NULL)
         return; /* the next repair may have room for it */
-    struct filter wanted = {MODE_NONE, 0, NULL};
-    if (link != NULL)
-        wanted = filter_of(link, entry->group);
+    struct filter wanted = wanted_of(keeper, link, entry->is_mld, entry->group);
     if (wanted.count > GREATEST_LIST)
         wanted = filter_of_all;
     row->is_seen = true;
@@ -117,6 +131,23 @@ void keeper_note(struct keeper *keeper, const mq_link *link, const struct entry 
     row->is_right = !row->is_temporary && filter_equal(&wanted, &entry->filter);
     if (!is_known)
         row->is_inherited = link == NULL || keeper->settles != MQ_NONE;
+}
+
+void keeper_change_statics(struct keeper *keeper, const mq_link *link, const struct place *place, const struct tunings *before) {
+    struct tuned_port earlier = {before, keeper->tuned.name, keeper->tuned.vlan};
+    const uint8_t *group;
+    for (size_t at = 0; (group = tunings_next_static(&keeper->tuned, place->is_mld, &at)) != NULL;)
+        keeper_update(keeper, link, place, group);
+    for (size_t at = 0; (group = tunings_next_static(&earlier, place->is_mld, &at)) != NULL;)
+        keeper_update(keeper, link, place, group);
+}
+
+/* Makes the missing entries of static groups. */
+static void put_statics(struct keeper *keeper, const mq_link *link, const struct place *place) {
+    const uint8_t *group;
+    for (size_t at = 0; (group = tunings_next_static(&keeper->tuned, place->is_mld, &at)) != NULL;)
+        if (rows_find(&keeper->rows, group) == NULL)
+            keeper_update(keeper, link, place, group);
 }
 
 /* Makes the missing entries. */
@@ -128,6 +159,7 @@ static void repair_missing(struct keeper *keeper, const mq_link *link, const str
             if (!is_always_forwarded(link, groups[at].address) && rows_find(&keeper->rows, groups[at].address) == NULL)
                 keeper_update(keeper, link, place, groups[at].address);
     }
+    put_statics(keeper, link, place);
 }
 
 void keeper_repair(struct keeper *keeper, const mq_link *link, const struct place *place, bool is_whole) {

@@ -18,15 +18,11 @@ void family_open(struct family *it, mq_config configuration) {
         fail(STATUS_FAILED, "configuration", mq_status_text(status));
 }
 
-bool family_retime(struct family *family, const mq_config *next) {
-    mq_config *it = &family->configuration;
-    bool is_same = it->robustness == next->robustness && it->query_interval == next->query_interval
-                   && it->response_interval == next->response_interval && it->last_member_interval == next->last_member_interval;
+void link_retime(mq_config *it, const mq_config *next) {
     it->robustness = next->robustness;
     it->query_interval = next->query_interval;
     it->response_interval = next->response_interval;
     it->last_member_interval = next->last_member_interval;
-    return !is_same;
 }
 
 size_t link_changed(const mq_link *link, uint8_t (*groups)[LONG_ADDRESS]) {

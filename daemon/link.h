@@ -20,8 +20,8 @@ struct family {
 
 /* Allocates the shared parts of a family. The configuration has no fault. */
 void family_open(struct family *family, mq_config configuration);
-/* Sets the timing of links that begin from now on. Returns whether it changed. */
-bool family_retime(struct family *family, const mq_config *next);
+/* Sets the variables of a configuration to those of another one. The limits and the own address stay. */
+void link_retime(mq_config *configuration, const mq_config *next);
 
 /* Writes the groups that the last call changed, in ascending order, at most twice the limit of groups. Returns how many. */
 size_t link_changed(const mq_link *link, uint8_t (*groups)[LONG_ADDRESS]);

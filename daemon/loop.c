@@ -4,6 +4,7 @@
 #include "advice.h"
 #include "faults.h"
 #include "ports.h"
+#include "retune.h"
 #include "route.h"
 #include "service.h"
 #include "setup.h"
@@ -56,23 +57,27 @@ void loop_open(struct querier *querier) {
             wait_for(querier->bridges[at].listening);
 }
 
-/* Reads the options again. Those of memory and sockets stay. The links of a family begin again if its timing changed. */
+/* Reads the options again. Those of memory and sockets stay. The links get their new configurations, and keep what they hold. */
 static void reload(struct querier *querier, int count, char **words) {
     static struct options options;
+    static struct tunings before;
     struct options *used = querier->options;
     const char *why = options_read(&options, count, words);
     if (why == NULL)
         why = querier_fault(&options);
+    if (why == NULL)
+        why = retune_fault(querier, &options);
     if (why == NULL && querier->route != NULL)
         why = route_reload(querier, &options, moment());
     if (why != NULL) {
         fault(FAULT_MISSING, "reload", why);
         return;
     }
+    before = used->tunings;
     options_replace(used, &options);
     for (size_t at = 0; at < 2; at++)
-        if (used->serves[at] && family_retime(&querier->families[at], &options.configuration[at]) && querier->route == NULL)
-            querier_begin_all(querier, at == 1, moment());
+        link_retime(&querier->families[at].configuration, &options.configuration[at]);
+    retune(querier, &before);
     querier->is_stale = true; /* the Query Interval may have changed */
     ports_refresh(querier, moment());
     advice_routers(querier);
@@ -171,6 +176,8 @@ void loop_run(struct querier *querier, int count, char **words) {
     while (!is_over) {
         uint64_t now = moment();
         querier_watch_clock(querier, now);
+        if (querier_filters(querier) && ports_read_news(querier)) /* first, because they say whose VLAN a frame without a tag has */
+            refresh(querier);
         querier_hear(querier, now); /* before ticks: a Report that is read late still counts */
         querier_tick(querier, now);
         look_around(querier, now);

@@ -37,10 +37,13 @@ static size_t address_bytes(const struct place *place) {
 }
 
 void mdb_fault(enum fault kind, const struct place *place, const uint8_t *group, const char *why) {
-    char what[LONGEST_ADDRESS + IF_NAMESIZE + 16], port[IF_NAMESIZE] = "?", *to = put_text(what, "mdb ");
+    char what[LONGEST_ADDRESS + IF_NAMESIZE + 32], port[IF_NAMESIZE] = "?", *to = put_text(what, "mdb ");
     if_indextoname((unsigned)place->port, port);
     to = put_text((place->is_mld ? put_ipv6_address : put_ipv4_address)(to, group), " at ");
-    *put_text(to, port) = '\0';
+    to = put_text(to, port);
+    if (place->vlan != 0)
+        to = put_number(put_text(to, " vlan "), place->vlan);
+    *to = '\0';
     fault(kind, what, why);
 }
 
@@ -48,7 +51,7 @@ void mdb_fault(enum fault kind, const struct place *place, const uint8_t *group,
 static void begin(const struct place *place, struct request *request, uint16_t type, uint16_t flags, const uint8_t *group, int port,
                   uint8_t state) {
     struct br_port_msg head = {.family = AF_BRIDGE, .ifindex = (uint32_t)place->bridge};
-    struct br_mdb_entry entry = {.ifindex = (uint32_t)port, .state = state};
+    struct br_mdb_entry entry = {.ifindex = (uint32_t)port, .state = state, .vid = place->vlan};
     if (group != NULL) {
         memcpy(&entry.addr.u, group, address_bytes(place));
         entry.addr.proto = htons(place->is_mld ? ETH_P_IPV6 : ETH_P_IP);
@@ -154,7 +157,7 @@ static bool read_entry(const struct nlattr *found, struct entry *entry) {
         return false;
     uint32_t protocol = 0;
     attribute_number(at, end, MDBA_MDB_EATTR_RTPROT, &protocol);
-    *entry = (struct entry){.port = (int)head->ifindex, .is_mld = head->addr.proto == htons(ETH_P_IPV6)};
+    *entry = (struct entry){.port = (int)head->ifindex, .vlan = head->vid, .is_mld = head->addr.proto == htons(ETH_P_IPV6)};
     entry->is_temporary = head->state == MDB_TEMPORARY;
     size_t width = entry->is_mld ? 16 : 4;
     memcpy(entry->group, &head->addr.u, width);

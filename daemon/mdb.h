@@ -8,10 +8,11 @@
 #include <stdbool.h>
 #include <stdint.h>
 
-/* The part of a database for one port and one family. */
+/* The part of a database for one port, one VLAN and one family. */
 struct place {
     int netlink; /* the socket for requests */
     int bridge, port;
+    uint16_t vlan; /* 0 at a bridge that does not filter VLANs */
     bool is_mld;
 };
 
@@ -20,6 +21,7 @@ enum maker { MAKER_US, MAKER_KERNEL, MAKER_OTHER };
 
 struct entry {
     int port;
+    uint16_t vlan;
     bool is_mld;
     enum maker maker;
     bool is_temporary; /* the kernel removes it unless hosts report */
@@ -46,7 +48,7 @@ bool mdb_set(const struct place *place, const uint8_t *group, const struct filte
 void mdb_hand_over(const struct place *place, const uint8_t *group, const struct filter *filter);
 /* Removes our entry of a group. Returns whether it is gone. */
 bool mdb_remove(const struct place *place, const uint8_t *group);
-/* Removes all our entries. */
+/* Removes all our entries, of all VLANs if `vlan` is 0. */
 void mdb_remove_all(const struct place *place);
 /* Reads the entry of a group. Returns 0, ENOENT if there is none, or another error of <errno.h>. */
 int mdb_read(const struct place *place, const uint8_t *group, struct entry *entry);

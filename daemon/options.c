@@ -1,7 +1,9 @@
 #define _GNU_SOURCE
 #include "options.h"
 
+#include "conf.h"
 #include "faults.h"
+#include "help.h"
 #include "mroute.h"
 #include "ring.h"
 
@@ -18,77 +20,6 @@
 #ifndef MQUERIER_VERSION /* `make` sets it, with the date and hash of the commit */
 #define MQUERIER_VERSION MQ_VERSION_TEXT
 #endif
-
-static const char HELP[] =
-    "Usage: mquerier-live interface INTERFACE igmp|mld --own ADDR [OPTION]..\n"
-    "       mquerier-live bridge BRIDGE.. [OPTION]..\n"
-    "       mquerier-live route --upstream INTERFACE INTERFACE.. [OPTION]..\n"
-    "       mquerier-live status BRIDGE [--json | --metrics] [--run DIR]\n"
-    "       mquerier-live --version\n"
-    "\n"
-    "A multicast querier and router on Linux. `interface` serves one link of one family, and prints a line for each message and "
-    "query.\n"
-    "`bridge` serves all ports of these bridges: each bridge forwards to each port what the hosts there want. `route` is a\n"
-    "multicast router: it serves interfaces, joins upstream what their hosts want, and forwards it. `status` prints the state of "
-    "a\n"
-    "running `bridge` or `route`.\n"
-    "It needs root, or the capability CAP_NET_RAW, except for `interface` without a bridge also CAP_NET_ADMIN. Once its\n"
-    "sockets are open it drops its privileges, or keeps CAP_NET_ADMIN alone. This program is not proved. The decisions of its "
-    "library are.\n"
-    "\n"
-    "  --own ADDR           source of queries: an address of the interface, for mld a link-local one. By default `bridge`\n"
-    "                       takes the first addresses of the bridge\n"
-    "  --rv N               Robustness Variable, 1 to 7 (2)\n"
-    "  --qi S               Query Interval, 1 to 31744 seconds (125)\n"
-    "  --qri MS             Query Response Interval in milliseconds, below the Query Interval (10000)\n"
-    "  --lmqi MS            Last Member (Last Listener) Query Interval in milliseconds (1000)\n"
-    "  --groups N           most groups of a link, up to 65535 (4096, interface 1024)\n"
-    "  --group-sources N    most sources of a group, up to 1024 (igmp 366, mld 89)\n"
-    "  --sources N          most sources of all groups of a link together, up to 65535 (16384)\n"
-    "  --scheduled N        most schedules of specific queries of a link, up to two for each group, up to 65535 (4096,\n"
-    "                       interface 256)\n"
-    "  --ssm                keep 232.0.0.0/8, or ff3x::/32, for source-specific multicast\n"
-    "  --changes            print a line for each change of what is forwarded of a group\n"
-    "\n"
-    "For `interface` only:\n"
-    "  --mdb BRIDGE PORT    make the bridge BRIDGE forward to its port PORT what is forwarded of each group, by entries of its\n"
-    "                       multicast database. INTERFACE is PORT, or BRIDGE if all hosts are at one port\n"
-    "\n"
-    "For `route` only. Interfaces downstream are INTERFACE, `bridge:BRIDGE`, or with variables of its own INTERFACE,qi=60,rv=3:\n"
-    "  --upstream WORDS     INTERFACE, or with commas INTERFACE=PREFIX/LENGTH,..: the interface for groups by the longest prefix\n"
-    "  --scope N            least scope of groups that cross between upstream and downstream, 3 to 14 (14). 239.0.0.0/8 has 8\n"
-    "  --entries N          most forwarding entries, 16 to 65536 (4096)\n"
-    "  --unused S           seconds after which an entry without datagrams ends (180)\n"
-    "  --upcalls N          most new senders a second, 100 to 1000000 (10000)\n"
-    "\n"
-    "For `bridge` and `route`:\n"
-    "  --own6 ADDR          link-local source of queries of MLD. Then --own is that of IGMP\n"
-    "  --family F           serve only igmp, or only mld\n"
-    "  --ports N            most ports of all bridges, up to 1024 (64). Memory is allocated for all of them\n"
-    "  --setup              set the bridges up, and restore the earlier settings at the end\n"
-    "  --router-port PORT   forward all multicast to this port. May be given up to 64 times\n"
-    "  --report             at each --router-port, report as a host what the other ports want, and send no queries\n"
-    "  --run DIR            folder of its files (/run/mquerier-live)\n"
-    "  --options FILE       read options from this file too: words, and comments from # to the end of a line. SIGHUP reads it\n"
-    "                       again\n"
-    "\n"
-    "Lines of `interface` on standard output, T in milliseconds since the start, ADDR an address:\n"
-    "  T send ADDR HEX               a query to ADDR, without its IP header\n"
-    "  T receive N ADDR taken A I R  the N-th datagram, from ADDR: the numbers of applied, ignored and refused records\n"
-    "  T receive N ADDR dropped K    the N-th datagram was dropped for reason K\n"
-    "  T change G include S ..       with --changes: only these sources of group G are forwarded\n"
-    "  T change G exclude !S ..      all sources but these are forwarded\n"
-    "  T change G none               no source is forwarded\n"
-    "On SIGUSR1 it prints its state like the end of `mquerier replay`: `end T querier` or `end T other`, a line for each\n"
-    "group, and `counts ..`. `mquerier replay --help` explains these lines and the reasons. `bridge` prints only lines of\n"
-    "changes, with the port after T.\n"
-    "\n"
-    "It does not hear fragments, damaged IPv4 headers, and frames with a VLAN tag (give the VLAN's own interface). SIGTERM\n"
-    "ends it, and leaves its entries to the kernel's snooping. A line on standard error says what the kernel rejected.\n"
-    "daemon/README.md has the settings that a bridge needs.\n"
-    "\n"
-    "Status: 0 if a signal ended it, 1 if the interface, the bridge, memory or the output failed, 2 if the command line or\n"
-    "the configuration is faulty or asks for help.\n";
 
 #define PLACE(field) offsetof(mq_config, field)
 static const struct {
@@ -116,10 +47,16 @@ enum {
     CHANGES,
     MDB,
     PORTS,
+    LINKS,
+    VLANS_OF,
+    LIMIT,
+    FAST_LEAVE,
+    STATIC,
     SETUP,
     ROUTER_PORT,
     REPORT,
     RUN,
+    CONFIG,
     FILE_OF,
     VERSION,
     ASKED_HELP,
@@ -138,10 +75,16 @@ static const struct option OTHERS[] = {
     {"changes", no_argument, NULL, CHANGES},
     {"mdb", required_argument, NULL, MDB},
     {"ports", required_argument, NULL, PORTS},
+    {"links", required_argument, NULL, LINKS},
+    {"vlans", required_argument, NULL, VLANS_OF},
+    {"limit", required_argument, NULL, LIMIT},
+    {"fast-leave", required_argument, NULL, FAST_LEAVE},
+    {"static", required_argument, NULL, STATIC},
     {"setup", no_argument, NULL, SETUP},
     {"router-port", required_argument, NULL, ROUTER_PORT},
     {"report", no_argument, NULL, REPORT},
     {"run", required_argument, NULL, RUN},
+    {"config", required_argument, NULL, CONFIG},
     {"options", required_argument, NULL, FILE_OF},
     {"version", no_argument, NULL, VERSION},
     {"help", no_argument, NULL, ASKED_HELP},
@@ -163,10 +106,52 @@ static bool read_number(const char *text, uint32_t *number) {
     return *text >= '0' && *text <= '9' && *end == '\0' && errno == 0 && read <= UINT32_MAX;
 }
 
+/* Reads the number of a VLAN, up to `end`, which is set to the place after it. */
+static bool read_vlan(const char *text, const char **end, uint16_t *vlan) {
+    char *after;
+    unsigned long number = strtoul(text, &after, 10);
+    *end = after;
+    *vlan = (uint16_t)number;
+    return *text >= '0' && *text <= '9' && number >= 1 && number < VLANS - 1;
+}
+
+/* Reads VLAN=ADDR. */
+static const char *read_own_in_vlan(struct options *options, bool is_mld, const char *text) {
+    struct own_in_vlan own = {.is_mld = is_mld};
+    const char *end;
+    if (!read_vlan(text, &end, &own.vlan) || *end != '=')
+        return wrong("a VLAN is from 1 to 4094: ", text);
+    if (inet_pton(is_mld ? AF_INET6 : AF_INET, end + 1, own.address) != 1)
+        return wrong("not an address of the family: ", text);
+    if (options->owns_count == GREATEST_OWNS)
+        return wrong("too many addresses of VLANs: ", text);
+    options->owns[options->owns_count++] = own;
+    return NULL;
+}
+
 static const char *read_address(struct options *options, bool is_mld, const char *text) {
+    if (strchr(text, '=') != NULL && !options->is_interface)
+        return read_own_in_vlan(options, is_mld, text);
     options->has_own[is_mld] = true;
     bool is_read = inet_pton(is_mld ? AF_INET6 : AF_INET, text, options->own[is_mld]) == 1;
     return is_read ? NULL : wrong("not an address of the family: ", text);
+}
+
+/* Reads a list of VLANs and ranges of them, as 10,20-29. */
+static const char *read_vlans(struct options *options, const char *text) {
+    options->chooses_vlans = true;
+    for (const char *at = text;; at++) {
+        uint16_t first, last;
+        bool is_read = read_vlan(at, &at, &first);
+        last = first;
+        if (is_read && *at == '-')
+            is_read = read_vlan(at + 1, &at, &last) && last >= first;
+        if (!is_read || (*at != ',' && *at != '\0'))
+            return wrong("--vlans is a list as 10,20-29, of VLANs from 1 to 4094: ", text);
+        memset(options->vlans + first, true, (size_t)(last - first) + 1);
+        if (*at == '\0')
+            return NULL;
+    }
 }
 
 static const char *read_family(struct options *options, const char *text) {
@@ -217,16 +202,27 @@ static const char *read_upstream(struct options *options, const char *words) {
     return why == NULL ? NULL : wrong("--upstream: ", why);
 }
 
-static const char *read_run(struct options *options, const char *text) {
-    if (strlen(text) >= sizeof options->run)
+static const char *read_folder(char to[LONGEST_RUN], const char *text) {
+    if (strlen(text) >= LONGEST_RUN)
         return wrong("too long a name: ", text);
-    strcpy(options->run, text);
+    strcpy(to, text);
     return NULL;
 }
 
 static const char *read_ports(struct options *options, const char *text) {
     bool is_read = read_number(text, &options->ports) && options->ports >= 1 && options->ports <= GREATEST_PORTS;
     return is_read ? NULL : wrong("--ports is from 1 to 1024, not ", text);
+}
+
+static const char *read_tuning(struct options *options, enum tuned kind, const char *text) {
+    static char why[120];
+    if (options->is_route)
+        return wrong("--limit, --fast-leave and --static are for bridge: ", text);
+    const char *fault_of = tunings_read(&options->tunings, kind, text);
+    if (fault_of == NULL)
+        return NULL;
+    snprintf(why, sizeof why, "%s: ", fault_of);
+    return wrong(why, text);
 }
 
 static bool is_for_bridge(int found) {
@@ -252,19 +248,24 @@ static const char *read_option(struct options *options, int found, int count, ch
     case CHANGES: options->prints_changes = true; break;
     case MDB: return read_database(options, count, words);
     case PORTS: return read_ports(options, optarg);
+    case LINKS: return read_between(&options->links, optarg, 1, GREATEST_LINKS);
+    case VLANS_OF: return read_vlans(options, optarg);
+    case LIMIT: return read_tuning(options, TUNED_LIMIT, optarg);
+    case FAST_LEAVE: return read_tuning(options, TUNED_FAST_LEAVE, optarg);
+    case STATIC: return read_tuning(options, TUNED_STATIC, optarg);
     case SETUP: options->sets_up = true; break;
     case ROUTER_PORT: return read_router(options, optarg);
     case REPORT: options->reports = true; break;
-    case RUN: return read_run(options, optarg);
+    case RUN: return read_folder(options->run, optarg);
+    case CONFIG: return read_folder(options->config, optarg);
     case FILE_OF: options->file = optarg; break;
     case VERSION: exit(puts("mquerier-live " MQUERIER_VERSION) < 0 || fflush(stdout) != 0 ? STATUS_FAILED : 0);
-    default: fputs(HELP, stderr); exit(STATUS_USAGE);
+    default: fputs(help_text, stderr); exit(STATUS_USAGE);
     }
     return NULL;
 }
 
-/* Reads options and names from all words but the first. */
-static const char *read_words(struct options *options, int count, char **words) {
+const char *options_read_words(struct options *options, int count, char **words) {
     struct option all[OPTIONS + 1] = {{0}};
     for (int at = 0; at < COUNT; at++)
         all[at] = (struct option){NUMBERS[at].name, required_argument, NULL, at};
@@ -288,8 +289,7 @@ static const char *read_words(struct options *options, int count, char **words) 
     return NULL;
 }
 
-/* Replaces comments by spaces. */
-static void cut_comments(char *text) {
+void options_cut_comments(char *text) {
     for (char *at; (at = strchr(text, '#')) != NULL;)
         memset(at, ' ', strcspn(at, "\n"));
 }
@@ -307,13 +307,13 @@ static const char *read_file(struct options *options) {
     if (length < 0)
         return wrong("the file of options can't be read: ", file_name);
     text[length] = '\0';
-    cut_comments(text);
+    options_cut_comments(text);
     words[0] = name;
     char *left = NULL, *word = strtok_r(text, " \t\n", &left);
     for (; word != NULL && count < GREATEST_WORDS; word = strtok_r(NULL, " \t\n", &left))
         words[count++] = word;
     size_t names = options->count;
-    const char *why = read_words(options, count, words);
+    const char *why = options_read_words(options, count, words);
     if (why == NULL && options->count != names && !options->is_route)
         why = wrong("the file of options has a word that is none: ", options->names[names]);
     return why;
@@ -325,6 +325,7 @@ static const char *finish_interface(struct options *options) {
         return wrong("an interface and a family are needed, and nothing else", "");
     options->count = 1;
     options->ports = 1;
+    options->links = 0;
     return options->has_own[!options->serves[0]] ? NULL : wrong("--own is needed", "");
 }
 
@@ -343,6 +344,7 @@ static bool has_twice(const struct options *options) {
 
 /* Checks the words of `route`: interfaces downstream, and --upstream. */
 static const char *finish_route(struct options *options) {
+    options->links = 0;
     for (size_t at = 0; at < options->count; at++) {
         const char *why = interfaces_read(options->names[at], &options->interfaces[at]);
         if (why != NULL)
@@ -362,7 +364,9 @@ const char *options_read(struct options *options, int count, char **words) {
     static const uint8_t placeholders[2][16] = {{192, 0, 2, 1}, {0xfe, 0x80, [15] = 1}}; /* the bridge's address replaces it */
     *options = (struct options){.serves = {true, true},
                                 .ports = 64,
+                                .links = 1024,
                                 .run = "/run/mquerier-live",
+                                .config = "/etc/mquerier-live",
                                 .scope = 14,
                                 .entries = 4096,
                                 .unused = 180,
@@ -383,9 +387,12 @@ const char *options_read(struct options *options, int count, char **words) {
         for (int at = 1; at < count; at++) /* --own depends on the family, which may come later */
             if (strcmp(words[at], "igmp") == 0 || strcmp(words[at], "mld") == 0)
                 read_family(options, words[at]);
-    const char *why = read_words(options, count, words);
+    const char *why = options_read_words(options, count, words);
     if (why == NULL && options->file != NULL)
         why = read_file(options);
+    size_t bridges = options->is_interface || options->is_route ? 0 : options->count;
+    for (size_t at = 0; at < bridges && why == NULL; at++)
+        why = conf_read(options, options->names[at]);
     if (why != NULL)
         return why;
     if (options->is_interface)
@@ -394,6 +401,8 @@ const char *options_read(struct options *options, int count, char **words) {
                    : finish_interface(options);
     if (options->bridge != NULL)
         return wrong("--mdb is for an interface", "");
+    if (tunings_exceed(&options->tunings, &options->configuration[0]))
+        return wrong("a --limit exceeds --groups or --sources", "");
     if (options->reports && options->router_count == 0)
         return wrong("--report is for a --router-port", "");
     return options->is_route ? finish_route(options) : options->count > 0 ? NULL : wrong("a bridge is needed", "");
@@ -412,6 +421,7 @@ static const char *fixed_difference(const struct options *used, const struct opt
     if (memcmp(used->serves, next->serves, sizeof used->serves) != 0)
         return "family";
     return used->ports != next->ports                     ? "ports"
+           : used->links != next->links                   ? "links"
            : used->sets_up != next->sets_up               ? "setup"
            : used->reports != next->reports               ? "report"
            : used->prints_changes != next->prints_changes ? "changes"
@@ -427,10 +437,26 @@ void options_replace(struct options *used, const struct options *next) {
                    (const uint8_t *)&next->configuration[at] + NUMBERS[which].place, sizeof(uint32_t));
     memcpy(used->own, next->own, sizeof used->own);
     memcpy(used->has_own, next->has_own, sizeof used->has_own);
+    used->chooses_vlans = next->chooses_vlans;
+    memcpy(used->vlans, next->vlans, sizeof used->vlans);
+    memcpy(used->owns, next->owns, sizeof used->owns);
+    used->owns_count = next->owns_count;
+    used->tunings = next->tunings;
     memcpy(used->routers, next->routers, sizeof used->routers);
     used->router_count = next->router_count;
     if (fixed != NULL)
         fault(FAULT_MISSING, "reload", wrong("the service has to start again for a change of --", fixed));
+}
+
+const uint8_t *options_own(const struct options *options, uint16_t vlan, bool is_mld) {
+    for (size_t at = options->owns_count; at > 0 && vlan != 0; at--) /* the last one counts */
+        if (options->owns[at - 1].vlan == vlan && options->owns[at - 1].is_mld == is_mld)
+            return options->owns[at - 1].address;
+    return options->has_own[is_mld] ? options->own[is_mld] : NULL;
+}
+
+bool options_serves_vlan(const struct options *options, uint16_t vlan) {
+    return !options->chooses_vlans || options->vlans[vlan];
 }
 
 bool options_is_router(const struct options *options, const char *port) {

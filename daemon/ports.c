@@ -2,11 +2,12 @@
 #include "ports.h"
 
 #include "faults.h"
+#include "owns.h"
 #include "setup.h"
 #include "text.h"
+#include "vlans.h"
 
 #include <errno.h>
-#include <linux/if_addr.h>
 #include <linux/if_bridge.h>
 #include <linux/if_link.h>
 #include <linux/rtnetlink.h>
@@ -21,12 +22,13 @@ void ports_open(struct querier *querier) {
     querier->news = netlink_open(NETLINK_ROUTE, RTMGRP_LINK | RTMGRP_IPV4_IFADDR | RTMGRP_IPV6_IFADDR);
     if (querier->netlink < 0 || querier->news < 0)
         fail(STATUS_FAILED, "netlink", strerror(errno));
+    vlans_listen(querier);
 }
 
 /* The most notifications that one call reads. */
 enum { NEWS = 256 };
 
-static void read_interface(const struct nlmsghdr *message, struct interface *interface) {
+void interface_of(const struct nlmsghdr *message, struct interface *interface) {
     const struct ifinfomsg *head = NLMSG_DATA(message);
     *interface = (struct interface){
         .index = head->ifi_index,
@@ -53,7 +55,7 @@ int interface_read(int netlink, const char *name, struct interface *interface) {
     if (error == 0 && answer.length < sizeof(struct ifinfomsg))
         error = EBADMSG;
     if (error == 0)
-        read_interface((const struct nlmsghdr *)(answer.message - NLMSG_HDRLEN), interface);
+        interface_of((const struct nlmsghdr *)(answer.message - NLMSG_HDRLEN), interface);
     return error;
 }
 
@@ -64,61 +66,15 @@ bool interface_setting(const struct interface *interface, bool is_port, uint16_t
     return found != NULL && attribute_number(attribute_data(found), attribute_end(found), type, number);
 }
 
-/* Takes the first address of each family that can be the source of queries. */
-static void take_address(void *context, const struct nlmsghdr *message) {
-    struct bridge *bridge = context;
-    const struct ifaddrmsg *head = NLMSG_DATA(message);
-    if (message->nlmsg_len < NLMSG_LENGTH(sizeof *head))
-        return;
-    bool is_mld = head->ifa_family == AF_INET6;
-    const uint8_t *at = (const uint8_t *)head + NLMSG_ALIGN(sizeof *head), *end = (const uint8_t *)message + message->nlmsg_len;
-    const struct nlattr *address = attribute_find(at, end, is_mld ? IFA_ADDRESS : IFA_LOCAL);
-    size_t width = is_mld ? 16 : 4;
-    uint32_t flags = head->ifa_flags;
-    attribute_number(at, end, IFA_FLAGS, &flags);
-    if (head->ifa_index != (uint32_t)bridge->index || address == NULL || bridge->has_own[is_mld])
-        return;
-    if ((size_t)(attribute_end(address) - attribute_data(address)) < width || (flags & (IFA_F_TENTATIVE | IFA_F_DADFAILED)))
-        return;
-    if (is_mld && head->ifa_scope != RT_SCOPE_LINK)
-        return;
-    memset(bridge->own[is_mld], 0, LONG_ADDRESS);
-    memcpy(bridge->own[is_mld], attribute_data(address), width);
-    bridge->has_own[is_mld] = true;
-}
-
-/* Reads the addresses of a bridge. A removed address stays in use until there is another. Returns whether the kernel's list was
-   whole. */
-static bool read_addresses(struct querier *querier, struct bridge *bridge) {
-    static const char *const missing[2] = {
-        "it has no IPv4 address, and there is no --own: IGMP waits for one, and the kernel forwards as before",
-        "it has no link-local address, and there is no --own6: MLD waits for one, and the kernel forwards as before"};
-    struct request request;
-    struct answer answer;
-    struct bridge read = *bridge;
-    struct ifaddrmsg head = {.ifa_index = (uint32_t)bridge->index};
-    memcpy(read.has_own, querier->options->has_own, sizeof read.has_own);
-    memcpy(read.own, querier->options->own, sizeof read.own);
-    request_begin(&request, RTM_GETADDR, 0, &head, sizeof head);
-    bool is_whole = netlink_dump(querier->netlink, &request, take_address, &read, &answer) == 0;
-    for (int at = 0; at < 2; at++) {
-        if (read.has_own[at])
-            memcpy(bridge->own[at], read.own[at], LONG_ADDRESS);
-        else if (is_whole && querier->options->serves[at] && !bridge->is_missed[at])
-            fault(FAULT_MISSING, bridge->name, missing[at]);
-        querier->is_stale |= read.has_own[at] && !bridge->has_own[at]; /* entries of an earlier run are to become permanent */
-        bridge->has_own[at] |= read.has_own[at];
-        bridge->is_missed[at] = is_whole && !read.has_own[at];
-    }
-    return is_whole;
-}
-
 /* Returns the place of a port, a free place, or NULL. */
-static struct port *place_of(struct querier *querier, int index) {
-    struct port *free_one = NULL;
-    for (size_t at = querier->room; at > 0; at--) {
+static struct port *place_of(struct querier *querier, int index, uint16_t vlan) {
+    size_t ports = querier->options->ports, first = vlan == 0 ? 0 : ports, last = vlan == 0 ? ports : querier->room;
+    struct port *free_one = NULL, *known = querier_port(querier, index, vlan); /* as of the last refresh */
+    if (known != NULL && known->index == index && known->vlan->id == vlan)
+        return known;
+    for (size_t at = last; at > first; at--) {
         struct port *port = querier->ports + at - 1;
-        if (port->index == index)
+        if (port->index == index && port->vlan->id == vlan)
             return port;
         if (port->index == 0)
             free_one = port;
@@ -126,7 +82,7 @@ static struct port *place_of(struct querier *querier, int index) {
     return free_one;
 }
 
-static void lose_port(struct querier *querier, struct port *port) {
+void ports_lose(struct querier *querier, struct port *port) {
     port->index = 0;
     querier_forget(querier, port);
 }
@@ -137,47 +93,79 @@ struct search {
     uint64_t now;
 };
 
-/* Begins those links of a port that have an address, and have not begun, have another address now, or have to begin again. */
-static void begin_links(struct querier *querier, struct port *port, bool is_anew, uint64_t now) {
+/* The ports of a bridge that filters VLANs. */
+static struct port seen_ports[GREATEST_PORTS];
+static size_t seen_count;
+
+void ports_begin(struct querier *querier, struct port *port, bool is_anew, uint64_t now) {
     for (int at = 0; at < 2; at++) {
         const struct served *served = &port->served[at];
-        bool is_other = memcmp(served->own, port->bridge->own[at], LONG_ADDRESS) != 0;
-        if (querier->options->serves[at] && port->bridge->has_own[at] && (is_anew || is_other || !served->is_on))
+        const struct owns *own = &port->vlan->own;
+        if (!querier->options->serves[at] || !own->has[at])
+            continue;
+        if (is_anew || !served->is_on)
             querier_begin(querier, port, at == 1, now);
+        else if (memcmp(served->own, own->address[at], LONG_ADDRESS) != 0)
+            querier_configure(querier, port, at == 1);
     }
 }
 
-/* Copies a port as the kernel has it. If the port came up or forwards again, its links begin again and query at once. */
-static void take_port(const struct search *search, const struct interface *found) {
-    struct querier *querier = search->querier;
-    struct port *port = place_of(querier, found->index);
+/* Reads a port as the kernel has it. Returns false if it has no name. */
+static bool read_port(struct bridge *bridge, const struct interface *found, struct port *port) {
     const struct nlattr *name = attribute_find(found->at, found->end, IFLA_IFNAME);
     if (name == NULL || strnlen((const char *)attribute_data(name), IF_NAMESIZE) == IF_NAMESIZE)
-        return;
-    if (port == NULL) {
-        fault(FAULT_PORTS, (const char *)attribute_data(name), "there are more ports than --ports");
-        return;
-    }
-    bool is_new = port->index != found->index || port->bridge != search->bridge;
-    if (is_new)
-        querier_forget(querier, port);
+        return false;
     uint32_t state = BR_STATE_FORWARDING;
     interface_setting(found, true, IFLA_BRPORT_STATE, &state);
-    bool is_up = found->is_up && state == BR_STATE_FORWARDING, is_anew = !is_new && is_up && !port->is_up;
+    bool is_up = found->is_up && state == BR_STATE_FORWARDING;
     *port = (struct port){.index = found->index,
-                          .bridge = search->bridge,
+                          .bridge = bridge,
+                          .vlan = &bridge->whole,
+                          .is_pvid = true,
                           .is_up = is_up,
-                          .is_blocked = found->is_up && !is_up,
-                          .is_found = true,
-                          .router = port->router,
-                          .keeps_router = port->keeps_router && !is_new,
-                          .hello_until = is_new ? 0 : port->hello_until,
-                          .served = {port->served[0], port->served[1]}};
+                          .is_blocked = found->is_up && !is_up};
     strcpy(port->name, (const char *)attribute_data(name));
+    strcpy(port->label, port->name);
     interface_setting(found, true, IFLA_BRPORT_MULTICAST_ROUTER, &port->router);
     interface_setting(found, true, IFLA_BRPORT_FAST_LEAVE, &port->fast_leave);
     interface_setting(found, true, IFLA_BRPORT_MCAST_TO_UCAST, &port->to_unicast);
-    begin_links(querier, port, is_anew, search->now);
+    return true;
+}
+
+struct port *ports_put(struct querier *querier, const struct port *seen, bool *is_anew) {
+    struct port *port = place_of(querier, seen->index, seen->vlan->id);
+    if (port == NULL)
+        return NULL;
+    if (!querier_equip(querier, port)) {
+        fault(FAULT_PORTS, seen->label, strerror(errno));
+        return NULL;
+    }
+    bool is_new = port->index != seen->index || port->bridge != seen->bridge;
+    if (is_new)
+        querier_forget(querier, port);
+    bool is_other = port->is_tagged != seen->is_tagged || port->is_pvid != seen->is_pvid;
+    *is_anew = !is_new && seen->is_up && (!port->is_up || is_other);
+    const struct port before = *port;
+    *port = *seen;
+    port->is_found = true;
+    port->keeps_router = before.keeps_router && !is_new;
+    port->hello_until = is_new ? 0 : before.hello_until;
+    memcpy(port->served, before.served, sizeof port->served);
+    return port;
+}
+
+/* Takes over a port of a bridge that does not filter VLANs. If the port came up or forwards again, its links begin again and query at
+   once. */
+static void take_port(const struct search *search, const struct interface *found) {
+    struct port seen, *port;
+    bool is_anew;
+    if (!read_port(search->bridge, found, &seen))
+        return;
+    port = ports_put(search->querier, &seen, &is_anew);
+    if (port == NULL)
+        fault(FAULT_PORTS, seen.name, "there are more ports than --ports");
+    else
+        ports_begin(search->querier, port, is_anew, search->now);
 }
 
 static void take_message(void *context, const struct nlmsghdr *message) {
@@ -185,9 +173,13 @@ static void take_message(void *context, const struct nlmsghdr *message) {
     struct interface found;
     if (message->nlmsg_len < NLMSG_LENGTH(sizeof(struct ifinfomsg)))
         return;
-    read_interface(message, &found);
-    if (found.master == search->bridge->index)
+    interface_of(message, &found);
+    if (found.master != search->bridge->index)
+        return;
+    if (!search->bridge->filters)
         take_port(search, &found);
+    else if (seen_count < GREATEST_PORTS && read_port(search->bridge, &found, &seen_ports[seen_count]))
+        seen_count++;
 }
 
 /* Reads the ports of a bridge. Returns whether the kernel's list was whole. */
@@ -209,13 +201,18 @@ static bool read_ports(struct querier *querier, struct bridge *bridge, uint64_t 
     return netlink_dump(querier->netlink, &request, take_message, &search, &answer) == 0;
 }
 
+static bool is_filtering(const struct interface *found) {
+    uint32_t number;
+    return interface_setting(found, false, IFLA_BR_VLAN_FILTERING, &number) && number != 0;
+}
+
 /* Returns the reason why a bridge cannot be served, or NULL. */
-static const char *unserved(const struct interface *found) {
+static const char *unserved(const struct querier *querier, const struct interface *found) {
     uint32_t number;
     if (!interface_setting(found, false, IFLA_BR_MCAST_SNOOPING, &number))
         return "it is no bridge, or the kernel can't snoop";
-    if (interface_setting(found, false, IFLA_BR_VLAN_FILTERING, &number) && number != 0)
-        return "it filters VLANs, which is not served: make a bridge for each VLAN";
+    if (is_filtering(found) && querier->options->is_route)
+        return "it filters VLANs, which a router does not serve: make a bridge for each VLAN";
     return NULL;
 }
 
@@ -240,39 +237,80 @@ void ports_watch_topology(struct querier *querier, uint64_t now) {
         bool is_anew = has_changed(bridge, &found);
         for (size_t port = 0; port < querier->room && is_anew; port++)
             if (querier->ports[port].index != 0 && querier->ports[port].bridge == bridge && querier->ports[port].is_up)
-                begin_links(querier, querier->ports + port, true, now);
+                ports_begin(querier, querier->ports + port, true, now);
     }
 }
 
-/* Sets when the links of a bridge know what hosts want, after a family got an address. MLD may lack one, since the kernel floods MLD
-   then in any case. `had` says which families had one before. */
+/* Returns whether the links of a bridge can begin: the kernel forwards for all VLANs, or for none, what nobody has asked for. MLD may
+   lack an address at a bridge that does not filter, since the kernel floods MLD then in any case. */
+static bool has_addresses(const struct querier *querier, const struct bridge *bridge) {
+    const bool *serves = querier->options->serves;
+    if (!bridge->filters)
+        return bridge->has_own[!serves[false]];
+    return (!serves[0] || (bridge->has_own[0] && !bridge->lacks_own[0]))
+           && (!serves[1] || (bridge->has_own[1] && !bridge->lacks_own[1]));
+}
+
+/* Sets when the links of a bridge know what hosts want, after a family got an address. `had` says which families had one before. A
+   VLAN that comes later does not have the kernel flood the others. */
 static void set_settling(struct querier *querier, struct bridge *bridge, const bool had[2], uint64_t now) {
     const bool *serves = querier->options->serves;
     bool is_new = bridge->settles == MQ_NONE;
-    for (int at = 0; at < 2; at++)
+    for (int at = 0; at < 2 && !bridge->filters; at++)
         is_new |= serves[at] && bridge->has_own[at] && !had[at];
-    if (!is_new || !bridge->has_own[!serves[false]])
+    if (!is_new || !has_addresses(querier, bridge))
         return;
     bridge->settles = now + querier_settling(querier);
     bridge->is_late |= bridge->is_settled;
     bridge->is_settled = false;
 }
 
+/* Begins the links of a bridge again after it began or ended to filter VLANs: no entry is right any longer. The kernel floods while
+   hosts are asked. */
+static void change_filtering(struct querier *querier, struct bridge *bridge) {
+    tell(bridge->name, bridge->filters ? "it does not filter VLANs any longer: its links begin anew"
+                                       : "it filters VLANs now: its links begin anew, for each VLAN");
+    querier_remove_entries(querier, bridge);
+    for (size_t at = 0; at < querier->room; at++)
+        if (querier->ports[at].index != 0 && querier->ports[at].bridge == bridge)
+            ports_lose(querier, querier->ports + at);
+    bridge->settles = MQ_NONE;
+}
+
+/* Reads the ports and addresses of a bridge. Returns whether the kernel's lists were whole. */
+static bool read_all(struct querier *querier, struct bridge *bridge, uint64_t now) {
+    const bool had[2] = {bridge->has_own[0], bridge->has_own[1]};
+    if (!bridge->filters) {
+        bool has_all = owns_read(querier, bridge);
+        set_settling(querier, bridge, had, now);
+        return read_ports(querier, bridge, now) && has_all;
+    }
+    seen_count = 0;
+    bool has_all = read_ports(querier, bridge, now);
+    has_all &= vlans_read(querier, bridge, seen_ports, seen_count, has_all);
+    has_all &= owns_read_vlans(querier, bridge);
+    set_settling(querier, bridge, had, now);
+    vlans_begin(querier, bridge, now);
+    return has_all;
+}
+
 /* Copies a bridge as the kernel has it, with its addresses and ports. Returns whether the kernel's lists were whole. */
 static bool take_bridge(struct querier *querier, struct bridge *bridge, const struct interface *found, uint64_t now) {
     const struct nlattr *mac = attribute_find(found->at, found->end, IFLA_ADDRESS);
+    bool filters = !bridge->is_port && is_filtering(found), is_other = bridge->index == found->index && bridge->filters != filters;
     if (bridge->index != found->index) {
         bridge->settles = MQ_NONE;
         bridge->is_settled = false;
         has_changed(bridge, found);
     }
     bridge->index = found->index;
+    bridge->protocol = vlans_protocol(found);
     if (mac != NULL && attribute_end(mac) - attribute_data(mac) == MAC)
         memcpy(bridge->mac, attribute_data(mac), MAC);
-    const bool had[2] = {bridge->has_own[0], bridge->has_own[1]};
-    bool has_all = read_addresses(querier, bridge);
-    set_settling(querier, bridge, had, now);
-    return read_ports(querier, bridge, now) && has_all;
+    if (is_other) /* the interface stands until this request */
+        change_filtering(querier, bridge);
+    bridge->filters = filters;
+    return read_all(querier, bridge, now);
 }
 
 /* Reads a bridge and its ports, or the one interface. Returns whether the kernel's lists were whole. */
@@ -283,7 +321,7 @@ static bool read_bridge(struct querier *querier, struct bridge *bridge, uint64_t
         fault(FAULT_NETLINK, bridge->name, strerror(error)); /* the copy stays */
         return false;
     }
-    const char *why = error == ENODEV ? "it is gone" : bridge->is_port ? NULL : unserved(&found);
+    const char *why = error == ENODEV ? "it is gone" : bridge->is_port ? NULL : unserved(querier, &found);
     if (why == NULL)
         return take_bridge(querier, bridge, &found, now);
     if (error == 0 || bridge->index != 0)
@@ -296,20 +334,30 @@ static bool read_bridge(struct querier *querier, struct bridge *bridge, uint64_t
 
 static int by_index(const void *one, const void *other) {
     const struct by_index *it = one, *its = other;
-    return (it->index > its->index) - (it->index < its->index);
+    if (it->index != its->index)
+        return it->index < its->index ? -1 : 1;
+    return (it->vlan > its->vlan) - (it->vlan < its->vlan);
 }
 
 /* Makes the ring hear at the present ports. */
 static void listen_at_ports(struct querier *querier) {
     static int indexes[GREATEST_PORTS];
-    querier->ports_count = 0;
-    for (size_t at = 0; at < querier->room; at++)
-        if (querier->ports[at].index != 0)
-            querier->by_index[querier->ports_count++] = (struct by_index){querier->ports[at].index, querier->ports + at};
+    size_t count = 0;
+    querier->ports_count = querier->untagged_count = 0;
+    for (size_t at = 0; at < querier->room; at++) {
+        struct port *port = querier->ports + at;
+        if (port->index != 0)
+            querier->by_index[querier->ports_count++] = (struct by_index){port->index, port->vlan->id, port};
+    }
     qsort(querier->by_index, querier->ports_count, sizeof *querier->by_index, by_index);
-    for (size_t at = 0; at < querier->ports_count; at++)
-        indexes[at] = querier->by_index[at].index;
-    if (ring_listen(&querier->ring, indexes, querier->ports_count) < 0) {
+    for (size_t at = 0; at < querier->ports_count; at++) {
+        const struct by_index *it = &querier->by_index[at];
+        if (it->port->is_pvid)
+            querier->untagged[querier->untagged_count++] = (struct by_index){it->index, 0, it->port};
+        if ((count == 0 || indexes[count - 1] != it->index) && count < GREATEST_PORTS)
+            indexes[count++] = it->index;
+    }
+    if (ring_listen(&querier->ring, indexes, count, querier_filters(querier)) < 0) {
         fault(FAULT_NETLINK, "packets", strerror(errno));
         querier->is_stale = true;
     }
@@ -324,10 +372,11 @@ void ports_refresh(struct querier *querier, uint64_t now) {
     for (size_t at = 0; at < querier->room && is_whole; at++) {
         if (querier->ports[at].index == 0 || querier->ports[at].is_found)
             continue;
-        lose_port(querier, querier->ports + at);
+        ports_lose(querier, querier->ports + at);
         querier->is_stale = true; /* no notification came: read all again in a second, since a place is free now */
     }
     querier->is_stale |= !is_whole;
+    vlans_free_unused(querier);
     listen_at_ports(querier);
     setup_apply(querier);
 }
@@ -344,18 +393,21 @@ static bool is_bridge(const struct querier *querier, int index) {
    once. */
 static bool concerns(struct querier *querier, const struct nlmsghdr *message) {
     struct interface found;
+    if (message->nlmsg_type == RTM_NEWVLAN || message->nlmsg_type == RTM_DELVLAN)
+        return querier_filters(querier);
     if (message->nlmsg_len < NLMSG_LENGTH(sizeof(struct ifinfomsg)))
         return false;
-    if (message->nlmsg_type == RTM_NEWADDR || message->nlmsg_type == RTM_DELADDR)
-        return is_bridge(querier, (int)((const struct ifaddrmsg *)NLMSG_DATA(message))->ifa_index);
-    read_interface(message, &found);
-    struct port *port = querier_port(querier, found.index);
-    bool has_left = message->nlmsg_type == RTM_DELLINK && port != NULL && port->index == found.index;
-    if (has_left)
-        lose_port(querier, port);
-    if (port != NULL)
-        return true;
-    return is_bridge(querier, found.index) || is_bridge(querier, found.master);
+    if (message->nlmsg_type == RTM_NEWADDR || message->nlmsg_type == RTM_DELADDR) {
+        int index = (int)((const struct ifaddrmsg *)NLMSG_DATA(message))->ifa_index;
+        return is_bridge(querier, index) || vlans_has(querier, index);
+    }
+    interface_of(message, &found);
+    size_t at = querier_first(querier, found.index);
+    bool is_port = at < querier->ports_count;
+    for (; message->nlmsg_type == RTM_DELLINK && at < querier->ports_count && querier->by_index[at].index == found.index; at++)
+        if (querier->by_index[at].port->index == found.index)
+            ports_lose(querier, querier->by_index[at].port);
+    return is_port || is_bridge(querier, found.index) || is_bridge(querier, found.master) || vlans_concerns(querier, &found);
 }
 
 bool ports_read_news(struct querier *querier) {

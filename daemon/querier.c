@@ -18,8 +18,8 @@
 #include <sys/socket.h>
 #include <time.h>
 
-/* FRAMES is the most frames that one call handles, so that other duties are done in time. */
-enum { FRAMES = 1024, SECOND = 1000, LONGEST_QUERY = 65535 };
+/* FRAMES is the most frames that one call handles, so that other duties are done in time. TAG is the length of a VLAN tag. */
+enum { TAG = 4, FRAMES = 1024, SECOND = 1000, LONGEST_QUERY = 65535 };
 /* The milliseconds by which responses to the last startup query may be late. */
 enum { LATE = 500 };
 
@@ -55,7 +55,7 @@ void querier_open(struct querier *querier, struct options *options) {
     const char *why = querier_fault(options);
     if (why != NULL)
         fail(STATUS_USAGE, "configuration", why);
-    *querier = (struct querier){.options = options, .room = options->ports};
+    *querier = (struct querier){.options = options, .room = options->ports + options->links, .vlans_room = options->links};
     for (int at = 0; at < 2; at++) {
         if (!options->serves[at])
             continue;
@@ -66,33 +66,64 @@ void querier_open(struct querier *querier, struct options *options) {
     querier->changed = take(2 * groups, LONG_ADDRESS); /* all groups may end in one call, and as many begin */
     querier->ports = take(querier->room, sizeof *querier->ports);
     querier->by_index = take(querier->room, sizeof *querier->by_index);
+    querier->untagged = take(querier->room, sizeof *querier->untagged);
+    querier->vlans = take(querier->vlans_room, sizeof *querier->vlans);
     deadlines_open(&querier->deadlines, 2 * querier->room + DEADLINES_BESIDE);
-    for (size_t at = 0; at < 2 * querier->room; at++) {
-        struct family *family = &querier->families[at % 2];
-        struct served *served = &querier->ports[at / 2].served[at % 2];
-        if (!options->serves[at % 2])
-            continue;
-        served->memory = take(family->link_size, 1);
-        keeper_open(&served->keeper, family->configuration.groups);
+    for (size_t at = 0; at < querier->room; at++) {
+        querier->ports[at].served[0].keeper.settles = querier->ports[at].served[1].keeper.settles = MQ_NONE;
+        if (at < options->ports && !querier_equip(querier, querier->ports + at))
+            fail(STATUS_FAILED, "memory for --ports, --groups and --sources", strerror(errno));
     }
     upstream_open(querier);
 }
 
-struct port *querier_port(const struct querier *querier, int index) {
-    size_t first = 0, last = querier->ports_count;
+bool querier_equip(struct querier *querier, struct port *port) {
+    for (int at = 0; at < 2; at++) {
+        const struct family *family = &querier->families[at];
+        struct served *served = &port->served[at];
+        if (!querier->options->serves[at])
+            continue;
+        if (served->memory == NULL)
+            served->memory = grab(family->link_size, 1);
+        if (served->memory == NULL || !keeper_open(&served->keeper, family->configuration.groups))
+            return false;
+    }
+    return true;
+}
+
+/* Returns the number of the first port that is not before an index and a VLAN. */
+static size_t first_of(const struct by_index *all, size_t count, int index, uint16_t vlan) {
+    size_t first = 0, last = count;
     while (first < last) {
         size_t middle = first + (last - first) / 2;
-        if (querier->by_index[middle].index < index)
+        if (all[middle].index < index || (all[middle].index == index && all[middle].vlan < vlan))
             first = middle + 1;
         else
             last = middle;
     }
-    bool is_there = first < querier->ports_count && querier->by_index[first].index == index;
-    return is_there ? querier->by_index[first].port : NULL;
+    return first;
+}
+
+struct port *querier_port(const struct querier *querier, int index, uint16_t vlan) {
+    size_t at = first_of(querier->by_index, querier->ports_count, index, vlan);
+    bool is_there = at < querier->ports_count && querier->by_index[at].index == index && querier->by_index[at].vlan == vlan;
+    return is_there ? querier->by_index[at].port : NULL;
+}
+
+size_t querier_first(const struct querier *querier, int index) {
+    size_t at = first_of(querier->by_index, querier->ports_count, index, 0);
+    return at < querier->ports_count && querier->by_index[at].index == index ? at : querier->ports_count;
+}
+
+bool querier_filters(const struct querier *querier) {
+    for (size_t at = 0; at < querier->bridges_count; at++)
+        if (querier->bridges[at].filters)
+            return true;
+    return false;
 }
 
 bool querier_place(const struct querier *querier, const struct port *port, bool is_mld, struct place *place) {
-    *place = (struct place){querier->netlink, port->bridge->index, port->index, is_mld};
+    *place = (struct place){querier->netlink, port->bridge->index, port->index, port->vlan->id, is_mld};
     if (port->bridge->is_port) {
         place->bridge = querier->kept_bridge;
         place->port = querier->kept_port;
@@ -121,14 +152,29 @@ void querier_hand_over(struct querier *querier, const struct bridge *bridge, boo
     }
 }
 
+/* Copies a frame, with a tag after its addresses (IEEE 802.1Q). Returns its length. */
+static size_t put_tag(const struct port *port, const uint8_t *frame, size_t length, uint8_t *to) {
+    const uint16_t tag[2] = {htons(port->bridge->protocol), htons(port->vlan->id)};
+    memcpy(to, frame, 2 * MAC);
+    memcpy(to + 2 * MAC, tag, sizeof tag);
+    memcpy(to + 2 * MAC + sizeof tag, frame + 2 * MAC, length - 2 * MAC);
+    return length + sizeof tag;
+}
+
 void querier_send(struct querier *querier, const struct port *port, bool is_mld, const uint8_t *frame, size_t length) {
+    static uint8_t tagged[GREATEST_FRAME + TAG];
     struct sockaddr_ll at = {.sll_family = AF_PACKET,
                              .sll_protocol = htons(is_mld ? ETH_P_IPV6 : ETH_P_IP),
                              .sll_ifindex = port->index,
                              .sll_halen = MAC};
     memcpy(at.sll_addr, frame, MAC);
+    if (port->is_tagged) {
+        length = put_tag(port, frame, length, tagged);
+        at.sll_protocol = htons(port->bridge->protocol);
+        frame = tagged;
+    }
     if (sendto(querier->ring.packets, frame, length, MSG_DONTWAIT, (struct sockaddr *)&at, sizeof at) < 0)
-        fault(FAULT_UNSENT, port->name, strerror(errno));
+        fault(FAULT_UNSENT, port->label, strerror(errno));
     else
         querier->sent++;
 }
@@ -148,7 +194,8 @@ static void send_query(struct querier *querier, const struct port *port, bool is
     }
     if (!port->is_up || upstream_is(querier, port))
         return;
-    size_t length = write_frame(is_mld, bridge->mac, bridge->own[is_mld], query->destination, query->message, query->length, frame);
+    size_t length =
+        write_frame(is_mld, bridge->mac, port->vlan->own.address[is_mld], query->destination, query->message, query->length, frame);
     querier_send(querier, port, is_mld, frame, length);
 }
 
@@ -164,7 +211,7 @@ static void print_change(const struct querier *querier, const struct port *port,
     static const char *const modes[] = {[MODE_NONE] = " none", [MODE_INCLUDE] = " include", [MODE_EXCLUDE] = " exclude"};
     printf("%" PRIu64, now);
     if (!querier->options->is_interface)
-        printf(" %s", port->name);
+        printf(" %s", port->label);
     print_address(link, " change ", group);
     fputs(modes[filter.mode], stdout);
     for (size_t at = 0; at < filter.count; at++)
@@ -191,6 +238,11 @@ static void set_deadline(struct querier *querier, const struct port *port, bool 
     if (served->is_on && served->keeper.settles < next)
         next = served->keeper.settles;
     deadlines_set(&querier->deadlines, 2 * (size_t)(port - querier->ports) + is_mld, next);
+}
+
+/* Returns the port as the options of single ports name it. */
+static struct tuned_port tuned(const struct querier *querier, const struct port *port) {
+    return (struct tuned_port){&querier->options->tunings, port->name, port->vlan->id};
 }
 
 /* Returns the configuration of a port's link: that of its interface, or that of all. */
@@ -243,20 +295,50 @@ uint64_t querier_settling(const struct querier *querier) {
     return longest;
 }
 
+/* Returns the configuration of a port's link, with the options of the port and its own address. */
+static mq_config configured_at(const struct querier *querier, const struct port *port, bool is_mld) {
+    const struct tuned_port it = tuned(querier, port);
+    mq_config configuration = *configuration_of(querier, port, is_mld);
+    tunings_configure(&it, &configuration);
+    memcpy(configuration.own, port->vlan->own.address[is_mld], sizeof configuration.own);
+    return configuration;
+}
+
+/* Makes a link in its memory, which is for the limits of all links. Those of its port are lower, and may grow while it runs. */
+static uint32_t make_link(struct family *family, struct served *served, mq_config configuration, uint64_t now) {
+    mq_config greatest = configuration;
+    greatest.groups = family->configuration.groups;
+    greatest.sources = family->configuration.sources;
+    uint32_t status = mq_link_init(greatest, now, served->memory, family->link_size, &family->workspace, &served->link);
+    return status == MQ_DONE ? mq_link_configure(&served->link, configuration) : status;
+}
+
+void querier_configure(struct querier *querier, struct port *port, bool is_mld) {
+    struct served *served = &port->served[is_mld];
+    const mq_config configuration = configured_at(querier, port, is_mld);
+    uint32_t status = mq_link_configure(&served->link, configuration);
+    if (status == MQ_DONE)
+        memcpy(served->own, configuration.own, sizeof served->own);
+    else
+        fault(FAULT_MISSING, port->label, mq_status_text(status));
+    set_deadline(querier, port, is_mld);
+}
+
 void querier_begin(struct querier *querier, struct port *port, bool is_mld, uint64_t now) {
     struct served *served = &port->served[is_mld];
-    struct family *family = &querier->families[is_mld];
-    mq_config configuration = *configuration_of(querier, port, is_mld);
+    const mq_config configuration = configured_at(querier, port, is_mld);
+    served->keeper.tuned = tuned(querier, port);
     print_ends(querier, port, served, now);
     if (querier->route != NULL && served->is_on)
         route_inherit(querier, port, is_mld);
-    memcpy(configuration.own, port->bridge->own[is_mld], sizeof configuration.own);
-    uint32_t status = mq_link_init(configuration, now, served->memory, family->link_size, &family->workspace, &served->link);
+    uint32_t status = make_link(&querier->families[is_mld], served, configuration, now);
     served->is_on = served->is_first = status == MQ_DONE;
-    memcpy(served->own, port->bridge->own[is_mld], sizeof served->own);
+    memcpy(served->own, port->vlan->own.address[is_mld], sizeof served->own);
     if (!served->is_on)
         fault(FAULT_MISSING, port->bridge->name, mq_status_text(status));
     keeper_begin(&served->keeper, now + settling(&configuration), querier->options->sets_up);
+    size_t first = 0;
+    querier->is_stale |= tunings_next_static(&served->keeper.tuned, is_mld, &first) != NULL; /* a repair makes its static entries */
     set_deadline(querier, port, is_mld);
 }
 
@@ -305,9 +387,9 @@ static void hear(struct querier *querier, struct port *port, const struct frame 
     if (is_hello(&datagram))
         heard_hello(querier, port, &datagram, now);
     else if (carried == CARRIED_NOTHING && !querier->options->is_interface)
-        fault(FAULT_MALFORMED, port->name, "a frame without a whole message");
+        fault(FAULT_MALFORMED, port->label, "a frame without a whole message");
     if (carried == CARRIED_FRAGMENT && !querier->options->is_interface)
-        fault(FAULT_FRAGMENTS, port->name, "a fragment of a message, which is not put together");
+        fault(FAULT_FRAGMENTS, port->label, "a fragment of a message, which is not put together");
     bool is_mld = carried == CARRIED_DATAGRAM && datagram.is_ipv6;
     if (carried != CARRIED_DATAGRAM || !port->served[is_mld].is_on)
         return;
@@ -323,24 +405,35 @@ static void hear(struct querier *querier, struct port *port, const struct frame 
     follow(querier, port, is_mld, now);
 }
 
+/* Returns the port that a frame came in at, or NULL. At a bridge that filters VLANs, a frame without a tag or with VLAN 0 is in the
+   port's own VLAN. A tag of the other protocol is none for the bridge. */
+static struct port *port_of(const struct querier *querier, const struct frame *frame) {
+    if (frame->vlan == 0) {
+        size_t at = first_of(querier->untagged, querier->untagged_count, frame->index, 0);
+        bool is_there = at < querier->untagged_count && querier->untagged[at].index == frame->index;
+        return is_there ? querier->untagged[at].port : NULL;
+    }
+    struct port *port = querier_port(querier, frame->index, frame->vlan);
+    return port != NULL && port->bridge->protocol == frame->protocol ? port : NULL;
+}
+
 void querier_hear(struct querier *querier, uint64_t now) {
     struct frame frame;
     for (int count = 0; count < FRAMES && ring_next(&querier->ring, &frame); count++) {
-        struct port *port = querier_port(querier, frame.index);
+        struct port *port = port_of(querier, &frame);
         if (port != NULL && !port->is_blocked)
             hear(querier, port, &frame, now);
     }
 }
 
-/* Returns the Query Interval in milliseconds. Both families have the same. */
-static uint64_t query_interval(const struct querier *querier) {
+uint64_t querier_interval(const struct querier *querier) {
     return SECOND * (uint64_t)querier->options->configuration[false].query_interval;
 }
 
 void querier_watch_clock(struct querier *querier, uint64_t now) {
     char why[80];
     uint64_t due = querier->deadlines.moments[deadlines_first(&querier->deadlines)];
-    if (now < due || now - due < query_interval(querier))
+    if (now < due || now - due < querier_interval(querier))
         return;
     snprintf(why, sizeof why, "%" PRIu64 " ms passed unseen: each link begins anew", now - due);
     fault(FAULT_CLOCK, "clock", why);
@@ -396,34 +489,4 @@ void querier_tick(struct querier *querier, uint64_t now) {
             deadlines_set(deadlines, first, now + SECOND);
         }
     }
-}
-
-/* Notes an own entry of the dump at its link. */
-static void note(void *context, const struct entry *entry) {
-    const struct querier *querier = context;
-    bool is_interface = querier->options->is_interface;
-    struct port *port = is_interface ? querier->ports : querier_port(querier, entry->port);
-    struct served *served = port == NULL ? NULL : &port->served[entry->is_mld];
-    bool is_ours = entry->maker == MAKER_US && querier->options->serves[entry->is_mld];
-    if (served != NULL && is_ours && (!is_interface || entry->port == querier->kept_port))
-        keeper_note(&served->keeper, served->is_on ? &served->link : NULL, entry);
-}
-
-/* Corrects the entries of a port after a dump was noted. */
-static void repair(struct querier *querier, struct port *port, bool is_mld, bool is_whole) {
-    struct served *served = &port->served[is_mld];
-    struct place place;
-    if (port->index != 0 && querier->options->serves[is_mld] && querier_place(querier, port, is_mld, &place))
-        keeper_repair(&served->keeper, served->is_on ? &served->link : NULL, &place, is_whole);
-}
-
-void querier_repair(struct querier *querier, uint64_t now) {
-    bool keeps = !querier->options->is_interface || querier->kept_port != 0;
-    for (size_t at = 0; at < 2 * querier->room; at++)
-        keeper_forget_seen(&querier->ports[at / 2].served[at % 2].keeper);
-    bool is_whole = !keeps || mdb_dump(querier->netlink, note, querier);
-    for (size_t at = 0; at < 2 * querier->room; at++)
-        repair(querier, querier->ports + at / 2, at % 2, is_whole);
-    querier->is_stale |= !is_whole;
-    deadlines_set(&querier->deadlines, 2 * querier->room + DEADLINE_REPAIR, now + query_interval(querier));
 }

@@ -20,25 +20,20 @@ static const char *fault_of(const struct options *options) {
     return NULL;
 }
 
-/* Takes over the configuration of an interface. Returns whether its links have to begin again. */
-static bool take_over(struct bridge *bridge, bool is_mld, const mq_config *next) {
-    struct family family = {.configuration = bridge->configuration[is_mld]};
-    bool was_configured = bridge->is_configured[is_mld], is_other = family_retime(&family, next); /* the limits stay */
-    bridge->configuration[is_mld] = was_configured ? family.configuration : *next;
+/* Takes over the configuration of an interface. Its limits stay. */
+static void take_over(struct bridge *bridge, bool is_mld, const mq_config *next) {
+    if (!bridge->is_configured[is_mld])
+        bridge->configuration[is_mld] = *next;
+    link_retime(&bridge->configuration[is_mld], next);
     bridge->is_configured[is_mld] = true;
-    return was_configured && is_other;
 }
 
-const char *route_configure(struct querier *querier, const struct options *options, uint64_t now) {
+const char *route_configure(struct querier *querier, const struct options *options) {
     const char *why = fault_of(options);
     for (size_t at = 0; at < 2 * querier->bridges_count && why == NULL; at++) {
-        struct bridge *bridge = &querier->bridges[at / 2];
         mq_config next = configured(options, at / 2, at % 2);
-        if (!querier->options->serves[at % 2] || !take_over(bridge, at % 2, &next))
-            continue;
-        for (size_t port = 0; port < querier->room; port++)
-            if (querier->ports[port].bridge == bridge && querier->ports[port].served[at % 2].is_on)
-                querier_begin(querier, querier->ports + port, at % 2, now);
+        if (querier->options->serves[at % 2])
+            take_over(&querier->bridges[at / 2], at % 2, &next);
     }
     return why;
 }
@@ -49,7 +44,7 @@ const char *route_reload(struct querier *querier, const struct options *options,
     for (size_t at = 0; at < used->count && is_same; at++)
         is_same = strcmp(options->names[at], used->names[at]) == 0;
     is_same &= memcmp(options->upstream.names, used->upstream.names, sizeof used->upstream.names) == 0;
-    const char *why = is_same ? route_configure(querier, options, now) : "other interfaces need a new start";
+    const char *why = is_same ? route_configure(querier, options) : "other interfaces need a new start";
     if (why != NULL)
         return why;
     memcpy(used->interfaces, options->interfaces, sizeof used->interfaces);

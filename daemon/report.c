@@ -5,6 +5,7 @@
 #include "text.h"
 
 #include <inttypes.h>
+#include <stdlib.h>
 #include <string.h>
 
 static const char *const family_names[2] = {"igmp", "mld"};
@@ -43,6 +44,12 @@ static size_t walk_groups(const mq_link *link, void (*each)(const mq_link *, con
             each(link, &groups[at], first + at, now, to);
     }
     return first;
+}
+
+/* Orders ports by their VLANs, and then by their interfaces. */
+static int by_vlan(const void *one, const void *other) {
+    const struct port *it = *(const struct port *const *)one, *its = *(const struct port *const *)other;
+    return it->vlan->id != its->vlan->id ? it->vlan->id - its->vlan->id : it->index - its->index;
 }
 
 static bool has_link(const struct querier *querier, const struct port *port, const struct bridge *bridge) {
@@ -114,25 +121,71 @@ static void text_timing(const struct querier *querier, FILE *to) {
             it->robustness, it->query_interval, it->response_interval, it->last_member_interval);
 }
 
+/* The ports of a bridge, or of the router's bridges if that is NULL: in the order of their places, and with VLANs in the order of VLANs.
+   Returns how many there are. */
+static const struct port **ports_of(const struct querier *querier, const struct bridge *bridge, size_t *count) {
+    static const struct port *found[GREATEST_PORTS + GREATEST_LINKS];
+    *count = 0;
+    for (size_t at = 0; at < querier->room; at++)
+        if (has_link(querier, querier->ports + at, bridge))
+            found[(*count)++] = querier->ports + at;
+    if (bridge != NULL && bridge->filters)
+        qsort(found, *count, sizeof *found, by_vlan);
+    return found;
+}
+
+static struct tuned_port tuned(const struct querier *querier, const struct port *port) {
+    return (struct tuned_port){&querier->options->tunings, port->name, port->vlan->id};
+}
+
+/* Prints a port's own options: fast leave, limits of IGMP and MLD, and static groups. */
+static void text_tuned(const struct querier *querier, const struct port *port, FILE *to) {
+    const struct tuned_port its = tuned(querier, port);
+    const mq_config *all = &querier->families[!querier->options->serves[false]].configuration;
+    mq_config configuration = *all;
+    char text[LONGEST_ADDRESS + 1];
+    const uint8_t *group;
+    tunings_configure(&its, &configuration);
+    if (tunings_leave_fast(&its))
+        fputs(", fast leave", to);
+    if (configuration.groups != all->groups || configuration.sources != all->sources)
+        fprintf(to, ", limit %" PRIu32 " groups, %" PRIu32 " sources", configuration.groups, configuration.sources);
+    for (int family = 0; family < 2; family++)
+        for (size_t at = 0; (group = tunings_next_static(&its, family == 1, &at)) != NULL;) {
+            *(family == 1 ? put_ipv6_address : put_ipv4_address)(text, group) = '\0';
+            fprintf(to, ", static %s", text);
+        }
+}
+
+static void text_port(const struct querier *querier, const struct port *port, uint64_t now, FILE *to) {
+    fprintf(to, "port %s%s", port->name, port->is_blocked ? ", blocked" : port->is_up ? "" : ", down");
+    if (port->vlan->id != 0)
+        fprintf(to, ", %s%s", port->is_tagged ? "tagged" : "untagged", port->is_pvid ? ", PVID" : "");
+    if (options_is_router(querier->options, port->name))
+        fputs(", a router's by --router-port", to);
+    text_tuned(querier, port, to);
+    if (port->hello_until > now)
+        fprintf(to, ", a router of PIM for %" PRIu64 " ms", port->hello_until - now);
+    putc('\n', to);
+    for (int family = 0; family < 2; family++)
+        if (querier->options->serves[family])
+            text_link(port, family == 1, now, to);
+}
+
 static void report_text(const struct querier *querier, const struct bridge *bridge, uint64_t now, FILE *to) {
+    size_t count;
+    uint16_t vlan = 0;
+    const struct port **ports = ports_of(querier, bridge, &count);
     fprintf(to, "%s %s, %" PRIu64 " ms since the start\n", kind_of(bridge), name_of(querier, bridge), now);
     text_timing(querier, to);
     fprintf(to, "datagrams %" PRIu64 ", queries %" PRIu64 "\n", querier->heard, querier->sent);
     for (int at = 0; at < FAULT_KINDS; at++)
         fprintf(to, "%s %" PRIu64 "%s", fault_names[at], fault_counts[at], at + 1 < FAULT_KINDS ? ", " : "\n");
-    for (size_t at = 0; at < querier->room; at++) {
-        const struct port *port = querier->ports + at;
-        if (!has_link(querier, port, bridge))
-            continue;
-        fprintf(to, "port %s%s", port->name, port->is_blocked ? ", blocked" : port->is_up ? "" : ", down");
-        if (options_is_router(querier->options, port->name))
-            fputs(", a router's by --router-port", to);
-        if (port->hello_until > now)
-            fprintf(to, ", a router of PIM for %" PRIu64 " ms", port->hello_until - now);
-        putc('\n', to);
-        for (int family = 0; family < 2; family++)
-            if (querier->options->serves[family])
-                text_link(port, family == 1, now, to);
+    for (size_t at = 0; at < count; at++) {
+        if (ports[at]->vlan->id != vlan)
+            fprintf(to, "vlan %u\n", (unsigned)ports[at]->vlan->id);
+        vlan = ports[at]->vlan->id;
+        text_port(querier, ports[at], now, to);
     }
     if (bridge == NULL)
         routed_text(querier, to);
@@ -186,6 +239,12 @@ static void json_port(const struct querier *querier, const struct port *port, bo
     fprintf(to, "%s\n{\"port\":\"%s\",\"up\":%s,\"blocked\":%s,\"router_port\":%s", is_first ? "" : ",", port->name,
             port->is_up ? "true" : "false", port->is_blocked ? "true" : "false",
             options_is_router(querier->options, port->name) ? "true" : "false");
+    if (port->vlan->id != 0)
+        fprintf(to, ",\"vlan\":%u,\"tagged\":%s,\"pvid\":%s", (unsigned)port->vlan->id, port->is_tagged ? "true" : "false",
+                port->is_pvid ? "true" : "false");
+    const struct tuned_port its = tuned(querier, port);
+    if (tunings_leave_fast(&its))
+        fputs(",\"fast_leave\":true", to);
     json_moment("pim_left", port->hello_until > now ? port->hello_until : MQ_NONE, now, to);
     for (int family = 0; family < 2; family++) {
         if (!querier->options->serves[family])
@@ -198,7 +257,8 @@ static void json_port(const struct querier *querier, const struct port *port, bo
 
 static void report_json(const struct querier *querier, const struct bridge *bridge, uint64_t now, FILE *to) {
     const mq_config *it = querier->options->configuration;
-    bool is_first = true;
+    size_t count;
+    const struct port **ports = ports_of(querier, bridge, &count);
     fprintf(to,
             "{\"%s\":\"%s\",\"now\":%" PRIu64 ",\"robustness\":%" PRIu32 ",\"query_interval\":%" PRIu32
             ",\"response_interval\":%" PRIu32 ",\"last_member_interval\":%" PRIu32 ",\"datagrams\":%" PRIu64 ",\"queries\":%" PRIu64
@@ -208,12 +268,8 @@ static void report_json(const struct querier *querier, const struct bridge *brid
     for (int at = 0; at < FAULT_KINDS; at++)
         fprintf(to, "%s\"%s\":%" PRIu64, at > 0 ? "," : "", fault_names[at], fault_counts[at]);
     fputs("},\"ports\":[", to);
-    for (size_t at = 0; at < querier->room; at++) {
-        if (!has_link(querier, querier->ports + at, bridge))
-            continue;
-        json_port(querier, querier->ports + at, is_first, now, to);
-        is_first = false;
-    }
+    for (size_t at = 0; at < count; at++)
+        json_port(querier, ports[at], at == 0, now, to);
     putc(']', to);
     if (bridge == NULL)
         routed_json(querier, to);
@@ -240,14 +296,20 @@ static uint64_t metric_of(const struct served *served, int which, FILE *to) {
 /* Writes one metric of each link. */
 static void metric(const struct querier *querier, const struct bridge *bridge, int which, FILE *to) {
     static const char *const gauges[] = {"groups", "entries", "is_querier"};
+    size_t count;
     const char *name = which < COUNTERS ? counter_names[which] : gauges[which - COUNTERS], *end = which < COUNTERS ? "_total" : "";
     fprintf(to, "# TYPE mquerier_%s%s %s\n", name, end, which < COUNTERS ? "counter" : "gauge");
-    for (size_t at = 0; at < 2 * querier->room; at++) {
-        const struct port *port = querier->ports + at / 2;
+    const struct port **ports = ports_of(querier, bridge, &count);
+    for (size_t at = 0; at < 2 * count; at++) {
+        const struct port *port = ports[at / 2];
         const struct served *served = &port->served[at % 2];
-        if (has_link(querier, port, bridge) && served->is_on)
-            fprintf(to, "mquerier_%s%s{%s=\"%s\",port=\"%s\",family=\"%s\"} %" PRIu64 "\n", name, end, kind_of(bridge),
-                    name_of(querier, bridge), port->name, family_names[at % 2], metric_of(served, which, to));
+        char vlan[24] = "";
+        if (!served->is_on)
+            continue;
+        if (port->vlan->id != 0)
+            snprintf(vlan, sizeof vlan, ",vlan=\"%u\"", (unsigned)port->vlan->id);
+        fprintf(to, "mquerier_%s%s{%s=\"%s\",port=\"%s\"%s,family=\"%s\"} %" PRIu64 "\n", name, end, kind_of(bridge),
+                name_of(querier, bridge), port->name, vlan, family_names[at % 2], metric_of(served, which, to));
     }
 }
 

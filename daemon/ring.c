@@ -11,7 +11,8 @@
 /* The kernel hands a block over when it is full, or after four milliseconds. So slow traffic takes four seconds to use up the ring,
    while the program may do other work. A frame is shorter than a block. */
 enum { BLOCKS = 1024, BLOCK = 1 << 14, FRAME = 1 << 11, HANDED_OVER_MS = 4 };
-enum { KEPT_BYTES = BLOCK }; /* the most bytes of a frame that are kept */
+enum { KEPT_BYTES = BLOCK };  /* the most bytes of a frame that are kept */
+enum { VLAN_NUMBER = 0xfff }; /* the bits of a tag that are the VLAN */
 
 static struct tpacket_block_desc *block_of(const struct ring *ring) {
     return (struct tpacket_block_desc *)(ring->blocks + (size_t)ring->at * BLOCK);
@@ -85,14 +86,16 @@ static const struct sock_filter MESSAGES[] = {
     BPF_STMT(BPF_RET | BPF_K, 0),
     BPF_STMT(BPF_LD | BPF_W | BPF_ABS, SKF_AD_OFF + SKF_AD_IFINDEX),
 };
-enum { HEAD = sizeof MESSAGES / sizeof *MESSAGES };
+enum { HEAD = sizeof MESSAGES / sizeof *MESSAGES, TAG_TEST = 2 };
 
-int ring_listen(struct ring *ring, const int *indexes, size_t count) {
+int ring_listen(struct ring *ring, const int *indexes, size_t count, bool hears_tags) {
     static struct sock_filter filter[HEAD + 2 * GREATEST_PORTS + 1];
     static const struct sock_filter keep = BPF_STMT(BPF_RET | BPF_K, KEPT_BYTES), drop = BPF_STMT(BPF_RET | BPF_K, 0);
     struct sockaddr_ll all = {.sll_family = AF_PACKET, .sll_protocol = htons(ETH_P_ALL)};
     struct sock_fprog program = {.len = (unsigned short)(HEAD + 2 * count + 1), .filter = filter};
     memcpy(filter, MESSAGES, sizeof MESSAGES);
+    if (hears_tags)
+        filter[TAG_TEST].jf = 0;
     for (size_t at = 0; at < count; at++) {
         filter[HEAD + 2 * at] = (struct sock_filter)BPF_JUMP(BPF_JMP | BPF_JEQ | BPF_K, (uint32_t)indexes[at], 0, 1);
         filter[HEAD + 2 * at + 1] = keep;
@@ -133,7 +136,11 @@ bool ring_next(struct ring *ring, struct frame *frame) {
             return false;
         const uint8_t *head = (const uint8_t *)ring->packet;
         const struct sockaddr_ll *from = (const void *)(head + TPACKET_ALIGN(sizeof *ring->packet));
-        *frame = (struct frame){head + ring->packet->tp_mac, ring->packet->tp_snaplen, from->sll_ifindex};
+        *frame = (struct frame){head + ring->packet->tp_mac, ring->packet->tp_snaplen, from->sll_ifindex, 0, 0};
+        if (ring->packet->tp_status & TP_STATUS_VLAN_VALID) {
+            frame->vlan = ring->packet->hv1.tp_vlan_tci & VLAN_NUMBER;
+            frame->protocol = ring->packet->hv1.tp_vlan_tpid;
+        }
         ring->packet = (const void *)(head + ring->packet->tp_next_offset);
         ring->left--;
         if (from->sll_pkttype != PACKET_OUTGOING && from->sll_pkttype != PACKET_OTHERHOST)

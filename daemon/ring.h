@@ -21,14 +21,16 @@ struct ring {
 struct frame {
     const uint8_t *bytes;
     size_t length;
-    int index; /* the interface that it came in at */
+    int index;         /* the interface that it came in at */
+    uint16_t vlan;     /* the VLAN of its tag, or 0 */
+    uint16_t protocol; /* the EtherType of its tag */
 };
 
 /* Opens a socket that hears nothing yet. Returns 0, or -1 with `errno`. */
 int ring_open(struct ring *ring);
-/* Makes the socket hear messages of IGMP and MLD, their first fragments and Hellos of PIM, without a VLAN tag. It hears at these
-   interfaces, at most GREATEST_PORTS. Returns 0, or -1 with `errno`. */
-int ring_listen(struct ring *ring, const int *indexes, size_t count);
+/* Makes the socket hear messages of IGMP and MLD, their first fragments and Hellos of PIM: also those with a VLAN tag, if `hears_tags`.
+   It hears at these interfaces, at most GREATEST_PORTS. Returns 0, or -1 with `errno`. */
+int ring_listen(struct ring *ring, const int *indexes, size_t count, bool hears_tags);
 /* Makes an interface receive all multicast frames. Returns 0, or -1 with `errno`. */
 int ring_join(struct ring *ring, int index);
 /* Reads the next frame that came from outside. It stands until the next call. Returns false if no frame waits. */

@@ -111,7 +111,7 @@ void route_open(struct querier *querier) {
         bool is_upstream = at >= route.downstream;
         route.vifs[at].name = is_upstream ? options->upstream.names[at - route.downstream] : options->names[at];
     }
-    const char *why = route_configure(querier, options, moment());
+    const char *why = route_configure(querier, options);
     if (why != NULL)
         fail(STATUS_USAGE, "configuration", why);
     allow_files();

@@ -35,8 +35,8 @@ struct route {
 
 /* Opens the kernel's tables, and allocates all memory. Ends the program if another router holds a table. */
 void route_open(struct querier *querier);
-/* Takes over the variables of interfaces, whose links begin again if they change. Returns NULL, or a fault as text. */
-const char *route_configure(struct querier *querier, const struct options *options, uint64_t now);
+/* Takes over the variables of interfaces. Returns NULL, or a fault as text. */
+const char *route_configure(struct querier *querier, const struct options *options);
 /* Takes over options that may change: variables, prefixes, scope, and times. Returns NULL, or a fault as text. */
 const char *route_reload(struct querier *querier, const struct options *options, uint64_t now);
 /* Adds interfaces that came, and removes those that are gone. */

@@ -5,7 +5,7 @@
 #include "querier.h"
 
 /* Opens the socket that asks for the generation of the rules. */
-void rules_open(void);
+void rules_open(const struct options *options);
 /* Makes the rules for the ports of a bridge, unless the last call made the same ones. */
 void rules_apply(struct querier *querier, const struct bridge *bridge);
 /* Makes the next `rules_apply` make all rules again if anybody else changed any rule of nftables. This only asks the kernel: it

@@ -31,6 +31,10 @@ static const struct setting {
     [HASH_MAX] = {"mcast_hash_max", IFLA_BR_MCAST_HASH_MAX, 4, "with more entries it snoops no more"},
     [QUERIER] = {"mcast_querier", IFLA_BR_MCAST_QUERIER, 1, "it floods until it hears a querier"},
 };
+/* It is one of several flags in one attribute, `struct br_boolopt_multi`. */
+static const struct setting vlan_snooping = {"mcast_vlan_snooping", IFLA_BR_MULTI_BOOLOPT, 8,
+                                             "it follows no setting of the bridge"};
+enum { VLAN_SNOOPING_BIT = 1 << 1 };
 static const struct setting router = {"mcast_router", IFLA_BRPORT_MULTICAST_ROUTER, 1,
                                       "a query that is heard there brings all groups there"};
 enum { ROUTER_NEVER = 0, ROUTER_ALWAYS = 2, GREATEST_BEFORE = 1 << 16 };
@@ -43,7 +47,7 @@ static uint32_t wanted(const struct querier *querier, const struct bridge *bridg
     uint64_t entries = 0;
     for (int at = 0; at < 2; at++) {
         serves[at] = options->serves[at] && (bridge->has_own[at] || !options->sets_up);
-        entries += serves[at] ? querier->room * querier->families[at].entries : 0;
+        entries += serves[at] ? (uint64_t)(bridge->filters ? options->links : options->ports) * querier->families[at].entries : 0;
     }
     switch (which) {
     case IGMP_VERSION: return serves[false] ? 3 : 0;
@@ -58,13 +62,15 @@ static uint32_t wanted(const struct querier *querier, const struct bridge *bridg
 static bool set(struct querier *querier, int index, const char *name, bool is_port, const struct setting *it, uint32_t value) {
     struct request request;
     struct answer answer;
+    const uint32_t flags[2] = {value != 0 ? VLAN_SNOOPING_BIT : 0, VLAN_SNOOPING_BIT};
     uint8_t byte = (uint8_t)value;
+    const void *data = it->width == 1 ? (const void *)&byte : it->width == 4 ? (const void *)&value : flags;
     request_link(&request, RTM_NEWLINK, 0, index);
     size_t about = request_begin_nest(&request, IFLA_LINKINFO);
     request_put(&request, is_port ? IFLA_INFO_SLAVE_KIND : IFLA_INFO_KIND, "bridge", strlen("bridge"));
-    size_t data = request_begin_nest(&request, is_port ? IFLA_INFO_SLAVE_DATA : IFLA_INFO_DATA);
-    request_put(&request, it->type, it->width == 1 ? (const void *)&byte : (const void *)&value, it->width);
-    request_end_nest(&request, data);
+    size_t within = request_begin_nest(&request, is_port ? IFLA_INFO_SLAVE_DATA : IFLA_INFO_DATA);
+    request_put(&request, it->type, data, it->width);
+    request_end_nest(&request, within);
     request_end_nest(&request, about);
     int error = netlink_ask(querier->netlink, &request, &answer);
     if (error != 0)
@@ -117,10 +123,29 @@ static bool remember(const struct bridge *bridge, int port, const struct setting
     return false;
 }
 
+/* Has the kernel use the settings of a bridge that filters VLANs for all of them, and not settings of each. It then forgets what it has
+   learned, and floods until its own querier is on again. */
+static void apply_to_vlans(struct querier *querier, struct bridge *bridge, const uint32_t *querier_is_on, uint32_t flags,
+                           bool tells) {
+    if (!bridge->filters || !(flags & VLAN_SNOOPING_BIT))
+        return;
+    if (!querier->options->sets_up) {
+        if (tells)
+            tell_setting(bridge->name, &vlan_snooping, 1, 0);
+        return;
+    }
+    bool floods = querier_is_on == NULL || *querier_is_on == 0;
+    if (!floods && remember(bridge, 0, &settings[QUERIER], 1))
+        set(querier, bridge->index, bridge->name, false, &settings[QUERIER], 0);
+    if (remember(bridge, 0, &vlan_snooping, 1))
+        set(querier, bridge->index, bridge->name, false, &vlan_snooping, 0);
+    querier->is_stale |= !floods; /* the kernel's querier is on again when links know what hosts want */
+}
+
 /* Sets up a bridge, or prints its wrong settings. */
 static void apply_to_bridge(struct querier *querier, struct bridge *bridge, const char *name, bool tells) {
     struct interface found;
-    uint32_t values[SETTINGS];
+    uint32_t values[SETTINGS], flags = 0;
     bool has[SETTINGS];
     if (interface_read(querier->netlink, name, &found) != 0) {
         querier->is_stale = true;
@@ -128,6 +153,8 @@ static void apply_to_bridge(struct querier *querier, struct bridge *bridge, cons
     }
     for (int at = 0; at < SETTINGS; at++)
         has[at] = interface_setting(&found, false, settings[at].type, &values[at]);
+    interface_setting(&found, false, vlan_snooping.type, &flags);
+    apply_to_vlans(querier, bridge, has[QUERIER] ? &values[QUERIER] : NULL, flags, tells);
     for (int at = 0; at < SETTINGS; at++) {
         uint32_t least = wanted(querier, bridge, at);
         if (!has[at] || values[at] >= least)
@@ -156,6 +183,16 @@ static void apply_to_port(struct querier *querier, struct port *port) {
         set(querier, port->index, port->name, true, &router, value);
 }
 
+/* Sets up the port with this number. One port in several VLANs is set up once. */
+static void apply_once(struct querier *querier, size_t number) {
+    struct port *port = querier->by_index[number].port;
+    const struct port *first = querier->by_index[querier_first(querier, port->index)].port;
+    if (port == first)
+        apply_to_port(querier, port);
+    else
+        port->keeps_router = first->keeps_router;
+}
+
 /* Has the kernel flood again while a late family begins, if it did before --setup. */
 static void flood_again(struct querier *querier, struct bridge *bridge) {
     if (bridge->is_late && querier->options->sets_up && is_remembered(bridge, 0, &settings[QUERIER]))
@@ -166,7 +203,10 @@ static void flood_again(struct querier *querier, struct bridge *bridge) {
 /* Returns whether each served family has an address at a bridge. */
 static bool has_addresses(const struct querier *querier, const struct bridge *bridge) {
     const bool *serves = querier->options->serves;
-    return (bridge->has_own[0] || !serves[0]) && (bridge->has_own[1] || !serves[1]);
+    for (int at = 0; at < 2; at++)
+        if (serves[at] && (!bridge->has_own[at] || bridge->lacks_own[at]))
+            return false;
+    return true;
 }
 
 void setup_apply(struct querier *querier) {
@@ -184,9 +224,9 @@ void setup_apply(struct querier *querier) {
             rules_apply(querier, bridge);
         flood_again(querier, bridge);
         apply_to_bridge(querier, bridge, options->is_interface ? options->bridge : bridge->name, tells);
-        for (size_t port = 0; port < querier->room && has_ports; port++)
-            if (querier->ports[port].index != 0 && querier->ports[port].bridge == bridge)
-                apply_to_port(querier, querier->ports + port);
+        for (size_t port = 0; port < querier->ports_count && has_ports; port++)
+            if (querier->by_index[port].port->bridge == bridge)
+                apply_once(querier, port);
         if (tells && !options->is_interface)
             advice_ports(querier, bridge);
     }
@@ -212,7 +252,7 @@ void setup_check(const struct querier *querier) {
 static bool put_back(struct querier *querier, const struct bridge *bridge, const char *line) {
     char name[32], port[IF_NAMESIZE];
     int index;
-    uint32_t value;
+    uint32_t value, filters;
     struct interface found;
     if (sscanf(line, "%d %31s %" SCNu32, &index, name, &value) != 3)
         return true;
@@ -220,6 +260,10 @@ static bool put_back(struct querier *querier, const struct bridge *bridge, const
         return strcmp(name, router.name) != 0 || if_indextoname((unsigned)index, port) == NULL
                || set(querier, index, port, true, &router, value);
     int error = interface_read(querier->netlink, bridge->name, &found);
+    if (error == 0 && strcmp(name, vlan_snooping.name) == 0) { /* a bridge that does not filter lacks this setting */
+        value = interface_setting(&found, false, IFLA_BR_VLAN_FILTERING, &filters) && filters != 0;
+        return value == 0 || set(querier, found.index, bridge->name, false, &vlan_snooping, value);
+    }
     for (int at = 0; at < SETTINGS && error == 0; at++)
         if (strcmp(name, settings[at].name) == 0)
             return set(querier, found.index, bridge->name, false, &settings[at], value);
@@ -247,8 +291,11 @@ void setup_end(struct querier *querier, struct bridge *bridge) {
     }
     nanosleep(&handed_over, NULL);
     querier_hear(querier, moment());
+    bool snoops_vlans = bridge->filters && is_remembered(bridge, 0, &vlan_snooping);
+    if (snoops_vlans) /* first, because the kernel removes temporary entries then */
+        set(querier, bridge->index, bridge->name, false, &vlan_snooping, 1);
     for (int at = 0; at < 2; at++) /* an older version looks at no source, so an entry of sources would end too early */
-        querier_hand_over(querier, bridge, at == 1, !is_remembered(bridge, 0, &settings[versions[at]]));
+        querier_hand_over(querier, bridge, at == 1, !snoops_vlans && !is_remembered(bridge, 0, &settings[versions[at]]));
     undo(querier, bridge);
 }
 
@@ -261,7 +308,7 @@ static void undo_killed(struct querier *querier, struct bridge *bridge) {
 void setup_open(struct querier *querier) {
     char name[4096];
     if (querier->options->sets_up)
-        rules_open();
+        rules_open(querier->options);
     for (size_t at = 0; at < querier->bridges_count; at++) {
         struct bridge *bridge = &querier->bridges[at];
         if (bridge->is_port)

@@ -38,8 +38,9 @@ void upstream_open(struct querier *querier) {
     upstreams = take(2 * querier->room, sizeof *upstreams);
     for (size_t at = 0; at < 2 * querier->room; at++) {
         size_t room = querier->options->serves[at % 2] ? GROUPS_OF * querier->families[at % 2].configuration.groups : 0;
-        upstreams[at] =
-            (struct upstream){.all = take(room, sizeof(struct told)), .room = room, .next = MQ_NONE, .answer_due = MQ_NONE};
+        upstreams[at] = (struct upstream){.room = room, .next = MQ_NONE, .answer_due = MQ_NONE};
+        if (at < 2 * querier->options->ports)
+            upstreams[at].all = take(room, sizeof(struct told));
     }
 }
 
@@ -69,14 +70,14 @@ static struct told *find(const struct upstream *it, const uint8_t *group) {
     return told < it->all + it->count && memcmp(told->group, group, LONG_ADDRESS) == 0 ? told : NULL;
 }
 
-/* Returns what the ports of a bridge other than this one want of a group. Its sources stand until the next call. */
+/* Returns what the ports of a bridge, or of its VLAN, other than this one want of a group. Its sources stand until the next call. */
 static struct filter merged(const struct querier *querier, const struct port *at, bool is_mld, const uint8_t *group) {
     static uint8_t sources[RECORD_SOURCES][LONG_ADDRESS];
     struct filter all = {MODE_NONE, 0, (const uint8_t(*)[LONG_ADDRESS])sources};
     for (size_t number = 0; number < querier->ports_count; number++) {
         const struct port *port = querier->by_index[number].port;
         struct place place;
-        if (port == at || port->bridge != at->bridge || !querier_place(querier, port, is_mld, &place))
+        if (port == at || port->vlan != at->vlan || !querier_place(querier, port, is_mld, &place))
             continue;
         const struct served *served = &port->served[is_mld];
         struct filter one = keeper_filter(&served->keeper, served->is_on ? &served->link : NULL, &place, group);
@@ -122,8 +123,10 @@ static void compare(struct querier *querier, const struct port *at, bool is_mld,
     uint64_t sum = sum_of(&filter);
     if (told == NULL ? filter.mode == MODE_NONE || stays_here(is_mld, group) : told->sum == sum)
         return;
-    if (told == NULL && it->count == it->room) {
-        fault(FAULT_LIMITS, at->name, "more groups than --report has room for, four times --groups");
+    if (it->all == NULL) /* a port in a VLAN */
+        it->all = grab(it->room, sizeof(struct told));
+    if (told == NULL && (it->count == it->room || it->all == NULL)) {
+        fault(FAULT_LIMITS, at->label, "more groups than --report has room for, four times --groups");
         return;
     }
     if (told == NULL) {
@@ -141,7 +144,7 @@ static void compare(struct querier *querier, const struct port *at, bool is_mld,
 void upstream_note(struct querier *querier, const struct port *from, bool is_mld, const uint8_t *group, uint64_t now) {
     for (size_t at = 0; upstreams != NULL && at < querier->ports_count; at++) {
         const struct port *port = querier->by_index[at].port;
-        if (port != from && port->bridge == from->bridge && upstream_is(querier, port))
+        if (port != from && port->vlan == from->vlan && upstream_is(querier, port))
             compare(querier, port, is_mld, group, now);
     }
 }
@@ -209,7 +212,7 @@ static void report_port(struct querier *querier, const struct port *port, bool i
     struct sending sending = {querier, port};
     unsigned newest = is_mld ? 2 : 3, version = it->older_until[0] > now ? 1 : !is_mld && it->older_until[1] > now ? 2 : newest;
     changes = (struct records){.is_mld = is_mld, .is_change = true, .version = version, .mac = port->bridge->mac};
-    changes.own = port->bridge->own[is_mld];
+    changes.own = port->vlan->own.address[is_mld];
     changes.send = send_frame;
     changes.context = &sending;
     answers = changes;
@@ -236,7 +239,7 @@ void upstream_tick(struct querier *querier, uint64_t now) {
         struct upstream *it = upstream_of(querier, port, at % 2);
         if (!upstream_is(querier, port))
             continue;
-        if (it->next <= now && port->bridge->has_own[at % 2])
+        if (it->next <= now && port->vlan->own.has[at % 2])
             report_port(querier, port, at % 2, it, now);
         next = earlier(next, it->next > now ? it->next : now + SECOND);
     }

@@ -1,4 +1,4 @@
-/* A router with many links in one workspace. A link whose address changes is made again in its memory. */
+/* A router with many links in one workspace. A link whose address changes keeps its groups. */
 #include "mquerier.h"
 
 #include <inttypes.h>
@@ -44,8 +44,10 @@ int main(void) {
     for (int i = 7; i <= 8; i++)
         printf("link %d forwards: %d\n", i, mq_igmp_forwards(&links[i], group, source));
 
-    /* link 7 gets another address: it begins again, without groups */
-    if (mq_igmp_init(configured(LINKS), 60, memory + 7 * size, size, &links[7]) != MQ_DONE)
+    /* link 7 gets another address, and shorter intervals: its next query is due earlier */
+    mq_igmp_config config = configured(LINKS);
+    config.query_interval = 20;
+    if (mq_igmp_configure(&links[7], config) != MQ_DONE)
         return 1;
     const uint64_t next = mq_igmp_next_deadline(&links[7]);
     printf("link 7 forwards: %d, its next query is due at %" PRIu64 "\n", mq_igmp_forwards(&links[7], group, source), next);

@@ -119,6 +119,14 @@ static inline uint32_t mq_link_init(mq_config config, uint64_t start, void *memo
                          : mq_igmp_init(mq_igmp_config_of(config), start, memory, size, &link->of.igmp);
 }
 
+/* Gives a running link another configuration of its family. Returns MQ_WORKSPACE if it is of the other one. */
+static inline uint32_t mq_link_configure(mq_link *link, mq_config config) {
+    if (link->is_mld != config.is_mld)
+        return MQ_WORKSPACE;
+    return config.is_mld ? mq_mld_configure(&link->of.mld, mq_mld_config_of(config))
+                         : mq_igmp_configure(&link->of.igmp, mq_igmp_config_of(config));
+}
+
 /* FEED. The headers of a datagram. A link of IGMP uses the source alone. */
 typedef struct {
     uint8_t source[16], destination[16];

@@ -8,7 +8,7 @@
    The caller keeps these rules, which nothing checks:
    - A pointer points to as many elements as its prototype or its length says. It is null only where that length is 0.
    - Memory that a call writes overlaps no other argument.
-   - A link or a workspace comes from a call that returned MQ_DONE. No copy of it is used.
+   - A link or a workspace comes from a call that returned MQ_DONE. No copy of it is used. The struct may move, as by realloc.
    - The memory of a link or a workspace belongs to the library until the last call on it: nobody else reads or writes it, and
      it stays where it is. Afterwards the caller may free it, or make another link in it. There is nothing to close.
    - One thread at a time uses a link or a workspace, and no signal handler does.
@@ -58,7 +58,8 @@ enum {
     MQ_OWN_ADDRESS,
     MQ_MEMORY,
     MQ_MOMENT,
-    MQ_WORKSPACE
+    MQ_WORKSPACE,
+    MQ_HELD
 };
 static inline const char *mq_status_text(uint32_t status) {
     static const char *const texts[] = {"done",
@@ -73,7 +74,8 @@ static inline const char *mq_status_text(uint32_t status) {
                                         "no router may send queries from the own address",
                                         "the memory is too small",
                                         "the time is later than 2^53 milliseconds",
-                                        "the workspace is too small for the link"};
+                                        "the workspace is too small for the link",
+                                        "the link holds more than the configuration allows"};
     return status < sizeof texts / sizeof *texts ? texts[status] : "not a status";
 }
 
@@ -131,8 +133,8 @@ size_t mq_igmp_workspace_size(mq_igmp_config config);
 size_t mq_mld_workspace_size(mq_mld_config config);
 
 /* The same as constants, for static arrays, at any address: never fewer bytes, and at most 1/20 and 150 bytes more. */
-#define MQ_IGMP_SIZE(groups, sources) (1904 + 200 * (size_t)(groups) + 80 * (size_t)(sources))
-#define MQ_MLD_SIZE(groups, sources) (1952 + 244 * (size_t)(groups) + 120 * (size_t)(sources))
+#define MQ_IGMP_SIZE(groups, sources) (1920 + 200 * (size_t)(groups) + 80 * (size_t)(sources))
+#define MQ_MLD_SIZE(groups, sources) (1968 + 244 * (size_t)(groups) + 120 * (size_t)(sources))
 #define MQ_IGMP_WORKSPACE_SIZE(groups, group_sources) (512 + 30 * (size_t)(groups) + 76 * (size_t)(group_sources))
 #define MQ_MLD_WORKSPACE_SIZE(groups, group_sources) (464 + 90 * (size_t)(groups) + 144 * (size_t)(group_sources))
 
@@ -171,6 +173,18 @@ static inline uint32_t mq_igmp_workspace_init(mq_igmp_config config, void *memor
 static inline uint32_t mq_mld_workspace_init(mq_mld_config config, void *memory, size_t size, mq_mld_workspace *workspace) {
     return mq_mld_workspace_init_units(config, mq_units_of(memory, size), workspace);
 }
+
+/* Gives a running link another configuration. Groups, timers and schedules stay, and later calls use the new values. Read
+   `next_deadline` afterwards: it may be earlier. What a query of another router announces then still applies.
+   - A variable that changes applies at once. While querier, the next general query is due at most one query interval later.
+   - A querier stays querier. If another router is querier, but its address is not lower than a new own address, this router is
+     querier at once, with a query due.
+   - A limit may be at most that of `init`, whatever it was between. So the memory, the workspaces and `outlet_bytes` of then suffice.
+   Returns MQ_DONE, or the first status that holds: a fault of the configuration, in the order of the statuses; MQ_MEMORY if a limit
+   exceeds that of `init`; MQ_HELD if the link holds more than a limit allows, or a group that `source_specific` would not take. A
+   call that fails changes nothing. The list of `changed` stays, and nothing is sent. */
+uint32_t mq_igmp_configure(mq_igmp *link, mq_igmp_config config);
+uint32_t mq_mld_configure(mq_mld *link, mq_mld_config config);
 
 #ifndef MQ_NO_STDLIB
 /* A link and a workspace in one block of malloc. `new` returns as `init` does, and MQ_MEMORY also if malloc fails. */
@@ -216,7 +230,7 @@ static inline void mq_mld_free(mq_mld_on_heap *it) {
 
 /* FEED. The result of a call. */
 typedef struct {
-    uint32_t status;  /* MQ_DONE; or MQ_MOMENT or MQ_WORKSPACE: then the call did nothing, and all other fields are 0 */
+    uint32_t status;  /* MQ_DONE; or MQ_MOMENT, or else MQ_WORKSPACE: then the call did nothing, and all other fields are 0 */
     uint32_t dropped; /* 0, or why the datagram was dropped: the lowest reason that holds */
     uint32_t applied; /* applied records of the datagram; an older Report, a Leave or a Done is a record too */
     uint32_t ignored; /* records without a meaning for this link */
@@ -313,9 +327,10 @@ bool mq_igmp_forwards(const mq_igmp *link, const uint8_t group[4], const uint8_t
 bool mq_mld_forwards(const mq_mld *link, const uint8_t group[16], const uint8_t source[16]);
 
 /* Writes at most `room` groups whose filter the last `tick` or `receive` in this workspace changed: in ascending order, from the
-   `first`th on (0 is the lowest). Returns how many changed in all. A group that begins or ends has changed; a group with only
-   refreshed timers has not. If links share the workspace, look before the next call of any. A call that did nothing does not change
-   this list. */
+   `first`th on (0 is the lowest). Returns how many changed in all. A filter is the mode with the sources that INCLUDE forwards or
+   EXCLUDE blocks. So a group that begins or ends has changed, and one that a record changes and a later one changes back. A group with
+   only refreshed timers has not, nor has EXCLUDE with one more source that it forwards. If links share the workspace, look before the
+   next call of any. A call that did nothing does not change this list. */
 uint32_t mq_igmp_changed(const mq_igmp_workspace *workspace, uint32_t first, uint8_t (*addresses)[4], size_t room);
 uint32_t mq_mld_changed(const mq_mld_workspace *workspace, uint32_t first, uint8_t (*addresses)[16], size_t room);
 
@@ -379,7 +394,8 @@ typedef struct {
 /* The places in `parsed` and `refused_by`.
    - PARSED_LEAVE includes a Done.
    - REFUSED_LONG: the record has more sources than `group_sources`.
-   - REFUSED_REPEATED: it is the fifth or a later record of its datagram for a group that the link has.
+   - REFUSED_REPEATED: four records of its datagram came before it while the link had its group. A group that begins with the
+     datagram gets five records.
    - REFUSED_MEMORY never happens.
    - The others: the link would exceed that limit. */
 enum { MQ_PARSED_QUERY, MQ_PARSED_OLDER_QUERY, MQ_PARSED_OLDER_REPORT, MQ_PARSED_LEAVE, MQ_PARSED_REPORT };
@@ -418,6 +434,11 @@ uint64_t mq_mld_moved(const mq_mld *link);
    feed, which it adds if there is room; if it returns `room`, the line may be truncated. It adds no zero byte. */
 size_t mq_igmp_line(const uint8_t *body, size_t length, uint8_t *line, size_t room);
 size_t mq_mld_line(const uint8_t source[16], const uint8_t destination[16], const uint8_t *body, size_t length, uint8_t *line,
+                   size_t room);
+
+/* The same with the object of JSON that `mquerier message --json` prints (docs/OBJECTS.md). */
+size_t mq_igmp_json(const uint8_t *body, size_t length, uint8_t *line, size_t room);
+size_t mq_mld_json(const uint8_t source[16], const uint8_t destination[16], const uint8_t *body, size_t length, uint8_t *line,
                    size_t room);
 
 #ifdef __cplusplus

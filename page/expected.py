@@ -1,5 +1,6 @@
-"""What the page has to show of a capture: the texts of the program, and the bars and marks that they say."""
+"""What the page has to show of a capture: the texts of the program, and the bars and marks that its objects say."""
 
+import json
 import re
 import subprocess
 
@@ -34,71 +35,74 @@ def options_of(fields):
     return words + ["--ssm"] if fields["ssm"] else words
 
 
-def texts(program, data, fields, is_checked):
-    """The texts of a capture by name, for the fields that the page has."""
+def commands(fields, is_checked):
+    """The words of the program for each text of the page, for the fields that it has."""
     words, family = options_of(fields), fields["family"]
-    found = {"listing": run(program, ["show"], data)[0]}
-    found["replay"] = run(program, ["replay", family, "--own", fields["own"], *words, "--changes"], data)[0]
-    check = ["check", family, "--querier", fields["own"], *words, "--within", fields["within"], "--cite"]
-    found["check"] = run(program, check, data)[0] if is_checked else b""
+    found = {"listing": ["show"], "replay": ["replay", family, "--own", fields["own"], *words, "--changes"]}
+    if is_checked:
+        found["check"] = ["check", family, "--querier", fields["own"], *words, "--within", fields["within"], "--possible"]
     return found
 
 
+def texts(program, data, fields, is_checked):
+    """The texts of a capture by name."""
+    cited = {"check": ["--cite"]}
+    return {name: run(program, [*words, *cited.get(name, [])], data)[0] for name, words in commands(fields, is_checked).items()}
+
+
+def objects(program, words, data):
+    """The objects of a run, one after the other."""
+    for line in run(program, [words[0], "--json", *words[1:]], data)[0].splitlines():
+        yield json.loads(line)
+
+
 def verdict(program, data, fields, is_checked):
-    """The sentence at the top of the page, by the status of the program and its line on standard error."""
+    """The sentence at the top of the page, by the summary of the program and its reason on standard error."""
     if not is_checked:
-        return "Nothing was judged: no general query is in the capture, so no querier is known."
-    words = ["check", fields["family"], "--querier", fields["own"], *options_of(fields), "--within", fields["within"]]
+        return "Nothing was judged: there is no general query of this family."
+    words = ["check", "--json", *commands(fields, True)["check"][1:]]
     ran = subprocess.run([program, *words], input=data, capture_output=True, check=False)
-    standard = {"igmp": "RFC 3376", "mld": "RFC 3810"}[fields["family"]]
-    if ran.returncode == 4:
+    found = json.loads(ran.stdout.splitlines()[-1])["summary"]
+    if not found["judged"]:
         return f"Nothing was judged: {ran.stderr.decode().strip().partition('nothing judged: ')[2]}."
-    if ran.returncode == 0:
+    standard, count = {"igmp": "RFC 3376", "mld": "RFC 3810"}[fields["family"]], found["findings"]
+    if count == 0:
         return f"{fields['own']} is as {standard} says."
-    count = int(re.search(rb"^checked .*: (\d+) findings$", ran.stdout, re.M).group(1))
     return f"{fields['own']} differs from {standard} in {count:,} place{'s' * (count != 1)}."
 
 
-def marks(found, family):
-    """How many marks the texts say: records, older and empty Reports, Leaves and queries of the family; queries that are sent;
-    and findings."""
-    count = 0
-    for line in found["listing"].decode().splitlines():
-        words = line.split()
-        if words[3:4] == [family] and words[4] != "fault":
-            count += max(1, line.count("["))
-    count += sum(line.split()[1] == "send" for line in found["replay"].decode().splitlines())
-    return count + findings(found)
+class Counts:
+    """What the objects of a capture say: marks are records, older and empty Reports, Leaves and queries of the family, queries that are
+    sent, and certain findings. A group has a bar for each time that it comes into a mode, and for each time that a source comes to be
+    forwarded or stopped in it. All groups are counted but the address that stands for all."""
 
+    def __init__(self, program, data, fields, is_checked):
+        self.family, self.marks, self.bars, self.findings, self.groups, self.filters = fields["family"], 0, 0, 0, set(), {}
+        for name, words in commands(fields, is_checked).items():
+            for it in objects(program, words, data):
+                getattr(self, name)(it)
+        self.groups -= {"0.0.0.0", "::", None}
 
-def findings(found):
-    """How many findings the text says."""
-    return sum(line[0].isdigit() for line in found["check"].decode().splitlines())
+    def listing(self, it):
+        message = it.get("message")
+        if it.get("family") == self.family and message["type"] != "fault":
+            its = [message] if "group" in message else message["records"]
+            self.marks += max(1, len(its))
+            self.groups |= {one["group"] for one in its}
 
+    def replay(self, it):
+        self.marks += it["event"] == "send"
+        if it["event"] == "change":
+            is_stopped = it["filter"] == "exclude"
+            after = {(it["filter"], one["source"]) for one in it["sources"] if (one["timer"] is None) == is_stopped}
+            after |= {it["filter"]} if after or is_stopped else set()
+            self.bars += len(after - self.filters.get(it["group"], set()))
+            self.filters[it["group"]] = after
+            self.groups.add(it["group"])
 
-def bars(found):
-    """How many bars the lines of changed groups say: one for each time that a group comes into a mode, and that a source comes
-    to be forwarded or stopped in it."""
-    count, before = 0, {}
-    for line in found["replay"].decode().splitlines():
-        words = line.split()
-        if words[1] == "change":
-            after = set() if words[3] == "none" else set(words[3:])
-            count += len(after - before.get(words[2], set()))
-            before[words[2]] = after
-    return count
-
-
-def groups(found, family):
-    """The groups that the texts name for the family, but for the address that stands for all."""
-    names = set()
-    for line in found["listing"].decode().splitlines():
-        words = line.split()
-        if words[3:4] == [family]:
-            names.update(re.findall(r"group (\S+)", line) + re.findall(r"\[(?:TYPE \d+|\w+) ([^\s\]]+)", line))
-    for line in found["replay"].decode().splitlines():
-        names.update(re.findall(r"^\d+ change (\S+)", line))
-    for line in found["check"].decode().splitlines():
-        names.update(re.findall(r"^\d+ (?:missing|extra) (\S+)", line))
-        names.update(it.split()[0] for it in re.findall(r"^\d+ differs (.*?): [a-z]+ ", line))
-    return names - {"0.0.0.0", "::"}
+    def check(self, it):
+        if it.get("certain"):
+            self.marks += 1
+            self.groups.add(it["group"])
+        if "summary" in it:
+            self.findings = it["summary"]["findings"]

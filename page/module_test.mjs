@@ -8,13 +8,16 @@ import { readFileSync } from "node:fs";
 const PAGE = 65536;
 const UNIT = 16;
 const PACKET = 262144; // the bytes of the work that hold one packet
+const UNJUDGED = 71; // the first status of a check that judged nothing
 const NO_END = 2n ** 64n - 1n;
-const NAMES = ["robustness", "query_interval", "response_interval", "last_member_interval", "groups", "group_sources", "sources", "scheduled", "source_specific", "changes", "within", "cite"];
+const NAMES = ["robustness", "query_interval", "response_interval", "last_member_interval", "groups", "group_sources", "sources", "scheduled", "source_specific", "changes", "within", "cite", "json"];
 const IGMP = { robustness: 2, query_interval: 125, response_interval: 10000, last_member_interval: 1000, groups: 1024, group_sources: 366, sources: 16384, scheduled: 256, within: 100 };
 const QUERIERS = {
   igmp: { text: "10.0.0.9", own: Uint8Array.from([10, 0, 0, 9]), settings: IGMP },
   mld: { text: "fe80::9", own: Uint8Array.from([0xfe, 0x80, ...Array(13).fill(0), 9]), settings: { ...IGMP, group_sources: 89 } },
 };
+// The querier of samples/igmp.pcap.
+const SEEN = { own: Uint8Array.from([10, 9, 0, 1]), settings: IGMP };
 // A script of the page that imports nothing.
 async function script(name) {
   const text = readFileSync(new URL(`src/${name}`, import.meta.url), "utf8");
@@ -60,9 +63,9 @@ class Lent {
 }
 
 function packed(settings) {
-  const view = new DataView(new ArrayBuffer(56));
+  const view = new DataView(new ArrayBuffer(64));
   NAMES.forEach((name, at) => view.setUint32(4 * at, settings[name] ?? 0, true));
-  view.setBigUint64(48, settings.until ?? NO_END, true);
+  view.setBigUint64(56, settings.until ?? NO_END, true);
   return new Uint8Array(view.buffer);
 }
 
@@ -78,12 +81,12 @@ function chosen({ number = null, name = "", vlan = NO_END, once = 0 }) {
 }
 
 // Calls an export with memory for so much text and so much work, and behind the text four bytes that have to stay.
-function call(name, capture, { querier = null, choice = null, room = PAGE + 4 * capture.length, work = 2 ** 27 } = {}) {
+function call(name, capture, { querier = null, choice = null, json = 0, room = PAGE + 4 * capture.length, work = 2 ** 27 } = {}) {
   const lent = new Lent();
   const [answer, text] = [lent.lend(24), lent.lend(room + 4)];
   new Uint8Array(lent.memory.buffer, text + room, 4).fill(7);
   const memory = lent.put(new Uint8Array(new BigUint64Array([BigInt(lent.lend(work)), BigInt(work / UNIT)]).buffer));
-  const handed = querier ? [lent.put(querier.own), lent.put(packed(querier.settings))] : choice ? [lent.put(chosen(choice))] : [];
+  const handed = querier ? [lent.put(querier.own), lent.put(packed(querier.settings))] : choice ? [lent.put(chosen(choice))] : name === "page_show" ? [json] : [];
   lent.exports[name](BigInt(answer), ...handed, lent.put(capture), BigInt(capture.length), memory, BigInt(text), BigInt(room));
   const [status, written, number] = Array.from(new BigUint64Array(lent.memory.buffer.slice(answer, answer + 24)), Number);
   const sentence = lent.lend(PAGE);
@@ -93,12 +96,15 @@ function call(name, capture, { querier = null, choice = null, room = PAGE + 4 * 
   return { status, number, text: lent.bytes(text, written), sentence: lent.bytes(sentence, said).toString() };
 }
 
-// The text of an export is that of the program, which fails where that has a fault.
-function beside(file, capture, name, words, querier = null, choice = null) {
+// The text of an export is that of the program, which fails if that has a fault, and judges nothing for the same reason.
+function beside(file, capture, name, words, querier = null, choice = null, json = 0) {
   const ran = spawnSync(program, words, { input: capture, maxBuffer: 2 ** 30 });
-  const told = call(name, capture, { querier, choice });
+  const told = call(name, capture, { querier, choice, json });
   want(told.text.equals(ran.stdout), `${file}: ${words.join(" ")}: another text`);
-  want((told.status > 0) === (ran.status === 1), `${file}: ${words.join(" ")}: status ${told.status} where the program's is ${ran.status}`);
+  const wanted = told.status === 0 ? [0, 3] : [told.status < UNJUDGED ? 1 : 4];
+  want(wanted.includes(ran.status), `${file}: ${words.join(" ")}: status ${told.status} where the program's is ${ran.status}`);
+  const why = ran.stderr.toString();
+  if (ran.status === 4) want(why === `mquerier: nothing judged: ${told.sentence}\n`, `${file}: ${words.join(" ")}: ${told.sentence}, not ${why}`);
 }
 
 function with_settings(family, more) {
@@ -122,24 +128,30 @@ function interfaces(file, capture) {
 function all_of(file) {
   const capture = readFileSync(file);
   beside(file, capture, "page_show", ["show"]);
+  beside(file, capture, "page_show", ["show", "--json"], null, null, 1);
   beside(file, capture, "page_convert", ["convert"]);
   for (const [words, choice] of file.startsWith("samples/") ? CHOICES : CHOICES.slice(0, 1)) {
     beside(file, capture, "page_convert_chosen", ["convert", ...words.split(" ")], null, choice);
   }
   interfaces(file, capture);
-  for (const [family, { text }] of Object.entries(QUERIERS)) {
+  for (const [family, { text, settings }] of Object.entries(QUERIERS)) {
+    // The program's limits of a check are greater by default.
+    const limits = ["--groups", settings.groups, "--group-sources", settings.group_sources, "--sources", settings.sources, "--scheduled", settings.scheduled];
+    const checked = ["check", family, "--possible", "--querier", text, ...limits.map(String)];
     const [replay, check] = [`page_replay_${family}`, `page_check_${family}`];
     beside(file, capture, replay, ["replay", family, "--own", text], with_settings(family, {}));
     const late = { changes: 1, until: 400000n };
+    beside(file, capture, replay, ["replay", family, "--json", "--own", text, "--changes", "--until", "400000"], with_settings(family, { ...late, json: 1 }));
     beside(file, capture, replay, ["replay", family, "--own", text, "--changes", "--until", "400000"], with_settings(family, late));
-    beside(file, capture, check, ["check", family, "--querier", text], with_settings(family, {}));
-    beside(file, capture, check, ["check", family, "--querier", text, "--cite", "--within", "5"], with_settings(family, { cite: 1, within: 5 }));
+    beside(file, capture, check, checked, with_settings(family, {}));
+    beside(file, capture, check, [...checked, "--cite", "--within", "5"], with_settings(family, { cite: 1, within: 5 }));
+    beside(file, capture, check, [...checked, "--json"], with_settings(family, { json: 1 }));
   }
 }
 
 // The text is cut where its memory ends, and that is told where there is more.
 function text_memory(capture) {
-  for (const [name, querier] of [["page_show", null], ["page_convert", null], ["page_replay_igmp", QUERIERS.igmp], ["page_check_igmp", QUERIERS.igmp]]) {
+  for (const [name, querier] of [["page_show", null], ["page_convert", null], ["page_replay_igmp", SEEN], ["page_check_igmp", SEEN]]) {
     const whole = call(name, capture, { querier }).text;
     for (const room of [0, 1, whole.length - 1, whole.length, whole.length + 1]) {
       const { status, text } = call(name, capture, { querier, room });
@@ -159,7 +171,7 @@ function work_memory(capture) {
   }
   for (const name of ["page_replay_igmp", "page_check_igmp"]) {
     for (let work = PAGE, last = 2; last === 2; work *= 2) {
-      last = call(name, capture, { querier: QUERIERS.igmp, room: PAGE, work }).status;
+      last = call(name, capture, { querier: SEEN, room: PAGE, work }).status;
       want(last === 2 || (last === 0 && work > PACKET), `${name}: status ${last} with ${work} bytes for its work`);
     }
   }
@@ -180,7 +192,7 @@ function refusals(capture) {
 // Captures with faults have the fault's status, its number and its sentence.
 function faults(capture) {
   const cut = (length) => capture.subarray(0, length);
-  const rows = [["page_show", cut(0), 15, 0, "the header of record 0 is cut"], ["page_show", cut(30), 15, 1, "the header of record 1 is cut"], ["page_show", cut(50), 16, 1, "the data of record 1 are cut"], ["page_convert", cut(30), 39, 1, "block 1: the file ends within it"], ["page_convert", Buffer.alloc(30), 32, 0, "block 0: no capture"]];
+  const rows = [["page_show", cut(0), 15, 0, "record 0: the file ends within a header"], ["page_show", cut(30), 15, 1, "record 1: the file ends within a header"], ["page_show", cut(50), 16, 1, "record 1: the file ends within a packet"], ["page_convert", cut(30), 39, 1, "block 1: the file ends within the block"], ["page_convert", Buffer.alloc(30), 32, 0, "block 0: the file is no capture"]];
   for (const [name, bytes, status, number, sentence] of rows) {
     const told = call(name, bytes);
     const is_so = told.status === status && told.number === number && told.sentence === sentence;

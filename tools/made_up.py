@@ -7,12 +7,13 @@ import sys
 
 from repository import TOP
 
-# The limits of a run: seconds, and kilobytes of address space.
-SECONDS, ROOM = 20, 73728
+# The limits of a run: seconds, and kilobytes of address space. A check has a link with the greatest limits.
+SECONDS, ROOM, ROOM_OF_CHECKS = 20, 73728, 180224
 
 
 def run(program, words, data):
-    limited = ["/bin/sh", "-c", f'ulimit -v {ROOM} && exec "$@"', "sh", program, *words]
+    room = ROOM_OF_CHECKS if words[0] == "check" else ROOM
+    limited = ["/bin/sh", "-c", f'ulimit -v {room} && exec "$@"', "sh", program, *words]
     return subprocess.run(limited, input=data, capture_output=True, timeout=SECONDS)
 
 

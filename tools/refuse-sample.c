@@ -37,9 +37,10 @@ int main(int count, char **words) {
     fault = count > 1 ? words[1] : "";
     if (has("empty-line"))
         return tell("\n");
-    if (has("words") || has("words-to-files") || has("no-words")) {
+    if (has("words") || has("words-to-files") || has("no-words") || has("words-by-output")) {
         tell("mquerier: fault\n");
-        return has("words-to-files") || (has("words") && isatty(2)) ? tell("  in words\n") : 1;
+        int is_shown = isatty(2) ? !has("no-words") : has("words-by-output") && isatty(1);
+        return has("words-to-files") || is_shown ? tell("  in words\n") : 1;
     }
     if (has("output-before-memory"))
         put(1, "some", 4);

@@ -72,6 +72,10 @@ def with_those_above(wanted):
     return [it for it in with_those_below(named) if it in found]
 
 
+def is_program(name):
+    return os.path.isfile(f"{TOP}/crates/{name}/src/main.rt")
+
+
 def has_tests(name):
     files = glob.glob(f"{TOP}/crates/{name}/src/**/*.rt", recursive=True)
     return any(re.search(r"(?m)^ *#\[test\]", text_of(it)) for it in files)

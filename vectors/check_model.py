@@ -1,23 +1,34 @@
 """A model of the check of another querier, written from docs/FORMATS.md.
 
 The queries of a querier at the same address are wanted, and the capture's queries from that address were seen. The model compares
-the two at the end. It walks through the events of each group or source apart, and streams nothing. `check` returns the verdict of a
+the two. Each group or source has its own state, and nothing is streamed. `check` returns the verdict of a
 capture, and `check_taking` that about the querier which the capture names.
 """
 
 from __future__ import annotations
 
+import bisect
 import copy
 import dataclasses
 
-from model import BLOCK, DAY, TO_EX, Options, Querier
-from wire import IGMP, CaptureFault, Fault, code_of, moments, opened, placed, read, text_of, unwrap, value_of
+from model import BLOCK, DAY, IS_EX, TO_EX, TO_IN, Options, Querier
+from wire import IGMP, CaptureFault, Fault, code_of, moments, opened, placed, read, summed, text_of, unwrap, value_of
 
 
 # Sections of RFC 3376 and of RFC 3810.
 ELECTION, OLDER_HOSTS, INTERVAL = ("6.6.2", "7.6.2"), ("7.3.2", "8.3.2"), ("8.2", "9.2")
-HEADERS, CHECKSUM, RESERVED = ("4", "5"), ("4.1.2", "5.1.2"), ("4.1.4", "5.1")
+HEADERS, CHECKSUM, RESERVED, ADDITIONAL = ("4", "5"), ("4.1.2", "5.1.2"), ("4.1.4", "5.1"), ("4.1.10", "5.1.12")
 FIELDS = {"version": ("7.1", "8.1"), "qrv": ("4.1.6", "5.1.8"), "interval": ("4.1.7", "5.1.9"), "to": ("4.1.12", "5.1.15")}
+
+
+@dataclasses.dataclass
+class CheckOptions(Options):
+    """The options of a check, whose limits are the greatest if they aren't given."""
+
+    groups: int = 65535
+    group_sources: int | None = 1024
+    sources: int = 65535
+    scheduled: int = 65535
 
 
 @dataclasses.dataclass
@@ -30,13 +41,16 @@ class Terms:
     to: bytes
 
 
+# What it means if no query is the partner of a wanted one: it is missing, or it is missing unless older hosts were heard before the capture,
+# or it may be left out.
+REQUIRED, POSSIBLE, OPTIONAL = "required", "possible", "optional"
+
+
 @dataclasses.dataclass
 class Asked:
     """A query for one thing: a group, a source of one (`source` is None without), or all groups (`group` is zero). `order` is
-    its place in the order in which things happen, and `packet` the number of its packet, or of the last one before a wanted query. A
-    timer sends a wanted query with `is_again` again: then the packet is the one that started its schedule. If the standard's words
-    allow a query that was seen, `allowed` has its fields. `is_muted` says that an older host mutes what asks for a query that was
-    seen. `is_found` says that a wanted query was seen, and `may_come_later` that it may be seen after the end."""
+    its place in the order in which things happen, and `packet` the number of its packet. `partner` has the fields of the query that it pairs
+    up with."""
 
     order: int
     at: int
@@ -45,13 +59,6 @@ class Asked:
     terms: Terms
     packet: int
     partner: Terms | None = None
-    may_be_left_out: bool = False
-    in_role: bool = True
-    allowed: Terms | None = None
-    is_muted: bool = False
-    is_found: bool = False
-    may_come_later: bool = False
-    is_again: bool = False
 
     def thing(self):
         return self.group, self.source
@@ -68,12 +75,6 @@ class Asked:
             return ELECTION
         return ("6.6.3.1", "7.6.3.1") if self.source is None else ("6.6.3.2", "7.6.3.2")
 
-    def extra(self):
-        """The sections that the query violates if nothing asks for it."""
-        if not self.in_role:
-            return ELECTION
-        return OLDER_HOSTS if self.is_muted else self.sending()
-
     def differing(self, name):
         """The sections of a field of the query."""
         if name in FIELDS:
@@ -84,117 +85,188 @@ class Asked:
 
 
 @dataclasses.dataclass
-class Blocked:
-    """A Report in which a host blocks a source."""
+class Wanted(Asked):
+    """A wanted query. `packet` is the last one before, or that which started the schedule. `may_come_later` says that the query may be seen
+    after the end."""
+
+    need: str = REQUIRED
+    may_come_later: bool = False
+
+
+@dataclasses.dataclass
+class Seen(Asked):
+    """A seen query. Without a partner it is extra, unless another reading, or a querier that held something before the capture, may send it
+    with the fields `possible`. `is_muted` says that an older host mutes what asks for the query, and `s` is S by the timers of the link."""
+
+    in_role: bool = True
+    is_muted: bool = False
+    s: bool = False
+    possible: Terms | None = None
+
+    def extra(self):
+        """The sections that the query violates if nothing asks for it."""
+        if not self.in_role:
+            return ELECTION
+        return OLDER_HOSTS if self.is_muted else self.sending()
+
+
+@dataclasses.dataclass
+class Next:
+    """The next query of a schedule from before the capture: when it is due, its fields, the packet of its cause, and how many queries are left
+    from it on."""
 
     order: int
-    at: int
-    group: bytes
-    source: bytes
+    due: int
+    terms: Terms
+    packet: int
+    left: int
 
-    def thing(self):
-        return self.group, self.source
+
+@dataclasses.dataclass
+class Last:
+    """The last wanted query on a subject: its moment and packet."""
+
+    at: int
+    packet: int
+
+
+def with_s(s, terms):
+    return dataclasses.replace(terms, querier=(int(s), *terms.querier[1:])) if terms.querier else terms
 
 
 def with_s_of(seen, wanted):
     """Fields that are wanted, with S as seen: it depends on a timer at the moment of a query."""
-    s = seen.querier[0] if seen.querier else 0
-    return dataclasses.replace(wanted, querier=(s, *wanted.querier[1:]))
+    return with_s(seen.querier[0] if seen.querier else 0, wanted)
 
 
-class Walk:
-    """The events of one thing in their order: queries that are wanted, queries that were seen, and Reports that block the source.
-    `wanted` and `seen` have the queries that have no partner yet. `schedules` has the moment at which each schedule's next query is due,
-    and how many are left of it. `last` has the fields and the packet of the last wanted query and the moment one interval after it, or
-    after a Report that blocks the source in that time: then `is_blocked` is set."""
+@dataclasses.dataclass
+class Rules:
+    """What a check accepts: the tolerance, the interval of retransmissions, how many of them a schedule has, and how many a schedule has that
+    counts from the query before. A change counts for `span`. A query waits for its partner for the time `keep`. Until `held_until` the
+    querier may hold something since before the capture, and until `first_until` a schedule may have begun before it."""
 
-    def __init__(self, within, interval, keep, more):
-        self.within, self.interval, self.keep, self.more = within, interval, keep, more
-        self.wanted, self.seen, self.schedules, self.last, self.is_blocked = [], [], [], None, False
+    within: int
+    interval: int
+    count: int
+    more: int
+    span: int
+    keep: int
+    held_until: int
+    first_until: int
 
     def is_near(self, one, other):
         return abs(one - other) <= self.within
 
+
+class Subject:
+    """A group or a source, or all groups. `wanted` and `seen` have the queries that have no partner yet. `dues` has the moment at which each
+    schedule's next query is due, and how many are left of it. `last` is the last wanted query, `cause` the moment, the fields and the packet of
+    the last change, `close` those of the changes that come soon after another one, and `next` the next query of a schedule from before the
+    capture."""
+
+    def __init__(self, thing, rules, missed):
+        self.thing, self.rules, self.missed = thing, rules, missed
+        self.wanted, self.seen, self.dues, self.last, self.cause, self.next, self.close = [], [], [], None, None, None, []
+
     def move_to(self, now):
         """Forgets what is too old to matter at a moment."""
-        self.wanted = [it for it in self.wanted if now <= it.at + self.keep]
-        self.seen = [it for it in self.seen if now <= it.at + self.keep]
-        self.schedules = [(due, left) for due, left in self.schedules if now <= due + self.within]
-        if self.last and self.last[0] + self.within < now:
-            self.last, self.is_blocked = None, False
+        rules = self.rules
+        self.wanted = [it for it in self.wanted if now <= it.at + rules.keep]
+        self.seen = [it for it in self.seen if now <= it.at + rules.keep]
+        self.dues = [(due, left) for due, left in self.dues if now <= due + rules.within]
+        if self.last and self.last.at + rules.interval + rules.within < now:
+            self.last = None
+        if self.next and self.next.due + rules.within < now:
+            self.missed.append(Asked(self.next.order, self.next.due, *self.thing, self.next.terms, self.next.packet))
+            self.next = None
 
     def first_near(self, now, them):
-        return next((it for it in them if self.is_near(it.at, now)), None)
+        return next((it for it in them if self.rules.is_near(it.at, now)), None)
 
-    def want(self, it):
-        """A query is wanted. Its partner is the first one within the tolerance that was seen and has none."""
+    def want(self, it, is_again):
+        """A query is wanted. Its partner is the first one within the tolerance that was seen and has none. If a tick sends it again, it has the
+        packet of the one before. A schedule from before the capture is replaced."""
         self.move_to(it.at)
-        if it.is_again and self.last:
-            it.packet = self.last[2]
+        if is_again and self.last:
+            it.packet = self.last.packet
         if other := self.first_near(it.at, self.seen):
-            other.partner, it.is_found = it.terms, True
+            other.partner, it.partner = it.terms, other.terms
             self.seen.remove(other)
         else:
             self.wanted.append(it)
-        self.last, self.is_blocked = (it.at + self.interval, it.terms, it.packet), False
+        self.last, self.next = Last(it.at, it.packet), None
 
-    def block(self, it):
-        """A host blocks the source. If a query for it was wanted in the last interval, the source waits, and a querier may ask at once."""
-        self.move_to(it.at)
-        if self.more and self.last:
-            self.last, self.is_blocked = (it.at + self.interval, *self.last[1:]), True
+    def change(self, at, terms, packet):
+        """A host changes the subject. It is close to the change before if that still counts."""
+        self.move_to(at)
+        if at < self.rules.held_until and at <= self.rules.span or self.has_changed(at):
+            self.close.append((at, terms))
+        self.cause = at, terms, packet
 
-    def find(self, it):
-        it.is_found = True
-        self.wanted.remove(it)
+    def has_changed(self, now):
+        """Whether the last change still counts."""
+        return self.cause is not None and now <= self.cause[0] + self.rules.span
 
-    def see_compared(self, it):
-        """A general query is seen in the role. Its fields are compared whether it has a partner or not."""
-        self.move_to(it.at)
-        if other := self.first_near(it.at, self.wanted):
-            self.find(other)
+    def unclear(self, now):
+        """The fields of a query that some reading may want now: changes came close together, and the last one still counts."""
+        return next((terms for at, terms in self.close if self.rules.more and now <= at + self.rules.span), None)
 
-    def see(self, it):
+    def caused(self, now, cause):
+        """Whether a record may ask for a query that is seen now, for the first time."""
+        is_unused = cause and (not self.last or self.last.at < cause[0])
+        return bool(is_unused) and cause[0] < self.rules.held_until and now <= cause[0] + self.rules.within
+
+    def find(self, it, wanted, partner):
+        it.partner, wanted.partner = partner, it.terms
+        self.wanted.remove(wanted)
+
+    def see(self, it, causes, order):
         """A query is seen. Its partner is the first wanted one within the tolerance that has none. If there is none and the query comes
-        when the next query of a schedule is due, its partner is the first wanted one before: the querier counts from its last query."""
+        when the next query of a schedule is due, its partner is the first wanted one before: the querier counts from its last query. If there is
+        none either, the query may go on with a schedule from before the capture, or begin one. `causes` are the records that may ask for it."""
         self.move_to(it.at)
-        follows = bool(self.schedules) and self.is_near(self.schedules[0][0], it.at)
+        rules = self.rules
+        follows = bool(self.dues) and rules.is_near(self.dues[0][0], it.at)
+        cause = next((cause for cause in causes if self.caused(it.at, cause)), None)
+        if it.possible is None and (cause or it.at < rules.first_until):
+            it.possible = with_s_of(it.terms, cause[1]) if cause else it.terms
         if other := self.first_near(it.at, self.wanted):
-            it.partner = other.terms
-            self.find(other)
+            self.find(it, other, other.terms)
         elif follows and self.wanted:
-            it.partner = with_s_of(it.terms, self.wanted[0].terms)
-            self.find(self.wanted[0])
-        if not it.partner:
+            self.find(it, self.wanted[0], with_s_of(it.terms, self.wanted[0].terms))
+        elif not cause and self.next and rules.is_near(self.next.due, it.at):
+            it.partner = with_s(it.s, self.next.terms)
+            self.expect(order, it.at, self.next.terms, self.next.packet, self.next.left - 1)
+        elif it.in_role and cause:
+            self.last = Last(it.at, cause[2])
+            self.expect(order, it.at, cause[1], cause[2], rules.count)
+            self.go_on(it, follows, True)
             self.seen.append(it)
-        is_asked_again = self.is_blocked and self.is_near(self.last[0], it.at + self.interval)
-        if it.in_role and it.allowed is None and (follows and self.is_replaced() or is_asked_again):
-            it.allowed = with_s_of(it.terms, self.last[1])
-        self.go_on(it, follows, is_asked_again)
+            return
+        self.go_on(it, follows, it.partner is not None)
+        if it.partner is None:
+            self.seen.append(it)
 
-    def is_replaced(self):
-        """Whether a query that was wanted after the last one of the first schedule, and before the next one, replaced the schedule."""
-        due = self.schedules[0][0]
-        return bool(self.last) and due + self.within < self.last[0] and self.last[0] + self.within < due + self.interval
+    def expect(self, order, at, terms, packet, left):
+        """The next query of a schedule from before the capture is due an interval after a query."""
+        self.next = Next(order, at + self.rules.interval, terms, packet, left) if left else None
 
-    def go_on(self, it, follows, is_asked_again):
-        """A query goes on with the first schedule that waits. A query with a partner, or one asked again at once, starts a schedule. A
-        source that is blocked again is asked again once."""
-        left = self.more
+    def go_on(self, it, follows, starts):
+        """A query goes on with the first schedule that waits. A query with a partner starts a schedule."""
+        left = self.rules.more
         if follows:
-            left = self.schedules.pop(0)[1] - 1
-        elif not it.partner and is_asked_again:
-            self.last, self.is_blocked = None, False
-        elif not it.partner:
+            left = self.dues.pop(0)[1] - 1
+        elif not starts:
             return
         if left:
-            self.schedules.append((it.at + self.interval, left))
+            self.dues.append((it.at + self.rules.interval, left))
 
     def end(self, end):
         """The capture ends: which wanted queries may still be seen."""
         self.move_to(end)
+        self.next = None
         for it in self.wanted:
-            it.may_come_later = end <= it.at + self.within or bool(self.schedules)
+            it.may_come_later = end <= it.at + self.rules.within or bool(self.dues)
 
 
 # The latest moment, and the longest time for which a query waits for its partner.
@@ -218,8 +290,9 @@ class Basis:
 
     def __init__(self, family, own):
         self.family, self.own = family, own
-        self.packets, self.messages, self.malformed, self.cut, self.unread, self.back = 0, 0, 0, 0, 0, 0
+        self.packets, self.messages, self.malformed, self.cut, self.unread, self.back, self.refused = 0, 0, 0, 0, 0, 0, 0
         self.lost, self.lost_at, self.other, self.again = 0, 0, None, None
+        self.is_heard, self.has_higher = False, False
 
     def count(self, kind, frame, packet, goes_back):
         self.packets += 1
@@ -233,11 +306,17 @@ class Basis:
                 self.messages += 1
             except Fault as fault:
                 self.malformed += fault.number != 3
+            self.is_heard |= packet.source == self.own
+            self.has_higher |= packet.source > self.own and routers_query(packet, self.family) is not None
+
+    def is_unseen(self):
+        return self.has_higher and not self.is_heard
 
     def lines(self):
         counts = f"packets {self.packets} messages {self.messages} malformed {self.malformed} cut {self.cut} unread {self.unread}"
         counts += f" back {self.back}" if self.back else ""
-        role = f"querier {text_of(self.own)} from 0"
+        counts += f" refused {self.refused}" if self.refused else ""
+        role = f"querier {text_of(self.own)} from 0" + (", unseen" if self.is_unseen() else "")
         if self.lost:
             role += f", lost {self.lost}, last at {self.lost_at}, other {text_of(self.other)}"
             role += f", again at {self.again}" if self.again is not None else ""
@@ -251,15 +330,17 @@ class Basis:
             return "every second packet or more has a stamp that goes back"
         if not self.messages and not self.malformed:
             return "there is no message of this family"
-        return None if general or specific or findings else "no query from this address was seen, and none is missing"
+        if self.is_unseen() or not (general or specific or findings):
+            return "no query from this address was seen"
+        return "the limits refuse records, and may cause what is found" if self.refused and findings else None
 
 
 class Observed(Querier):
-    """A querier whose queries are wanted, in place of sent."""
+    """A querier whose queries are wanted, in place of sent: `want` takes each."""
 
-    def __init__(self, family, options):
+    def __init__(self, family, options, want):
         super().__init__(family, options)
-        self.wanted, self.is_back, self.order, self.heard, self.packet = [], False, 0, None, 0
+        self.want, self.is_back, self.order, self.heard, self.packet = want, False, 0, None, 0
         self.is_ticking = False
 
     def next_order(self):
@@ -282,11 +363,11 @@ class Observed(Querier):
         to = group if any(group) else self.family.everyone
         return Terms(self.family.version, said, (int(s), self.rv, interval), to)
 
-    def is_unheld(self, group, source):
-        """Whether hosts may report a group, and no timer runs that a query for it, or for this source of it, would lower."""
+    def is_above(self, group, source):
+        """Whether the timer of a group, or of a source of it, exceeds the Last Member Query Time."""
         held = self.groups.get(group)
-        has_timer = held is not None and (held.until is not None if source is None else source in held.running())
-        return self.is_admitted(group) and (source is None or any(source)) and not has_timer
+        timer = None if held is None else held.until if source is None else held.sources.get(source, (None, 0))[0]
+        return timer is not None and timer > self.now + self.asking_time()
 
     def mutes(self, group, source):
         """Whether an older host mutes what asks for a query: BLOCK for a source, Leave and TO_IN for a group."""
@@ -298,19 +379,16 @@ class Observed(Querier):
             return
         terms = self.terms(group, s, response)
         for source in sources or [None]:
-            other = s and any((it.at, it.group, it.source) == (self.now, group, None) for it in self.wanted)
-            left_out = other and source is not None
-            it = Asked(self.next_order(), self.now, group, source, terms, self.packet, None, left_out)
-            it.is_again = self.is_ticking and any(group)
-            self.wanted.append(it)
+            self.want(group, source, terms, self.is_ticking and any(group))
 
 
 @dataclasses.dataclass
 class Verdict:
-    """The lines of a check, its findings, and why it judged nothing, if it didn't."""
+    """The lines of a check, its certain findings, its possible ones, and why it judged nothing, if it didn't."""
 
     lines: list
     findings: list
+    possible: list
     unjudged: str | None
 
     def status(self):
@@ -324,17 +402,48 @@ class Verdict:
 VARIABLES = ("response", "qrv", "interval")
 
 
-class Check:
-    """A check of a capture. `findings` are lines with their order, and for a difference its kind of query, field and values. With
-    `packets` each has the number of its packet, and with `cite` its section. With `once` a changed variable is reported once."""
+@dataclasses.dataclass(frozen=True)
+class Flags:
+    """What a check is asked for. With `strict` no other readings are accepted, and with `began` the capture begins before the querier. With
+    `possible` the lines have the possible findings, with `packets` each line has the number of its packet, and with `cite` its section. With
+    `once` a changed variable is reported once."""
 
-    def __init__(self, family, options, within, strict, packets, once, cite):
-        self.family, self.it, self.within, self.strict = family, options, within, strict
-        self.packets, self.once, self.cite = packets, once, cite
-        self.link = Observed(family, options)
-        self.seen, self.blocked, self.changes, self.findings = [], [], [], []
+    strict: bool = False
+    began: bool = False
+    possible: bool = False
+    packets: bool = False
+    once: bool = False
+    cite: bool = False
+
+
+@dataclasses.dataclass
+class Finding:
+    """A line of a check. It is printed at the first event later than `until`: first those of queries, then what `is_next` of a schedule from
+    before the capture, each by `order`. A difference has its kind of query, field and values."""
+
+    until: int
+    is_next: bool
+    order: int
+    line: str
+    difference: tuple | None
+    is_possible: bool
+
+
+class Check:
+    """A check of a capture."""
+
+    def __init__(self, family, options, within, flags):
+        self.family, self.it, self.within, self.flags = family, options, within, flags
+        self.link = Observed(family, options, self.want)
+        self.wanted, self.seen, self.changes, self.findings, self.settled = [], [], [], [], []
+        # The state of each subject, what was missed of schedules from before the capture, and the groups that no older host mutes.
+        self.subjects, self.missed, self.unmuted = {}, [], set()
+        count = options.rv - 1
+        first = count * options.lmqi + within + 1
+        lasts, span = options.rv * 1000 * options.qi + options.qri + within + 1, options.rv * options.lmqi + within
         # The time for which a query waits for its partner.
-        self.keep = within if strict else min(within + options.lmqi, LONGEST)
+        self.keep = within if flags.strict else max(within, min(within + options.lmqi, LONGEST))
+        self.rules = Rules(within, options.lmqi, count, 0 if flags.strict else count, span, self.keep, 0 if flags.began else lasts, 0 if flags.began else first)
         self.general, self.specific = 0, 0
         self.basis = Basis(family, options.own)
         # The last general query in this time as querier; None where there was none, or where it isn't known of any.
@@ -355,6 +464,9 @@ class Check:
         if had_role and not has_role:
             self.silence(self.link.now, self.link.next_order())
             self.changes.append(self.link.now)
+            for it in self.subjects.values():
+                it.move_to(self.link.now)
+                it.next = None
             self.before = None
             self.basis.lost, self.basis.lost_at, self.basis.again = self.basis.lost + 1, self.link.now, None
         self.basis.other = self.link.heard
@@ -367,6 +479,7 @@ class Check:
 
     def tick_to(self, moment):
         while self.link.next() <= moment:
+            self.settled.append(self.link.next())
             self.step(self.link.tick, self.link.next())
 
     def query_in(self, packet):
@@ -384,52 +497,92 @@ class Check:
         if packet.source != self.it.own:
             return
         try:
-            is_query = read(self.family, packet.body, packet.source, packet.to).what == "query"
+            message = read(self.family, packet.body, packet.source, packet.to)
         except Fault as fault:
             if fault.number == 2 and packet.body[0] == self.family.query:
-                self.find(self.link.next_order(), f"{moment} packet {number} checksum", CHECKSUM)
+                self.find(self.link.next_order(), moment, f"packet {number} checksum", CHECKSUM)
             return
-        if not is_query:
+        if message.what != "query":
             return
-        ttl, alert = (packet.hops, packet.alert) if packet.to else headers4(ip_in(kind, frame))
-        if ttl != 1:
-            self.find(self.link.next_order(), f"{moment} packet {number} ttl {ttl}, wanted 1", HEADERS)
-        if not alert:
-            self.find(self.link.next_order(), f"{moment} packet {number} alert 0", HEADERS)
+        for fault, sections in self.packet_faults(ip_in(kind, frame), packet):
+            self.find(self.link.next_order(), moment, f"packet {number} {fault}", sections)
         reserved = packet.body[8:9].hex()[:1] if self.family is IGMP else packet.body[1:2].hex() + packet.body[6:8].hex()
         if reserved.strip("0"):
-            self.find(self.link.next_order(), f"{moment} packet {number} reserved", RESERVED)
+            self.find(self.link.next_order(), moment, f"packet {number} reserved", RESERVED)
+        fields = 12 if self.family is IGMP else 28
+        if message.fields and len(packet.body) > fields + self.family.size * len(message.sources):
+            self.find(self.link.next_order(), moment, f"packet {number} additional", ADDITIONAL)
+
+    def packet_faults(self, ip, packet):
+        """The faults of a query's IP header, with their sections. A checksum of 0 is one that the hardware has yet to write."""
+        ttl, alert = (packet.hops, packet.alert) if packet.to else headers4(ip)
+        if ttl != 1:
+            yield f"ttl {ttl}, wanted 1", HEADERS
+        if not alert:
+            yield "alert 0", HEADERS
+        if self.family is not IGMP:
+            return
+        if ip[1] >> 5 != 6:
+            yield f"precedence {ip[1] >> 5}, wanted 6", HEADERS
+        if any(ip[10:12]) and summed(ip[: 4 * (ip[0] & 15)]) % 0xFFFF:
+            yield "header checksum", HEADERS
+
+    def subject(self, thing):
+        return self.subjects.setdefault(thing, Subject(thing, self.rules, self.missed))
+
+    def want(self, group, source, terms, is_again):
+        """The link sends a query for a group, or for a source of it. A tick sends it `is_again`."""
+        now = self.link.now
+        it = Wanted(self.link.next_order(), now, group, source, terms, self.link.packet)
+        if source is not None and terms.querier[0] and any((one.at, one.group, one.source) == (now, group, None) for one in self.wanted):
+            it.need = OPTIONAL
+        elif self.unclear(now, group, source) or source is not None and now < self.rules.held_until and (is_again or group not in self.unmuted):
+            it.need = POSSIBLE
+        self.wanted.append(it)
+        self.subject(it.thing()).want(it, is_again)
 
     def see(self, moment, message, to):
         has_response = message.version > 1 or self.family is not IGMP
         terms = Terms(message.version, message.response if has_response else None, message.fields, to)
-        in_role = self.link.other is None
-        if any(message.group) or message.sources:
-            self.specific += 1
-            for source in message.sources or [None]:
-                it = Asked(self.link.next_order(), moment, message.group, source, terms, self.link.packet, in_role=in_role)
-                it.allowed, it.is_muted = self.allowed(it, message), self.link.mutes(message.group, source)
-                self.seen.append(it)
-            return
-        self.general += 1
-        if in_role:
+        in_role, is_general = self.link.other is None, not any(message.group) and not message.sources
+        self.general, self.specific = self.general + is_general, self.specific + (not is_general)
+        if is_general and in_role:
             self.interval(moment)
-        it = Asked(self.link.next_order(), moment, message.group, None, terms, self.link.packet, in_role=in_role)
-        if in_role:
-            it.partner = self.link.terms(self.family.zero(), False, self.it.qri)
-        self.seen.append(it)
-        self.last_general = moment
+        for source in message.sources or [None]:
+            it = Seen(self.link.next_order(), moment, message.group, source, terms, self.link.packet, in_role=in_role)
+            self.seen.append(it)
+            if is_general and in_role:
+                self.compare(it)
+            else:
+                self.see_one(it)
+        self.last_general = moment if is_general else self.last_general
 
-    def allowed(self, it, message):
-        """The fields of a query that the standard's words allow here beside those that are wanted, or None: a querier may hold the
-        group or the source since before the capture, if no query was wanted for it yet. S depends on timers that are not known."""
-        timing = self.it
-        is_late = it.at > timing.rv * 1000 * timing.qi + timing.qri + self.within
-        is_known = it.thing() in {one.thing() for one in self.link.wanted}
-        if self.strict or not it.in_role or is_late or is_known or not self.link.is_unheld(*it.thing()):
+    def compare(self, it):
+        """A general query is seen in the role. Its fields are compared whether one is wanted or not."""
+        subject = self.subject(it.thing())
+        subject.move_to(it.at)
+        if other := subject.first_near(it.at, subject.wanted):
+            subject.find(it, other, other.terms)
+        it.partner = self.link.terms(self.family.zero(), False, self.it.qri)
+
+    def see_one(self, it):
+        """A query for a group or a source is seen, or a general one while another router is querier."""
+        unclear = None
+        if any(it.group):
+            it.is_muted, it.s = self.link.mutes(it.group, it.source), self.link.is_above(it.group, it.source)
+            unclear = self.unclear(it.at, it.group, it.source)
+            it.possible = unclear and with_s_of(it.terms, unclear)
+        subject, own = self.subject(it.thing()), self.subject(it.thing()).cause
+        causes = [own, self.subject((it.group, None)).cause] if it.source is not None else [own]
+        subject.see(it, causes, self.link.next_order())
+        if it.in_role and it.source is not None and own and it.at <= own[0] + self.within and not unclear:
+            self.unmuted.add(it.group)
+
+    def unclear(self, now, group, source):
+        """The fields of a query that some reading may want, if changes of the group, or of its sources, came close together."""
+        if source == self.family.zero() or not any(self.subject((group, of)).has_changed(now) for of in {source, None}):
             return None
-        s = message.fields[0] if message.fields else False
-        return self.link.terms(it.group, s, self.it.lmqi)
+        return self.subject((group, source and self.family.zero())).unclear(now)
 
     def interval(self, moment):
         """Judges the time since the general query before this one."""
@@ -439,7 +592,7 @@ class Check:
         if passed is not None and self.is_known and startup and self.is_near(passed, first):
             self.startup = startup - 1
         elif passed is not None and (not self.is_near(passed, query) if self.is_known else passed > query + self.within):
-            self.find(self.link.next_order(), f"{moment} general after {passed}, wanted {query}", INTERVAL, self.link.packet)
+            self.find(self.link.next_order(), moment, f"general after {passed}, wanted {query}", INTERVAL, self.link.packet)
         if not self.is_known and self.before is not None:
             self.startup = startup
         self.before, self.is_known = moment, True
@@ -448,66 +601,59 @@ class Check:
         if self.link.other is not None and self.before is None:
             return
         if self.before is not None and moment - self.before > 1000 * self.it.qi + self.within:
-            self.find(order, f"{moment} general none for {moment - self.before}, wanted {1000 * self.it.qi}", INTERVAL)
+            self.find(order, moment, f"general none for {moment - self.before}, wanted {1000 * self.it.qi}", INTERVAL)
 
-    def block(self, moment, packet):
-        """Notes the sources that a Report blocks, if routers don't drop it."""
+    def change(self, moment, packet):
+        """Notes the changes of a Report, if routers don't drop it: BLOCK and TO_EX ask for their sources, TO_IN and Leave for the group and
+        its sources. IS_EX and a Report of an older version end what is asked of sources. The source zero stands for all sources of a group."""
         try:
             message = read(self.family, packet.body, packet.source, packet.to)
         except Fault:
             return
-        is_dropped = self.family is not IGMP and (not is_router(self.family, packet.source) or packet.hops != 1 or not packet.alert)
-        for kind, group, sources in [] if message.what != "report" or is_dropped else message.records:
-            if kind in (TO_EX, BLOCK):
-                self.blocked += [Blocked(self.link.next_order(), moment, group, source) for source in sources]
+        if self.family is not IGMP and (not is_router(self.family, packet.source) or packet.hops != 1 or not packet.alert):
+            return
+        kinds, every = {"leave": TO_IN, "older": IS_EX}, self.family.zero()
+        records = message.records if message.what == "report" else [(kinds[message.what], message.group, [])] if message.what in kinds else []
+        for kind, group, sources in records:
+            subjects = {TO_IN: [None, every], TO_EX: [*sources, every], BLOCK: [*sources, every], IS_EX: [every]}.get(kind, [])
+            for source in subjects if self.link.is_admitted(group) else []:
+                self.subject((group, source)).change(moment, self.link.terms(group, False, self.it.lmqi), self.link.packet)
 
     # Findings.
 
-    def is_near_change(self, moment):
-        """Whether the role changed near a moment: the last change counts that comes while a query of the moment waits for its partner."""
-        changes = [it for it in self.changes if it <= moment + self.keep]
+    def is_near_change(self, moment, waits):
+        """Whether the role changed near a moment: the last change counts that comes while a query of the moment waits."""
+        changes = [it for it in self.changes if it <= moment + waits]
         return bool(changes) and self.is_near(moment, changes[-1])
 
-    def find(self, order, line, sections, packet=0, difference=None):
+    def find(self, order, at, line, sections, packet=0, difference=None, is_possible=False, is_next=False):
         """Adds a finding. A silence has no packet, and the line of a packet's headers names it already."""
-        line += f" packet {packet}" if self.packets and packet else ""
+        line = f"{at} possible {line}" if is_possible else f"{at} {line}"
+        line += f" packet {packet}" if self.flags.packets and packet else ""
         standard, section = ("3376", sections[0]) if self.family is IGMP else ("3810", sections[1])
-        line += f" (RFC {standard} section {section})" if self.cite else ""
-        self.findings.append((order, line, difference))
+        line += f" (RFC {standard} section {section})" if self.flags.cite else ""
+        self.findings.append(Finding(at + (self.within if is_next else self.keep), is_next, order, line, difference, is_possible))
 
     def reported(self):
-        """Returns the lines of the findings, in order. With `once`, those are omitted that repeat the last difference of a variable in
+        """Returns the findings in order. With `once`, those are omitted that repeat the last difference of a variable in
         queries of one kind, general or not."""
-        lines, last = [], {}
-        for _, line, difference in sorted(self.findings, key=lambda it: it[0]):
-            kind, values = (difference[:2], difference[2:]) if difference else (None, None)
-            if not (self.once and kind and last.get(kind) == values):
-                lines.append(line)
+        found, last = [], {}
+        for it in sorted(self.findings, key=lambda it: (bisect.bisect_right(self.settled, it.until), it.is_next, it.order)):
+            kind, values = (it.difference[:2], it.difference[2:]) if it.difference else (None, None)
+            if not (self.flags.once and kind and last.get(kind) == values):
+                found.append(it)
             if kind and kind[1] in VARIABLES:
                 last[kind] = values
-        return lines
-
-    def pair(self, end):
-        """Walks through the events of each thing, first up to the end of the capture."""
-        more = 0 if self.strict else self.it.rv - 1
-        events = [(it, Walk.want) for it in self.link.wanted] + [(it, Walk.block) for it in self.blocked]
-        events += [(it, Walk.see_compared if it.partner else Walk.see) for it in self.seen]
-        of_thing = {}
-        for it, take in sorted(events, key=lambda it: it[0].order):
-            of_thing.setdefault(it.thing(), []).append((it, take))
-        for these in of_thing.values():
-            walk = Walk(self.within, self.it.lmqi, self.keep, more)
-            for it, take in these:
-                if it.at <= end:
-                    take(walk, it)
-            walk.end(end)
-            for it, take in these:
-                if it.at > end:
-                    take(walk, it)
+        return found
 
     def differences(self, it):
-        """Finds each field of a seen query that differs from its partner, or from the query that is allowed."""
-        seen, wanted = it.terms, it.partner or it.allowed
+        """Finds each field of a seen query that differs from its partner, or from a possible query. If the query is possible, another S
+        makes it possibly extra."""
+        seen, wanted = it.terms, it.partner or it.possible
+        has_other_s = None not in (seen.querier, wanted.querier) and seen.querier[0] != wanted.querier[0]
+        if it.in_role and it.possible and has_other_s:
+            wanted = with_s_of(seen, wanted)
+            self.find(it.order, it.at, f"extra {it.text()}", it.sending(), it.packet, is_possible=True)
         named = [("version", seen.version, wanted.version)]
         if None not in (seen.response, wanted.response):
             named.append(("response", seen.response, wanted.response))
@@ -516,8 +662,8 @@ class Check:
         named.append(("to", text_of(seen.to), text_of(wanted.to)))
         for name, one, other in named:
             if one != other:
-                line = f"{it.at} differs {it.text()}: {name} {one}, wanted {other}"
-                self.find(it.order, line, it.differing(name), it.packet, (any(it.group), name, one, other))
+                line = f"differs {it.text()}: {name} {one}, wanted {other}"
+                self.find(it.order, it.at, line, it.differing(name), it.packet, (any(it.group), name, one, other))
 
     def judge(self, end):
         """All lines, where the capture ends at a moment. The partner of a wanted query may come after the end: then it isn't missing. The
@@ -526,22 +672,37 @@ class Check:
         if self.link.other is None:
             self.silence(end, self.link.next_order())
         basis = copy.copy(self.basis)
+        basis.refused = self.link.counts[2]
+        self.settled.append(end)
+        for it in self.subjects.values():
+            it.end(end)
         self.tick_to(min(end + self.within, LATEST))
-        self.pair(end)
-        for it in self.link.wanted:
-            if not it.is_found and not it.may_be_left_out and not it.may_come_later and it.at + self.within < end:
-                self.find(it.order, f"{it.at} missing {it.text()}", it.sending(), it.packet)
+        for it in self.wanted:
+            if not it.partner and it.need != OPTIONAL and not it.may_come_later and it.at + self.within < end:
+                self.find(it.order, it.at, f"missing {it.text()}", it.sending(), it.packet, is_possible=it.need == POSSIBLE)
         for it in self.seen:
             if it.partner:
                 self.differences(it)
-            elif not self.is_near_change(it.at) and it.allowed:
-                self.differences(it)
-            elif not self.is_near_change(it.at):
-                self.find(it.order, f"{it.at} extra {it.text()}", it.extra(), it.packet)
-        lines = self.reported()
-        totals = f"checked general {self.general} specific {self.specific}: {len(lines)} findings"
+            elif not self.is_near_change(it.at, self.keep):
+                self.alone(it)
+        for it in self.missed:
+            if not self.is_near_change(it.at, self.within):
+                self.find(it.order, it.at, f"missing {it.text()}", it.sending(), it.packet, is_possible=True, is_next=True)
+        found = self.reported()
+        lines, possible = [it.line for it in found if not it.is_possible], [it.line for it in found if it.is_possible]
+        totals = [f"checked general {self.general} specific {self.specific}: {len(lines)} findings"]
+        totals += [f"possible {len(possible)}: another reading or an earlier state may explain them"] if possible else []
         unjudged = basis.unjudged(self.general, self.specific, len(lines))
-        return Verdict([*lines, totals, *basis.lines()], lines, unjudged)
+        shown = [it.line for it in found if self.flags.possible or not it.is_possible]
+        return Verdict([*shown, *totals, *basis.lines()], lines, possible, unjudged)
+
+    def alone(self, it):
+        """Finds what is wrong with a seen query without a partner. A change of the role near it excuses it."""
+        is_possible = it.in_role and it.possible is not None
+        sections = it.sending() if is_possible else it.extra()
+        self.find(it.order, it.at, f"extra {it.text()}", sections, it.packet, is_possible=is_possible)
+        if is_possible:
+            self.differences(it)
 
 
 def ip_in(kind, frame):
@@ -570,62 +731,89 @@ def is_router(family, source):
     return any(source) and source[0] < 224 if family is IGMP else source[0] == 0xFE and source[1] >> 6 == 2
 
 
+def routers_query(packet, family):
+    """The query in a packet of the family, where hosts act on it and a router may have its source; else None."""
+    if not is_router(family, packet.source) or family is not IGMP and (packet.hops != 1 or not packet.alert):
+        return None
+    try:
+        message = read(family, packet.body, packet.source, packet.to)
+    except Fault:
+        return None
+    return message if message.what == "query" else None
+
+
 def routers_queries(data, family):
-    """The queries of routers on which hosts act, with their sources, up to a fault of the capture."""
+    """The queries of routers on which hosts act, with their moments and sources, up to a fault of the capture."""
     try:
         kind, records = opened(data)
-        for _, _, frame in moments(records):
+        for _, moment, _, frame in placed(records):
             packet = unwrap(kind, frame)
             if isinstance(packet, str) or packet.family is not family or not is_router(family, packet.source):
                 continue
-            if family is not IGMP and (packet.hops != 1 or not packet.alert):
-                continue
-            try:
-                message = read(family, packet.body, packet.source, packet.to)
-            except Fault:
-                continue
-            if message.what == "query":
-                yield packet.source, message
+            if message := routers_query(packet, family):
+                yield moment, packet.source, message
     except CaptureFault as fault:
-        yield None, fault.text
+        yield None, None, fault.text
+
+
+def shown(passed, unit, announced, said, most):
+    """The interval that the time between two queries shows, in whole units, if it has the code of the announced one."""
+    interval = (passed + unit // 2) // unit * unit
+    return interval if interval <= most and said(interval) == announced else announced
 
 
 def taken(data, family):
-    """The querier of a capture and the variables that its first queries have, or None and why there is none."""
-    querier, found = None, {}
-    for source, query in routers_queries(data, family):
-        if source is None:
-            return (querier, found) if querier else (None, query)
-        if querier is None and not any(query.group) and not query.sources:
-            querier = source
-            _, robustness, interval = query.fields or (0, 0, 0)
-            found = {"rv": robustness, "qi": interval, "qri": query.response}
-        elif querier == source and any(query.group) and not found.get("lmqi"):
-            found["lmqi"] = query.response
+    """The querier of a capture and the variables that its first queries have, or None and why there is none. The lowest source of
+    general queries is elected. `beside` is the next one."""
+    queries = list(routers_queries(data, family))
+    fault = queries.pop()[2] if queries and queries[-1][0] is None else None
+    is_general = [not any(query.group) and not query.sources for _, _, query in queries]
+    sources = sorted({source for at, (_, source, _) in enumerate(queries) if is_general[at]})
+    if not sources:
+        return None, fault or "nothing judged: there is no general query of this family"
+    querier = sources[0]
+    own = [(it, general) for it, general in zip(queries, is_general) if it[1] == querier]
+    first = next(at for at, (_, general) in enumerate(own) if general)
+    general = [(moment, query) for (moment, _, query), general in own[first:] if general]
+    specific = [(moment, query) for (moment, _, query), general in own[first:] if not general]
+    _, robustness, interval = general[0][1].fields or (0, 0, 0)
+    interval *= 1000
+    for (before, _), (moment, _) in zip(general, general[1:]):
+        interval = shown(moment - before, 1000, interval, lambda ms: 1000 * value_of(code_of(ms // 1000, 8), 8), 31744000)
+    bits, unit = (8, 100) if family is IGMP else (16, 1)
+    lmqi, last, at = 0, None, 0
+    for moment, query in specific:
+        lmqi = lmqi or query.response or 0
+        if last == (query.group, len(query.sources)):
+            lmqi = shown(moment - at, 100, lmqi, lambda ms: unit * value_of(code_of(ms // unit, bits), bits), 3174400)
+        last, at = (query.group, len(query.sources)), moment
+    found = {"rv": robustness, "qi": interval // 1000, "qri": general[0][1].response, "lmqi": lmqi}
     found = {name: value for name, value in found.items() if value}
-    return (querier, found) if querier else (None, "nothing judged: there is no general query of this family")
+    if len(sources) > 1:
+        found["beside"] = sources[1]
+    return querier, found
 
 
-def check_taking(data, family, given, within=100, strict=False, packets=False, cite=False):
+def check_taking(data, family, given, within=100, flags=Flags()):
     """The verdict of a whole capture about the querier that it names, or None and what it says. `given` are the options."""
     querier, found = taken(data, family)
     if querier is None:
         return None, found
-    options = Options(querier, **{**found, **given})
+    beside = found.pop("beside", None)
+    options = CheckOptions(querier, **{**found, **given})
     if options.qri >= 1000 * options.qi:
         return None, "configuration fault 3"
-    verdict, fault = check(data, family, options, within, strict, packets, True, cite)
+    verdict, fault = check(data, family, options, within, dataclasses.replace(flags, once=True))
     if verdict:
         words = [f" {name} {found[name]}" for name in ("rv", "qi", "qri", "lmqi") if name in found and name not in given]
+        words += [f", beside {text_of(beside)}"] if beside else []
         verdict.lines.append(f"taken from the capture: querier {text_of(querier)}{''.join(words)}")
     return verdict, fault
 
 
-def check(data, family, options, within=100, strict=False, packets=False, once=False, cite=False):
-    """The verdict of a whole capture, or None and what it says where a fault or a gap ends it. `strict` allows no other readings.
-    With `packets` findings have the numbers of packets, and with `cite` their sections. With `once` a changed variable is reported
-    once."""
-    it, last, number = Check(family, options, within, strict, packets, once, cite), 0, 0
+def check(data, family, options, within=100, flags=Flags()):
+    """The verdict of a whole capture, or None and what it says where a fault or a gap ends it."""
+    it, last, number = Check(family, options, within, flags), 0, 0
     try:
         kind, records = opened(data)
         for number, moment, goes_back, frame in placed(records):
@@ -638,12 +826,13 @@ def check(data, family, options, within=100, strict=False, packets=False, once=F
             it.basis.count(kind, frame, packet, goes_back)
             if isinstance(packet, str) or packet.family is not family:
                 continue
+            it.settled.append(moment)
             it.headers(moment, number, kind, frame, packet)
             message = it.query_in(packet)
             if message:
                 it.see(moment, message, destination(kind, frame, packet))
             else:
-                it.block(moment, packet)
+                it.change(moment, packet)
                 it.step(it.link.receive, packet, moment)
     except CaptureFault as fault:
         return None, fault.text

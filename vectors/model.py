@@ -6,7 +6,7 @@ from __future__ import annotations
 
 import dataclasses
 
-from wire import IGMP, CaptureFault, Fault, address, code_of, moments, opened, query, read, text_of, unwrap, with_checksum
+from wire import IGMP, CaptureFault, Fault, address, code_of, moments, object_of, opened, query, read, text_of, unwrap, with_checksum, written
 
 IS_IN, IS_EX, TO_IN, TO_EX, ALLOW, BLOCK = range(1, 7)
 DAY = 86400000
@@ -32,13 +32,13 @@ class Options:
     changes: bool = False
 
 
-def options_of(words):
+def options_of(words, kind=Options):
     """The options of a command line behind the family."""
     found, words = {}, iter(words)
     for word in words:
         name = word[2:].replace("-", "_")
         found[name] = True if word in ("--ssm", "--changes") else address(next(words)) if word == "--own" else int(next(words))
-    return Options(**found)
+    return kind(**found)
 
 
 @dataclasses.dataclass
@@ -363,6 +363,57 @@ class Querier:
         names = ["received", "dropped", "applied", "ignored", "refused", "sent", "unsent"]
         numbers = [self.received, self.dropped, *self.counts, self.sent, 0]
         return said + ["counts " + " ".join(f"{name} {number}" for name, number in zip(names, numbers))]
+
+
+# The words for the numbers of reasons to drop a message.
+REASONS = ["truncated", "checksum", "unknown type", "query length", "source", "hop limit", "router alert", "own query", "query of version 1", "group"]
+
+
+def timer(deadline):
+    return None if deadline is None else int(deadline)
+
+
+def event_of(line, family, own):
+    """The object of a line of `replay`, without the timers of a changed group."""
+    words = line.split()
+    if words[0] == "end":
+        return {"time": int(words[1]), "event": "end", "querier": words[2] == "querier"}
+    if words[0] == "counts":
+        return {"event": "counts"} | {name: int(count) for name, count in zip(words[1::2], words[2::2])}
+    time = {"time": int(words[0])}
+    if words[1] == "send":
+        to, body = address(words[2]), bytes.fromhex(words[3])
+        message = object_of(read(family, body, own, to))
+        return time | {"event": "send", "destination": words[2], "hex": words[3], "message": message}
+    packet = {"packet": int(words[2])}
+    if words[1] == "skip":
+        return time | {"event": "skip"} | packet | {"skipped": words[3]}
+    packet |= {"source": words[3]}
+    if words[4] == "dropped":
+        return time | {"event": "drop"} | packet | {"number": int(words[5]), "reason": REASONS[int(words[5]) - 1]}
+    return time | {"event": "receive"} | packet | dict(zip(("applied", "ignored", "refused"), map(int, words[5:])))
+
+
+def group_of(line, time):
+    """The object of a group at the end of a replay."""
+    _, group, mode, *words = line.split()
+    until = words.pop(0) if mode == "exclude" else None
+    hosts = {"v1": None, "v2": None}
+    while len(words) > 1 and words[-2] in hosts:
+        deadline = words.pop()
+        hosts[words.pop()] = int(deadline)
+    sources = [(it[1:], None) if it.startswith("!") else it.split("=") for it in words]
+    held = [{"source": source, "timer": timer(deadline)} for source, deadline in sources]
+    return {"time": time, "event": "group", "group": group, "filter": mode, "timer": timer(until), "sources": held} | hosts
+
+
+def objects(lines, family, own):
+    """The objects of a replay's lines, without changed groups."""
+    time = 0
+    for line in lines:
+        event = group_of(line, time) if line.startswith("group ") else event_of(line, family, own)
+        time = event.get("time", time)
+        yield written(event)
 
 
 def replay(data, family, options, querier=Querier):

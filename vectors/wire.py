@@ -8,9 +8,11 @@ from __future__ import annotations
 import dataclasses
 import functools
 import ipaddress
+import json
 import struct
 
 KINDS = {1: "IS_IN", 2: "IS_EX", 3: "TO_IN", 4: "TO_EX", 5: "ALLOW", 6: "BLOCK"}
+REASONS = {1: "truncated", 2: "checksum", 3: "unknown type", 4: "query length"}
 MOST_CAPTURED = 262144
 # The magic numbers of captures: the byte order, and the units of a millisecond.
 MAGICS = {
@@ -52,7 +54,10 @@ class Fault(Exception):
         self.number, self.at = number, at
 
     def line(self):
-        return {1: f"fault 1 truncated at {self.at}", 2: "fault 2 checksum", 3: "fault 3 unknown type", 4: "fault 4 query length"}[self.number]
+        return f"fault {self.number} {REASONS[self.number]}" + (f" at {self.at}" if self.number == 1 else "")
+
+    def object(self):
+        return {"type": "fault", "number": self.number, "reason": REASONS[self.number]} | ({"at": self.at} if self.number == 1 else {})
 
 
 class CaptureFault(Exception):
@@ -231,19 +236,36 @@ def line_of(message):
     return told
 
 
+def object_of(message):
+    """The object of a message."""
+    group = {"group": text_of(message.group)} if message.group else {}
+    if message.what == "report":
+        each = [{"kind": KINDS.get(kind, kind), "group": text_of(of), "sources": [*map(text_of, sources)]} for kind, of, sources in message.records]
+        return {"type": "report", "version": message.version, "records": each}
+    if message.what != "query":
+        return {"type": "leave"} | group if message.what == "leave" else {"type": "report", "version": message.version} | group
+    told = {"type": "query", "version": message.version} | group
+    if message.version > 1 or len(message.group) == 16:
+        told["response"] = message.response
+    if message.fields:
+        s, qrv, interval = message.fields
+        told |= {"s": s == 1, "qrv": qrv, "interval": interval, "sources": [*map(text_of, message.sources)]}
+    return told
+
+
 # Frames.
 
 
 @dataclasses.dataclass
 class Packet:
-    """A message's packet. MLD alone has what stands behind the source."""
+    """A message's packet."""
 
     family: Family
     source: bytes
     body: bytes
-    to: bytes = b""
-    hops: int = 0
-    alert: bool = False
+    to: bytes
+    hops: int
+    alert: bool
 
 
 def unwrap(link, frame):
@@ -267,7 +289,25 @@ def unwrap_v4(packet):
         return "other"
     if int.from_bytes(packet[6:8], "big") & 0x3FFF:
         return "fragment"
-    return "cut" if total > len(packet) else Packet(IGMP, packet[12:16], packet[header:total])
+    if total > len(packet):
+        return "cut"
+    return Packet(IGMP, packet[12:16], packet[header:total], packet[16:20], packet[8], has_alert_v4(packet[20:header]))
+
+
+def has_alert_v4(options):
+    """Whether Router Alert (type 148) is among the options of an IPv4 header, up to the first that does not fit."""
+    at = 0
+    while at < len(options) and options[at]:
+        if options[at] == 1:
+            at += 1
+            continue
+        size = options[at + 1] if at + 1 < len(options) else 0
+        if size < 2 or at + size > len(options):
+            return False
+        if options[at] == 148:
+            return True
+        at += size
+    return False
 
 
 def unwrap_v6(packet):
@@ -308,11 +348,11 @@ def has_alert(options):
 ALERT = bytes.fromhex("050200000100")
 
 
-def in_ipv4(body, source, to, options=b"", protocol=2, flags=0, total=None, hops=1):
-    """A packet of IPv4, by default with time to live 1."""
+def in_ipv4(body, source, to, options=b"", protocol=2, flags=0, total=None, hops=1, service=0xC0):
+    """A packet of IPv4, by default with time to live 1 and the precedence of IGMP."""
     header = 20 + len(options)
     length = header + len(body) if total is None else total
-    first = struct.pack(">BBHHHBBH", 0x40 | header // 4, 0xC0, length, 0, flags, hops, protocol, 0) + source + to + options
+    first = struct.pack(">BBHHHBBH", 0x40 | header // 4, service, length, 0, flags, hops, protocol, 0) + source + to + options
     check = (0xFFFF - summed(first) % 0xFFFF) % 0xFFFF
     return first[:10] + struct.pack(">H", check) + first[12:] + body
 
@@ -389,21 +429,53 @@ def moments(records):
         yield number, moment, frame
 
 
-def listing(data):
-    """The text of `show` for a capture, and the fault that ends it."""
+def answer(packet):
+    """The message of a packet, or its fault."""
+    try:
+        return read(packet.family, packet.body, packet.source, packet.to)
+    except Fault as fault:
+        return fault
+
+
+def listed(line_of_packet, data):
+    """The lines of a capture's packets, and the fault that ends it."""
     said = []
     try:
         link, records = opened(data)
         for number, moment, frame in moments(records):
-            packet = unwrap(link, frame)
-            if isinstance(packet, str):
-                said.append(f"{number} {moment} {packet}")
-                continue
-            try:
-                line = line_of(read(packet.family, packet.body, packet.source, packet.to))
-            except Fault as fault:
-                line = fault.line()
-            said.append(f"{number} {moment} {text_of(packet.source)} {packet.family.name} {line}")
+            said.append(line_of_packet(number, moment, unwrap(link, frame)))
     except CaptureFault as fault:
         return said, fault.text
     return said, None
+
+
+def listed_line(number, moment, packet):
+    if isinstance(packet, str):
+        return f"{number} {moment} {packet}"
+    found = answer(packet)
+    line = found.line() if isinstance(found, Fault) else line_of(found)
+    return f"{number} {moment} {text_of(packet.source)} {packet.family.name} {line}"
+
+
+def listed_object(number, moment, packet):
+    place = {"packet": number, "time": moment}
+    if isinstance(packet, str):
+        return written(place | {"skipped": packet})
+    found = answer(packet)
+    addresses = {"source": text_of(packet.source), "destination": text_of(packet.to)}
+    message = found.object() if isinstance(found, Fault) else object_of(found)
+    return written(place | {"family": packet.family.name} | addresses | {"ttl": packet.hops, "alert": packet.alert, "message": message})
+
+
+def written(it):
+    return json.dumps(it, separators=(",", ":"))
+
+
+def listing(data):
+    """The text of `show` for a capture, and the fault that ends it."""
+    return listed(listed_line, data)
+
+
+def objects(data):
+    """The objects of `show --json` for a capture, and the fault that ends it."""
+    return listed(listed_object, data)

@@ -35,27 +35,3 @@ export function addressKey(text, family) {
 function hexOf(bytes) {
   return Array.from(bytes, (it) => it.toString(16).padStart(2, "0")).join("");
 }
-
-// The longest run of two or more zero words: its begin and its length.
-function zeroRun(words) {
-  let best = { at: 0, length: 1 };
-  for (let at = 0; at < words.length; at++) {
-    let length = 0;
-    while (words[at + length] === 0) length++;
-    if (length > best.length) best = { at, length };
-  }
-  return best;
-}
-
-function text6(bytes) {
-  const words = Array.from({ length: 8 }, (_, it) => (bytes[2 * it] << 8) | bytes[2 * it + 1]);
-  const { at, length } = zeroRun(words);
-  const texts = words.map((it) => it.toString(16));
-  if (length < 2) return texts.join(":");
-  return `${texts.slice(0, at).join(":")}::${texts.slice(at + length).join(":")}`;
-}
-
-// The text of 4 or 16 bytes, as the program writes it.
-export function addressText(bytes) {
-  return bytes.length === 4 ? bytes.join(".") : text6(bytes);
-}

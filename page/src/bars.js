@@ -1,5 +1,5 @@
 // Bars for the time in which a group stays in one filter mode, and for the time in which a source is forwarded or stopped. They come
-// from the lines of groups that change.
+// from the changes of groups.
 
 import { BAR } from "./kinds.js";
 import { Table } from "./columns.js";
@@ -41,31 +41,34 @@ export class Bars {
     this.table.to.items[bar] = line;
   }
 
-  // The line `T change G ..`, with the words after the group.
-  change(time, group, words, line) {
+  // A group has another filter. In INCLUDE mode without running timers it forwards nothing, and has no bar.
+  change(time, group, { filter, sources }, line) {
     const before = this.states.get(group) ?? NONE;
-    const kind = { include: BAR.INCLUDE, exclude: BAR.EXCLUDE }[words[0]] ?? null;
+    const isStopped = filter === "exclude";
+    const named = sources.filter(({ timer }) => (timer === null) === isStopped);
+    const kind = isStopped ? BAR.EXCLUDE : named.length > 0 ? BAR.INCLUDE : null;
     const after = { mode: kind, bar: before.bar, sources: new Map() };
     if (kind !== before.mode) {
       if (before.mode !== null) this.close(before.bar, time, line);
       if (kind !== null) after.bar = this.open(group, 0, kind, time, line);
     }
-    this.changeSources(time, group, words.slice(1), line, before.sources, after.sources);
+    const keys = named.map(({ source }) => (isStopped ? `!${source}` : source));
+    this.changeSources(time, group, keys, line, before.sources, after.sources);
     if (kind === null) this.states.delete(group);
     else this.states.set(group, after);
   }
 
   // Unchanged sources keep their places in `before`. The others end, and new ones begin.
-  changeSources(time, group, words, line, before, after) {
-    for (const word of words) {
-      const kept = before.get(word);
+  changeSources(time, group, keys, line, before, after) {
+    for (const key of keys) {
+      const kept = before.get(key);
       if (kept === undefined) {
-        const isStopped = word[0] === "!";
-        const source = this.sourceNumber(group, isStopped ? word.slice(1) : word);
-        after.set(word, this.open(group, source, isStopped ? BAR.stopped : BAR.forwarded, time, line));
+        const isStopped = key[0] === "!";
+        const source = this.sourceNumber(group, isStopped ? key.slice(1) : key);
+        after.set(key, this.open(group, source, isStopped ? BAR.stopped : BAR.forwarded, time, line));
       } else {
-        after.set(word, kept);
-        before.delete(word);
+        after.set(key, kept);
+        before.delete(key);
       }
     }
     for (const bar of before.values()) this.close(bar, time, line);

@@ -1,11 +1,11 @@
-// The description of a mark or a bar, and its section of the standard.
+// The description of a mark or a bar in words, and its section of the standard.
 
 import { ZERO } from "./addresses.js";
 import { firstAtLeast } from "./columns.js";
+import { isGeneral, kindOfRecord } from "./heard.js";
 import { isGroupBar } from "./history.js";
 import { BARS, DROPPED, GENERAL_QUERY, KIND, KINDS, LANE_COUNT, LANES, SOURCE_QUERY, STANDARDS } from "./kinds.js";
 import { momentText } from "./moments.js";
-import { queryOf } from "./queries.js";
 
 // The reason for which the querier's own queries are dropped, and those from 0.0.0.0.
 const OWN_QUERY = 8;
@@ -35,28 +35,39 @@ function cited(family, sections) {
   return sections ? `${STANDARDS[family]} section ${sections}` : "";
 }
 
-// The record of a listing's line for a group, as `BLOCK 232.1.1.1 10.9.0.101`.
-function recordIn(line, name, group) {
-  const records = line.match(/\[[^\]]*\]/g) ?? [];
-  const found = records.find((it) => it.startsWith(`[${name} `) && it.slice(1, -1).split(" ").includes(group));
-  return found ? found.slice(1, -1) : name;
+// The subject of a query: all groups, a group, or sources of it.
+function subjectOf(family, { group, sources = [] }) {
+  if (isGeneral(family, group)) return "all groups";
+  return sources.length > 0 ? `${group}, sources ${sources.join(" ")}` : group;
 }
 
-function markWords(history, mark, texts) {
+function recordWords({ kind, group, sources }) {
+  return [typeof kind === "number" ? `TYPE ${kind}` : kind, group, ...sources].join(" ");
+}
+
+// A message in words, or the record of it that a mark stands for.
+function saidWords(family, { type, version, group, records, ...more }, kind, name) {
+  if (type === "query") return `Query v${version} for ${subjectOf(family, { group, ...more })}${more.s ? ", with S set" : ""}`;
+  if (type === "leave") return `Leave of ${group}`;
+  if (!records) return `Report v${version} of ${group}`;
+  const record = records.find((it) => kindOfRecord(it) === kind && it.group === name);
+  return record ? recordWords(record) : "Report without records";
+}
+
+function markWords(history, mark, objects) {
   const kind = history.marks.kind[mark];
   const lines = linesOf(history, { mark });
-  if (KINDS[kind].lane === LANES.finding) return findingWords(texts.check.line(lines.check - 1));
-  if (kind === KIND.wanted_query) return wantedWords(history.family, texts.replay.line(lines.replay - 1));
-  return heardWords(history, mark, texts.listing.line(lines.listing - 1));
+  if (KINDS[kind].lane === LANES.finding) return findingWords(history.family, objects.check.object(lines.check - 1));
+  if (kind === KIND.wanted_query) return wantedWords(history.family, objects.replay.object(lines.replay - 1).message);
+  return heardWords(history, mark, objects.listing.object(lines.listing - 1));
 }
 
 // A received message, or one record of it.
-function heardWords({ family, names, marks }, mark, line) {
+function heardWords({ family, names, marks }, mark, { source, message }) {
   const kind = marks.kind[mark];
-  const source = line.split(" ")[2];
-  const said = line.split(" ").slice(4).join(" ");
-  const what = `${kind <= KIND.TYPE ? recordIn(line, KINDS[kind].name, names[marks.row[mark]]) : said}, from ${source}`;
-  const section = kind === KIND.heard_query ? heardSection(family, line) : KINDS[kind].sections[family];
+  const what = `${saidWords(family, message, kind, names[marks.row[mark]])}, from ${source}`;
+  const isGeneralQuery = kind === KIND.heard_query && isGeneral(family, message.group);
+  const section = isGeneralQuery ? GENERAL_QUERY.heard[family] : KINDS[kind].sections[family];
   const dropped = marks.dropped[mark];
   const isOwn = dropped === OWN_QUERY && source !== ZERO.igmp;
   if (dropped === 0 || isOwn) return { what: isOwn ? `${what}, the querier itself` : what, section: cited(family, section) };
@@ -64,45 +75,55 @@ function heardWords({ family, names, marks }, mark, line) {
   return { what: `${what}. It is dropped, since ${why}`, section: cited(family, sections[family]) };
 }
 
-function heardSection(family, line) {
-  const isGeneral = / group (0\.0\.0\.0|::)( |$)/.test(line);
-  return isGeneral ? GENERAL_QUERY.heard[family] : KINDS[KIND.heard_query].sections[family];
+function wantedWords(family, message) {
+  const { group, s, sources } = message;
+  const specific = sources.length > 0 ? SOURCE_QUERY : KINDS[KIND.wanted_query].sections;
+  const sections = isGeneral(family, group) ? GENERAL_QUERY.wanted : specific;
+  return { what: `Query that is wanted for ${subjectOf(family, message)}${s ? ", with S set" : ""}`, section: cited(family, sections[family]) };
 }
 
-function wantedWords(family, line) {
-  const { group, suppresses, sources } = queryOf(line.split(" ")[3], family);
-  const isGeneral = group === "0.0.0.0" || group === "::";
-  const asked = isGeneral ? "all groups" : sources.length > 0 ? `${group}, sources ${sources.join(" ")}` : group;
-  const sections = isGeneral ? GENERAL_QUERY.wanted : sources.length > 0 ? SOURCE_QUERY : KINDS[KIND.wanted_query].sections;
-  return { what: `Query that is wanted for ${asked}${suppresses ? ", with S set" : ""}`, section: cited(family, sections[family]) };
+const FINDINGS = {
+  missing: ({ subject }) => `missing ${subject}`,
+  extra: ({ subject }) => `extra ${subject}`,
+  differs: ({ subject, field, seen, wanted }) => `differs ${subject}: ${field} ${seen}, wanted ${wanted}`,
+  interval: ({ seen, wanted }) => `general queries ${seen} ms apart, wanted ${wanted}`,
+  silence: ({ seen, wanted }) => `no general query for ${seen} ms, wanted ${wanted}`,
+  header: ({ packet, field, seen, wanted }) => `packet ${packet}: ${field}${seen === null ? "" : ` ${seen}, wanted ${wanted}`}`,
+};
+
+function findingWords(family, it) {
+  const subject = it.source === null ? it.group : `${it.group} ${it.source}`;
+  return { what: `Finding: ${FINDINGS[it.finding]({ ...it, subject })}`, section: cited(family, it.sections.join(", ")) };
 }
 
-// A finding ends with its section, if it cites one.
-function findingWords(line) {
-  const [, what, section] = line.match(/^\d+ (.*?)(?: \((RFC .*)\))?$/);
-  return { what: `Finding: ${what}`, section: section ?? "" };
+// A group at the end of a replay.
+function stateWords({ timer, sources, v1, v2 }) {
+  const until = (words, end) => (end === null ? "" : `${words} until ${momentText(end)}`);
+  const ofSource = (it) => until(it.source, it.timer) || `${it.source} stopped`;
+  const hosts = [until("hosts of version 1", v1), until("hosts of version 2", v2)];
+  return [until("EXCLUDE", timer) || "INCLUDE", ...sources.map(ofSource), ...hosts].filter(Boolean).join(", ");
 }
 
-function barWords(history, bar, texts) {
+function barWords(history, bar, objects) {
   const { kind, row, end, to } = history.bars;
   const name = history.names[row[bar]];
   const { name: kindName, label, sections } = BARS[kind[bar]];
   const what = isGroupBar(kind[bar]) ? `${name}: ${label}` : `Source ${name}, ${kindName}`;
   const last = to[bar] === 0 && isGroupBar(kind[bar]) ? history.last[name] : 0;
-  const state = last ? `. At the end: ${texts.replay.line(last - 1)}` : "";
+  const state = last ? `. At the end: ${stateWords(objects.replay.object(last - 1))}` : "";
   return { what: `${what}, until ${momentText(end[bar])}${state}`, section: cited(history.family, sections[history.family]) };
 }
 
 // `at` is the time as a text, `what` describes the mark or bar, and `section` is the section of the standard.
-export function describe(history, selection, texts) {
+export function describe(history, selection, objects) {
   const { mark, bar } = selection;
   const moment = mark === undefined ? history.bars.begin[bar] : history.marks.time[mark];
-  const words = mark === undefined ? barWords(history, bar, texts) : markWords(history, mark, texts);
+  const words = mark === undefined ? barWords(history, bar, objects) : markWords(history, mark, objects);
   return { at: momentText(moment), ...words };
 }
 
 // One line for the list of marks.
-export function markLine(history, mark, texts) {
-  const { at, what, section } = describe(history, { mark }, texts);
+export function markLine(history, mark, objects) {
+  const { at, what, section } = describe(history, { mark }, objects);
   return `${at}  ${what}${section ? ` (${section})` : ""}`;
 }

@@ -1,11 +1,11 @@
-// The messages of one family in a listing (the text of `show`): marks, and the variables of its first querier.
+// The messages of one family in a listing: marks, and the variables of its first querier.
 
 import { ZERO } from "./addresses.js";
 import { KIND } from "./kinds.js";
 import { Table } from "./columns.js";
-import { eachLine } from "./lines.js";
 
-const RECORDS = new Map(["IS_IN", "IS_EX", "TO_IN", "TO_EX", "ALLOW", "BLOCK", "TYPE"].map((name) => [name, KIND[name]]));
+// The kind of a record's mark. A record of an unknown type has a number.
+export const kindOfRecord = ({ kind }) => KIND[kind] ?? KIND.TYPE;
 
 export const isGeneral = (family, group) => group === ZERO[family];
 
@@ -27,12 +27,6 @@ export class Names {
   }
 }
 
-// The number after a word of a query's line.
-function fieldOf(words, name) {
-  const at = words.indexOf(name, 8);
-  return at < 0 ? null : Number(words[at + 1]);
-}
-
 export class Heard {
   constructor(family) {
     this.family = family;
@@ -47,38 +41,25 @@ export class Heard {
     this.marks.push({ time, kind, group: this.groups.number(group), line });
   }
 
-  take(words, line) {
-    const time = Number(words[1]);
+  take({ time, source, message }, line) {
     this.messages++;
-    if (words[4] === "query") this.takeQuery(words, time, line);
-    else if (words[4] === "leave") this.mark(time, KIND.Leave, words[6], line);
-    else if (words[4] === "report" && words[6] === "group") this.mark(time, KIND.older_Report, words[7], line);
-    else if (words[4] === "report") this.takeRecords(words, time, line);
+    if (message.type === "query") this.takeQuery(message, source, time, line);
+    else if (message.type === "leave") this.mark(time, KIND.Leave, message.group, line);
+    else if (message.records) this.takeRecords(message.records, time, line);
+    else if (message.type === "report") this.mark(time, KIND.older_Report, message.group, line);
   }
 
-  takeRecords(words, time, line) {
-    if (words[7] === "0") this.mark(time, KIND.empty_Report, ZERO[this.family], line);
-    for (let at = 8; at < words.length; at++) {
-      if (words[at][0] !== "[") continue;
-      const kind = RECORDS.get(words[at].slice(1));
-      const group = words[at + (kind === KIND.TYPE ? 2 : 1)];
-      this.mark(time, kind, group.endsWith("]") ? group.slice(0, -1) : group, line);
-    }
+  takeRecords(records, time, line) {
+    if (records.length === 0) this.mark(time, KIND.empty_Report, ZERO[this.family], line);
+    for (const it of records) this.mark(time, kindOfRecord(it), it.group, line);
   }
 
-  takeQuery(words, time, line) {
-    const [source, group] = [words[2], words[7]];
+  takeQuery({ group, qrv: rv, interval: qi, response }, own, time, line) {
     this.mark(time, KIND.heard_query, group, line);
-    const said = {
-      line,
-      own: source,
-      rv: fieldOf(words, "qrv"),
-      qi: fieldOf(words, "interval"),
-      response: fieldOf(words, "response"),
-    };
+    const said = { line, own, rv, qi, response };
     if (!isGeneral(this.family, group)) {
-      if (!this.specific.has(source)) this.specific.set(source, said);
-    } else if (!this.general && this.isQuerier(source)) {
+      if (!this.specific.has(own)) this.specific.set(own, said);
+    } else if (!this.general && this.isQuerier(own)) {
       this.general = said;
     }
   }
@@ -98,15 +79,12 @@ export class Heard {
 }
 
 // Returns the messages of each family in a listing.
-export function heardIn(bytes, tell) {
+export function heardIn(objects) {
   const heard = { igmp: new Heard("igmp"), mld: new Heard("mld") };
-  eachLine(
-    bytes,
-    (text, number) => {
-      const words = text.split(" ");
-      heard[words[3]]?.take(words, number + 1);
-    },
-    tell,
-  );
+  let line = 0;
+  for (const it of objects) {
+    line++;
+    heard[it.family]?.take(it, line);
+  }
   return heard;
 }

@@ -69,10 +69,11 @@ function putMarks(all, first, table, rows, kindAt) {
 function marksOf(heard, replayed, found, rows) {
   const { marks } = heard;
   const { sent, lineOf, droppedFor } = replayed;
-  const all = markColumns(marks.length + sent.length + found.length);
+  const { table } = found;
+  const all = markColumns(marks.length + sent.length + table.length);
   putMarks(all, 0, marks, rows, (at) => marks.kind.items[at]);
   putMarks(all, marks.length, sent, rows, () => KIND.wanted_query);
-  putMarks(all, marks.length + sent.length, found, rows, (at) => found.kind.items[at]);
+  putMarks(all, marks.length + sent.length, table, rows, (at) => table.kind.items[at]);
   for (let at = 0; at < marks.length; at++) {
     const listing = marks.line.items[at];
     all.listing[at] = listing;
@@ -81,7 +82,7 @@ function marksOf(heard, replayed, found, rows) {
     all.dropped[at] = droppedFor.items[listing];
   }
   all.replay.set(sent.line.taken(), marks.length);
-  all.check.set(found.line.taken(), marks.length + sent.length);
+  all.check.set(table.line.taken(), marks.length + sent.length);
   return all;
 }
 
@@ -131,7 +132,7 @@ export function historyOf(family, groups, heard, replayed, found) {
   // A replay that a fault ended may end before the last received message.
   const end = Math.max(replayed.end, marks.time[marks.byTime[marks.byTime.length - 1]] ?? 0);
   const isSource = Uint8Array.from(rows.isSource);
-  const check = { found: found.length, counts: found.counts, marks: findingsIn(marks) };
+  const check = { found: found.count, marks: findingsIn(marks) };
   const { isQuerier } = replayed;
   return { family, names: rows.names, isSource, marks, bars, last, end, isQuerier, check, kinds: kindsIn(marks, bars) };
 }

@@ -38,7 +38,7 @@ export const KINDS = [
   { name: "extra", label: "extra: heard, and not wanted", lane: finding, glyph: "cross", sections: null },
   { name: "differs", label: "differs: heard with another field", lane: finding, glyph: "unequal", sections: null },
   { name: "general", label: "general queries too near or too far", lane: finding, glyph: "span", sections: null },
-  { name: "packet", label: "packet: a wrong TTL or checksum, a reserved field, or no Router Alert", lane: finding, glyph: "diamond", sections: null },
+  { name: "packet", label: "packet: a fault of its headers, or of the query's checksum, reserved fields or length", lane: finding, glyph: "diamond", sections: null },
 ];
 
 export const KIND = Object.fromEntries(KINDS.map(({ name }, number) => [name.replace(" ", "_"), number]));

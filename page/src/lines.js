@@ -1,4 +1,4 @@
-// A text as bytes: the offsets of its lines, and its lines in order.
+// A text as bytes: the offsets of its lines, and the objects of JSON in its lines.
 
 import { Column } from "./columns.js";
 
@@ -30,21 +30,24 @@ export class Text {
   }
 }
 
-function endOfChunk(bytes, at) {
-  if (at + CHUNK >= bytes.length) return bytes.length;
-  const end = bytes.lastIndexOf(LINE_FEED, at + CHUNK) + 1;
-  return end > at ? end : bytes.indexOf(LINE_FEED, at) + 1 || bytes.length;
+// A text with an object of JSON in each line.
+export class Objects extends Text {
+  object(number) {
+    return JSON.parse(this.line(number));
+  }
 }
 
-// Calls `visit` with each line and its number, and `tell` now and then with the share of the text that was read.
-export function eachLine(bytes, visit, tell = () => {}) {
+function endOfChunk(bytes, at) {
+  if (at + CHUNK >= bytes.length) return bytes.lastIndexOf(LINE_FEED) + 1;
+  const end = bytes.lastIndexOf(LINE_FEED, at + CHUNK) + 1;
+  return end > at ? end : bytes.indexOf(LINE_FEED, at) + 1;
+}
+
+// Yields the objects of a text, and calls `tell` now and then with the share of the text that was read. A line that a fault cut is left.
+export function* objectsIn(bytes, tell) {
   const decoder = new TextDecoder();
-  for (let at = 0, number = 0, chunk = 0; at < bytes.length; chunk++) {
-    const end = endOfChunk(bytes, at);
-    const lines = decoder.decode(bytes.subarray(at, end)).split("\n");
-    if (lines[lines.length - 1] === "") lines.pop();
-    for (const line of lines) visit(line, number++);
-    at = end;
-    if (chunk % 32 === 31) tell(at / bytes.length);
+  for (let at = 0, chunk = 0, end; (end = endOfChunk(bytes, at)) > at; at = end) {
+    yield* JSON.parse(`[${decoder.decode(bytes.subarray(at, end - 1)).replaceAll("\n", ",")}]`);
+    if (chunk++ % 32 === 31) tell(at / bytes.length);
   }
 }

@@ -5,20 +5,20 @@
 
 import { addressBytes } from "./addresses.js";
 
-// The numbers of an answer that the page itself handles.
-export const STATUS = { done: 0, full: 1, memory: 2, otherMagic: 12, otherLinkType: 14, noCapture: 32 };
+// The statuses that the page itself handles. From `unjudged` on, a check came to its end and judged nothing.
+export const STATUS = { done: 0, full: 1, memory: 2, otherMagic: 12, otherLinkType: 14, noCapture: 32, unjudged: 71 };
 
 const PAGE = 65536;
 const UNIT = 16; // the memory for the work is counted in units of so many bytes
 const LEAST_TEXT = 1 << 16;
-// The text of a listing or a conversion has at most so many bytes for each byte of a capture. Few other texts have as many.
+// A listing in lines and a conversion have at most so many bytes for each byte of a capture. Few other texts have more.
 const TEXT_A_BYTE = 4;
 const LEAST_WORK = 1 << 27;
 const NO_END = 2n ** 64n - 1n;
 
 // The settings in memory: numbers of 4 bytes, then the end, of 8 bytes.
-const PACKED = ["rv", "qi", "qri", "lmqi", "groups", "group_sources", "sources", "scheduled", "ssm", "changes", "within", "cite"];
-const UNTIL = 4 * PACKED.length;
+const PACKED = ["rv", "qi", "qri", "lmqi", "groups", "group_sources", "sources", "scheduled", "ssm", "changes", "within", "cite", "json"];
+const UNTIL = 56; // a multiple of 8
 const SETTINGS = UNTIL + 8;
 const ANSWER = 3 * 8;
 // The choice of an interface in memory: its number, any network, a 1 for a choice by number, and zeros.
@@ -64,7 +64,7 @@ class Call {
 
 function settingsBytes(settings) {
   const view = new DataView(new ArrayBuffer(SETTINGS));
-  PACKED.forEach((name, at) => view.setUint32(4 * at, Number(settings[name]), true));
+  PACKED.forEach((name, at) => view.setUint32(4 * at, Number(settings[name] ?? 0), true));
   view.setBigUint64(UNTIL, settings.until === null ? NO_END : BigInt(settings.until), true);
   return new Uint8Array(view.buffer);
 }
@@ -93,26 +93,26 @@ export class Module {
     return new Module(await WebAssembly.compile(bytes));
   }
 
-  async show(bytes) {
-    return this.run("page_show", bytes);
+  // Lists a capture in lines, or in objects.
+  show(bytes, json = false) {
+    return this.run("page_show", bytes, () => [Number(json)]);
   }
 
   // Converts all packets, or those of the interface with this number.
-  async convert(bytes, number = null) {
+  convert(bytes, number = null) {
     if (number === null) return this.run("page_convert", bytes);
     return this.run("page_convert_chosen", bytes, (call) => [call.lendBytes(choiceBytes(number)).at]);
   }
 
-  async replay(bytes, settings) {
-    return this.run(`page_replay_${settings.family}`, bytes, querierOf({ ...settings, changes: false }));
+  // With `changes`, a replay has those of groups. With `json` it is in objects, as a check is.
+  replay(bytes, settings) {
+    return this.run(`page_replay_${settings.family}`, bytes, querierOf(settings));
   }
 
-  async replayChanges(bytes, settings) {
-    return this.run(`page_replay_${settings.family}`, bytes, querierOf({ ...settings, changes: true }));
-  }
-
-  async check(bytes, settings) {
-    return this.run(`page_check_${settings.family}`, bytes, querierOf({ ...settings, changes: false }));
+  // `unjudged` is the reason why nothing was judged, or nothing.
+  check(bytes, settings) {
+    const { status, text, fault } = this.run(`page_check_${settings.family}`, bytes, querierOf(settings));
+    return status < STATUS.unjudged ? { text, fault, unjudged: "" } : { text, fault: "", unjudged: fault };
   }
 
   // Runs an export until its text fits and its memory suffices, each time with more. The work needs room for the text too. `request` lends

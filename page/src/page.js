@@ -7,7 +7,7 @@ import { describe, linesOf, markLine } from "./description.js";
 import { Findings } from "./findings.js";
 import { showLegend } from "./legend.js";
 import { LineList } from "./line_list.js";
-import { Text } from "./lines.js";
+import { Objects, Text } from "./lines.js";
 import { momentText } from "./moments.js";
 import { copy, save } from "./saving.js";
 import { fillIn, settingsOf } from "./settings.js";
@@ -18,7 +18,7 @@ const $ = (id) => document.getElementById(id);
 const TEXTS = ["listing", "replay", "check"];
 const EMPTY = new Text(new Uint8Array(), new Uint32Array(1));
 
-const state = { file: "", opened: null, settings: null, history: null, texts: {}, faults: {}, converted: null, run: 0 };
+const state = { file: "", opened: null, settings: null, history: null, texts: {}, objects: {}, faults: {}, converted: null, run: 0 };
 const lists = Object.fromEntries([...TEXTS, "marks"].map((name) => [name, new LineList($(name), (line) => choose(name, line))]));
 const choice = new Choice($("choice"), (number) => openFile(state.source, number).then(() => choice.focus()));
 const findings = new Findings($("verdict"), showFinding);
@@ -58,10 +58,16 @@ function sentenceOf(words) {
 }
 
 // Shows a text in its list, with the number of its lines.
-function showText(name, text) {
+function showLines(name, text) {
   state.texts[name] = text;
   lists[name].show(text.count, (line) => text.line(line));
   count(name, number(text.count, "line", "lines"));
+}
+
+// Shows a text of the Worker, and keeps its objects.
+function showText(name, { bytes, starts, objects }) {
+  showLines(name, new Text(bytes, starts));
+  if (objects) state.objects[name] = new Objects(objects.bytes, objects.starts);
 }
 
 function count(name, words) {
@@ -135,8 +141,8 @@ function showOpened(opened) {
   state.faults.conversion = opened.conversionFault;
   $("texts").hidden = false;
   document.querySelector('[data-save="converted"]').hidden = !opened.converted;
-  showText("listing", new Text(opened.listing.bytes, opened.listing.starts));
-  for (const name of ["replay", "check"]) showText(name, EMPTY);
+  showText("listing", opened.listing);
+  for (const name of ["replay", "check"]) showLines(name, EMPTY);
   fillInFamily(firstFamily(opened.families));
 }
 
@@ -181,21 +187,22 @@ async function showRun(settings, { replay, check, history }) {
   state.settings = settings;
   state.faults.replay = replay.fault;
   state.faults.check = check ? check.fault : "";
-  showText("replay", new Text(replay.bytes, replay.starts));
+  showText("replay", replay);
   state.withChanges = state.texts.replay;
-  showText("check", check ? new Text(check.bytes, check.starts) : EMPTY);
+  if (check) showText("check", check);
+  else showLines("check", EMPTY);
   $("unchecked").hidden = check !== null;
   $("unchecked").textContent = "No querier is checked: give the address of one above.";
   $("picture").hidden = false;
   showHistory(history);
-  const unknown = nothingJudged("no general query is in the capture, so no querier is known");
-  showVerdict(check ? verdictOf(settings, history.check, check.fault) : unknown, history);
+  const unknown = nothingJudged("there is no general query of this family");
+  showVerdict(check ? verdictOf(settings, history.check.found, check) : unknown, history);
   await showChanges();
 }
 
 // The verdict, and what a reader has to know beside it.
 function showVerdict(verdict, history = null) {
-  const lineOf = (mark) => markLine(history, mark, textsOfHistory()).replace("Finding: ", "");
+  const lineOf = (mark) => markLine(history, mark, state.objects).replace("Finding: ", "");
   findings.show(verdict, history ? history.check.marks : [], history ? history.marks.time : [], lineOf);
   choice.show(state.opened.interfaces, state.number);
 }
@@ -218,22 +225,20 @@ function showHistory(history) {
   Object.assign($("timeline").dataset, { marks: marks.kind.length, bars: bars.kind.length });
   timeline.show(history);
   showLegend($("legend"), history.kinds);
-  lists.marks.show(marks.kind.length, (at) => markLine(history, marks.byTime[at], textsOfHistory()));
+  lists.marks.show(marks.kind.length, (at) => markLine(history, marks.byTime[at], state.objects));
   count("marks", number(marks.kind.length, "mark", "marks"));
   state.placeOf = null;
   showDetail(null);
 }
 
-const textsOfHistory = () => ({ ...state.texts, replay: state.withChanges });
-
 // The replay without the lines of changed groups is another run. Marks keep their lines in the one with them.
 async function showChanges() {
   if ($("changes").checked || !state.history) {
-    if (state.texts.replay !== state.withChanges) showText("replay", state.withChanges);
+    if (state.texts.replay !== state.withChanges) showLines("replay", state.withChanges);
     return;
   }
   const { replay } = await client.call("replayWithoutChanges", { settings: state.settings });
-  showText("replay", new Text(replay.bytes, replay.starts));
+  showText("replay", replay);
 }
 
 // The place of each mark in the list of marks, made at its first use.
@@ -282,8 +287,8 @@ function showDetail(selection, lines = {}) {
     detail.innerHTML = "<p>No mark is chosen.</p>";
     return;
   }
-  const texts = textsOfHistory();
-  const { at, what, section } = describe(state.history, selection, texts);
+  const texts = { ...state.texts, replay: state.withChanges };
+  const { at, what, section } = describe(state.history, selection, state.objects);
   const words = document.createElement("p");
   words.textContent = `${at}: ${what}.${section ? ` ${section}.` : ""}`;
   const said = TEXTS.filter((name) => lines[name]).map((name) => `${name} ${lines[name]}: ${texts[name].line(lines[name] - 1)}`);

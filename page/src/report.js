@@ -1,4 +1,4 @@
-// The report of conform: the timeline of each case that failed, drawn from the texts of its capture.
+// The report of conform: the timeline of each case that failed, drawn from the objects of its capture.
 
 import { ZERO } from "./addresses.js";
 import { describe } from "./description.js";
@@ -6,32 +6,27 @@ import { foundIn } from "./found.js";
 import { heardIn, Names } from "./heard.js";
 import { historyOf } from "./history.js";
 import { showLegend } from "./legend.js";
-import { lineStarts, Text } from "./lines.js";
 import { replayedIn } from "./replayed.js";
 import { Timeline } from "./timeline.js";
 
-const TEXTS = ["listing", "replay", "check"];
 const CHOOSE = "A click on a mark or a bar says what it is.";
 
-// The history of a case and its texts, from the data of the report.
-function readCase(family, said) {
-  const bytes = Object.fromEntries(TEXTS.map((name) => [name, new TextEncoder().encode(said[name])]));
-  const heard = heardIn(bytes.listing)[family];
+// The history of a case, from the objects of the report.
+function historyOfCase(family, { listing, replay, check }) {
+  const heard = heardIn(listing)[family];
   const groups = Object.assign(new Names(), structuredClone(heard.groups));
   groups.number(ZERO[family]);
-  const replayed = replayedIn(bytes.replay, family, groups);
-  const found = foundIn(bytes.check, groups, ZERO[family]);
-  const texts = Object.fromEntries(TEXTS.map((name) => [name, new Text(bytes[name], lineStarts(bytes[name]))]));
-  return { history: historyOf(family, groups, heard, replayed, found), texts };
+  return historyOf(family, groups, heard, replayedIn(replay, groups), foundIn(check, groups, ZERO[family]));
 }
 
 function show(section, family, said) {
-  const { history, texts } = readCase(family, said);
+  const history = historyOfCase(family, said);
+  const objects = Object.fromEntries(Object.entries(said).map(([name, them]) => [name, { object: (at) => them[at] }]));
   const detail = section.querySelector(".detail");
   detail.textContent = CHOOSE;
   const timeline = new Timeline(section.querySelector(".timeline"), (selection) => {
     timeline.select(selection);
-    const { at, what, section: cited } = describe(history, selection, texts);
+    const { at, what, section: cited } = describe(history, selection, objects);
     detail.textContent = `${at}  ${what}${cited ? ` (${cited})` : ""}`;
   });
   timeline.show(history);

@@ -1,11 +1,11 @@
-// The Worker: it has the capture, calls the module, and reads the texts.
+// The Worker: it has the capture, calls the module, and reads the objects. The texts are for people.
 
 import { ZERO } from "./addresses.js";
 import { foundIn } from "./found.js";
 import { heardIn, Names } from "./heard.js";
 import { historyOf } from "./history.js";
 import { interfacesIn } from "./interfaces.js";
-import { lineStarts } from "./lines.js";
+import { lineStarts, objectsIn } from "./lines.js";
 import { Module, STATUS } from "./module.js";
 import { replayedIn } from "./replayed.js";
 import { defaultsOf } from "./settings.js";
@@ -19,9 +19,10 @@ function tell(step, share) {
   self.postMessage({ progress: { step, share } });
 }
 
-// A text as it is sent to the page.
-function sent({ text, fault }) {
-  return { bytes: text, starts: lineStarts(text), fault };
+// A text as it is sent to the page, with the fault that ended it, and the objects of its lines.
+function sent({ text, fault }, objects = null) {
+  const lines = (bytes) => ({ bytes, starts: lineStarts(bytes) });
+  return { ...lines(text), fault, objects: objects && lines(objects.text) };
 }
 
 async function read(file) {
@@ -39,13 +40,13 @@ async function read(file) {
 // The listing of a file. A file of another form is converted first: all packets, or those of the interface with this number.
 async function listed(bytes, number) {
   tell("Listing the packets", 0.2);
-  const listing = await held.module.show(bytes);
+  const listing = held.module.show(bytes);
   if (!MAY_BE_CONVERTED.includes(listing.status)) return { bytes, listing, converted: null };
   tell("Converting the file", 0.25);
-  const converted = await held.module.convert(bytes, number);
+  const converted = held.module.convert(bytes, number);
   if (converted.status === STATUS.noCapture) return { bytes, listing, converted: null };
   tell("Listing the packets", 0.4);
-  return { bytes: converted.text, listing: await held.module.show(converted.text), converted };
+  return { bytes: converted.text, listing: held.module.show(converted.text), converted };
 }
 
 // Returns the number of messages of a family, and its initial settings.
@@ -59,10 +60,11 @@ async function open({ file, number }) {
   const whole = await read(file);
   const { bytes, listing, converted } = await listed(whole, number);
   held.capture = bytes;
-  held.heard = heardIn(listing.text, (share) => tell("Reading the listing", 0.5 + 0.5 * share));
+  const objects = held.module.show(bytes, true);
+  held.heard = heardIn(objectsIn(objects.text, (share) => tell("Reading the listing", 0.6 + 0.4 * share)));
   const families = { igmp: familyIn(held.heard.igmp), mld: familyIn(held.heard.mld) };
   return {
-    listing: sent(listing),
+    listing: sent(listing, objects),
     families,
     conversionFault: converted ? converted.fault : "",
     converted: converted ? converted.text.slice() : null,
@@ -73,21 +75,22 @@ async function open({ file, number }) {
 async function replay({ settings, withCheck }) {
   const { family } = settings;
   tell("Replaying the capture", 0);
-  const replayed = await held.module.replayChanges(held.capture, settings);
+  const [replayed, events] = [false, true].map((json) => held.module.replay(held.capture, { ...settings, changes: true, json }));
   tell("Checking the querier", 0.3);
-  const checked = withCheck ? await held.module.check(held.capture, settings) : { text: new Uint8Array(), fault: "" };
+  const check = (json) => (withCheck ? held.module.check(held.capture, { ...settings, json }) : { text: new Uint8Array() });
+  const [checked, findings] = [false, true].map(check);
   const groups = Object.assign(new Names(), structuredClone(held.heard[family].groups));
   groups.number(ZERO[family]);
-  const told = replayedIn(replayed.text, family, groups, (share) => tell("Reading the replay", 0.5 + 0.3 * share));
-  const found = foundIn(checked.text, groups, ZERO[family], (share) => tell("Reading the check", 0.8 + 0.1 * share));
+  const told = replayedIn(objectsIn(events.text, (share) => tell("Reading the replay", 0.5 + 0.3 * share)), groups);
+  const found = foundIn(objectsIn(findings.text, (share) => tell("Reading the check", 0.8 + 0.1 * share)), groups, ZERO[family]);
   tell("Ordering marks and bars", 0.9);
   const history = historyOf(family, groups, held.heard[family], told, found);
-  return { replay: sent(replayed), check: withCheck ? sent(checked) : null, history };
+  return { replay: sent(replayed, events), check: withCheck ? { ...sent(checked, findings), unjudged: checked.unjudged } : null, history };
 }
 
 async function replayWithoutChanges({ settings }) {
   tell("Replaying the capture", 0);
-  return { replay: sent(await held.module.replay(held.capture, settings)) };
+  return { replay: sent(held.module.replay(held.capture, settings)) };
 }
 
 async function start({ module }) {

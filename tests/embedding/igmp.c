@@ -34,9 +34,61 @@ static void configurations(void) {
     CHECK(!strcmp(mq_status_text(MQ_LIMIT_SCHEDULED), "the limit of schedules is not within 1 to 65535"));
     CHECK(!strcmp(mq_status_text(MQ_MEMORY), "the memory is too small"));
     CHECK(!strcmp(mq_status_text(MQ_WORKSPACE), "the workspace is too small for the link"));
-    CHECK(!strcmp(mq_status_text(13), "not a status") && !strcmp(mq_dropped_text(11), "not a reason"));
+    CHECK(MQ_HELD == 13 && !strcmp(mq_status_text(MQ_HELD), "the link holds more than the configuration allows"));
+    CHECK(!strcmp(mq_status_text(14), "not a status") && !strcmp(mq_dropped_text(11), "not a reason"));
     CHECK(!strcmp(mq_dropped_text(MQ_DROPPED_CHECKSUM), "the checksum is wrong"));
     CHECK(!strcmp(mq_dropped_text(MQ_DROPPED_GROUP), "a group that hosts do not report"));
+}
+
+/* A running link gets other variables, limits and own addresses. What it holds stays, and a call that fails changes nothing. */
+static void configured(void) {
+    uint8_t room[64], address[4];
+    mq_igmp_config c = mq_igmp_defaults(own), next;
+    mq_igmp_on_heap it;
+    mq_igmp_group held;
+    c.groups = 2, next = c;
+    CHECK(mq_igmp_new(c, 0, &it) == MQ_DONE);
+    CHECK(mq_igmp_tick(&it.link, &it.workspace, 0, room, sizeof room).sent == 1 && mq_igmp_next_deadline(&it.link) == 31250);
+    CHECK(mq_igmp_receive(&it.link, &it.workspace, host, join, sizeof join, 10, NULL, 0).applied == 1);
+    next.robustness = 3, next.query_interval = 20, next.response_interval = 5000, next.last_member_interval = 100;
+    CHECK(mq_igmp_configure(&it.link, next) == MQ_DONE && mq_igmp_next_deadline(&it.link) == 20010);
+    CHECK(mq_igmp_group_at(&it.link, group, &held, NULL, 0).groups == 1 && held.deadline == 260010);
+    CHECK(mq_igmp_changed(&it.workspace, 0, NULL, 0) == 1);
+    CHECK(mq_igmp_tick(&it.link, &it.workspace, 20010, room, sizeof room).written == 18);
+    CHECK(are_bytes(room, 18, "e0000001000c1132ebb90000000003140000") && mq_igmp_next_deadline(&it.link) == 40010);
+    CHECK(mq_igmp_receive(&it.link, &it.workspace, host, join, sizeof join, 20020, NULL, 0).applied == 1);
+    CHECK(mq_igmp_group_at(&it.link, group, &held, NULL, 0).groups == 1 && held.deadline == 85020 && held.v2 == 85020);
+    CHECK(mq_igmp_receive(&it.link, &it.workspace, lower, query, sizeof query, 20030, NULL, 0).status == MQ_DONE);
+    CHECK(mq_igmp_other_querier(&it.link, address, 4) == 20030 + 2 * 125000 + 2500 && !memcmp(address, lower, 4));
+    next.own[3] = 2;
+    CHECK(mq_igmp_configure(&it.link, next) == MQ_DONE && mq_igmp_other_querier(&it.link, NULL, 0) == 272530);
+    next.own[3] = 1;
+    CHECK(mq_igmp_configure(&it.link, next) == MQ_DONE && mq_igmp_is_querier(&it.link) && mq_igmp_next_deadline(&it.link) == 20030);
+    CHECK(mq_igmp_tick(&it.link, &it.workspace, 20030, room, sizeof room).sent == 1);
+    CHECK(mq_igmp_receive(&it.link, &it.workspace, host, allow, sizeof allow, 20040, NULL, 0).applied == 1);
+    const uint64_t deadline = mq_igmp_next_deadline(&it.link);
+#define REFUSED(change, fault) \
+    do { \
+        mq_igmp_config wrong = next; \
+        wrong.change; \
+        CHECK(mq_igmp_configure(&it.link, wrong) == (fault)); \
+    } while (0)
+    REFUSED(robustness = 0, MQ_ROBUSTNESS);
+    REFUSED(own[0] = 224, MQ_OWN_ADDRESS);
+    REFUSED(groups = 3, MQ_MEMORY);
+    REFUSED(group_sources++, MQ_MEMORY);
+    REFUSED(sources++, MQ_MEMORY);
+    REFUSED(scheduled++, MQ_MEMORY);
+    REFUSED(groups = 1, MQ_HELD);
+    REFUSED(group_sources = 1, MQ_HELD);
+    REFUSED(sources = 1, MQ_HELD);
+    CHECK(mq_igmp_len(&it.link) == 2 && mq_igmp_next_deadline(&it.link) == deadline);
+    CHECK(mq_igmp_receive(&it.link, &it.workspace, host, leave, sizeof leave, 20050, NULL, 0).unsent == 1);
+    CHECK(mq_igmp_next_deadline(&it.link) == 20150);
+    next.scheduled = 1, next.sources = 2, next.source_specific = 1;
+    CHECK(mq_igmp_configure(&it.link, next) == MQ_DONE && mq_igmp_next_deadline(&it.link) == 20150);
+    CHECK(mq_igmp_receive(&it.link, &it.workspace, host, block, sizeof block, 20060, NULL, 0).refused == 1);
+    mq_igmp_free(&it);
 }
 
 static void queries(void) {
@@ -142,7 +194,8 @@ static void version(void) {
 
 static void lines(void) {
     static const uint8_t cut[] = {0x16, 0, 0xe9, 0xff};
-    char line[40];
+    static const char object[] = "{\"type\":\"report\",\"version\":2,\"group\":\"239.1.2.3\"}";
+    char line[60];
     size_t length = mq_igmp_line(join, sizeof join, (uint8_t *)line, sizeof line);
     CHECK(length == 25 && !memcmp(line, "report v2 group 239.1.2.3", 25));
     memset(line, '-', sizeof line);
@@ -151,6 +204,10 @@ static void lines(void) {
     CHECK(mq_igmp_line(join, sizeof join, (uint8_t *)line, 26) == 25 && !memcmp(line, "report v2 group 239.1.2.3\n-", 27));
     CHECK(mq_igmp_line(cut, sizeof cut, (uint8_t *)line, sizeof line) == 22 && !memcmp(line, "fault 1 truncated at 4", 22));
     CHECK(mq_igmp_line(NULL, 0, NULL, 0) == 0);
+    CHECK(mq_igmp_json(join, sizeof join, (uint8_t *)line, sizeof line) == 49 && !memcmp(line, object, 49) && line[49] == '\n');
+    memset(line, '-', sizeof line);
+    CHECK(mq_igmp_json(join, sizeof join, (uint8_t *)line, 9) == 9 && !memcmp(line, "{\"type\":\"-", 10));
+    CHECK(mq_igmp_json(NULL, 0, NULL, 0) == 0);
 }
 
 static void bounds(void) {
@@ -343,6 +400,7 @@ int main(void) {
     counters();
     changed();
     configurations();
+    configured();
     queries();
     asking();
     lines();

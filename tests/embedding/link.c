@@ -44,7 +44,13 @@ static void make(void) {
     other = config, other.robustness = 8;
     CHECK(mq_config_status(other) == MQ_ROBUSTNESS);
     other = config, other.own[0] = 224;
-    CHECK(mq_config_status(other) == MQ_OWN_ADDRESS);
+    CHECK(mq_config_status(other) == MQ_OWN_ADDRESS && mq_link_configure(&link_of_either, other) == MQ_OWN_ADDRESS);
+    other = config, other.is_mld = !is_mld;
+    CHECK(mq_link_configure(&link_of_either, other) == MQ_WORKSPACE);
+    other = config, other.query_interval = 20, other.groups = 23;
+    CHECK(mq_link_configure(&link_of_either, other) == MQ_DONE && mq_link_next_deadline(&link_of_either) == 0);
+    CHECK((is_mld ? mq_mld_configure(&mld, mq_mld_config_of(other)) : mq_igmp_configure(&igmp, mq_igmp_config_of(other)))
+          == MQ_DONE);
 }
 
 static void compare_queries(mq_answer answer) {

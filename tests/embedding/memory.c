@@ -1,6 +1,6 @@
 /* Tests the memory of links and workspaces of IGMP, or with -DMLD of MLD: memory [sizes].
-   Links and workspaces are made in memory of each alignment with just enough bytes, and fail with a byte or a unit fewer. A link is
-   made again in the memory of an old one. Many links of different limits use one workspace in any order. Links and workspaces of the
+   Links and workspaces are made in memory of each alignment with just enough bytes, and fail with a byte or a unit fewer. Then no byte
+   changes, so a live link in that memory goes on. A link is made again in the memory of an old one. Many links of different limits use one workspace in any order. Links and workspaces of the
    greatest limits are made. With `sizes` the program compares the size macros with the sizes of all limits instead. */
 #include "check.h"
 
@@ -62,12 +62,13 @@ static bool are_others_kept(const uint8_t *place, size_t size) {
     return true;
 }
 
-/* Makes a link, or fails to. No other bytes change. */
+/* Makes a link, or fails to. No other bytes change, and none at all if it fails. */
 static void make_link(const config_of *config, uint8_t *place, size_t size, bool is_made) {
     workspace_of workspace;
     link_of link = {NULL};
     uint32_t status = MQ(init)(*config, 5, place, size, &link);
-    CHECK(status == (is_made ? MQ_DONE : MQ_MEMORY) && (link.link != NULL) == is_made && are_others_kept(place, size));
+    CHECK(status == (is_made ? MQ_DONE : MQ_MEMORY) && (link.link != NULL) == is_made);
+    CHECK(are_others_kept(place, is_made ? size : 0));
     if (!is_made)
         return;
     CHECK(MQ(workspace_init)(*config, work, sizeof work, &workspace) == MQ_DONE);
@@ -80,7 +81,7 @@ static void make_workspace(const config_of *config, uint8_t *place, size_t size,
     link_of link;
     uint32_t status = MQ(workspace_init)(*config, place, size, &workspace);
     CHECK(status == (is_made ? MQ_DONE : MQ_MEMORY) && (workspace.workspace != NULL) == is_made);
-    CHECK(are_others_kept(place, size));
+    CHECK(are_others_kept(place, is_made ? size : 0));
     if (!is_made)
         return;
     CHECK(MQ(init)(*config, 5, work, sizeof work, &link) == MQ_DONE && joined(&link, &workspace, 6).applied == 1);
@@ -122,6 +123,27 @@ static void remade(void) {
         CHECK(MQ(tick)(&link, &workspace, 700, queries, sizeof queries).sent == 1 && joined(&link, &workspace, 701).applied == 1);
         CHECK(MQ(forwards)(&link, group, host));
     }
+}
+
+/* A greater link and a greater workspace fail in the memory of a live link and its workspace. Both stay as they are, and go on. */
+static void refused(void) {
+    static uint8_t link_before[MEMORY], work_before[MEMORY];
+    config_of config = configured(limits[4]), greater = configured(limits[5]);
+    workspace_of workspace, other_work = {NULL};
+    link_of link, other = {NULL};
+    CHECK(MQ(init)(config, 0, memory, MQ(size)(config), &link) == MQ_DONE);
+    CHECK(MQ(workspace_init)(config, work, MQ(workspace_size)(config), &workspace) == MQ_DONE);
+    CHECK(joined(&link, &workspace, 10).applied == 1);
+    memcpy(link_before, memory, sizeof memory), memcpy(work_before, work, sizeof work);
+    for (size_t size = 0; size <= MQ(size)(config); size += UNIT)
+        CHECK(MQ(init)(greater, 20, memory, size, &other) == MQ_MEMORY);
+    greater.group_sources = 1024;
+    for (size_t size = 0; size <= MQ(workspace_size)(config); size += UNIT)
+        CHECK(MQ(workspace_init)(greater, work, size, &other_work) == MQ_MEMORY);
+    CHECK(!other.link && !memcmp(link_before, memory, sizeof memory));
+    CHECK(!other_work.workspace && !memcmp(work_before, work, sizeof work));
+    CHECK(MQ(forwards)(&link, group, host) && MQ(len)(&link) == 1);
+    CHECK(joined(&link, &workspace, 30).applied == 1 && MQ(changed)(&workspace, 0, NULL, 0) == 0);
 }
 
 /* Links in one workspace, each beside a twin with a workspace of its own. */
@@ -212,6 +234,7 @@ int main(int count, char **words) {
         at_each_alignment(&config);
     }
     remade();
+    refused();
     many();
     greatest();
     return told();

@@ -55,6 +55,31 @@ static void shared(void) {
         mq_mld_free(&it[i]);
 }
 
+/* A running link gets another own address, by which the checksums change, and other limits. */
+static void configured(void) {
+    uint8_t room[64], changed_own[46];
+    mq_mld_config c = mq_mld_defaults(own), next;
+    mq_mld_on_heap it;
+    mq_mld_group held;
+    c.groups = 2, next = c;
+    CHECK(mq_mld_new(c, 0, &it) == MQ_DONE);
+    CHECK(mq_mld_receive(&it.link, &it.workspace, host, routers, 1, true, report, sizeof report, 0, room, sizeof room).sent == 1);
+    CHECK(are_bytes(room, 46, general) && mq_mld_next_deadline(&it.link) == 31250);
+    memcpy(changed_own, room, sizeof changed_own);
+    next.own[15] = 3, next.groups = 1; /* the checksum is lower by 2 */
+    changed_own[21] -= 2;
+    CHECK(mq_mld_configure(&it.link, next) == MQ_DONE && mq_mld_is_querier(&it.link) && mq_mld_next_deadline(&it.link) == 31250);
+    CHECK(mq_mld_tick(&it.link, &it.workspace, 31250, room, sizeof room).sent == 1 && !memcmp(room, changed_own, 46));
+    CHECK(mq_mld_group_at(&it.link, group, &held, NULL, 0).groups == 1 && held.deadline == 260000);
+    next.groups = 3;
+    CHECK(mq_mld_configure(&it.link, next) == MQ_MEMORY);
+    next.groups = 0;
+    CHECK(mq_mld_configure(&it.link, next) == MQ_LIMIT_GROUPS);
+    next.groups = 2, next.source_specific = 1;
+    CHECK(mq_mld_configure(&it.link, next) == MQ_DONE);
+    mq_mld_free(&it);
+}
+
 /* Changed groups: two begin, one ends, and some calls change none. Also the list of a workspace that two links share. */
 static void changed(void) {
     static const uint8_t two[] = {0x8f, 0,    0x48, 0x70, 0, 0, 0, 2, 4, 0, 0,    0,    0xff, 0x0e, 0,    0,
@@ -209,10 +234,13 @@ int main(void) {
           && !memcmp(line, "leave group ff0e::1234", 22));
     memset(line, '-', sizeof line);
     CHECK(mq_mld_line(host, all, done, sizeof done, (uint8_t *)line, 21) == 21 && !memcmp(line, "leave group ff0e::123-", 22));
+    CHECK(mq_mld_json(host, all, done, sizeof done, (uint8_t *)line, sizeof line) == 37
+          && !memcmp(line, "{\"type\":\"leave\",\"group\":\"ff0e::1234\"}", 37));
     CHECK(mq_mld_outlet_bytes(c, 8) > 46 && mq_mld_outlet_bytes(c, 8) < mq_mld_outlet_bytes(c, 65535));
     CHECK(mq_mld_counters(&it.link, NULL, 0) == sizeof counts / 8);
     mq_mld_free(&it);
     shared();
+    configured();
     most_queries(1480);
     most_queries(65535);
     changed();

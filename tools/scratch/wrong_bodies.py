@@ -320,12 +320,12 @@ def checks(top, *words):
 
 
 def wrong_bodies_begin(top):
-    """Checks that several edits begin with a check of their functions, and that all other checks take over what it read."""
+    """Checks that several checks begin with one of all functions, and that all others take over what it read."""
     first, *others = checks(top, "low")
     is_over = len(others) > 1 and all(it.endswith(" True") for it in others)
     want(first == f"{len(REFUSED)} False" and is_over, "the checks of several edits", [first, *others])
-    found = checks(top, "low/caller")
-    want(found == ["1 False"], "the check of one edit", found)
+    found = checks(top, "low/caller", "low/callee")
+    want(found == ["2 False"], "the only check of two edits", found)
 
 
 FUNCTIONS_READ = {

@@ -86,12 +86,16 @@ def given(arguments: Mapping[str, Any]) -> Dict[str, Any]:
     return {name: arguments[name] for name in (*VARIABLES, "source_specific") if arguments[name] is not None}
 
 
+def set_variables(config: Any, variables: Mapping[str, Any]) -> None:
+    for name, value in variables.items():
+        setattr(config, name, flag(name, value) if name == "source_specific" else fitting(whole(name, value)))
+
+
 def config_of(family: Family, field: str, own: AddressLike, variables: Mapping[str, Any]) -> Any:
     """Returns the configuration with these variables. To check it, this makes a link without memory. That call always fails, and its
     status names the first fault of the configuration, if there is one."""
     config = family.defaults(packed(family, field, own))
-    for name, value in variables.items():
-        setattr(config, name, flag(name, value) if name == "source_specific" else fitting(whole(name, value)))
+    set_variables(config, variables)
     status = family.init_units(config, 0, Units(16, 0), ctypes.byref(Handle()))
     if status != MEMORY:
         fault = Fault.of_status(status)

@@ -3,13 +3,11 @@
 from __future__ import annotations
 
 import contextlib
-import dataclasses
 import io
 import os
-from typing import Any, BinaryIO, Callable, ContextManager, Iterator, Mapping, Union
+from typing import Any, BinaryIO, Callable, ContextManager, Iterator, Union
 
 from ._arguments import octets
-from ._captures_library import Outcome
 
 # A capture: its bytes, a file that is open for them, or the path of one.
 Capture = Union[bytes, bytearray, memoryview, BinaryIO, str, os.PathLike[str]]
@@ -22,7 +20,6 @@ KINDS = {
     b"\x1f\x8b": "the file is compressed by gzip",
     b"\x28\xb5\x2f\xfd": "the file is compressed by zstd",
 }
-NOT_CONVERTED = {first: kind for first, kind in KINDS.items() if first != PCAPNG}
 
 
 def file_of(capture: Any) -> ContextManager[Any]:
@@ -32,12 +29,6 @@ def file_of(capture: Any) -> ContextManager[Any]:
     if hasattr(capture, "read"):
         return contextlib.nullcontext(capture)
     return io.BytesIO(octets("capture", capture, WANTED))
-
-
-def bytes_of(capture: Capture) -> bytes:
-    """Returns all bytes of a capture."""
-    with file_of(capture) as file:
-        return octets("capture", file.read(), WANTED)
 
 
 def reader_of(file: Any) -> Callable[[int], bytes]:
@@ -53,9 +44,8 @@ def path_of(capture: Capture) -> Iterator[str]:
         yield os.fsdecode(path)
 
 
-def named(capture: Capture, begin: bytes, outcome: Outcome, kinds: Mapping[bytes, str] = KINDS) -> Outcome:
-    """Completes the message of a fault: it begins with the path of a file, and ends with the kind of another file."""
-    if outcome.fault is None:
-        return outcome
-    found = [kind for first, kind in kinds.items() if begin.startswith(first)]
-    return dataclasses.replace(outcome, fault=": ".join([*path_of(capture), outcome.fault, *found]))
+def kind_of(begin: bytes, command: str) -> Iterator[str]:
+    """Yields the kind of a file that the command doesn't read, by its first bytes."""
+    for first, kind in KINDS.items():
+        if begin.startswith(first) and (first, command) != (PCAPNG, "convert"):
+            yield kind

@@ -81,6 +81,7 @@ def signatures(family: Family) -> Dict[str, Tuple[Any, List[Any]]]:
         "workspace_size": (c_size_t, [config]),
         "init_units": (c_uint32, [config, c_uint64, Units, handle]),
         "workspace_init_units": (c_uint32, [config, Units, handle]),
+        "configure": (c_uint32, [handle, config]),
         "outlet_bytes": (c_size_t, [config, c_uint32]),
         "receive": (RawAnswer, [handle, handle, *envelope, c_char_p, c_size_t, c_uint64, buffer, c_size_t]),
         "tick": (RawAnswer, [handle, handle, c_uint64, buffer, c_size_t]),
@@ -94,6 +95,7 @@ def signatures(family: Family) -> Dict[str, Tuple[Any, List[Any]]]:
         "other_querier": (c_uint64, [handle, buffer, c_size_t]),
         "counters": (c_size_t, [handle, buffer, c_size_t]),
         "line": (c_size_t, [*ends, c_char_p, c_size_t, buffer, c_size_t]),
+        "json": (c_size_t, [*ends, c_char_p, c_size_t, buffer, c_size_t]),
     }
 
 

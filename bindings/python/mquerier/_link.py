@@ -3,16 +3,18 @@
 from __future__ import annotations
 
 import ctypes
+import json
 import os
 import threading
 import weakref
 from typing import Any, List, Optional, Tuple, Union
 
-from ._arguments import AddressLike, config_of, family_named, flag, given, moment, octets, packed, within
+from ._arguments import AddressLike, config_of, family_named, flag, given, moment, octets, packed, set_variables, within
 from ._library import COUNTERS, LATEST, NONE, Family, Handle
 from ._memory import Memory, give_back, taken
 from ._types import Address, Answer, Counts, Dropped, FamilyName, Group, Parsed, Query, Refused, Source
 from .faults import Fault
+from .objects import Message, object_of
 
 LONGEST_BODY = 65535
 GROUPS_A_PAGE = 64
@@ -62,7 +64,7 @@ class Link:
         self._lock: Union[threading.Lock, Torn] = threading.Lock()
         self._memory, self._work = Memory(it.size(config)), Memory(it.workspace_size(config))
         self._link, self._workspace = Handle(), Handle()
-        self._own: Address = it.address(bytes(config.own))
+        self._config = config
         self._group_sources = config.group_sources
         self._room = it.outlet_bytes(config, LONGEST_BODY)
         self._made(it.init_units(config, moment("start", start), self._memory.units, ctypes.byref(self._link)))
@@ -87,12 +89,39 @@ class Link:
     @property
     def own(self) -> Address:
         """The source address of its queries."""
-        return self._own
+        return self._family.address(bytes(self._config.own))
 
     @staticmethod
     def _made(status: int) -> None:
         if status:
             raise Fault.of_status(status)
+
+    def configure(
+        self,
+        *,
+        own: Optional[AddressLike] = None,
+        robustness: Optional[int] = None,
+        query_interval: Optional[int] = None,
+        response_interval: Optional[int] = None,
+        last_member_interval: Optional[int] = None,
+        groups: Optional[int] = None,
+        group_sources: Optional[int] = None,
+        sources: Optional[int] = None,
+        scheduled: Optional[int] = None,
+        source_specific: Optional[bool] = None,
+    ) -> None:
+        """Sets other variables, limits and another own address while the link runs. None leaves one as it is. Groups, timers and
+        schedules stay, and later calls use the new values; `next_deadline` may be earlier afterwards. Raises a fault of `memory` if a
+        limit exceeds that with which the link was made, and of `held` if the link holds more. Then nothing changes."""
+        it, variables = self._family, given(locals())
+        address = None if own is None else packed(it, "own", own)
+        with self._lock:
+            config = type(self._config).from_buffer_copy(self._config)
+            set_variables(config, variables)
+            if address is not None:
+                config.own = type(config.own)(*address)
+            self._made(it.configure(ctypes.byref(self._link), config))
+            self._config = config
 
     def receive(
         self,
@@ -234,10 +263,8 @@ def group_of(family: Family, raw: Any, sources: List[Any]) -> Group:
     return Group(family.address(bytes(raw.address)), or_none(raw.deadline), each, *hosts)
 
 
-def message_line(
-    family: FamilyName, body: bytes, source: Optional[AddressLike] = None, destination: Optional[AddressLike] = None
-) -> str:
-    """Returns a message as one line, or the line of its fault. The addresses are those of its packet; IGMP does not look at them."""
+def written(call: str, family: FamilyName, body: bytes, source: Optional[AddressLike], destination: Optional[AddressLike]) -> str:
+    """Returns what a call of the library writes of a message."""
     it, data = family_named(family), octets("body", body)
     ends = []
     for field, value in (("source", source), ("destination", destination)) if it.name == "mld" else ():
@@ -246,4 +273,19 @@ def message_line(
         ends.append(packed(it, field, value))
     room = 256 + 64 * len(data)
     line = ctypes.create_string_buffer(room)
-    return ctypes.string_at(line, it.line(*ends, data, len(data), line, room)).decode()
+    return ctypes.string_at(line, getattr(it, call)(*ends, data, len(data), line, room)).decode()
+
+
+def message(
+    family: FamilyName, body: bytes, source: Optional[AddressLike] = None, destination: Optional[AddressLike] = None
+) -> Message:
+    """Returns a message as an object. The addresses are those of its packet; IGMP does not look at them."""
+    it: Message = json.loads(written("json", family, body, source, destination), object_hook=object_of)
+    return it
+
+
+def message_line(
+    family: FamilyName, body: bytes, source: Optional[AddressLike] = None, destination: Optional[AddressLike] = None
+) -> str:
+    """Returns a message as one line, or the line of its fault. The addresses are those of its packet; IGMP does not look at them."""
+    return written("line", family, body, source, destination)

@@ -2,66 +2,42 @@
 
 from __future__ import annotations
 
-from typing import Any, ContextManager, Iterator, Mapping, Optional, TypeVar, Union
+from typing import Any, Dict, Iterator, List, Mapping, Optional, Union
 
-from . import _captures_library as library
 from ._arguments import AddressLike, any_address, config_of, family_named, flag, given, moment, within
-from ._captures_library import LONGEST_NAME, NO_END, NO_VLAN, Choice, Outcome, Querier, Settings
-from ._files import NOT_CONVERTED, Capture, bytes_of, file_of, named, reader_of
+from ._files import Capture
 from ._library import VARIABLES
-from ._records import captures_in
-from .faults import CaptureFault, Fault
-from .lines import Event, Packet, event_of, packet_of
-from .results import Converted, Findings, Lines
+from ._program import Conversion, objects
+from ._types import FamilyName
+from .faults import Fault
+from .objects import Event, Finding, Packet, Skipped, Summary, Taken
 
-Read = TypeVar("Read", bound="Lines[Any]")
-
-
-def run(call: str, capture: Capture, querier: Optional[Querier] = None) -> Outcome:
-    data = bytes_of(capture)
-    return named(capture, data, library.run(call, data, querier))
-
-
-def whole(outcome: Outcome, lines: Read) -> Read:
-    if outcome.fault:
-        raise CaptureFault(outcome.fault, lines)
-    return lines
+LONGEST_NAME = 16
+# The program's options for the variables and the limits of a querier.
+OPTIONS = dict(zip(VARIABLES, ("--rv", "--qi", "--qri", "--lmqi", "--groups", "--group-sources", "--sources", "--scheduled")))
+# An address for each family, to check variables before the capture has named the querier.
+ANY: Dict[str, AddressLike] = {"igmp": "10.0.0.1", "mld": "fe80::1"}
 
 
-def querier_of(field: str, own: AddressLike, until: Optional[int], variables: Mapping[str, Any], **asked: int) -> Querier:
-    """Returns the querier at an address, of the family of that address."""
+def options(variables: Mapping[str, Any], until: Optional[int], flags: Mapping[str, Any]) -> List[str]:
+    """Returns the words for variables, an end, and flags that are set."""
+    words = [word for name, option in OPTIONS.items() if name in variables for word in (option, str(variables[name]))]
+    words += ["--ssm"] if variables.get("source_specific") else []
+    words += [] if until is None else ["--until", str(moment("until", until))]
+    return words + [f"--{name}" for name, value in flags.items() if flag(name, value)]
+
+
+def querier_of(field: str, own: AddressLike, variables: Mapping[str, Any]) -> List[str]:
+    """Returns the words for a querier at an address, of the family of that address. Raises a fault that no querier may have."""
     address = any_address(field, own)
     family = family_named("igmp" if address.version == 4 else "mld")
-    config = config_of(family, field, address, variables)
-    numbers = {name: getattr(config, name) for name in (*VARIABLES, "source_specific")}
-    end = NO_END if until is None else moment("until", until)
-    return Querier(family.name, address.packed, Settings(**numbers, until=end, **asked))
+    config_of(family, field, address, variables)
+    return [family.name, f"--{field}", str(address)]
 
 
-def show(capture: Capture) -> Lines[Packet]:
-    """Lists a capture: a `Packet` for each record."""
-    outcome = run("show", capture)
-    return whole(outcome, Lines(outcome.text.decode(), packet_of))
-
-
-def packets(capture: Capture) -> Iterator[Packet]:
-    """Yields what `show` lists while it reads the capture. It keeps a few megabytes. A file may be a pipe. A fault is raised after all
-    packets before it."""
-    return packets_in(capture, file_of(capture))
-
-
-def packets_in(capture: Capture, opened: ContextManager[Any]) -> Iterator[Packet]:
-    time = 0
-    with opened as file:
-        for data, before in captures_in(reader_of(file)):
-            # All but the first begin with a record that is none.
-            skipped = min(before, 1)
-            outcome = named(capture, data, library.run("show", data, before=before - skipped))
-            for line in outcome.text.decode().splitlines()[skipped:]:
-                packet = packet_of(line, before - skipped, time)
-                time = packet.time
-                yield packet
-            whole(outcome, Lines("", packet_of))
+def show(capture: Capture) -> Iterator[Union[Packet, Skipped]]:
+    """Lists a capture: a `Packet` for each packet with a message, and `Skipped` for any other."""
+    return objects(["show"], capture)
 
 
 def replay(
@@ -79,22 +55,28 @@ def replay(
     sources: Optional[int] = None,
     scheduled: Optional[int] = None,
     source_specific: Optional[bool] = None,
-) -> Lines[Event]:
+) -> Iterator[Event]:
     """Replays a capture to a querier at the address `own`, of the family of that address. With `changes`, a `Change` follows each
     event for each group whose filter it changed. The variables are those of a `Link`. `until` is the end of the replay in milliseconds
-    after the first record, by default the time of the last one."""
+    after the first packet, by default the time of the last one."""
     variables = given(locals())
-    outcome = run("replay", capture, querier_of("own", own, until, variables, changes=flag("changes", changes)))
-    return whole(outcome, Lines(outcome.text.decode(), event_of))
+    querier = querier_of("own", own, variables)
+    return objects(["replay", *querier, *options(variables, until, {"changes": changes})], capture)
 
 
 def check(
     capture: Capture,
-    querier: AddressLike,
+    querier: Optional[AddressLike] = None,
     *,
+    auto: Optional[FamilyName] = None,
     until: Optional[int] = None,
     tolerance: int = 100,
-    cite: bool = True,
+    began: bool = False,
+    strict: bool = False,
+    possible: bool = False,
+    interface: Union[int, str, None] = None,
+    vlan: Optional[int] = None,
+    once: bool = False,
     robustness: Optional[int] = None,
     query_interval: Optional[int] = None,
     response_interval: Optional[int] = None,
@@ -104,38 +86,47 @@ def check(
     sources: Optional[int] = None,
     scheduled: Optional[int] = None,
     source_specific: Optional[bool] = None,
-) -> Findings:
-    """Checks the querier at an address: returns each difference from the standards that exceeds the tolerance in milliseconds. The
-    variables are those of a `Link`. Without `cite` no finding has a section. `until` is the end of the check in milliseconds after the
-    first record, by default the time of the last one."""
+) -> Iterator[Union[Finding, Summary, Taken]]:
+    """Checks the querier at an address: a `Finding` for each difference from the standards that exceeds the tolerance in milliseconds, and
+    a `Summary` at the end. With `auto`, a family, the capture names the querier and its variables, and `Taken` follows with these.
+
+    `possible` adds findings that another reading or a state from before the capture may explain. With `began` the capture begins before the
+    querier. With `strict` only one reading of the standards is accepted. The variables are those of a `Link`,
+    but limits are the greatest by default. `until` is the end of the check in milliseconds after the first packet, by default the time of the
+    last one. With `interface`, `vlan` or `once`, the capture is converted first."""
     variables = given(locals())
-    most = within("tolerance", tolerance, 2**32 - 1)
-    outcome = run("check", capture, querier_of("querier", querier, until, variables, within=most, cite=flag("cite", cite)))
-    return whole(outcome, Findings(outcome.text.decode()))
+    if (querier is None) == (auto is None):
+        raise TypeError("querier: expected either it or auto")
+    if auto is None and querier is not None:
+        words = querier_of("querier", querier, variables)
+    else:
+        family = family_named(str(auto))
+        config_of(family, "querier", ANY[family.name], variables)
+        words = [family.name, "--querier", "auto"]
+    flags = {"began": began, "strict": strict, "possible": possible}
+    words += ["--within", str(within("tolerance", tolerance, 2**32 - 1)), *options(variables, until, flags)]
+    chosen = choice_of(interface, vlan, once)
+    return objects(["check", *words], Conversion(chosen, capture) if chosen else capture)
 
 
-def choice_of(interface: Union[int, str, None], vlan: Optional[int], once: bool) -> Choice:
-    choice = Choice(vlan=NO_VLAN if vlan is None else within("vlan", vlan, 4095), once=flag("once", once))
+def choice_of(interface: Union[int, str, None], vlan: Optional[int], once: bool) -> List[str]:
+    """Returns the words for the packets to convert."""
+    words: List[str] = []
     if isinstance(interface, str):
-        name = interface.encode("utf-8", "surrogateescape")
-        if not 0 < len(name) <= LONGEST_NAME or 0 in name:
-            raise Fault("interface", f"a name has 1 to {LONGEST_NAME} bytes")
-        choice.interface, choice.name = 2, (*name, *bytes(LONGEST_NAME - len(name)))
+        if not 0 < len(interface.encode("utf-8", "surrogateescape")) <= LONGEST_NAME or not interface.isprintable():
+            raise Fault("interface", f"a name has 1 to {LONGEST_NAME} bytes of UTF-8")
+        words += ["--interface", interface]
     elif interface is not None:
-        choice.interface, choice.number = 1, within("interface", interface, 2**64 - 1)
-    return choice
+        words += ["--interface", str(within("interface", interface, 2**64 - 1))]
+    words += [] if vlan is None else ["--vlan", str(within("vlan", vlan, 4095))]
+    return words + (["--once"] if flag("once", once) else [])
 
 
-def convert(
-    capture: Capture, *, interface: Union[int, str, None] = None, vlan: Optional[int] = None, once: bool = False
-) -> Converted:
-    """Returns the packets of a capture of any kind, pcapng too, as one classic capture of Ethernet.
+def convert(capture: Capture, *, interface: Union[int, str, None] = None, vlan: Optional[int] = None, once: bool = False) -> Conversion:
+    """Returns the packets of a capture of any kind, pcapng too, as one classic capture of Ethernet: a file to read from, which the other
+    calls take.
 
     By default these are all packets. `interface` is the number or the name of one interface, and `vlan` the ID of one network. `once`
     leaves out packets that come again within 5 ms. Numbers count the interfaces from 0. In Linux cooked captures of version 2 they are the
-    indexes in the headers of packets."""
-    choice, data = choice_of(interface, vlan, once), bytes_of(capture)
-    outcome = named(capture, data, library.run("convert", data, choice), NOT_CONVERTED)
-    if outcome.fault:
-        raise CaptureFault(outcome.fault, [])
-    return Converted(outcome.text, outcome.count)
+    indexes in the headers of packets. A name of digits alone is taken as a number."""
+    return Conversion(choice_of(interface, vlan, once), capture)

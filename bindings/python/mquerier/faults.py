@@ -2,7 +2,8 @@
 
 from __future__ import annotations
 
-from typing import Any, Sequence
+import re
+from typing import Any
 
 # The statuses of the header from 1 on: the field that each names, and its words.
 STATUSES = [
@@ -18,6 +19,7 @@ STATUSES = [
     ("memory", "the memory is too small"),
     ("now", "the time is later than 2^53 milliseconds"),
     ("workspace", "the workspace is too small for the link"),
+    ("held", "the link holds more than the configuration allows"),
 ]
 FIELDS = [field for field, _ in STATUSES]
 MEMORY, MOMENT = FIELDS.index("memory") + 1, FIELDS.index("now") + 1
@@ -43,11 +45,30 @@ class Fault(Error, ValueError):
 
 
 class CaptureFault(Error, ValueError):
-    """The reason why a capture was not read to its end. `lines` has what was read before."""
+    """The reason why a capture was not read to its end."""
 
-    def __init__(self, why: str, lines: Sequence[Any]) -> None:
-        super().__init__(why)
-        self.why, self.lines = why, lines
 
-    def __reduce__(self) -> Any:
-        return type(self), (self.why, self.lines)
+# A line of the program on standard error, and the words for it. A second line has them too, after some commands.
+LINE = re.compile(r"mquerier: (.+?)(?: (?:at|before) ((?:record|block) \d+))?")
+WORDS = {
+    "capture fault 1": "a read of the capture failed",
+    "capture fault 2": "it is no classic capture file",
+    "capture fault 3": "the version of the file is not 2.4",
+    "capture fault 4": "the link type is neither Ethernet nor raw IP",
+    "capture fault 5": "the file ends within a header",
+    "capture fault 6": "the file ends within a packet",
+    "capture fault 7": "the packet has more than 262144 bytes",
+    "capture fault 8": "the file has more than 4294967295 packets",
+    "gap": "more than a day lies between the packet before and this one, or the end",
+}
+
+
+def words_of(said: str) -> str:
+    """Returns the words for a fault on standard error, as `record 46: the file ends within a packet`."""
+    first, second = [*said.splitlines(), "", ""][:2]
+    match = LINE.fullmatch(first)
+    if match is None:
+        return said.strip()
+    fault, place = match.groups()
+    words = WORDS.get(fault) or second.strip().partition(";")[0] or fault
+    return f"{place}: {words}" if place else words

@@ -19,6 +19,35 @@ def line_of(group):
     return " ".join([f"group {group.address}", mode, *sources, *hosts])
 
 
+def change_line(it):
+    is_stopped = it.filter == "exclude"
+    sources = [f"{'!' * is_stopped}{one.source}" for one in it.sources if it.forwards(one.source) != is_stopped]
+    filter_now = it.filter if sources or is_stopped else "none"
+    return " ".join([f"{it.time} change {it.group} {filter_now}", *sources])
+
+
+def group_line(it):
+    sources = tuple(mquerier.Source(source.source, source.timer) for source in it.sources)
+    return line_of(mquerier.Group(it.group, it.timer, sources, it.v1, it.v2))
+
+
+LINES = {
+    mquerier.Sent: lambda it: f"{it.time} send {it.destination} {it.hex}",
+    mquerier.Received: lambda it: f"{it.time} receive {it.packet} {it.source} taken {it.applied} {it.ignored} {it.refused}",
+    mquerier.DroppedMessage: lambda it: f"{it.time} receive {it.packet} {it.source} dropped {it.number}",
+    mquerier.Skipped: lambda it: f"{it.time} skip {it.packet} {it.skipped}",
+    mquerier.Change: change_line,
+    mquerier.End: lambda it: f"end {it.time} {'querier' if it.querier else 'other'}",
+    mquerier.HeldGroup: group_line,
+    mquerier.Totals: lambda it: "counts " + " ".join(f"{name} {value}" for name, value in vars(it).items()),
+}
+
+
+def event_line(it):
+    """Returns the line of an event of a replay."""
+    return LINES[type(it)](it)
+
+
 class Played:
     def __init__(self, family, options):
         limits = {"group_sources": options.group_sources} if options.group_sources else {}

@@ -1,7 +1,7 @@
-"""Captures: texts, objects, faults, and the command line."""
+"""Captures: objects, faults, and the command line."""
 
+import collections
 import concurrent.futures
-import gc
 import glob
 import gzip
 import io
@@ -10,77 +10,124 @@ import json
 import os
 import pathlib
 import pickle
+import resource
 import subprocess
 import sys
+import threading
 import typing
+from xml.etree import ElementTree
 
 import mquerier
 import pytest
 from conftest import TOP, used
-from mquerier import CaptureFault, Fault, _captures_library, _records, lines
+from mquerier import CaptureFault, Fault, _program, objects
 
+PROGRAM = _program.program()
 SAMPLE = f"{TOP}/samples/igmp.pcap"
 VARIABLES = {"response_interval": 2000, "last_member_interval": 500}
 GROUP = "239.1.2.3"
 DATA = pathlib.Path(SAMPLE).read_bytes()
 CAPTURES = sorted(glob.glob(f"{TOP}/vectors/*.pcap") + glob.glob(f"{TOP}/samples/*.pcap*"))
 QUERIERS = ("10.9.0.1", "10.0.0.9", "fe80::9")
+SCHEMA = json.loads(pathlib.Path(f"{TOP}/docs/mquerier.schema.json").read_text(encoding="utf-8"))["definitions"]
 
 
-def status_of(found):
-    """Returns the status of the program with these lines, and its line on standard error."""
-    if not isinstance(found, mquerier.Findings):
-        return 0, ""
-    if found.unjudged:
-        return 4, f"mquerier: nothing judged: {found.unjudged}\n"
-    return 3 if found else 0, ""
+def converted(file):
+    return mquerier.convert(file).read()
 
 
-def is_as_printed(data, words, call, *own, **more):
-    """True if a call returns the text that the program `mquerier` prints, and fails exactly if the program fails."""
-    ran = subprocess.run([f"{TOP}/bin/mquerier", *words, *own], input=data, stdout=subprocess.PIPE, stderr=subprocess.PIPE, check=False)
+def printed(data, *words):
+    """Returns what the program prints of a capture: its objects, its status and its standard error."""
+    ran = subprocess.run([PROGRAM, words[0], "--json", *words[1:]], input=data, stdout=subprocess.PIPE, stderr=subprocess.PIPE, check=False)
+    return [json.loads(line) for line in ran.stdout.splitlines()], ran.returncode, ran.stderr.decode()
+
+
+def as_json(it):
+    """Returns an object as the program prints it, but for fields that JSON leaves out or that name its class."""
+    return json.loads(json.dumps(objects.fields_of(it), default=str))
+
+
+def without(it):
+    """Returns what JSON says without those fields."""
+    if isinstance(it, dict):
+        return {key: without(value) for key, value in it.items() if key not in ("type", "event") and value is not None and value != []}
+    return [without(one) for one in it] if isinstance(it, list) else it
+
+
+def taken(found):
+    """Returns the objects of an iterator before its fault, and the fault."""
+    them = []
     try:
-        found = call(data, *own[1:], **more)
+        them.extend(found)
+        return them, None
     except CaptureFault as fault:
-        assert ran.returncode == 1
-        return fault.lines.text.encode() == ran.stdout
-    assert (ran.returncode, ran.stderr.decode()) == status_of(found)
-    return found.text.encode() == ran.stdout
+        return them, fault
+
+
+def is_as_printed(data, words, found):
+    """True if a call returns the objects that the program prints, and fails exactly if the program fails."""
+    wanted, status, _ = printed(data, *words)
+    them, fault = taken(found)
+    assert (fault is not None) == (status == 1)
+    return [without(as_json(it)) for it in them] == [without(it) for it in wanted]
 
 
 def are_as_printed(data):
-    assert is_as_printed(data, ["show"], mquerier.show)
+    assert is_as_printed(data, ["show"], mquerier.show(data))
     for own in QUERIERS:
         family = "mld" if ":" in own else "igmp"
-        assert is_as_printed(data, ["replay", family, "--changes"], mquerier.replay, "--own", own, changes=True)
-        assert is_as_printed(data, ["check", family, "--cite", "--within", "9"], mquerier.check, "--querier", own, tolerance=9)
+        assert is_as_printed(data, ["replay", family, "--own", own, "--changes"], mquerier.replay(data, own, changes=True))
+        check = ["check", family, "--querier", own, "--possible", "--within", "9"]
+        assert is_as_printed(data, check, mquerier.check(data, own, tolerance=9, possible=True))
 
 
 def test_a_first_stamp_of_an_hour_later():
     later = (int.from_bytes(DATA[24:28], "little") + 3600).to_bytes(4, "little")
     data = DATA[:24] + later + DATA[28:]
     are_as_printed(data)
-    assert mquerier.check(data, "10.9.0.1").unjudged == "every second packet or more has a stamp that goes back"
+    summary = [*mquerier.check(data, "10.9.0.1")][-1]
+    assert (summary.judged, summary.why) == (False, "order")
 
 
 @pytest.mark.parametrize("file", CAPTURES, ids=os.path.basename)
-def test_texts_are_those_of_the_program(file):
-    ran = subprocess.run([f"{TOP}/bin/mquerier", "convert", file], stdout=subprocess.PIPE, check=True)
-    assert mquerier.convert(file) == mquerier.Converted(ran.stdout, 0)
+def test_objects_are_those_of_the_program(file):
+    ran = subprocess.run([PROGRAM, "convert", file], stdout=subprocess.PIPE, check=True)
+    with mquerier.convert(file) as found:
+        assert found.read() == ran.stdout
+        assert found.counts.unread == 0
     are_as_printed(pathlib.Path(file).read_bytes())
 
 
 @pytest.mark.parametrize("length", [0, 3, 23, 24, 30, 60, 1000, len(DATA) - 1])
-def test_texts_of_what_is_truncated(length):
+def test_objects_of_what_is_truncated(length):
     are_as_printed(DATA[:length])
 
 
-def test_texts_of_other_settings():
+def test_objects_of_other_settings():
     words = "--rv 3 --qi 20 --qri 1500 --lmqi 700 --groups 2 --group-sources 3 --sources 5 --scheduled 1 --ssm --until 86000000"
     names = ("robustness", "query_interval", "response_interval", "last_member_interval", "groups", "group_sources", "sources", "scheduled")
     more = {**dict(zip(names, (3, 20, 1500, 700, 2, 3, 5, 1))), "source_specific": True, "until": 86000000}
-    assert is_as_printed(DATA, ["replay", "igmp", *words.split()], mquerier.replay, "--own", "10.9.0.1", **more)
-    assert is_as_printed(DATA, ["check", "igmp", *words.split()], mquerier.check, "--querier", "10.9.0.1", cite=False, **more)
+    assert is_as_printed(DATA, ["replay", "igmp", "--own", "10.9.0.1", *words.split()], mquerier.replay(DATA, "10.9.0.1", **more))
+    check = ["check", "igmp", "--querier", "10.9.0.1", *words.split()]
+    assert is_as_printed(DATA, check, mquerier.check(DATA, "10.9.0.1", **more))
+    for flags in ({"began": True}, {"strict": True}, {"possible": True}, {"began": True, "strict": True, "possible": True}):
+        with_flags = [*check, *(f"--{name}" for name in flags)]
+        assert is_as_printed(DATA, with_flags, mquerier.check(DATA, "10.9.0.1", **flags, **more))
+
+
+def test_a_querier_that_the_capture_names():
+    for file, family in ((SAMPLE, "igmp"), (f"{TOP}/samples/mld.pcap", "mld")):
+        for capture in (file, pathlib.Path(file).read_bytes()):
+            words = ["check", family, "--querier", "auto", "--began"]
+            found = [*mquerier.check(capture, auto=family, began=True)]
+            assert [without(as_json(it)) for it in found] == [without(it) for it in printed(pathlib.Path(file).read_bytes(), *words)[0]]
+            assert isinstance(found[-1], mquerier.Taken) and isinstance(found[-2], mquerier.Summary)
+            assert found[-1].querier == found[-2].querier
+    with pytest.raises(CaptureFault, match="nothing judged: there is no general query of this family"):
+        list(mquerier.check(SAMPLE, auto="mld"))
+    for both in ({}, {"querier": "10.9.0.1", "auto": "igmp"}):
+        with pytest.raises(TypeError, match="querier"):
+            mquerier.check(SAMPLE, **both)
 
 
 @pytest.mark.parametrize(
@@ -95,8 +142,9 @@ def test_texts_of_other_settings():
 def test_conversion_of_a_choice(words, choice):
     for file in (*CAPTURES, f"{TOP}/samples/cooked2.pcap"):
         if "samples" in file or "tag" in file:
-            ran = subprocess.run([f"{TOP}/bin/mquerier", "convert", *words.split(), file], stdout=subprocess.PIPE, check=True)
-            assert mquerier.convert(file, **choice).data == ran.stdout
+            ran = subprocess.run([PROGRAM, "convert", *words.split(), file], stdout=subprocess.PIPE, check=True)
+            assert mquerier.convert(file, **choice).read() == ran.stdout
+            assert [*mquerier.check(file, "10.0.0.9", **choice)] == [*mquerier.check(ran.stdout, "10.0.0.9")]
 
 
 def cooked(packets):
@@ -112,7 +160,7 @@ def test_a_router_with_two_links():
     """A host of one link joins and leaves. Each link by itself is right. Judged as one, the other link's querier misses two queries."""
     links = {index: mquerier.Link("igmp", f"10.{index}.0.1") for index in (3, 4)}
     heard = []
-    for now, index, kind in ((0, 3, None), (0, 4, None), (500, 4, 0x16), (1500, 4, 0x17), (2500, 4, None)):
+    for now, index, kind in ((0, 3, None), (0, 4, None), (500, 4, 0x16), (3500, 4, 0x17), (4500, 4, None)):
         link, source = links[index], f"10.{index}.0.5"
         message = kind and bytes([kind, 0, *(0xFFFF - (kind * 256 + 0xEF01 + 0x0203) % 0xFFFF).to_bytes(2, "big"), 239, 1, 2, 3])
         answer = link.receive(source, message, now) if kind else link.tick(now)
@@ -120,11 +168,11 @@ def test_a_router_with_two_links():
         heard += [(now, index, ipv4(source, GROUP, message))] if kind else []
         heard += [(now, index, ipv4(str(link.own), str(it.destination), it.message)) for it in answer.queries]
     assert len(heard) == 6
-    found = mquerier.check(mquerier.convert(cooked(heard)).data, "10.3.0.1", until=9000)
-    assert [(it.kind, str(it.group)) for it in found] == 2 * [("missing", GROUP)]
+    *found, _ = mquerier.check(mquerier.convert(cooked(heard)), "10.3.0.1", until=9000)
+    assert [(it.finding, str(it.group)) for it in found] == 2 * [("missing", GROUP)]
     for index in (3, 4):
-        found = mquerier.check(mquerier.convert(cooked(heard), interface=index).data, f"10.{index}.0.1", until=9000)
-        assert (len(found), found.unjudged) == (0, None)
+        (summary,) = mquerier.check(cooked(heard), f"10.{index}.0.1", until=9000, interface=index)
+        assert (summary.findings, summary.judged) == (0, True)
 
 
 def ipv4(source, destination, message, ttl=1):
@@ -135,265 +183,200 @@ def ipv4(source, destination, message, ttl=1):
 
 
 def test_packets_of_a_link_type_that_is_not_read():
-    converted = mquerier.convert(DATA[:20] + (147).to_bytes(4, "little") + DATA[24:])
-    assert converted.unread == 46 and {it.message for it in mquerier.show(converted.data)} == {"other"}
+    with mquerier.convert(DATA[:20] + (147).to_bytes(4, "little") + DATA[24:]) as found:
+        data = found.read()
+        assert found.counts == mquerier.Converted(0, 0, 46, (mquerier.LinkType(147, 46),))
+    assert {it.skipped for it in mquerier.show(data)} == {"other"}
 
 
-def test_memory_grows_until_it_suffices(monkeypatch):
-    wanted = mquerier.check(DATA, "10.9.0.1").text
-    monkeypatch.setattr(_captures_library, "LEAST_WORK", 16)
-    monkeypatch.setattr(_captures_library, "LEAST_TEXT", 1)
-    monkeypatch.setattr(_captures_library, "TEXT_A_BYTE", {"check": 0})
-    assert mquerier.check(DATA, "10.9.0.1").text == wanted
-    monkeypatch.setattr(_captures_library, "MOST_WORK", 16)
-    with pytest.raises(CaptureFault, match="out of memory"):
-        mquerier.check(DATA, "10.9.0.1")
-
-
-def test_less_memory_than_was_asked_for(monkeypatch):
-    wanted, memory = mquerier.replay(DATA, "10.9.0.1", changes=True).text, _captures_library.Memory
-
-    def limited(size):
-        if size > most:
-            raise OSError(12, "no memory")
-        return memory(size)
-
-    monkeypatch.setattr(_captures_library, "Memory", limited)
-    most = _captures_library.LEAST_WORK + 2 * _captures_library.LEAST_TEXT
-    assert mquerier.replay(DATA, "10.9.0.1", changes=True).text == wanted
-    monkeypatch.setattr(_captures_library, "LEAST_TEXT", 1000)
-    most = _captures_library.LEAST_WORK + 2000
-    with pytest.raises(CaptureFault, match="the text is longer than the memory for it") as fault:
-        mquerier.replay(DATA, "10.9.0.1", changes=True)
-    assert 0 < len(fault.value.lines.text) < len(wanted) and wanted.startswith(fault.value.lines.text)
-    most = 1000
-    with pytest.raises(OSError):
-        mquerier.replay(DATA, "10.9.0.1", changes=True)
-
-
-def test_calls_give_their_memory_back():
-    for number in range(200):
-        mquerier.check(DATA, "10.9.0.1")
-        if number == 20:
-            gc.collect()
-            before = used()
-    gc.collect()
-    assert used() - before < 8 << 20
+def test_a_conversion_piece_by_piece():
+    with open(f"{TOP}/samples/merged.pcapng", "rb") as file:
+        found = mquerier.convert(file)
+        pieces = [*iter(lambda: found.read(100), b"")]
+    assert b"".join(pieces) == converted(f"{TOP}/samples/merged.pcapng") and len(pieces) > 10
+    found.close()
+    assert found.closed
 
 
 def test_threads():
     with concurrent.futures.ThreadPoolExecutor(8) as pool:
-        found = list(pool.map(lambda _: mquerier.replay(DATA, "10.9.0.1").text, range(64)))
-    assert set(found) == {mquerier.replay(DATA, "10.9.0.1").text}
+        found = list(pool.map(lambda _: tuple(mquerier.replay(DATA, "10.9.0.1")), range(64)))
+    assert set(found) == {tuple(mquerier.replay(DATA, "10.9.0.1"))}
 
 
 def test_packets():
-    packets = mquerier.show(SAMPLE)
-    assert len(packets) == 46 == packets.text.count("\n")
-    message = "report v3 records 1 [BLOCK 232.1.1.1 10.9.0.101]"
-    assert packets[9] == mquerier.Packet(10, 4263, "igmp", ipaddress.ip_address("10.9.0.11"), message)
-    other = mquerier.show(f"{TOP}/vectors/mld-frames-other.pcap")[0]
-    assert (other.family, other.source, other.message) == (None, None, "other")
+    packets = [*mquerier.show(SAMPLE)]
+    source, destination, group = map(ipaddress.ip_address, ("10.9.0.11", "224.0.0.22", "232.1.1.1"))
+    record = mquerier.Record("BLOCK", group, (ipaddress.ip_address("10.9.0.101"),))
+    message = mquerier.ReportMessage(3, records=(record,))
+    assert len(packets) == 46 and packets[9] == mquerier.Packet(10, 4263, "igmp", source, destination, 1, True, message)
+    assert hash(packets[9]) == hash(mquerier.Packet(10, 4263, "igmp", source, destination, 1, True, message))
+    other = next(mquerier.show(f"{TOP}/vectors/mld-frames-other.pcap"))
+    assert (type(other), other.skipped) == (mquerier.Skipped, "other")
 
 
-def counted(monkeypatch):
-    """Returns the calls that the library gets from now on."""
-    calls, library = [], _captures_library.library()
-    made = {name: lambda *words, name=name: calls.append(name) or library[name](*words) for name in library}
-    monkeypatch.setattr(_captures_library, "library", lambda: made)
-    return calls
-
-
-@pytest.mark.parametrize("file", CAPTURES, ids=os.path.basename)
-def test_texts_are_made_once(monkeypatch, file):
-    """The memory for a text suffices at once, so no text is made again."""
-    calls = counted(monkeypatch)
-    data = mquerier.convert(file).data
-    for own in QUERIERS:
-        mquerier.show(data), mquerier.replay(data, own, changes=True), mquerier.check(data, own)
-    assert sorted(it for it in calls if it != "fault_text") == sorted(
-        ["convert_chosen", *["show"] * 3, *["replay_igmp", "check_igmp"] * 2, "replay_mld", "check_mld"]
-    )
+def test_a_message_is_one_object_everywhere():
+    query = "1164ec1e00000000027d0000"
+    wanted = mquerier.QueryMessage(3, ipaddress.ip_address("0.0.0.0"), 10000, False, 2, 125)
+    assert mquerier.message("igmp", bytes.fromhex(query)) == wanted
+    sent = next(mquerier.replay(f"{TOP}/vectors/igmp-startup.pcap", own="10.0.0.9"))
+    assert (sent.hex, sent.message) == (query, wanted)
+    assert mquerier.message("igmp", b"\x11") == mquerier.FaultyMessage(1, "truncated", 1)
+    for it in mquerier.show(f"{TOP}/samples/mld.pcap"):
+        if isinstance(it, mquerier.Packet):
+            assert it.family == "mld" and it.message.type in ("query", "report", "leave")
 
 
 @pytest.mark.parametrize("piece", [1, 7, 100, 1000, 1 << 20])
-def test_packets_one_by_one(monkeypatch, piece):
-    monkeypatch.setattr(_records, "PIECE", piece)
-    for data in (DATA, DATA[:24], mquerier.convert(f"{TOP}/samples/merged.pcapng").data, mquerier.convert(f"{TOP}/samples/cooked2.pcap").data):
-        assert list(mquerier.packets(data)) == list(mquerier.show(data))
+def test_objects_of_what_comes_piece_by_piece(monkeypatch, piece):
+    monkeypatch.setattr(_program, "PIECE", piece)
+    for data in (DATA, DATA[:24], DATA[:-1]):
+        wanted, found = (taken(mquerier.show(it)) for it in (data, io.BytesIO(data)))
+        assert (wanted[0], str(wanted[1])) == (found[0], str(found[1]))
 
 
-@pytest.mark.parametrize("piece", [1, 100, 1 << 20])
-def test_packets_before_a_fault(monkeypatch, piece):
-    monkeypatch.setattr(_records, "PIECE", piece)
-    long = (262145).to_bytes(4, "little")
-    for data in (b"", b"x" * 99, DATA[:3], DATA[:20], DATA[:30], DATA[:-1], DATA + b"\0", DATA + bytes(8) + long + bytes(300_000), DATA[:20] + DATA):
-        with pytest.raises(CaptureFault) as fault:
-            mquerier.show(data)
-        found = []
-        with pytest.raises(CaptureFault) as other:
-            for it in mquerier.packets(data):
-                found.append(it)
-        assert (found, str(other.value)) == (list(fault.value.lines), str(fault.value))
-
-
-def test_stamps_that_go_back_one_by_one(monkeypatch):
-    """Times never go back, also from piece to piece."""
-    monkeypatch.setattr(_records, "PIECE", 100)
-    records, at = [], 24
-    while at < len(DATA):
-        end = at + 16 + int.from_bytes(DATA[at + 8 : at + 12], "little")
-        records.append(DATA[at:end])
-        at = end
-    data = DATA[:24] + b"".join([records[5], *records[30:], *records[:30]])
-    assert list(mquerier.packets(data)) == list(mquerier.show(data))
+def many(tmp_path, count):
+    with open(tmp_path / "many.pcap", "wb") as file:
+        subprocess.run([f"{TOP}/bench/capture", str(count)], stdout=file, check=True)
+    return tmp_path / "many.pcap"
 
 
 def test_many_packets_in_little_memory(tmp_path):
-    with open(tmp_path / "many.pcap", "wb") as file:
-        subprocess.run([f"{TOP}/bench/capture", "100000"], stdout=file, check=True)
-    number, most, before = 0, 0, used()
-    for packet in mquerier.packets(tmp_path / "many.pcap"):
-        number += 1
-        assert packet.number == number
-        most = max(most, used()) if number % 10_000 == 0 else most
-    assert number == 100_000 and most - before < 16 << 20
+    file = many(tmp_path, 100_000)
+    pieces = iter(lambda found=mquerier.convert(file): found.read(1 << 16), b"")
+    counts = []
+    for found in (mquerier.show(file), mquerier.replay(file, "10.0.0.9"), mquerier.check(file, "10.0.0.9", possible=True), pieces):
+        number, most, before = 0, 0, used()
+        for number, _ in enumerate(found, 1):
+            most = max(most, used()) if number % 10_000 == 0 else most
+        counts.append(number)
+        assert most - before < 4 << 20
+    assert counts[0] == 100_000 < counts[1] and counts[2] > 0 and counts[3] > 50
+    assert resource.getrusage(resource.RUSAGE_CHILDREN).ru_maxrss < 64 << 10
+
+
+def test_an_iterator_that_is_left_ends_its_program(tmp_path):
+    file = many(tmp_path, 100_000)
+    for capture in (file, file.read_bytes()):
+        found = mquerier.show(capture)
+        assert next(found).packet == 1
+        found.close()
+        with mquerier.convert(capture) as begun:
+            assert len(begun.read(10)) == 10
+    with pytest.raises(ChildProcessError):
+        os.waitpid(-1, os.WNOHANG)
+    assert threading.active_count() == 1 or all(it.name != "Feeder" for it in threading.enumerate())
 
 
 def test_files_that_are_open(tmp_path):
     wanted = list(mquerier.show(DATA))
     (tmp_path / "link.pcap.gz").write_bytes(gzip.compress(DATA))
     for opened in (lambda: open(SAMPLE, "rb"), lambda: io.BytesIO(DATA), lambda: gzip.open(tmp_path / "link.pcap.gz")):
-        for call in (mquerier.show, mquerier.packets):
-            with opened() as file:
-                assert list(call(file)) == wanted
         with opened() as file:
-            assert mquerier.convert(file).data == mquerier.convert(DATA).data
+            assert list(mquerier.show(file)) == wanted
         with opened() as file:
-            assert mquerier.check(file, "10.9.0.1").text == mquerier.check(DATA, "10.9.0.1").text
+            assert converted(file) == converted(DATA)
+        with opened() as file:
+            assert [*mquerier.check(file, "10.9.0.1")] == [*mquerier.check(DATA, "10.9.0.1")]
             assert not file.closed
     with open(SAMPLE, "rb") as file:
         file.seek(1)
-        assert fault_of(mquerier.show, file).startswith(f"{SAMPLE}: no capture: ")
-    for call in (mquerier.show, lambda it: list(mquerier.packets(it))):
-        with open(SAMPLE, encoding="latin-1") as file, pytest.raises(TypeError, match="capture: expected bytes, a path or a file"):
-            call(file)
+        assert fault_of(mquerier.show, file).startswith(f"{SAMPLE}: it is no classic capture file")
+    with open(SAMPLE, encoding="latin-1") as file, pytest.raises(TypeError, match="capture: expected bytes, a path or a file"):
+        list(mquerier.show(file))
+    with gzip.open(io.BytesIO(gzip.compress(DATA)[:-9])) as file, pytest.raises(EOFError):
+        list(mquerier.show(file))
 
 
 def test_a_pipe_is_read_as_it_comes():
     read, write = os.pipe()
     with open(read, "rb") as file, open(write, "wb", buffering=0) as to:
-        found = mquerier.packets(file)
+        found = mquerier.show(file)
         to.write(DATA[:1000])
-        assert [next(found).number for _ in range(12)] == [*range(1, 13)]
+        assert [next(found).packet for _ in range(12)] == [*range(1, 13)]
         to.write(DATA[1000:])
-        assert next(found).number == 13
+        assert next(found).packet == 13
 
 
-def test_lines_are_a_sequence():
-    found = mquerier.show(DATA)
-    assert [found[at] for at in range(-46, 46)] == [*found, *found]
-    assert found[2:5] == list(found)[2:5] and found[::-7] == list(found)[::-7] and found[40:99] == list(found)[40:]
-    for at in (46, -47):
-        with pytest.raises(IndexError):
-            found[at]
-    with pytest.raises(TypeError):
-        found["1"]
-    assert found[3] in found and found.index(found[3]) == 3
+def test_a_program_that_is_killed():
+    read, write = os.pipe()
+    with open(read, "rb") as file, open(write, "wb", buffering=0) as to:
+        found = mquerier.show(file)
+        to.write(DATA[:1000])
+        assert next(found).packet == 1
+        found.gi_frame.f_locals["run"].process.kill()
+        with pytest.raises(mquerier.Error, match="mquerier show --json: status -9"):
+            list(found)
 
 
-def test_a_short_repr():
-    found = mquerier.show(DATA)
-    assert repr(found).startswith("<Lines of 46 lines, '1 0 ") and repr(found).endswith(", ..>") and len(repr(found)) < 400
-    assert repr(mquerier.show(DATA[:24])) == "<Lines of 0 lines>"
-    findings = mquerier.check(DATA, "10.9.0.1", **VARIABLES)
-    assert repr(findings).startswith("<Findings of 12 lines, '999 differs 0.0.0.0: ") and len(repr(findings)) < 400
+def test_messages_that_come_again():
+    packets = [*mquerier.show(DATA), *mquerier.show(DATA)]
+    head, records = DATA[:24], DATA[24:]
+    twice = [*mquerier.show(head + records + records)]
+    assert [getattr(it, "message", None) for it in twice] == [getattr(it, "message", None) for it in packets]
+    assert [it.packet for it in twice] == [*range(1, 93)]
 
 
 def test_events_add_up():
-    events = mquerier.replay(DATA, "10.9.0.1", changes=True, **VARIABLES)
-    totals = events[-1]
-    assert totals.sent == sum(isinstance(it, mquerier.Sent) for it in events)
+    events = [*mquerier.replay(DATA, "10.9.0.1", changes=True, **VARIABLES)]
+    totals, kinds = events[-1], collections.Counter(map(type, events))
+    assert (totals.sent, totals.dropped) == (kinds[mquerier.Sent], kinds[mquerier.DroppedMessage])
     received = [it for it in events if isinstance(it, mquerier.Received)]
-    assert (totals.received, totals.applied) == (len(received), sum(it.applied for it in received))
-    assert totals.dropped == sum(it.dropped is not None for it in received)
-    change = next(it for it in events if isinstance(it, mquerier.Change) and it.filter == "include")
-    assert f"{change.time} change {change.group} include {' '.join(map(str, change.sources))}\n" in events.text
+    assert (totals.received, totals.applied) == (len(received) + totals.dropped, sum(it.applied for it in received))
+    groups = {it.group for it in events if isinstance(it, mquerier.HeldGroup)}
+    assert kinds[mquerier.Change] > 0 and groups <= {it.group for it in events if isinstance(it, mquerier.Change)}
     assert [it.time for it in events if isinstance(it, mquerier.End)] == [11983]
 
 
-def test_texts_of_fields_are_those_of_their_types():
-    words = {name: set(typing.get_args(getattr(lines, name))) for name in ("Why", "Filter", "Kind")}
-    words["FamilyName"] = set(typing.get_args(mquerier.FamilyName))
-    seen = {name: set() for name in words}
-    for file in CAPTURES[::2]:
-        data = mquerier.convert(file).data
-        for own in QUERIERS:
-            events = mquerier.replay(data, own, changes=True)
-            seen["Why"] |= {it.why for it in events if isinstance(it, mquerier.Skipped)}
-            seen["Filter"] |= {it.filter for it in events if isinstance(it, mquerier.Change)}
-            seen["Kind"] |= {it.kind for it in mquerier.check(data, own)}
-        seen["FamilyName"] |= {it.family for it in mquerier.packets(data)} - {None}
-    header = mquerier.convert(cooked([(0, 1, ipv4("10.0.0.9", "224.0.0.1", bytes.fromhex("1164ec1e00000000027d0000"), ttl=2))])).data
-    seen["Kind"] |= {it.kind for it in mquerier.check(header, "10.0.0.9")}
-    assert seen == words
+LITERALS = [
+    ("RecordKind", SCHEMA["record"]["properties"]["kind"]["anyOf"][0]["enum"]),
+    ("Filter", SCHEMA["filter"]["enum"]),
+    ("Why", SCHEMA["why"]["enum"]),
+    ("Reason", ["truncated", *SCHEMA["fault"]["properties"]["reason"]["enum"]]),
+    ("DropReason", SCHEMA["drop"]["properties"]["reason"]["enum"]),
+    ("FindingKind", ["missing", "extra", "differs", "interval", "silence", "header"]),
+    ("Field", [*SCHEMA["difference"]["properties"]["field"]["enum"], *SCHEMA["headerFault"]["properties"]["field"]["enum"]]),
+    ("Unjudged", SCHEMA["summary"]["properties"]["summary"]["properties"]["why"]["enum"][1:]),
+]
 
 
-def basis_line(it):
-    counts = f"packets {it.packets} messages {it.messages} malformed {it.malformed} cut {it.cut} unread {it.unread}"
-    return f"{counts}; groups held before 0 are unknown"
-
-
-def role_line(it):
-    line = f"querier {it.querier} from 0"
-    line += f", lost {it.lost}, last at {it.lost_at}, other {it.other}" if it.lost else ""
-    return line + (f", again at {it.again_at}" if it.again_at is not None else "")
-
-
-def line_of(it):
-    asked = " ".join(str(part) for part in (it.group, it.source) if part is not None)
-    asked += {"differs": f": {it.detail}", "general": it.detail, "packet": it.detail}.get(it.kind, "")
-    return f"{it.time} {it.kind} {asked} ({it.section})"
-
-
-@pytest.mark.parametrize("file", sorted(glob.glob(f"{TOP}/vectors/*.pcap") + glob.glob(f"{TOP}/samples/*.pcap")), ids=os.path.basename)
-def test_findings_have_all_of_their_lines(file):
-    data = mquerier.convert(file).data
-    for querier in ("10.0.0.9", "10.9.0.1", "fe80::9", "fe80::2"):
-        found = mquerier.check(data, querier, until=300000)
-        last = f"checked general {found.general} specific {found.specific}: {len(found)} findings"
-        assert [*map(line_of, found), last, basis_line(found.basis), role_line(found.role)] == found.text.splitlines()
-        assert len(mquerier.check(data, querier, until=300000, cite=False)) == len(found)
+@pytest.mark.parametrize("name, words", LITERALS, ids=[name for name, _ in LITERALS])
+def test_types_have_the_words_of_the_schema(name, words):
+    assert [*typing.get_args(getattr(objects, name))] == words
 
 
 def test_faults_of_captures():
     for data, why, read in [
-        (b"", "the header of record 0 is cut", 0),
-        (b"x" * 99, "no capture: the magic number is unknown", 0),
-        (DATA[:-1], "the data of record 46 are cut", 45),
+        (b"", "record 0: the file ends within a header", 0),
+        (b"x" * 99, "it is no classic capture file", 0),
+        (DATA[:-1], "record 46: the file ends within a packet", 45),
+        (DATA + b"\0", "record 47: the file ends within a header", 46),
+        (DATA + bytes(8) + (262145).to_bytes(4, "little") + bytes(300_000), "record 47: the packet has more than 262144 bytes", 46),
     ]:
-        with pytest.raises(CaptureFault) as fault:
-            mquerier.show(data)
-        assert (str(fault.value), len(fault.value.lines)) == (why, read)
-    with pytest.raises(CaptureFault, match="block 46: the file ends within it"):
-        mquerier.convert(DATA[:-1])
-    with pytest.raises(CaptureFault, match="more than a day lies between record 47 and what is before it") as gap:
-        mquerier.replay(DATA, "10.9.0.1", until=2**53)
-    assert len(gap.value.lines) > 46
+        found, fault = taken(mquerier.show(data))
+        assert (str(fault), len(found)) == (why, read)
+    with pytest.raises(CaptureFault, match="block 46: the file ends within the block"):
+        converted(DATA[:-1])
+    with pytest.raises(CaptureFault, match="block 46: the file ends within the block"):
+        list(mquerier.check(DATA[:-1], "10.9.0.1", once=True))
+    for call in (mquerier.replay, mquerier.check):
+        found, fault = taken(call(DATA, "10.9.0.1", until=2**53))
+        assert str(fault) == "record 47: more than a day lies between the packet before and this one, or the end"
+        assert found and not isinstance(found[-1], (mquerier.Totals, mquerier.Summary))
 
 
 def fault_of(call, capture):
     with pytest.raises(CaptureFault) as fault:
-        call(capture)
+        list(call(capture))
     return str(fault.value)
 
 
 def test_fault_names_its_file(tmp_path):
     truncated = tmp_path / os.fsdecode(b"link \xff.pcap")
     truncated.write_bytes(DATA[:-1])
-    assert fault_of(mquerier.show, truncated) == f"{truncated}: the data of record 46 are cut"
+    assert fault_of(mquerier.show, truncated) == f"{truncated}: record 46: the file ends within a packet"
     assert fault_of(mquerier.show, str(truncated)) == fault_of(mquerier.show, truncated)
-    assert fault_of(mquerier.convert, truncated) == f"{truncated}: block 46: the file ends within it"
+    assert fault_of(mquerier.convert, truncated) == f"{truncated}: block 46: the file ends within the block"
     for capture, error in [(tmp_path, IsADirectoryError), ("/no/such/file", FileNotFoundError), ("", FileNotFoundError)]:
         with pytest.raises(error):
             mquerier.show(capture)
@@ -402,9 +385,11 @@ def test_fault_names_its_file(tmp_path):
 def test_fault_names_another_kind_of_file():
     with open(f"{TOP}/samples/igmp.pcapng", "rb") as file:
         pcapng = file.read()
-    unknown = "no capture: the magic number is unknown"
+    unknown = "it is no classic capture file"
     for call in (mquerier.show, lambda it: mquerier.replay(it, "10.0.0.9"), lambda it: mquerier.check(it, "10.0.0.9")):
         assert fault_of(call, pcapng) == f"{unknown}: the file is pcapng, which convert() reads"
+        path = f"{TOP}/samples/igmp.pcapng"
+        assert fault_of(call, path) == f"{path}: {unknown}: the file is pcapng, which convert() reads"
         assert fault_of(call, gzip.compress(DATA)) == f"{unknown}: the file is compressed by gzip"
         assert fault_of(call, b"\x28\xb5\x2f\xfd" + DATA) == f"{unknown}: the file is compressed by zstd"
         assert fault_of(call, b"text" * 9) == unknown
@@ -413,36 +398,45 @@ def test_fault_names_another_kind_of_file():
 
 
 def test_findings_of_nothing():
-    assert mquerier.check(SAMPLE, "10.9.0.1").unjudged is None
-    assert mquerier.check(SAMPLE, "fe80::1").unjudged == "there is no message of this family"
-    typo = mquerier.check(f"{TOP}/vectors/igmp-startup.pcap", "10.0.0.77", until=1000)
-    assert len(typo) == 0 and typo.unjudged == "no query from this address was seen, and none is missing"
-    with pytest.raises(CaptureFault) as fault:
-        mquerier.check(DATA[:-1], "10.9.0.1")
-    assert fault.value.lines.unjudged == "the check did not come to its end" and len(fault.value.lines) > 0
+    def why(*arguments, **more):
+        return [*mquerier.check(*arguments, **more)][-1].why
+
+    assert why(SAMPLE, "10.9.0.1") is None
+    assert why(SAMPLE, "fe80::1") == "no message"
+    assert why(f"{TOP}/vectors/igmp-startup.pcap", "10.0.0.77", until=1000) == "no query"
+
+
+def test_findings_are_counted():
+    *found, summary = mquerier.check(SAMPLE, "10.9.0.1", possible=True, **VARIABLES)
+    assert (summary.findings, summary.possible) == (sum(it.certain for it in found), sum(not it.certain for it in found))
+    assert summary.findings > 0 and summary.possible > 0
+    assert [it for it in found if it.certain] == [*mquerier.check(SAMPLE, "10.9.0.1", **VARIABLES)][:-1]
+    assert str(found[0]) == "999 differs 0.0.0.0 s: True, wanted False, packet 4 (RFC 3376 section 4.1.5)"
 
 
 def test_faults_are_copied_whole():
-    with pytest.raises(CaptureFault) as fault:
-        mquerier.show(DATA[:-1])
-    for it in (fault.value, Fault("now", "too late")):
+    for it in (CaptureFault("record 46: the file ends"), Fault("now", "too late")):
         copied = pickle.loads(pickle.dumps(it))
         assert (type(copied), str(copied)) == (type(it), str(it))
-    assert pickle.loads(pickle.dumps(fault.value)).lines[:] == fault.value.lines[:]
     assert pickle.loads(pickle.dumps(Fault("now", "too late"))).field == "now"
+    for it in (*mquerier.show(DATA), *mquerier.replay(DATA, "10.9.0.1"), *mquerier.check(DATA, "10.9.0.1")):
+        assert pickle.loads(pickle.dumps(it)) == it
 
 
 def test_faults_of_arguments():
     for field, call in [
         ("own", lambda: mquerier.replay(DATA, "0.0.0.0")),
         ("querier", lambda: mquerier.check(DATA, "2001:db8::1")),
+        ("family", lambda: mquerier.check(DATA, auto="ipv4")),
+        ("robustness", lambda: mquerier.check(DATA, auto="igmp", robustness=8)),
         ("scheduled", lambda: mquerier.replay(DATA, "10.9.0.1", scheduled=0)),
         ("until", lambda: mquerier.replay(DATA, "10.9.0.1", until=2**53 + 1)),
         ("tolerance", lambda: mquerier.check(DATA, "10.9.0.1", tolerance=-1)),
         ("interface", lambda: mquerier.convert(DATA, interface=-1)),
-        ("interface", lambda: mquerier.convert(DATA, interface=2**64)),
+        ("interface", lambda: mquerier.check(DATA, "10.9.0.1", interface=2**64)),
         ("interface", lambda: mquerier.convert(DATA, interface="")),
         ("interface", lambda: mquerier.convert(DATA, interface="a" * 17)),
+        ("interface", lambda: mquerier.convert(DATA, interface="\udcff")),
         ("vlan", lambda: mquerier.convert(DATA, vlan=4096)),
     ]:
         with pytest.raises(Fault) as fault:
@@ -457,7 +451,7 @@ def test_faults_of_arguments():
         ("until", lambda: mquerier.replay(DATA, "10.9.0.1", until=1.5)),
         ("changes", lambda: mquerier.replay(DATA, "10.9.0.1", changes=1)),
         ("tolerance", lambda: mquerier.check(DATA, "10.9.0.1", tolerance=True)),
-        ("cite", lambda: mquerier.check(DATA, "10.9.0.1", cite="no")),
+        ("possible", lambda: mquerier.check(DATA, "10.9.0.1", possible="no")),
         ("interface", lambda: mquerier.convert(DATA, interface=1.5)),
         ("interface", lambda: mquerier.convert(DATA, interface=b"eth0")),
         ("vlan", lambda: mquerier.convert(DATA, vlan="20")),
@@ -475,13 +469,27 @@ def test_command_line():
     words = ["--querier", "10.9.0.1", "--response-interval", "2000", "--last-member-interval", "500"]
     it = ran("check", SAMPLE, SAMPLE, *words)
     found = [json.loads(line) for line in it.stdout.splitlines()]
-    assert it.returncode == 3 and len(found) == 2 * len(mquerier.check(SAMPLE, "10.9.0.1", **VARIABLES))
-    assert found[1] == {
-        "file": SAMPLE, "time": 4763, "kind": "missing", "group": "232.1.1.1", "source": "10.9.0.101",
-        "section": "RFC 3376 section 6.6.3.2", "detail": "",
-    }  # fmt: skip
-    right = ran("check", f"{TOP}/vectors/igmp-query-from-lower.pcap", "--querier", "10.0.0.2")
-    assert (right.returncode, right.stdout, right.stderr) == (0, "", "")
+    wanted = printed(DATA, "check", "igmp", "--querier", "10.9.0.1", "--qri", "2000", "--lmqi", "500")[0]
+    assert it.returncode == 3 and found == 2 * [{"file": SAMPLE, **one} for one in wanted]
+    right = ran("check", f"{TOP}/vectors/igmp-query-from-lower.pcap", "--auto", "igmp", "--possible", "--began")
+    assert (right.returncode, right.stderr, right.stdout.count("summary")) == (0, "", 1)
+
+
+def test_report_of_junit(tmp_path):
+    right, report = f"{TOP}/vectors/igmp-query-from-lower.pcap", tmp_path / "report.xml"
+    words = ["--response-interval", "2000", "--last-member-interval", "500", "--junit", str(report)]
+    it = ran("check", SAMPLE, right, f"{TOP}/samples/mld.pcap", "/no/such/file", "--querier", "10.9.0.1", *words)
+    assert it.returncode == 1
+    suites = ElementTree.parse(report).getroot()
+    counts = [tuple(int(suite.get(it)) for it in ("tests", "failures", "errors", "skipped")) for suite in suites]
+    assert counts == [(7, 1, 0, 0), (7, 0, 1, 0), (7, 0, 1, 0), (7, 0, 1, 0)]
+    failed = {case.get("name"): case.find("failure") for case in suites[0]}
+    *found, _ = mquerier.check(SAMPLE, "10.9.0.1", **VARIABLES)
+    lines = [str(it) for it in found if it.finding == "differs"]
+    assert (failed["differs"].get("message"), failed["differs"].text) == (lines[0], "\n".join(lines))
+    assert [case.find("error").get("message") for case in (suites[2][0], suites[3][0])] == [
+        "nothing judged: no message", "/no/such/file: No such file or directory",
+    ]  # fmt: skip
 
 
 def test_version_of_the_command_line():
@@ -494,10 +502,10 @@ def test_command_line_with_faults(tmp_path):
     it = ran("check", "/no/such/file", str(tmp_path / "truncated.pcap"), SAMPLE, "--querier", "10.9.0.1")
     files = [json.loads(line)["file"] for line in it.stdout.splitlines()]
     assert it.returncode == 1 and set(files) == {str(tmp_path / "truncated.pcap"), SAMPLE}
-    why = ["/no/such/file: No such file or directory", f"{tmp_path}/truncated.pcap: the data of record 46 are cut"]
+    why = ["/no/such/file: No such file or directory", f"{tmp_path}/truncated.pcap: record 46: the file ends within a packet"]
     assert it.stderr.splitlines() == why
     nothing = ran("check", SAMPLE, "--querier", "fe80::1")
-    assert (nothing.returncode, nothing.stderr) == (4, f"{SAMPLE}: nothing judged: there is no message of this family\n")
+    assert (nothing.returncode, nothing.stderr) == (4, f"{SAMPLE}: nothing judged: no message\n")
     assert ran("check", SAMPLE, "--querier", "0.0.0.0").returncode == 2 and ran("check", SAMPLE).returncode == 2
 
 

@@ -1,28 +1,26 @@
-"""The shared libraries: their place, missing ones and those of another version."""
+"""The shared library and the program: their place, missing ones and those of another version."""
 
 import os
 import shutil
 
 import mquerier
 import pytest
-from mquerier import _captures_library, _library
+from mquerier import _library, _program
 
-NAMES = (f"libmquerier.so.{_library.VERSION}", f"libmquerier-captures.so.{_library.VERSION}")
+NAME = f"libmquerier.so.{_library.VERSION}"
+EMPTY = bytes.fromhex("d4c3b2a102000400000000000000000000000400") + b"\1\0\0\0"
 
 
 @pytest.fixture
 def folder(monkeypatch, tmp_path):
-    """A folder for libraries, which are loaded anew."""
-    for cached in (_library.families, _captures_library.library):
+    """A folder for libraries and programs, which are looked for anew."""
+    for cached in (_library.families, _program.program):
         cached.cache_clear()
     monkeypatch.setenv("MQUERIER_LIB", str(tmp_path))
+    monkeypatch.setenv("PATH", f"{tmp_path}:/usr/bin:/bin")
     yield tmp_path
-    for cached in (_library.families, _captures_library.library):
+    for cached in (_library.families, _program.program):
         cached.cache_clear()
-
-
-def copied(name, to):
-    shutil.copy(os.path.join(_library.NATIVE, name), to)
 
 
 def why(call):
@@ -35,26 +33,32 @@ def link():
     return mquerier.Link("igmp", "10.0.0.9")
 
 
-def test_libraries_of_the_folder(folder):
-    for name in NAMES:
-        copied(name, folder)
-    assert link().is_querier and len(mquerier.show(bytes.fromhex("d4c3b2a102000400000000000000000000000400") + b"\1\0\0\0")) == 0
+def test_library_of_the_folder(folder):
+    shutil.copy(os.path.join(_library.NATIVE, NAME), folder)
+    assert link().is_querier
 
 
 def test_no_library(folder):
-    for name, call in zip(NAMES, (link, lambda: mquerier.show(b""))):
-        assert why(call).startswith(f"{folder}/{name}: ") and why(call).endswith(f"or set MQUERIER_LIB to the folder of {name}")
-        (folder / name).write_text("text")
-        assert f"{folder}/{name}: " in why(call)
-
-
-def test_library_without_its_calls(folder):
-    for name, other, call in zip(NAMES, NAMES[::-1], (link, lambda: mquerier.show(b""))):
-        copied(other, folder / name)
-        assert why(call).startswith(f"{folder}/{name} has no ")
+    assert why(link).startswith(f"{folder}/{NAME}: ") and why(link).endswith(f"or set MQUERIER_LIB to the folder of {NAME}")
+    (folder / NAME).write_text("text")
+    assert f"{folder}/{NAME}: " in why(link)
 
 
 def test_library_of_another_version(folder, monkeypatch):
-    copied(NAMES[0], folder / "libmquerier.so.3")
+    shutil.copy(os.path.join(_library.NATIVE, NAME), folder / "libmquerier.so.3")
     monkeypatch.setattr(_library, "VERSION", 3)
     assert why(link) == f"{folder}/libmquerier.so.3 has version 2, and this package is for version 3"
+
+
+def test_program_of_the_package(folder):
+    assert _program.program() == os.path.join(_library.NATIVE, "mquerier")
+
+
+def test_program_of_the_path(folder, monkeypatch):
+    monkeypatch.setattr(_program, "NATIVE", str(folder / "none"))
+    assert why(lambda: mquerier.show(EMPTY)).startswith("mquerier is not there. Install the wheel")
+    shutil.copy(os.path.join(_library.NATIVE, "mquerier"), folder)
+    assert [*mquerier.show(EMPTY)] == [] and _program.program() == str(folder / "mquerier")
+    _program.program.cache_clear()
+    (folder / "mquerier").write_text("#!/bin/sh\necho mquerier 1.9.0\n")
+    assert why(lambda: mquerier.show(EMPTY)) == f"{folder}/mquerier is of another version than this package, 2"

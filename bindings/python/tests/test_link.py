@@ -79,6 +79,25 @@ def test_another_querier():
     assert link.receive("fe80::2", query, 5, destination="ff02::1", alert=False).dropped is Dropped.NO_ALERT
 
 
+def test_another_configuration():
+    link = made(groups=10, last_member_interval=2000)
+    link.tick(0)
+    link.receive(HOST, JOIN, 40)
+    link.configure(own="10.0.0.7", query_interval=20, groups=1)
+    assert str(link.own) == "10.0.0.7" and link.next_deadline == 20040
+    assert link.tick(20040).queries[0].message == bytes.fromhex("1164ec870000000002140000")
+    assert link.groups()[0].deadline == 260040
+    for field, words in [("groups", {"groups": 0}), ("own", {"own": "0.0.0.0"}), ("memory", {"groups": 11}), ("own", {"own": "fe80::1"})]:
+        with pytest.raises(Fault) as fault:
+            link.configure(**words)
+        assert fault.value.field == field and str(link.own) == "10.0.0.7"
+    link.configure(groups=10)
+    link.receive(HOST, bytes.fromhex("1600f8f9ef010204"), 20050)
+    with pytest.raises(Fault) as fault:
+        link.configure(groups=1)
+    assert fault.value.field == "held"
+
+
 def ip(text):
     return ipaddress.ip_address(text).packed
 
@@ -300,4 +319,5 @@ def test_types_are_whole(name):
     for call in calls_of(it):
         assert {*inspect.signature(call).parameters, "return"} - {"self"} == {*typing.get_type_hints(call)}
     if dataclasses.is_dataclass(it):
-        assert {of.name for of in dataclasses.fields(it)} == {*typing.get_type_hints(it)}
+        of_instances = {name for name, of in typing.get_type_hints(it).items() if typing.get_origin(of) is not typing.ClassVar}
+        assert {of.name for of in dataclasses.fields(it)} == of_instances

@@ -66,7 +66,7 @@ pub enum Parsed {
 pub enum Refused {
     /// The record has more sources than `group_sources`.
     Long,
-    /// It is the fifth record of its datagram, or a later one, for a group that the link has.
+    /// Four records of its datagram came before it while the link had its group.
     Repeated,
     /// The limit of groups.
     Groups,

@@ -2,7 +2,7 @@
 
 use core::fmt;
 
-/// Why a call did nothing: a fault of the configuration, a memory that is too small, or a time out of range.
+/// Why a call did nothing: a fault of the configuration, a memory that is too small, a time out of range, or what a link holds.
 #[derive(Clone, Copy, Debug, PartialEq, Eq, Hash)]
 #[non_exhaustive]
 pub enum Fault {
@@ -30,12 +30,14 @@ pub enum Fault {
     Moment,
     /// The workspace was made for smaller limits than the link has.
     Workspace,
+    /// The link holds more than the configuration allows.
+    Held,
     /// A status that this crate does not know.
     Unknown,
 }
 
 impl Fault {
-    const ALL: [Fault; 12] = [
+    const ALL: [Fault; 13] = [
         Fault::Robustness,
         Fault::QueryInterval,
         Fault::ResponseInterval,
@@ -48,6 +50,7 @@ impl Fault {
         Fault::Memory,
         Fault::Moment,
         Fault::Workspace,
+        Fault::Held,
     ];
 
     /// Returns what a status of the header says.
@@ -74,6 +77,7 @@ impl fmt::Display for Fault {
             Fault::Memory => "the memory is too small",
             Fault::Moment => "the time is later than 2^53 milliseconds",
             Fault::Workspace => "the workspace is too small for the link",
+            Fault::Held => "the link holds more than the configuration allows",
             Fault::Unknown => "not a status",
         })
     }

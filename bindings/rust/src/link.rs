@@ -39,6 +39,14 @@ impl<'m, F: Family> Link<'m, F> {
         Ok(Link { raw, _block: block, family: PhantomData })
     }
 
+    /// Gives the link another configuration: groups, timers and schedules stay, and later calls use the new values. Afterwards
+    /// [`next_deadline`](Self::next_deadline) may be earlier. Fails with [`Fault::Memory`] if a limit exceeds that with which the link
+    /// was made, and with [`Fault::Held`] if it holds more. Then nothing changes.
+    pub fn configure(&mut self, config: &Config<F>) -> Result<(), Fault> {
+        // SAFETY: "A link or a workspace comes from a call that returned MQ_DONE": this one from `made`.
+        Fault::of_status(unsafe { (F::CALLS.configure)(&mut self.raw, config.raw) })
+    }
+
     /// Takes a datagram that came at `now`: what its IP packet says, and the bytes after its IP header, options and extension headers. First
     /// it does what a tick does.
     pub fn receive<'q>(

@@ -76,6 +76,7 @@ pub struct Calls<A: 'static, H: 'static> {
     pub(crate) workspace_size: unsafe extern "C" fn(Config<A>) -> usize,
     pub(crate) init_units: unsafe extern "C" fn(Config<A>, u64, Units, *mut Handle) -> u32,
     pub(crate) workspace_init_units: unsafe extern "C" fn(Config<A>, Units, *mut Handle) -> u32,
+    pub(crate) configure: unsafe extern "C" fn(*mut Handle, Config<A>) -> u32,
     pub(crate) outlet_bytes: unsafe extern "C" fn(Config<A>, u32) -> usize,
     pub(crate) tick: unsafe extern "C" fn(*mut Handle, *mut Handle, u64, *mut u8, usize) -> Answer,
     pub(crate) next_deadline: unsafe extern "C" fn(*const Handle) -> u64,
@@ -110,6 +111,8 @@ macro_rules! family {
                 fn init_units(config: Config<$address>, start: u64, memory: Units, link: *mut Handle) -> u32;
                 #[link_name = concat!($prefix, "workspace_init_units")]
                 fn workspace_init_units(config: Config<$address>, memory: Units, workspace: *mut Handle) -> u32;
+                #[link_name = concat!($prefix, "configure")]
+                fn configure(link: *mut Handle, config: Config<$address>) -> u32;
                 #[link_name = concat!($prefix, "outlet_bytes")]
                 fn outlet_bytes(config: Config<$address>, longest_body: u32) -> usize;
                 #[link_name = concat!($prefix, "tick")]
@@ -161,8 +164,8 @@ macro_rules! family {
             }
 
             pub(crate) const CALLS: Calls<$address, $hosts> = Calls {
-                defaults, size, workspace_size, init_units, workspace_init_units, outlet_bytes, tick, next_deadline, forwards, changed,
-                group_at, len, groups, is_querier, other_querier, counters,
+                defaults, size, workspace_size, init_units, workspace_init_units, configure, outlet_bytes, tick, next_deadline, forwards,
+                changed, group_at, len, groups, is_querier, other_querier, counters,
             };
         }
     };

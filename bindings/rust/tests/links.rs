@@ -48,6 +48,21 @@ fn groups_and_counts() {
 }
 
 #[test]
+fn another_configuration() {
+    let config = Config::<Igmp>::new(OWN).groups(10);
+    let (mut link, mut workspace) = (Link::new(&config, 0).unwrap(), Workspace::new(&config).unwrap());
+    assert_eq!(link.tick(&mut workspace, 0, &mut []).unwrap().unsent, 1);
+    assert_eq!(link.receive(&mut workspace, HOST, &REPORT, 40, &mut []).unwrap().applied, 2);
+    assert_eq!(link.configure(&config.query_interval(20)), Ok(()));
+    assert_eq!(link.next_deadline(), Some(20_040));
+    assert_eq!(link.configure(&config.groups(11)), Err(Fault::Memory));
+    assert_eq!(link.configure(&config.groups(1)), Err(Fault::Held));
+    assert_eq!(link.configure(&config.groups(0)), Err(Fault::Groups));
+    assert_eq!(link.configure(&config.groups(2)), Ok(()));
+    assert_eq!(link.group([239, 1, 2, 4]).unwrap().0.deadline(), Some(260_040));
+}
+
+#[test]
 fn another_querier() {
     let (mut link, mut workspace) = made();
     let query = [0x11, 0x64, 0xec, 0x1e, 0, 0, 0, 0, 2, 125, 0, 0];
@@ -142,6 +157,7 @@ fn texts_are_those_of_the_header() {
         Fault::Memory,
         Fault::Moment,
         Fault::Workspace,
+        Fault::Held,
     ] {
         at += statuses[at..].find(&quoted(fault.to_string())).expect("the header has the text, in this order");
     }
@@ -160,7 +176,7 @@ fn texts_are_those_of_the_header() {
     ] {
         at += reasons[at..].find(&quoted(reason.to_string())).expect("the header has the text, in this order");
     }
-    assert_eq!((statuses.matches('"').count(), reasons.matches('"').count()), (2 * 13, 2 * 11));
+    assert_eq!((statuses.matches('"').count(), reasons.matches('"').count()), (2 * 14, 2 * 11));
 }
 
 /// What a comment of `// SAFETY:` quotes of the header, for each such comment of a file.

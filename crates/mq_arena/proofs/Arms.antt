@@ -1,9 +1,5 @@
 -- The code after an arm of a `match`. Assumes `Logic`.
-use seplogic.Ra.Ura.{Ura}
-use mir.Syntax.{Body}
-use prog.Wp.{Env, Calls, Loops, Wp, after_seq}
-use types.Logic.{Logic}
-use types.Kit.{Post, any_q, post}
+use Rattle.mq_arena.proofs.Common.{Ura, Body, Env, Calls, Loops, Wp, after_seq, Logic, Post, any_q, post}
 
 module _ {M : Type 1} {𝓤 : Ura M} (𝓛 : Logic 𝓤) where
   open 𝓛 use {H}

@@ -1,26 +1,11 @@
 -- The contents of a `Slot`, which is one machine value and is reached through a `&` with the thread's token. Assumes `Logic`.
-use Rattle.std.proofs.Common.{◌≡◌, ◌≤◌, ℕ, List, [], ◌∷◌, T, refl}
-use seplogic.Ra.Ura.{Ura}
-use mir.Syntax.{Ty}
-use mir.Val.{Val}
-use base.Fraction.{full_share}
-use base.Logic.{sep, wand, apply∗}
-use base.Fml.{Lft, Share, Fml, Incl-refl, ftrue, fsep, fex, fat, flft, ftok}
-use base.Mask.{every, less}
-use types.Logic.{Logic, sem}
-use types.Kit.{Item, Goal, Seq, Step, Soaks, step, ‵, raw, ◌⊛◌, later, ◌$◌, move, drop, use1, use2, use3, split, join, fsplit, fjoin, fpick, fpack}
-use types.Kit.{rewrite, await}
-use types.Na.{na_acc_in}
-use denote.RattleType.{RattleType}
-use denote.Exit.{Last, left, yes}
+use Rattle.mq_arena.proofs.Common.{◌≡◌, ◌≤◌, ℕ, List, [], ◌∷◌, T, refl, Ura, Ty, Val, full_share, sep, wand, apply∗, Lft, Share, Fml, Incl-refl, ftrue, fsep}
+use Rattle.mq_arena.proofs.Common.{fex, fat, flft, ftok, every, less, Logic, sem, Item, Goal, Seq, Step, Soaks, step, ‵, raw, ◌⊛◌, later, ◌$◌, move, drop, use1}
+use Rattle.mq_arena.proofs.Common.{use2, use3, split, join, fsplit, fjoin, fpick, fpack, rewrite, await, na_acc_in, RattleType, Last, left, yes, Lawful}
+use Rattle.mq_arena.proofs.Common.{cell_at, hidden_shr, lone, layout, nothing, Good, round, wraps, unwraps}
 use denote.Param.Mute.{blank}
-use denote.Laws.{Lawful}
-use denote.Memory.{cell_at, hidden_shr, lone}
 use denote.Opens.{unhide}
-use denote.Param.{layout}
-use denote.Steps.{nothing}
 use denote.Struct.Members.{Member}
-use Rattle.core.proofs.cell.Inside.{Good, round, wraps, unwraps}
 use Rattle.mq_arena.specs.Ownership.{fields_with}
 use Rattle.mq_arena.specs.contracts.unused_memory.Unused as rest
 use Rattle.mq_arena.specs.contracts.slot.Slot as slot

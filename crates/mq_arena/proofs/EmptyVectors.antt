@@ -1,40 +1,21 @@
 -- Units of memory as the room of an empty vector, and `lodge` at a call. Assumes `Logic`.
-use Rattle.std.proofs.Common.{◌≡◌, ℕ, zero, suc, ◌+◌, ◌-◌, ◌*◌, ◌^◌, ◌<◌, ◌≤◌, List, [], ◌∷◌, length, refl, lit<, arith, Vec}
-use seplogic.Ra.Ura.{Ura}
-use base.Fraction.{full_share}
-use base.Fml.{Lft, Share, ftrue, fsep, flft, froom}
-use base.Logic.{SProp, ent, ex, guard, sep, emp, id⊢}
-use contract.BorrowLft.{◌⊑◌}
-use contract.Monad.{Fun, fact, fact_i}
-use denote.Array.{Array}
-use denote.Memory.{part_at}
-use denote.Param.{layout, layouts, param}
-use denote.Param.Laws.{Laws, param_laws}
-use denote.RattleType.{RattleType}
-use denote.RawPtr.{block_ptr}
-use denote.Steps.{nothing, heard}
-use denote.Triple.Spec.{triple_of}
+use Rattle.mq_arena.proofs.Common.{◌≡◌, ℕ, zero, suc, ◌+◌, ◌-◌, ◌*◌, ◌^◌, ◌<◌, ◌≤◌, List, [], ◌∷◌, length, refl, lit<, arith, Vec, Ura, full_share, Lft, Share}
+use Rattle.mq_arena.proofs.Common.{ftrue, fsep, flft, froom, SProp, ent, ex, guard, sep, emp, id⊢, ◌⊑◌, Fun, fact, fact_i, Array, part_at, layout, layouts}
+use Rattle.mq_arena.proofs.Common.{param, Laws, param_laws, RattleType, block_ptr, nothing, heard, triple_of, Val, vint, vptr, Memory, Routine, ‵, raw, ◌⊛◌}
+use Rattle.mq_arena.proofs.Common.{some, later, ◌$◌, ◌∵◌, !, qed, move, use0, use1, drop, split, join, pick, rewrite, fjoin, feq_i, flt_i, check, show, await}
+use Rattle.mq_arena.proofs.Common.{updating, now, done, Logic, sem, Al, lodged, Lodged}
 use denote.Triple.Statement.{Contract}
 use mir.Syntax.{Callee, Ty, a_type, w64, ty_array, given}
-use mir.Val.{Val, vint, vptr}
-use prog.Memory.{Memory}
-use prog.Routine.{Routine}
-use types.Kit.{‵, raw, ◌⊛◌, some, later, ◌$◌, ◌∵◌, !, qed, move, use0, use1, drop, split, join, pick, rewrite, fjoin, feq_i, flt_i, check, show}
-use types.Kit.{await, updating, now, done}
-use types.Logic.{Logic, sem}
-use Rattle.core.proofs.alloc.Calls.{Al}
 use Rattle.std_alloc.proofs.VecSteps.El.{El, no_al, R, sz}
 use Rattle.std_alloc.proofs.VecSteps.Opens.{blk_in}
 use Rattle.std_alloc.proofs.VecSteps.Rows.{empty}
 use Rattle.std_alloc.proofs.vec.Vec.TheLaws as vec_laws
 use Rattle.std_alloc.proofs.vec.lodged.Lodged.TheLaws as lodged_laws
-use Rattle.std_alloc.specs.Vec.Ownership.{lodged}
 use Rattle.std_alloc.specs.contracts.vec.Vec as vec
 use Rattle.std_alloc.specs.contracts.vec.lodge as lodge
 use Rattle.std_alloc.specs.contracts.vec.lodge.Key.{name as lodge_name}
 use Rattle.std_alloc.specs.contracts.vec.lodged.Lodged as lodged_type
 use Rattle.std_alloc.specs.contracts.vec.lodged.LodgedAllocator.TheImpl.{ghosts}
-use Rattle.std_alloc.specs.declared.vec.lodged.Lodged.{Lodged}
 use Rattle.mq_arena.proofs.Rooms.{units, room_of_units}
 
 -- a vector that neither grows nor frees its memory

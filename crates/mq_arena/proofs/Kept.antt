@@ -12,10 +12,7 @@ use borrow.Table.Rows.{whole}
 use denote.Enum.Declared as enum
 use denote.Enum.Laws as enum_laws
 use denote.Enum.Loose.{loose_lawful}
-use denote.Exit.{yes}
-use denote.Param.Laws.{field_told}
-use denote.RawPtr.{RawPtr}
-use denote.Signature.{plain}
+use Rattle.mq_arena.proofs.Common.{yes, field_told, RawPtr, plain}
 use denote.Struct.Declared as struct
 use denote.Struct.Field.{RawPtr-field}
 use denote.Struct.Laws.{RawPtr-laws, RawPtr-plain}

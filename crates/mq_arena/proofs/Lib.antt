@@ -1,9 +1,10 @@
 mod Arms
 mod Cell
+mod Common
+mod EmptyVectors
 mod InTurn
 mod Kept
 mod Rooms
 mod Taken
 pub mod Takes
-mod EmptyVectors
 mod Walks

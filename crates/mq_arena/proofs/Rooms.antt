@@ -1,20 +1,10 @@
 -- Units of memory as room for any type that is no larger. Assumes `Logic`.
-use Rattle.std.proofs.Common.{◌≡◌, ℕ, zero, ◌+◌, ◌-◌, ◌*◌, ◌%◌, ◌≤◌, max, List, [], ◌∷◌, length, refl, sym, ap, subst, ◌∙◌, arith}
+use Rattle.mq_arena.proofs.Common.{◌≡◌, ℕ, zero, ◌+◌, ◌-◌, ◌*◌, ◌%◌, ◌≤◌, max, List, [], ◌∷◌, length, refl, sym, ap, subst, ◌∙◌, arith, Ura, full_share, fat}
+use Rattle.mq_arena.proofs.Common.{froom, SProp, ent, wand, id⊢, Val, bytes, size, align, pad, up, end_of, rooms_at, Logic, sem, ‵, raw, ◌⊛◌, some, ◌$◌, !, ◌∵◌}
+use Rattle.mq_arena.proofs.Common.{qed, by, move, keep, drop, use1, split, pick, u128, part_at, row}
 use native.Mathlib.Nat.{mod_self, sub-zero}
-use seplogic.Ra.Ura.{Ura}
-use base.Fraction.{full_share}
-use base.Fml.{fat, froom}
-use base.Logic.{SProp, ent, wand, id⊢}
 use mir.Syntax.{Ty, Tys, Width, w8, w16, w32, w64, w128, ty_int, ty_array, ty_struct, tcons, tnil}
-use mir.Val.{Val, bytes}
-use prog.Memory.{size, align, pad, up, end_of}
 use prog.Align.{Dv, dv→, dv_zero, dv_one, dv_mul, align_pos, align_w, align-bytes}
-use prog.Model.{rooms_at}
-use types.Logic.{Logic, sem}
-use types.Kit.{‵, raw, ◌⊛◌, some, ◌$◌, ◌∵◌, !, qed, by, move, keep, drop, use1, split, pick}
-use denote.Builtin.{u128}
-use denote.Memory.{part_at}
-use denote.Index.{row}
 use borrow.Table.OneValue.{part_out}
 
 abbrev pub unit : Ty

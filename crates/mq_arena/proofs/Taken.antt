@@ -1,22 +1,9 @@
 -- Units of provided memory, and the two results of `Arena::take`: such units, or nothing. Assumes `Logic`.
-use Rattle.std.proofs.Common.{◌≡◌, ℕ, ◌*◌, ◌^◌, ◌<◌, List, [], ◌∷◌, ◌++◌, length, IfOk, Ok, Err, ap, ◌∙◌}
-use seplogic.Ra.Ura.{Ura}
-use base.Fraction.{full_share}
-use base.Fml.{froom, flft}
-use mir.Syntax.{static}
-use mir.Val.{Val, vstruct, vnil, of_list}
-use types.Logic.{Logic}
-use types.Kit.{Item, Goal, Soaks, Seq, ‵, ◌$◌, move, drop, use0, use1, fsplit, fsplit3, fpick, feq_l}
-use types.Match.{live}
-use denote.RattleType.{RattleType}
-use denote.Builtin.{u128}
-use denote.Index.{opens_slice}
-use denote.Shadow.{pure_l}
-use denote.Slice.{MutSlice, slice_val, mut_slice_at}
-use denote.Steps.{only}
+use Rattle.mq_arena.proofs.Common.{◌≡◌, ℕ, ◌*◌, ◌^◌, ◌<◌, List, [], ◌∷◌, ◌++◌, length, IfOk, Ok, Err, ap, ◌∙◌, Ura, full_share, froom, flft, static, Val}
+use Rattle.mq_arena.proofs.Common.{vstruct, vnil, of_list, Logic, Item, Goal, Soaks, Seq, ‵, ◌$◌, move, drop, use0, use1, fsplit, fsplit3, fpick, feq_l, live}
+use Rattle.mq_arena.proofs.Common.{RattleType, u128, opens_slice, pure_l, MutSlice, slice_val, mut_slice_at, only, size_of_block}
 use Rattle.core.specs.contracts.result.Result as result
 use Rattle.core.specs.contracts.alloc.AllocError as error
-use Rattle.mq_arena.specs.Blocks.{size_of_block}
 use Rattle.mq_arena.proofs.Rooms.{units, places}
 
 abbrev pub Block : RattleType

@@ -1,28 +1,12 @@
 -- A walk that holds the thread's token. Assumes `Logic`.
-use Rattle.std.proofs.Common.{ℕ, zero, suc, List, [], ◌∷◌, subst}
-use seplogic.Ra.Ura.{Ura}
-use mir.Syntax.{Fn, Callee}
-use base.Logic.{ent, via, fst∗, snd∗}
-use base.Mask.{every}
-use prog.Wp.{Calls, Loops, WpFn, Tables}
-use prog.Model.{Model}
-use prog.Routine.{over, ◌≼⁺◌}
-use types.Logic.{Logic, sem}
-use contract.Monad.{fact_use}
-use contract.Running.{Running, tables_of, bare_tables}
+use Rattle.mq_arena.proofs.Common.{ℕ, zero, suc, List, [], ◌∷◌, subst, Ura, Fn, Callee, ent, via, fst∗, snd∗, every, Calls, Loops, WpFn, Tables, Model, over}
+use Rattle.mq_arena.proofs.Common.{◌≼⁺◌, Logic, sem, fact_use, Running, tables_of, bare_tables, owns, Ises, Are, owns_show, showss, unit, Signature, Slot}
+use Rattle.mq_arena.proofs.Common.{plain, types_at, Ended, Clauses, closing, on_entry, alive, Meets, triple_of, Stays, AllGo, walk_of, walk_Meets}
 use contract.Beside.{Carries}
 use contract.Named.{bare_unfolds}
 use sound.WpLaws.{WpFn-mono}
-use denote.RattleType.{owns}
-use denote.Laws.{Ises, Are, owns_show, showss}
-use denote.Builtin.{unit}
-use denote.Signature.{Signature, Slot, plain, types_at}
-use denote.Triple.Clauses.{Ended, Clauses, closing}
-use denote.Triple.Entry.{on_entry, alive}
-use denote.Triple.Spec.{Meets, triple_of}
 use denote.Triple.Table.{entered}
 use denote.Triple.Handed.{holding, hands}
-use denote.Triple.Walked.{Stays, AllGo, walk_of, walk_Meets}
 
 abbrev pub slot_at : {n : ℕ} → ℕ → List (Slot n) → Slot n
 slot_at k [] = plain (λ _. unit)

@@ -4,16 +4,19 @@ use Rattle.std.proofs.Common.{Result, Ok, Err, refl, sym, ap, ◌∙◌, subst, 
 use Rattle.std.proofs.lemmas.List.{take-append-drop}
 use Rattle.std.proofs.lemmas.Grind.{common_steps}
 use Rattle.mq_wire.specs.Family.{Family}
-use Rattle.mq_lines.specs.Line.{IsLineOf, PrintsLine}
+use Rattle.mq_lines.specs.Line.{IsLineIn, PrintsLineIn}
+use Rattle.mq_lines.specs.Objects.{fault_object, message_object}
 use Rattle.mq_lines.specs.Text.{line_of, message_text, fault_text}
 use Rattle.mq_c.specs.declared.line_room.LineRoom.{LineRoom}
 use Rattle.mq_c.specs.LineRoom.{in_front, written_to, LineStands}
 
 -- a line with its end
-ended : (family : Family) (pseudo bytes : List ℕ) (flag : Bool) (text : List ℕ) → IsLineOf family pseudo bytes flag text → (line : List ℕ) ×
-    (text ≡ line_of line)
-ended family pseudo bytes true text is_line = (message_text family is_line.0, is_line.2)
-ended family pseudo bytes false text is_line = (fault_text is_line.0, is_line.2)
+ended : (json : Bool) (family : Family) (pseudo bytes : List ℕ) (flag : Bool) (text : List ℕ) → IsLineIn json family pseudo bytes flag text →
+    (line : List ℕ) × (text ≡ line_of line)
+ended false family pseudo bytes true text is_line = (message_text family is_line.0, is_line.2)
+ended false family pseudo bytes false text is_line = (fault_text is_line.0, is_line.2)
+ended true family pseudo bytes true text is_line = (message_object family is_line.0, is_line.2)
+ended true family pseudo bytes false text is_line = (fault_object is_line.0, is_line.2)
 
 -- where all of a text was written, it stands in front
 all_in_front : (text before new : List ℕ) (written : ℕ) → written ≤ length new → length new ≡ length before → drop written new ≡ drop written before →
@@ -31,38 +34,38 @@ beginning_in_front text left before new same_length parts =
     rw (front, none) (sym (append-nil new))
 
 -- A line that was printed into the memory stands there.
-printed_stands : {E : Type 0} (family : Family) (pseudo bytes before new : List ℕ) (written : ℕ) (printed : Result Bool E)
+printed_stands : {E : Type 0} (json : Bool) (family : Family) (pseudo bytes before new : List ℕ) (written : ℕ) (printed : Result Bool E)
     → written ≤ length new → length new ≡ length before → drop written new ≡ drop written before → (IsTrue (is_err printed) → written ≡ length new)
-    → PrintsLine (Some []) (Some (take written new)) family pseudo bytes printed
-    → LineStands family pseudo bytes before new (if is_ok printed then written - 1 else written)
-printed_stands family pseudo bytes before new written (Ok flag) within same_length behind no_room prints =
-    let line = ended family pseudo bytes prints.flag prints.line prints.is_line in
+    → PrintsLineIn json (Some []) (Some (take written new)) family pseudo bytes printed
+    → LineStands json family pseudo bytes before new (if is_ok printed then written - 1 else written)
+printed_stands json family pseudo bytes before new written (Ok flag) within same_length behind no_room prints =
+    let line = ended json family pseudo bytes prints.flag prints.line prints.is_line in
     record {
       flag = prints.flag;
       line = line.0;
-      is_line = subst (λ (text : List ℕ). IsLineOf family pseudo bytes prints.flag text) line.1 prints.is_line;
+      is_line = subst (λ (text : List ℕ). IsLineIn json family pseudo bytes prints.flag text) line.1 prints.is_line;
       stands = all_in_front (line_of line.0) before new written within same_length behind (prints.printed.1 ∙ line.1);
       counted = grind (arith, common_steps, ap length (prints.printed.1 ∙ line.1), within, same_length);
     }
-printed_stands family pseudo bytes before new written (Err e) within same_length behind no_room prints =
-    let line = ended family pseudo bytes prints.flag prints.line prints.is_line in
+printed_stands json family pseudo bytes before new written (Err e) within same_length behind no_room prints =
+    let line = ended json family pseudo bytes prints.flag prints.line prints.is_line in
     let begun = prints.printed in
     let filled : take written new ≡ new = grind (arith, common_steps, no_room refl) in
     let parts : line_of line.0 ≡ new ++ begun.left = sym line.1 ∙ begun.parts ∙ ap (λ (t : List ℕ). t ++ begun.left) (sym begun.grows ∙ filled) in
     record {
       flag = prints.flag;
       line = line.0;
-      is_line = subst (λ (text : List ℕ). IsLineOf family pseudo bytes prints.flag text) line.1 prints.is_line;
+      is_line = subst (λ (text : List ℕ). IsLineIn json family pseudo bytes prints.flag text) line.1 prints.is_line;
       stands = beginning_in_front (line_of line.0) begun.left before new same_length parts;
       counted = grind (arith, common_steps, ap length parts, begun.some_left, no_room refl, same_length);
     }
 
 -- this fact for a room that was made empty, and then printed into
-pub line_stands : {E : Type 0} {L : Type 0} {l : _} (family : Family) (pseudo bytes : List ℕ) (made room : LineRoom L l) (printed : Result Bool E)
+pub line_stands : {E : Type 0} {L : Type 0} {l : _} (json : Bool) (family : Family) (pseudo bytes : List ℕ) (made room : LineRoom L l) (printed : Result Bool E)
     → made.written ≡ 0 → made.full ≡ false → room.full ≡ made.full || is_err printed
-    → PrintsLine (written_to made) (written_to room) family pseudo bytes printed
-    → LineStands family pseudo bytes l.before room.out.now (if is_ok printed then room.written - 1 else room.written)
-line_stands {E} {L} {l} family pseudo bytes made room printed none unfilled failed prints =
-    printed_stands family pseudo bytes l.before room.out.now room.written printed room.within room.same_length room.behind
+    → PrintsLineIn json (written_to made) (written_to room) family pseudo bytes printed
+    → LineStands json family pseudo bytes l.before room.out.now (if is_ok printed then room.written - 1 else room.written)
+line_stands {E} {L} {l} json family pseudo bytes made room printed none unfilled failed prints =
+    printed_stands json family pseudo bytes l.before room.out.now room.written printed room.within room.same_length room.behind
     (λ broken. room.no_room (failed ∙ ap (λ (b : Bool). b || is_err printed) unfilled ∙ broken))
-    (subst (λ (n : ℕ). PrintsLine (Some (take n made.out.now)) (written_to room) family pseudo bytes printed) none prints)
+    (subst (λ (n : ℕ). PrintsLineIn json (Some (take n made.out.now)) (written_to room) family pseudo bytes printed) none prints)

@@ -1,3 +1,4 @@
+mod FaultStatuses
 mod HandedInto
 mod LentLines
 mod Meetings

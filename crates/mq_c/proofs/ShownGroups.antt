@@ -13,7 +13,7 @@ use Rattle.mq_table.specs.declared.sources.Source.{Source}
 use Rattle.mq_sched.specs.Schedule.{ScheduledGroup}
 use Rattle.mq_held.specs.Groups.{Groups, group_at, unheld, sources_of}
 use Rattle.mq_held.specs.Places.{HasPlace, group_in}
-use Rattle.mq_held.proofs.Entries.{key_at, get-place}
+use Rattle.mq_link.proofs.Reconfigured.{entry_at}
 use Rattle.mq_held.proofs.HeldMoments.{entries-from_entries}
 use Rattle.mq_held.proofs.Places.{place-group}
 use Rattle.mq_held.proofs.Sorted.{key_of, sorted-ascending}
@@ -84,15 +84,6 @@ row_forms {K} {S} number source_form row up =
     each (x ∷ row) = ap (λ (l : List S). source_form (number x.address, x.timer) ∷ l) (each row)
 
 module _ {G S : Type 0} (group_form : Entry → G) (source_form : SourceEntry → S) (held : Groups) (first : ℕ) where
-  -- the entry at the place of a group
-  entry_at : (address place : ℕ) (e : ScheduledGroup) → HasPlace held address place → e ≡ group_at held address
-      → (d : Entry) → ◌≡◌ {A = Entry} (get_or (map.entries held) place d) (address, e)
-  entry_at address place e has is d =
-      let key = key_at held address place has.address_is d in
-      let found : group_at held address ≡ (get_or (map.entries held) place d).1 = ap (λ (o : Option ScheduledGroup). unwrap_or o unheld)
-      (get-place held address place has.address_is d) in
-      λ i. (key i, sym (is ∙ found) i)
-
   -- one group more
   shows_more : (old_groups groups : List G) (old_sources sources row : List S) (count used address n : ℕ) (e : ScheduledGroup)
       → Shows group_form source_form held first old_groups groups old_sources sources count used
@@ -104,7 +95,7 @@ module _ {G S : Type 0} (group_form : Entry → G) (source_form : SourceEntry �
       let all = drop first (map.entries held) in
       let d : Entry = (address, e) in
       let few : count < length all = omega (arith, length-drop first (map.entries held), map.len-entries held) in
-      let entry : ◌≡◌ {A = Entry} (get_or all count d) d = get_or-drop first (map.entries held) count d ∙ entry_at address (first + count) e has is d in
+      let entry : ◌≡◌ {A = Entry} (get_or all count d) d = get_or-drop first (map.entries held) count d ∙ entry_at held address (first + count) e has is d in
       let more : groups_from held first (count + 1) ≡ groups_from held first count ++ d ∷ [] = take_more all count d few ∙
       ap (λ (x : Entry). take count all ++ x ∷ []) entry in
       let here = groups_from held first count in

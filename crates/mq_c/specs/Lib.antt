@@ -1,5 +1,6 @@
 pub mod Calls
 pub mod Changed
+pub mod Configuring
 pub mod Counted
 pub mod Igmp
 pub mod LineRoom

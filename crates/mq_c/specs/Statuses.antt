@@ -6,7 +6,8 @@ use Rattle.mq_link.specs.declared.configuration.ConfigFault.{ConfigFault}
 use Rattle.mq_link.specs.declared.configuration.ConfigFault.TheVariants.{Robustness, QueryInterval, ResponseInterval, LastMember, Limit, OwnAddress}
 pub use Rattle.mq_link.specs.Counters.{reason_number, refusal_number, kind_number}
 
--- the statuses for success, for refused memory, for a moment above 2^53, and for a workspace that is too small
+-- The statuses. They are for success, for refused memory, for a moment above 2^53, for a workspace that is too small,
+-- and for a link that holds too much.
 abbrev pub all_done : ℕ
 all_done = 0
 
@@ -18,6 +19,9 @@ moment = 11
 
 abbrev pub workspace : ℕ
 workspace = 12
+
+abbrev pub held : ℕ
+held = 13
 
 abbrev pub limit_status : LimitName → ℕ
 limit_status Groups = 5

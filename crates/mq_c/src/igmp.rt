@@ -10,6 +10,7 @@ ghost use Rattle.mq_link.specs.Configuration.{IsFaultless};
 ghost use Rattle.mq_link.specs.Cost.{cost_of};
 ghost use Rattle.mq_link.specs.Defaults.{configured_by_default};
 ghost use Rattle.mq_link.specs.Forwarding.{changed_by_datagram, changed_by_tick};
+ghost use Rattle.mq_link.specs.LeastCost.{least_received, least_ticked};
 ghost use Rattle.mq_link.specs.Moved.{most_moved};
 ghost use Rattle.mq_link.specs.State as state;
 ghost use Rattle.mq_link.specs.State.{held_of, sources_in};
@@ -17,6 +18,7 @@ ghost use Rattle.mq_link.specs.Tick.{moment_of, next_of};
 ghost use Rattle.mq_link.specs.Workspace.{suffices};
 ghost use Rattle.mq_c.specs.Calls.{CallsAt, ReceivesInto, TicksInto};
 ghost use Rattle.mq_c.specs.Changed.{TellsChanged, WorksIn};
+ghost use Rattle.mq_c.specs.Configuring.{IsReconfigured};
 ghost use Rattle.mq_c.specs.Counted.{IsCounted};
 ghost use Rattle.mq_c.specs.Igmp.{asked, envelope, group_with, octets_with, source_with};
 ghost use Rattle.mq_c.specs.LineRoom.{LineStands};
@@ -30,6 +32,7 @@ ghost use Rattle.mq_c.specs.Sizes.{IsTold, bytes_lent};
 ghost use Rattle.mq_c.specs.Statuses as status;
 
 use crate::changed::put_changed;
+use crate::configuring::configure;
 use crate::counting::{few, put_counters};
 use crate::forms::{Answer, IgmpConfig, IgmpGroup, IgmpSource, Page};
 use crate::igmp_objects::{IgmpLink, IgmpLinkPlace, IgmpWorkspace, IgmpWorkspacePlace};
@@ -40,7 +43,7 @@ use crate::making::{
 use crate::milliseconds::milliseconds;
 use crate::other_querier::other_querier;
 use crate::pages::{put_group, put_groups};
-use crate::statuses::{DONE, MEMORY};
+use crate::statuses::DONE;
 use crate::{bounds, calls};
 use mq_arena::{LentMemory, Lodged, Unused};
 use mq_count::Addr4;
@@ -92,13 +95,10 @@ pub extern "C" fn mq_igmp_init_units(
         config.source_specific,
         start,
     ) {
-        Ok(link) => match unused.place(link) {
-            Ok(link) => {
-                *place = IgmpLinkPlace::of(link);
-                DONE
-            }
-            Err(_) => MEMORY,
-        },
+        Ok(link) => {
+            *place = IgmpLinkPlace::of(link);
+            DONE
+        }
         Err(status) => status,
     }
 }
@@ -134,15 +134,27 @@ pub extern "C" fn mq_igmp_workspace_init_units(
         Addr4::from_octets(config.own),
         config.source_specific,
     ) {
-        Ok(workspace) => match unused.place(workspace) {
-            Ok(workspace) => {
-                *place = IgmpWorkspacePlace::of(workspace);
-                DONE
-            }
-            Err(_) => MEMORY,
-        },
+        Ok(workspace) => {
+            *place = IgmpWorkspacePlace::of(workspace);
+            DONE
+        }
         Err(status) => status,
     }
+}
+
+/// Sets another configuration.
+#[unsafe(no_mangle)]
+pub extern "C" fn mq_igmp_configure(link: &mut IgmpLink, config: IgmpConfig) -> u32
+    ensures at { link.new.at ≡ link.old.at }
+    ensures configured { IsReconfigured (asked config) link.old.kept link.new.kept result }
+    ensures formed { state.IsWellFormed link.new.kept.config link.new.kept.state }
+{
+    configure(
+        link.lend(),
+        config.settings,
+        Addr4::from_octets(config.own),
+        config.source_specific,
+    )
 }
 
 /// Receives a datagram. With as much memory as the room of a datagram, no query is left out.
@@ -158,13 +170,17 @@ pub extern "C" fn mq_igmp_receive(
     ensures at { link.new.at ≡ link.old.at }
     ensures workspace_at { workspace.new.at ≡ workspace.old.at }
     ensures workspace { let before = link.old.kept in
-        WorksIn (suffices before.config.limits workspace.old.kept) now (changed_by_datagram before.config (envelope source.now) body.now now before.state)
+        WorksIn (suffices before.config.room workspace.old.kept) now (changed_by_datagram before.config (envelope source.now) body.now now before.state)
         workspace.old.kept workspace.new.kept }
     ensures receives { let before = link.old.kept in
-        CallsAt (suffices before.config.limits workspace.old.kept) now (ReceivesInto 4 (envelope source.now) body.now now before link.new.kept queries.old queries.new result)
+        CallsAt (suffices before.config.room workspace.old.kept) now (ReceivesInto 4 (envelope source.now) body.now now before link.new.kept queries.old queries.new result)
         before link.new.kept queries.old queries.new result }
     ensures formed { state.IsWellFormed link.new.kept.config link.new.kept.state }
     ensures spent { Spends 0 (cost_of (length body.now) (held_of link.old.kept.state)) link.old.kept.spent link.new.kept.spent }
+    ensures least { let before = link.old.kept in
+        let least = least_received before.config (envelope source.now) body.now now before.state in
+        suffices before.config.room workspace.old.kept ≡ true → now ≤ 2 ^ 53 →
+        Spends (2 + least) (cost_of (length body.now) (held_of before.state)) before.spent link.new.kept.spent }
     ensures moved { Spends 0 (most_moved (length body.now) (held_of link.old.kept.state)) link.old.kept.moved link.new.kept.moved }
     ensures none_left_out { (longest : ℕ) → receive_room 4 longest link.old.kept.config ≤ length queries.old → length body.now ≤ longest → result.unsent ≡ 0 }
 {
@@ -186,13 +202,19 @@ pub extern "C" fn mq_igmp_tick(
     ensures at { link.new.at ≡ link.old.at }
     ensures workspace_at { workspace.new.at ≡ workspace.old.at }
     ensures workspace { let before = link.old.kept in
-        WorksIn (suffices before.config.limits workspace.old.kept) now (changed_by_tick before.config now before.state) workspace.old.kept workspace.new.kept }
+        WorksIn (suffices before.config.room workspace.old.kept) now (changed_by_tick before.config now before.state) workspace.old.kept workspace.new.kept }
     ensures ticks { let before = link.old.kept in
-        CallsAt (suffices before.config.limits workspace.old.kept) now (TicksInto 4 now before link.new.kept queries.old queries.new result)
+        CallsAt (suffices before.config.room workspace.old.kept) now (TicksInto 4 now before link.new.kept queries.old queries.new result)
         before link.new.kept queries.old queries.new result }
     ensures formed { state.IsWellFormed link.new.kept.config link.new.kept.state }
-    ensures later { suffices link.old.kept.config.limits workspace.old.kept ≡ true → now ≤ 2 ^ 53 → now < next_of link.new.kept.state }
-    ensures spent { Spends 0 (cost_of 0 (held_of link.old.kept.state)) link.old.kept.spent link.new.kept.spent }
+    ensures later { suffices link.old.kept.config.room workspace.old.kept ≡ true → now ≤ 2 ^ 53 → now < next_of link.new.kept.state }
+    ensures spent { let groups = link.old.kept.state.groups in
+        Spends 0 (4 * sources_in groups + 44 * map.len groups + 3) link.old.kept.spent link.new.kept.spent }
+    ensures least { let before = link.old.kept in let groups = before.state.groups in
+        suffices before.config.room workspace.old.kept ≡ true → now ≤ 2 ^ 53 →
+        Spends (2 + least_ticked (moment_of before.state now) groups) (4 * sources_in groups + 44 * map.len groups + 3) before.spent link.new.kept.spent }
+    ensures bounded { Spends 0 (cost_of 0 (held_of link.old.kept.state)) link.old.kept.spent link.new.kept.spent }
+    ensures quiet { moment_of link.old.kept.state now < next_of link.old.kept.state → Spends 0 3 link.old.kept.spent link.new.kept.spent }
     ensures moved { let groups = link.old.kept.state.groups in
         Spends 0 (6 * sources_in groups + 136 * map.len groups) link.old.kept.moved link.new.kept.moved }
     ensures still { moment_of link.old.kept.state now < next_of link.old.kept.state → link.new.kept.moved ≡ link.old.kept.moved }
@@ -346,7 +368,15 @@ pub extern "C" fn mq_igmp_changed(
 /// Writes the line of a message, or of its fault.
 #[unsafe(no_mangle)]
 pub extern "C" fn mq_igmp_line(body: &[u8], line: &mut [u8]) -> usize
-    ensures text { LineStands family.Igmp [] body.now line.old line.new result }
+    ensures text { LineStands false family.Igmp [] body.now line.old line.new result }
 {
-    put_igmp_line::<Brand>(body, line)
+    put_igmp_line::<Brand>(false, body, line)
+}
+
+/// Writes the object of a message, or of its fault, as `mq_igmp_line` writes the line.
+#[unsafe(no_mangle)]
+pub extern "C" fn mq_igmp_json(body: &[u8], line: &mut [u8]) -> usize
+    ensures text { LineStands true family.Igmp [] body.now line.old line.new result }
+{
+    put_igmp_line::<Brand>(true, body, line)
 }

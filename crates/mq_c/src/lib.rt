@@ -1,7 +1,7 @@
 //! The links for C, as `include/mquerier.h` declares them.
 //!
 //! - The functions that C calls: `igmp` and `mld`. Each calls one of the functions below.
-//! - The calls, for both families: `making`, `calls`, `bounds`; and the archive's `version`.
+//! - The calls, for both families: `making`, `configuring`, `calls`, `bounds`; and the archive's `version`.
 //! - The results that are written to memory of the caller: `queries`, `pages`, `changed`, `counting`, `other_querier`,
 //!   `line_room` and `lines`.
 //! - The data that cross: `forms`, `statuses`, `milliseconds`. The differences of the families there: `c_family`.
@@ -12,6 +12,7 @@ mod bounds;
 mod c_family;
 mod calls;
 mod changed;
+mod configuring;
 mod counting;
 mod forms;
 mod igmp;

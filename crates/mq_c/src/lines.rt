@@ -10,28 +10,29 @@ use mq_count::Addr6;
 use mq_lines::{igmp_line, mld_line};
 use mq_text::LineFault;
 
-/// Writes the line of an IGMP message, as far as there is room for it.
-pub(crate) fn put_igmp_line<L: Lent>(body: &[u8], line: &mut [u8]) -> usize
+/// Writes the line or the object of an IGMP message, as far as there is room for it.
+pub(crate) fn put_igmp_line<L: Lent>(json: bool, body: &[u8], line: &mut [u8]) -> usize
     requires lent { line.old ≡ L.before }
-    ensures text { LineStands Igmp [] body.now line.old line.new result }
+    ensures text { LineStands json Igmp [] body.now line.old line.new result }
 {
     let mut room: LineRoom<'_, L> = LineRoom::new(line);
-    let printed = igmp_line(body, &mut room);
+    let printed = igmp_line(json, body, &mut room);
     without_end(room.written(), printed)
 }
 
-/// Writes the line of an MLD message, as far as there is room for it.
+/// Writes the line or the object of an MLD message, as far as there is room for it.
 pub(crate) fn put_mld_line<L: Lent>(
+    json: bool,
     source: Addr6,
     destination: Addr6,
     body: &[u8],
     line: &mut [u8],
 ) -> usize
     requires lent { line.old ≡ L.before }
-    ensures text { LineStands Mld (pseudo_header source destination (length body.now)) body.now line.old line.new result }
+    ensures text { LineStands json Mld (pseudo_header source destination (length body.now)) body.now line.old line.new result }
 {
     let mut room: LineRoom<'_, L> = LineRoom::new(line);
-    let printed = mld_line(source, destination, body, &mut room);
+    let printed = mld_line(json, source, destination, body, &mut room);
     without_end(room.written(), printed)
 }
 

@@ -1,8 +1,12 @@
 //! The making of links and workspaces for C.
 
-ghost use Rattle.std.specs.Prelude.{◌≡◌, ◌+◌, ◌<◌, ◌≤◌, ◌^◌, ℕ, IfOk, IfErr};
+ghost use Rattle.std.specs.Prelude.{◌≡◌, ◌+◌, ◌<◌, ◌≤◌, ◌↔◌, ℕ, IfErr, IsTrue};
 ghost use Rattle.std.specs.Result.{MatchResult};
-ghost use Rattle.mq_arena.specs.Vectors.{IsSize};
+ghost use Rattle.std_alloc.specs.contracts.vec.lodged.Lodged as lodged;
+ghost use Rattle.std_alloc.specs.contracts.vec.lodged.LodgedAllocator.TheImpl as lodging;
+ghost use Rattle.mq_arena.specs.Vectors.{IsSize, bytes_for, item_bytes};
+ghost use Rattle.mq_link.specs.contracts.bare_link.BareLink as bare;
+ghost use Rattle.mq_link.specs.contracts.workspace.Workspace as workspace;
 ghost use Rattle.mq_link.specs.Configuration.{IsFaultless};
 ghost use Rattle.mq_link.specs.Sizes.{bytes_of_workspace};
 ghost use Rattle.mq_c.specs.Sizes.{IsTold, bytes_lent, bytes_of_link_lent, bytes_with_object};
@@ -13,8 +17,9 @@ ghost use Rattle.mq_c.specs.Making.{asked_of, IsConfigOrStatus, IsLinkRefused, I
 use crate::forms::Settings;
 use crate::statuses::{MEMORY, MOMENT, status_of};
 use mq_arena::{Lodged, Unused, block_size, both_sizes, vector_size};
-use mq_count::Moment;
+use mq_count::{Key, Moment};
 use mq_link::{BareLink, Config, Family, Limits, Workspace};
+use mq_wire::WireKey;
 
 /// The most bytes that whole units of 16 may have, with those for the alignment.
 const GREATEST_SIZE: usize = isize::MAX as usize - 31;
@@ -40,7 +45,7 @@ pub(crate) fn default_settings<F: Family>() -> Settings
 }
 
 /// Returns the configuration of these settings, or the status of its first fault.
-fn config_of<F: Family>(
+pub(crate) fn config_of<F: Family>(
     settings: Settings,
     own: F::Address,
     source_specific: u8,
@@ -67,21 +72,33 @@ fn config_of<F: Family>(
     }
 }
 
-/// Returns a link with this configuration that starts at a moment, in memory of the caller. Otherwise returns the
-/// status that says why there is none.
-pub(crate) fn link_in<F: Family>(
+/// Returns whether parts of this size and an object of this type have room in the memory.
+fn has_room<T>(memory: &Unused, parts: Option<usize>) -> bool
+    ensures { (a : ℕ) → IsSize a parts → IsTrue result ↔ (a + bytes_for (item_bytes T.row) 1 ≤ memory.now) }
+{
+    let left = memory.size();
+    match both_sizes(parts, vector_size::<T>(1)) {
+        Some(bytes) => bytes <= left,
+        None => false,
+    }
+}
+
+/// Makes a link with this configuration that starts at a moment, at the front of memory of the caller. Otherwise
+/// returns the status that says why there is none, and takes and writes nothing.
+pub(crate) fn link_in<'a, F: Family + 'a>(
     memory: &mut Unused,
     settings: Settings,
     own: F::Address,
     source_specific: u8,
     start: u64,
-) -> Result<BareLink<F, Lodged>, u32>
+) -> Result<&'a mut BareLink<F, Lodged>, u32>
+where
+    BareLink<F, Lodged>: 'a,
     ensures link { let asked = asked_of F.FAMILY settings (F.Address.number own) source_specific in
-        MatchResult result (λ made. IsMade asked start made) (λ status. IsLinkRefused asked start status) }
+        MatchResult result (λ made. IsMade asked start made.now) (λ status. IsLinkRefused asked start status) }
     ensures granted { let asked = asked_of F.FAMILY settings (F.Address.number own) source_specific in
-        IfErr result (λ status. status ≡ memory_status → memory.old < bytes_of_link_lent F.Address.row asked.limits) }
-    ensures taken { let asked = asked_of F.FAMILY settings (F.Address.number own) source_specific in
-        IfOk result (λ _. memory.old ≤ memory.new + bytes_of_link_lent F.Address.row asked.limits) }
+        IfErr result (λ status. status ≡ memory_status → memory.old < bytes_with_object (bare.the_row F.row lodged.the_row F.Address.row F.Envelope.row ⟦<F as Family>⟧ (record { WIDTH = F.Address.WIDTH; PER_QUERY = F.Address.PER_QUERY }) (record { number = F.Address.number }) (record { is_default = F.Address.is_default }) lodging.ghosts) (bytes_of_link_lent F.Address.row asked.limits)) }
+    ensures unwritten { IfErr result (λ _. memory.new ≡ memory.old) }
 {
     let config = match config_of::<F>(settings, own, source_specific) {
         Ok(config) => config,
@@ -90,10 +107,11 @@ pub(crate) fn link_in<F: Family>(
     let Some(start) = Moment::from_ms(start) else {
         return Err(MOMENT);
     };
-    match BareLink::new_in(memory, config, start) {
-        Ok(link) => Ok(link),
-        Err(_) => Err(MEMORY),
+    if !has_room::<BareLink<F, Lodged>>(memory, BareLink::<F, Lodged>::size(&config)) {
+        return Err(MEMORY);
     }
+    let link = BareLink::new_in(memory, config, start).unwrap();
+    Ok(memory.place(link).unwrap())
 }
 
 /// Returns the most bytes that `link_in` allocates. Returns None if no memory has as many, or the configuration has a
@@ -112,29 +130,32 @@ pub(crate) fn link_size<F: Family>(
     }
 }
 
-/// Returns a workspace for links with this configuration, in memory of the caller. Otherwise returns the status that
-/// says why there is none.
-pub(crate) fn workspace_in<F: Family>(
+/// Makes a workspace for links with this configuration, at the front of memory of the caller. Otherwise returns the
+/// status that says why there is none, and takes and writes nothing.
+pub(crate) fn workspace_in<'a, F: Family + 'a>(
     memory: &mut Unused,
     settings: Settings,
     own: F::Address,
     source_specific: u8,
-) -> Result<Workspace<F, Lodged>, u32>
+) -> Result<&'a mut Workspace<F, Lodged>, u32>
+where
+    Workspace<F, Lodged>: 'a,
     ensures workspace { let asked = asked_of F.FAMILY settings (F.Address.number own) source_specific in
-        MatchResult result (λ made. IsWorkspaceMade asked made) (λ status. IsWorkspaceRefused asked status) }
+        MatchResult result (λ made. IsWorkspaceMade asked made.now) (λ status. IsWorkspaceRefused asked status) }
     ensures granted { let asked = asked_of F.FAMILY settings (F.Address.number own) source_specific in
-        IfErr result (λ status. status ≡ memory_status → memory.old < bytes_of_workspace F.Address.row asked.limits) }
-    ensures taken { let asked = asked_of F.FAMILY settings (F.Address.number own) source_specific in
-        IfOk result (λ _. memory.old ≤ memory.new + bytes_of_workspace F.Address.row asked.limits) }
+        IfErr result (λ status. status ≡ memory_status → memory.old < bytes_with_object (workspace.the_row F.row lodged.the_row F.Address.row F.Envelope.row ⟦<F as Family>⟧ (record { WIDTH = F.Address.WIDTH; PER_QUERY = F.Address.PER_QUERY }) (record { number = F.Address.number }) (record { is_default = F.Address.is_default }) lodging.ghosts) (bytes_of_workspace F.Address.row asked.limits)) }
+    ensures unwritten { IfErr result (λ _. memory.new ≡ memory.old) }
 {
     let config = match config_of::<F>(settings, own, source_specific) {
         Ok(config) => config,
         Err(status) => return Err(status),
     };
-    match Workspace::with_room_in(memory, &config.limits()) {
-        Ok(workspace) => Ok(workspace),
-        Err(_) => Err(MEMORY),
+    let limits = config.limits();
+    if !has_room::<Workspace<F, Lodged>>(memory, Workspace::<F, Lodged>::size(&limits)) {
+        return Err(MEMORY);
     }
+    let workspace = Workspace::with_room_in(memory, &limits).unwrap();
+    Ok(memory.place(workspace).unwrap())
 }
 
 /// Returns the most bytes that `workspace_in` allocates. Returns None if no memory has as many, or the configuration

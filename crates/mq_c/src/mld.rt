@@ -11,6 +11,7 @@ ghost use Rattle.mq_link.specs.Configuration.{IsFaultless};
 ghost use Rattle.mq_link.specs.Cost.{cost_of};
 ghost use Rattle.mq_link.specs.Defaults.{configured_by_default};
 ghost use Rattle.mq_link.specs.Forwarding.{changed_by_datagram, changed_by_tick};
+ghost use Rattle.mq_link.specs.LeastCost.{least_received, least_ticked};
 ghost use Rattle.mq_link.specs.Moved.{most_moved};
 ghost use Rattle.mq_link.specs.State as state;
 ghost use Rattle.mq_link.specs.State.{held_of, sources_in};
@@ -18,6 +19,7 @@ ghost use Rattle.mq_link.specs.Tick.{moment_of, next_of};
 ghost use Rattle.mq_link.specs.Workspace.{suffices};
 ghost use Rattle.mq_c.specs.Calls.{CallsAt, ReceivesInto, TicksInto};
 ghost use Rattle.mq_c.specs.Changed.{TellsChanged, WorksIn};
+ghost use Rattle.mq_c.specs.Configuring.{IsReconfigured};
 ghost use Rattle.mq_c.specs.Counted.{IsCounted};
 ghost use Rattle.mq_c.specs.Mld.{asked, envelope, group_with, octets_with, source_with};
 ghost use Rattle.mq_c.specs.LineRoom.{LineStands};
@@ -31,6 +33,7 @@ ghost use Rattle.mq_c.specs.Sizes.{IsTold, bytes_lent};
 ghost use Rattle.mq_c.specs.Statuses as status;
 
 use crate::changed::put_changed;
+use crate::configuring::configure;
 use crate::counting::{few, put_counters};
 use crate::forms::{Answer, MldConfig, MldGroup, MldSource, Page};
 use crate::lines::put_mld_line;
@@ -41,7 +44,7 @@ use crate::milliseconds::milliseconds;
 use crate::mld_objects::{MldLink, MldLinkPlace, MldWorkspace, MldWorkspacePlace};
 use crate::other_querier::other_querier;
 use crate::pages::{put_group, put_groups};
-use crate::statuses::{DONE, MEMORY};
+use crate::statuses::DONE;
 use crate::{bounds, calls};
 use mq_arena::{LentMemory, Lodged, Unused};
 use mq_count::Addr6;
@@ -93,13 +96,10 @@ pub extern "C" fn mq_mld_init_units(
         config.source_specific,
         start,
     ) {
-        Ok(link) => match unused.place(link) {
-            Ok(link) => {
-                *place = MldLinkPlace::of(link);
-                DONE
-            }
-            Err(_) => MEMORY,
-        },
+        Ok(link) => {
+            *place = MldLinkPlace::of(link);
+            DONE
+        }
         Err(status) => status,
     }
 }
@@ -135,15 +135,27 @@ pub extern "C" fn mq_mld_workspace_init_units(
         Addr6::from_octets(config.own),
         config.source_specific,
     ) {
-        Ok(workspace) => match unused.place(workspace) {
-            Ok(workspace) => {
-                *place = MldWorkspacePlace::of(workspace);
-                DONE
-            }
-            Err(_) => MEMORY,
-        },
+        Ok(workspace) => {
+            *place = MldWorkspacePlace::of(workspace);
+            DONE
+        }
         Err(status) => status,
     }
+}
+
+/// Sets another configuration.
+#[unsafe(no_mangle)]
+pub extern "C" fn mq_mld_configure(link: &mut MldLink, config: MldConfig) -> u32
+    ensures at { link.new.at ≡ link.old.at }
+    ensures configured { IsReconfigured (asked config) link.old.kept link.new.kept result }
+    ensures formed { state.IsWellFormed link.new.kept.config link.new.kept.state }
+{
+    configure(
+        link.lend(),
+        config.settings,
+        Addr6::from_octets(config.own),
+        config.source_specific,
+    )
 }
 
 /// Receives a datagram. With as much memory as the room of a datagram, no query is left out.
@@ -162,13 +174,17 @@ pub extern "C" fn mq_mld_receive(
     ensures at { link.new.at ≡ link.old.at }
     ensures workspace_at { workspace.new.at ≡ workspace.old.at }
     ensures workspace { let before = link.old.kept in
-        WorksIn (suffices before.config.limits workspace.old.kept) now (changed_by_datagram before.config (envelope source.now destination.now hop_limit alert) body.now now before.state)
+        WorksIn (suffices before.config.room workspace.old.kept) now (changed_by_datagram before.config (envelope source.now destination.now hop_limit alert) body.now now before.state)
         workspace.old.kept workspace.new.kept }
     ensures receives { let before = link.old.kept in
-        CallsAt (suffices before.config.limits workspace.old.kept) now (ReceivesInto 16 (envelope source.now destination.now hop_limit alert) body.now now before link.new.kept queries.old queries.new result)
+        CallsAt (suffices before.config.room workspace.old.kept) now (ReceivesInto 16 (envelope source.now destination.now hop_limit alert) body.now now before link.new.kept queries.old queries.new result)
         before link.new.kept queries.old queries.new result }
     ensures formed { state.IsWellFormed link.new.kept.config link.new.kept.state }
     ensures spent { Spends 0 (cost_of (length body.now) (held_of link.old.kept.state)) link.old.kept.spent link.new.kept.spent }
+    ensures least { let before = link.old.kept in
+        let least = least_received before.config (envelope source.now destination.now hop_limit alert) body.now now before.state in
+        suffices before.config.room workspace.old.kept ≡ true → now ≤ 2 ^ 53 →
+        Spends (2 + least) (cost_of (length body.now) (held_of before.state)) before.spent link.new.kept.spent }
     ensures moved { Spends 0 (most_moved (length body.now) (held_of link.old.kept.state)) link.old.kept.moved link.new.kept.moved }
     ensures none_left_out { (longest : ℕ) → receive_room 16 longest link.old.kept.config ≤ length queries.old → length body.now ≤ longest → result.unsent ≡ 0 }
 {
@@ -193,13 +209,19 @@ pub extern "C" fn mq_mld_tick(
     ensures at { link.new.at ≡ link.old.at }
     ensures workspace_at { workspace.new.at ≡ workspace.old.at }
     ensures workspace { let before = link.old.kept in
-        WorksIn (suffices before.config.limits workspace.old.kept) now (changed_by_tick before.config now before.state) workspace.old.kept workspace.new.kept }
+        WorksIn (suffices before.config.room workspace.old.kept) now (changed_by_tick before.config now before.state) workspace.old.kept workspace.new.kept }
     ensures ticks { let before = link.old.kept in
-        CallsAt (suffices before.config.limits workspace.old.kept) now (TicksInto 16 now before link.new.kept queries.old queries.new result)
+        CallsAt (suffices before.config.room workspace.old.kept) now (TicksInto 16 now before link.new.kept queries.old queries.new result)
         before link.new.kept queries.old queries.new result }
     ensures formed { state.IsWellFormed link.new.kept.config link.new.kept.state }
-    ensures later { suffices link.old.kept.config.limits workspace.old.kept ≡ true → now ≤ 2 ^ 53 → now < next_of link.new.kept.state }
-    ensures spent { Spends 0 (cost_of 0 (held_of link.old.kept.state)) link.old.kept.spent link.new.kept.spent }
+    ensures later { suffices link.old.kept.config.room workspace.old.kept ≡ true → now ≤ 2 ^ 53 → now < next_of link.new.kept.state }
+    ensures spent { let groups = link.old.kept.state.groups in
+        Spends 0 (4 * sources_in groups + 44 * map.len groups + 3) link.old.kept.spent link.new.kept.spent }
+    ensures least { let before = link.old.kept in let groups = before.state.groups in
+        suffices before.config.room workspace.old.kept ≡ true → now ≤ 2 ^ 53 →
+        Spends (2 + least_ticked (moment_of before.state now) groups) (4 * sources_in groups + 44 * map.len groups + 3) before.spent link.new.kept.spent }
+    ensures bounded { Spends 0 (cost_of 0 (held_of link.old.kept.state)) link.old.kept.spent link.new.kept.spent }
+    ensures quiet { moment_of link.old.kept.state now < next_of link.old.kept.state → Spends 0 3 link.old.kept.spent link.new.kept.spent }
     ensures moved { let groups = link.old.kept.state.groups in
         Spends 0 (6 * sources_in groups + 136 * map.len groups) link.old.kept.moved link.new.kept.moved }
     ensures still { moment_of link.old.kept.state now < next_of link.old.kept.state → link.new.kept.moved ≡ link.old.kept.moved }
@@ -358,11 +380,28 @@ pub extern "C" fn mq_mld_line(
     body: &[u8],
     line: &mut [u8],
 ) -> usize
-    ensures text { LineStands family.Mld
+    ensures text { LineStands false family.Mld
         (pseudo_header (from_be_bytes w128 source.now) (from_be_bytes w128 destination.now) (length body.now))
         body.now line.old line.new result }
 {
     let source = Addr6::from_octets(*source);
     let destination = Addr6::from_octets(*destination);
-    put_mld_line::<Brand>(source, destination, body, line)
+    put_mld_line::<Brand>(false, source, destination, body, line)
+}
+
+/// Writes the object of a message, or of its fault, as `mq_mld_line` writes the line.
+#[unsafe(no_mangle)]
+pub extern "C" fn mq_mld_json(
+    source: &[u8; 16],
+    destination: &[u8; 16],
+    body: &[u8],
+    line: &mut [u8],
+) -> usize
+    ensures text { LineStands true family.Mld
+        (pseudo_header (from_be_bytes w128 source.now) (from_be_bytes w128 destination.now) (length body.now))
+        body.now line.old line.new result }
+{
+    let source = Addr6::from_octets(*source);
+    let destination = Addr6::from_octets(*destination);
+    put_mld_line::<Brand>(true, source, destination, body, line)
 }

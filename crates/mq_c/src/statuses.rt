@@ -17,6 +17,9 @@ pub(crate) const MOMENT: u32 = 11;
 /// The status for a workspace that is too small for the link; nothing was done.
 pub(crate) const WORKSPACE: u32 = 12;
 
+/// The status for a link that holds more than a new configuration allows; nothing was done.
+pub(crate) const HELD: u32 = 13;
+
 /// Returns the status of a fault of a configuration.
 pub(crate) fn status_of(fault: ConfigFault) -> u32
     ensures number { result ≡ spec.status_of fault }

@@ -1,6 +1,6 @@
 -- A check in the code, and what its verdict comes to.
 use Rattle.std.proofs.Common.{◌≡◌, ℕ, zero, suc, ◌+◌, ◌-◌, ◌^◌, min, Bool, true, false, if◌then◌else◌, List, ◌++◌, length, Option}
-use Rattle.std.proofs.Common.{Result, Ok, Err, refl, ap, sym, subst, ◌∙◌, append_assoc, length-append, arith}
+use Rattle.std.proofs.Common.{Result, Ok, Err, refl, ap, sym, subst, ◌∙◌, append_assoc, arith}
 use Rattle.std.proofs.Math.Bool.{or-false}
 use Rattle.mq_pcap.specs.Filling.{InputState}
 use Rattle.mq_wire.specs.Family.{Family}
@@ -16,34 +16,36 @@ use Rattle.mq_replay.proofs.ReportedOver.{IsPassed, IsStepped, Puts, WalksUpToGa
 use Rattle.mq_check.specs.declared.basis.Basis.{Basis}
 use Rattle.mq_check.specs.declared.check_terms.CheckTerms.{CheckTerms}
 use Rattle.mq_check.specs.declared.finding.Finding.{Finding}
+use Rattle.mq_check.specs.declared.totals.FindingCounts.{FindingCounts}
 use Rattle.mq_check.specs.declared.totals.Totals.{Totals}
 use Rattle.mq_check.specs.Check.{Checked, Outcome, at_the_start, behind, check_of, concluded, ended_at, found_text, looked_ahead, quiet, settled_through}
-use Rattle.mq_check.specs.Check.{totals_of, with_packet}
+use Rattle.mq_check.specs.Check.{basis_at_end, totals_of, with_packet}
 use Rattle.mq_check.specs.Checking.{CheckingValue, counted_up, told_at_end}
 use Rattle.mq_check.specs.Coming.{CheckState, ChecksPacket, Comes, TakesChecked, checked_in}
 use Rattle.mq_check.specs.Ending.{counted_behind, end_text, ended_behind}
-use Rattle.mq_check.specs.FindingLines.{finding_lines, last_lines}
+use Rattle.mq_check.specs.FindingLines.{certain_in, finding_lines, last_lines, possible_in}
 use Rattle.mq_check.specs.General.{silence_up_to}
 use Rattle.mq_check.specs.Repeated.{all_reported, no_differences, reported, with_findings}
-use Rattle.mq_check.specs.Telling.{FindingWriterState, Tells, counted_times, nothing_told, reported_by}
+use Rattle.mq_check.specs.Telling.{FindingWriterState, Tells, counted_by, counted_times, none_counted, nothing_told, reported_by}
 use Rattle.mq_check.proofs.Repeating.{reported_of_both}
-use Rattle.mq_check.proofs.Tellings.{lines_of_both, none_told, then_told, times_more}
+use Rattle.mq_check.proofs.Tellings.{counted_more, lines_of_both, none_told, then_told}
 
 -- counts that go up one by one stay at the greatest
 counted_to : (n : ℕ) → counted_times n 0 ≡ min n (2 ^ 64 - 1)
 counted_to zero = refl
 counted_to (suc n) = ap counted_up (counted_to n) ∙ (grind arith)
 
-totals_are : (c : CheckingValue) (rests : Basis) (found rest : List (Finding ℕ)) (count : ℕ) → count ≡ counted_times (length found) 0 →
+totals_are : (c : CheckingValue) (rests : Basis) (found rest : List (Finding ℕ)) (count : FindingCounts) → count ≡ counted_by found none_counted →
     totals_of c rests (found ++ rest) ≡ counted_behind count c rests rest
 totals_are c rests found rest count counts =
-    let findings = sym (counted_to (length (found ++ rest))) ∙ ap (λ (n : ℕ). counted_times n 0) (length-append found rest) ∙
-    times_more (length found) (length rest) 0 ∙ ap (counted_times (length rest)) (sym counts) in
-    λ i. record { general = c.general; specific = c.specific; findings = findings i; basis = rests }
+    let all = counted_more found rest none_counted ∙ ap (counted_by rest) (sym counts) in
+    let findings = sym (counted_to (length (certain_in (found ++ rest)))) ∙ ap (λ (n : FindingCounts). n.certain) all in
+    let possible = sym (counted_to (length (possible_in (found ++ rest)))) ∙ ap (λ (n : FindingCounts). n.possible) all in
+    λ i. record { general = c.general; specific = c.specific; findings = findings i; possible = possible i; basis = rests }
 
 -- the end of a check behind what was found before
 ended_joined : (config : Configuration) (within : ℕ) (told : FindingWriterState) (moment number : ℕ) (found : List (Finding ℕ)) (r : Checked)
-    → told.last ≡ with_findings found no_differences → told.count ≡ counted_times (length (all_reported told.additions found)) 0
+    → told.last ≡ with_findings found no_differences → told.count ≡ counted_by (all_reported told.additions found) none_counted
     → ended_at config within told.additions moment number found r
     ≡ report_behind (finding_lines config.family told.additions (all_reported told.additions found)) (ended_behind config within told moment number r)
 unfolding ended_at ended_behind
@@ -59,7 +61,7 @@ ended_joined config within told moment number found r lasts counts = by_room c.w
     c = ahead.checked.checking
 
     rests : Basis
-    rests = done.checked.basis
+    rests = basis_at_end done.checked
 
     first : List (Finding ℕ)
     first = all_reported told.additions found
@@ -117,10 +119,12 @@ ended_joined config within told moment number found r lasts counts = by_room c.w
       answer = Err (answer.Waiting number);
     }
     by_room false = λ i. record {
-      text = (ap (λ (t : Totals). finding_lines config.family told.additions (all_reported told.additions all) ++ last_lines t) totals
-          ∙ ap (λ (fs : List (Finding ℕ)). finding_lines config.family told.additions fs ++ last_lines (counted_behind told.count c rests rest)) same
-          ∙ ap (λ (t : List ℕ). t ++ last_lines (counted_behind told.count c rests rest)) (lines_of_both config.family told.additions first rest)
-          ∙ append_assoc lines (finding_lines config.family told.additions rest) (last_lines (counted_behind told.count c rests rest))) i;
+      text = (ap (λ (t : Totals). finding_lines config.family told.additions (all_reported told.additions all) ++ last_lines told.additions.json t) totals
+          ∙ ap (λ (fs : List (Finding ℕ)). finding_lines config.family told.additions fs ++
+          last_lines told.additions.json (counted_behind told.count c rests rest)) same
+          ∙ ap (λ (t : List ℕ). t ++ last_lines told.additions.json (counted_behind told.count c rests rest))
+          (lines_of_both config.family told.additions first rest)
+          ∙ append_assoc lines (finding_lines config.family told.additions rest) (last_lines told.additions.json (counted_behind told.count c rests rest))) i;
       answer = Ok (totals i);
     }
 
@@ -147,7 +151,7 @@ only_waits config terms moment number o e is = by_room ahead.checked.checking.wa
 
     whole : Report Totals
     whole =
-        concluded config terms.additions ahead.checked.checking done.checked.basis
+        concluded config terms.additions ahead.checked.checking (basis_at_end done.checked)
         (found ++ told_at_end terms.within config.timing moment silence ahead.checked.checking)
 
     by_room : (b : Bool) → (if◌then◌else◌ {A = Report Totals} b broken whole).answer ≡ Err e → e ≡ answer.Waiting number
@@ -248,7 +252,7 @@ module _ {X : Type 0} (family : Family) (state : X → CheckState) where
   module _ {Y : Type 0} (inner : Y → X) (old new : InputState) (y y' : Y) (is_family : family ≡ (state (inner y)).link.config.family)
       (is_new : (state (inner y)).told ≡ nothing_told (state (inner y)).terms.additions)
       (starts : checked_in (state (inner y)).link (state (inner y)).queries
-      ≡ at_the_start (state (inner y)).link.config (state (inner y)).terms.within (state (inner y)).terms.strict) where
+      ≡ at_the_start (state (inner y)).link.config (state (inner y)).terms.within (state (inner y)).terms.flags) where
     abbrev config : Configuration
     config = (state (inner y)).link.config
 
@@ -264,7 +268,7 @@ module _ {X : Type 0} (family : Family) (state : X → CheckState) where
     abbrev Is : Outcome → X → Type 0
     Is o x = IsCheckedAt config terms start before o x
 
-    here : Is (quiet (at_the_start config terms.within terms.strict)) (inner y)
+    here : Is (quiet (at_the_start config terms.within terms.flags)) (inner y)
     here = record { checked = starts; same_config = refl; same_terms = refl; tells = none_told family start before tt }
 
     pub verdict_early : (e : CaptureFault) → WalksUpToGap inner takes old new y y' (Err e)
@@ -298,8 +302,8 @@ module _ {X : Type 0} (family : Family) (state : X → CheckState) where
           let cited : told.additions ≡ terms.additions = at.tells.additions ∙ ap (λ (t : FindingWriterState). t.additions) is_new in
           let is_last = ap (λ (t : FindingWriterState). t.last) is_new in
           let lasts : told.last ≡ with_findings o.found no_differences = at.tells.last ∙ ap (with_findings o.found) is_last in
-          let counts : told.count ≡ counted_times (length (all_reported told.additions o.found)) 0 =
-          at.tells.count ∙ (λ i. counted_times (length (reported (sym at.tells.additions i).once (is_last i) o.found)) (is_new i).count) in
+          let counts : told.count ≡ counted_by (all_reported told.additions o.found) none_counted =
+          at.tells.count ∙ (λ i. counted_by (reported (sym at.tells.additions i).once (is_last i) o.found) (is_new i).count) in
           rest_joined (check_of config terms) w.last number o (λ end. ended_behind config terms.within told end number o.checked)
           (λ moment. (λ i. ended_at config terms.within (sym cited i) moment number o.found o.checked)
           ∙ ended_joined config terms.within told moment number o.found o.checked lasts counts

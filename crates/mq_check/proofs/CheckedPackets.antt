@@ -112,12 +112,12 @@ first_broken family first rest checked a b q t u x y e e' one =
       tells = broken_as family _ t u x y e e' (told_broken family first.found rest t u x y e one.tells);
     }
 
--- a datagram is counted, of a family that is named otherwise
-pub counted_in : (family other : Family) (datagram : Datagram) (old new : WantingValue) →
-    new ≡ record old { basis = basis.with_datagram family datagram old.basis } → family ≡ other
+-- a datagram is counted, by a configuration that the code names otherwise
+pub counted_in : (config other : Configuration) (datagram : Datagram) (old new : WantingValue) →
+    new ≡ record old { basis = basis.with_datagram config datagram old.basis } → config ≡ other
     → new ≡ record old { basis = basis.with_datagram other datagram old.basis }
-counted_in family other datagram old new is same = is ∙
-    ap (λ (f : Family). record old { basis = basis.with_datagram f datagram old.basis }) same
+counted_in config other datagram old new is same = is ∙
+    ap (λ (k : Configuration). record old { basis = basis.with_datagram k datagram old.basis }) same
 
 -- a packet, behind the ticks up to its moment
 pub packet_came : {S T E E' : Type 0} (family : Family) (config : Configuration) (link : LinkType) (within within' moment number : ℕ) (back : Bool)
@@ -125,14 +125,14 @@ pub packet_came : {S T E E' : Type 0} (family : Family) (config : Configuration)
     (x y z : OutputState)
     (s : S) (answer : Result T E) → within' ≡ within → config ≡ a.config → datagram ≡ datagram_of config.family (carried_in link frame)
     → Comes {E = E'} family (ticked_through a.config within moment at) a b q t u x y (Ok s)
-    → noting ≡ record q { basis = with_frame config.family link frame (carried_in link frame) datagram (basis.with_packet back q.basis) }
+    → noting ≡ record q { basis = with_frame config link frame (carried_in link frame) datagram (basis.with_packet back q.basis) }
     → Comes family (with_datagram b.config link within' moment number frame datagram (checked_in b noting)) b c r u v y z answer
     → Comes family (with_packet a.config link within moment number back frame at) a c r t v x z answer
 unfolding with_packet
 packet_came {S} {T} {E} family config link within within' moment number back frame datagram at a b c q noting r t u v x y z s answer is_within is_config
     carries one notes other =
     let before = ticked_through a.config within moment at in
-    let counted : WantingValue = record q { basis = with_frame config.family link frame (carried_in link frame) datagram (basis.with_packet back q.basis) } in
+    let counted : WantingValue = record q { basis = with_frame config link frame (carried_in link frame) datagram (basis.with_packet back q.basis) } in
     let there = carries ∙ ap (λ (k : Configuration). datagram_of k.family (carried_in link frame)) is_config in
     let last = datagram_of a.config.family (carried_in link frame) in
     let same : with_datagram b.config link within' moment number frame datagram (checked_in b counted)

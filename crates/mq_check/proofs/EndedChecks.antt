@@ -1,6 +1,6 @@
 -- The end of a check: what is put then.
-use Rattle.std.proofs.Common.{◌≡◌, ℕ, true, false, if◌then◌else◌, List, [], ◌++◌, length, Option, Result, Ok, Err, append_assoc}
-use Rattle.std.proofs.Common.{append-nil, length-append, refl, ap, sym, subst, ◌∙◌}
+use Rattle.std.proofs.Common.{◌≡◌, ℕ, true, false, if◌then◌else◌, List, [], ◌++◌, Option, Result, Ok, Err, append_assoc}
+use Rattle.std.proofs.Common.{append-nil, refl, ap, sym, subst, ◌∙◌}
 use Rattle.mq_wire.specs.Family.{Family}
 use Rattle.mq_link.specs.Configuration.{Configuration}
 use Rattle.mq_text.specs.Printing.{GrowsByBeginning, OutputState, Passes}
@@ -12,16 +12,22 @@ use Rattle.mq_replay.specs.declared.capture_fault.CaptureFault.{CaptureFault}
 use Rattle.mq_replay.specs.declared.capture_fault.CaptureFault.TheVariants as answer
 use Rattle.mq_check.specs.declared.check_terms.Additions.{Additions}
 use Rattle.mq_check.specs.declared.finding.Finding.{Finding}
+use Rattle.mq_check.specs.declared.totals.FindingCounts.{FindingCounts}
 use Rattle.mq_check.specs.declared.totals.Totals.{Totals}
-use Rattle.mq_check.specs.Check.{Checked, Outcome, looked_ahead, settled_through}
+use Rattle.mq_check.specs.Check.{Checked, Outcome, basis_at_end, looked_ahead, settled_through}
 use Rattle.mq_check.specs.Checking.{CheckingValue, told_at_end}
 use Rattle.mq_check.specs.Ending.{counted_behind, end_behind, end_text, ended_behind}
 use Rattle.mq_check.specs.FindingLines.{finding_lines, last_lines}
 use Rattle.mq_check.specs.General.{silence_up_to}
 use Rattle.mq_check.specs.Repeated.{reported, with_findings}
-use Rattle.mq_check.specs.Telling.{FindingWriterState, Tells, counted_times, reported_by}
+use Rattle.mq_check.specs.Telling.{FindingWriterState, Tells, counted_by, reported_by}
 use Rattle.mq_check.proofs.Repeating.{reported_of_both}
-use Rattle.mq_check.proofs.Tellings.{lines_of_both, reported_after, tells_as, then_told, times_more, told_broken}
+use Rattle.mq_check.proofs.Tellings.{lines_of_both, reported_after, counted_more, tells_as, then_told, told_broken}
+
+-- the basis at the end, by what the code reads
+pub rests_on_end : (rests before at : Basis) (refused counted : ℕ) → rests ≡ record before { refused = refused } → before ≡ at → refused ≡ counted →
+    rests ≡ record at { refused = counted }
+rests_on_end rests before at refused counted is same counts = is ∙ (λ i. record (same i) { refused = counts i })
 
 -- the same of a family that is named otherwise
 pub tells_in : {T E : Type 0} (family other : Family) (found : List (Finding ℕ)) (old new : FindingWriterState) (a b : OutputState) (r : Result T E) →
@@ -36,19 +42,23 @@ rest_as v w before after held left r same put = subst (λ (x : Report Totals). I
 -- the totals were put behind the findings, or not whole
 pub end_passed : {S E : Type 0} (family : Family) (found : List (Finding ℕ)) (old mid : FindingWriterState) (a b : OutputState) (c : Option (List ℕ))
     (left : List ℕ) (x : S) (totals other : Totals)
-    → Tells {E = E} family found old mid a b (Ok x) → totals ≡ other → Passes b.held c mid.held left (last_lines totals) →
+    → Tells {E = E} family found old mid a b (Ok x) → totals ≡ other → Passes b.held c mid.held left (last_lines mid.additions.json totals) →
     Passes a.held c old.held left (end_text family old.additions (reported_by old found) other)
 end_passed family found old mid a b c left x totals other tells same put =
-    subst (λ (t : Totals). Passes a.held c old.held left (finding_lines family old.additions (reported_by old found) ++ last_lines t)) same
-    (both_passed a.held b.held c old.held mid.held left _ _ tells.text put)
+    subst (λ (t : Totals). Passes a.held c old.held left
+    (finding_lines family old.additions (reported_by old found) ++ last_lines old.additions.json t)) same
+    (both_passed a.held b.held c old.held mid.held left _ _ tells.text
+    (subst (λ (additions : Additions). Passes b.held c mid.held left (last_lines additions.json totals)) tells.additions put))
 
 pub end_unpassed : {S E : Type 0} (family : Family) (found : List (Finding ℕ)) (old mid : FindingWriterState) (a b : OutputState) (c : Option (List ℕ)) (x : S)
     (totals other : Totals)
-    → Tells {E = E} family found old mid a b (Ok x) → totals ≡ other → GrowsByBeginning b.held c (mid.held ++ last_lines totals) →
+    → Tells {E = E} family found old mid a b (Ok x) → totals ≡ other → GrowsByBeginning b.held c (mid.held ++ last_lines mid.additions.json totals) →
     GrowsByBeginning a.held c (old.held ++ end_text family old.additions (reported_by old found) other)
 end_unpassed family found old mid a b c x totals other tells same begun =
-    subst (λ (t : Totals). GrowsByBeginning a.held c (old.held ++ (finding_lines family old.additions (reported_by old found) ++ last_lines t))) same
-    (broken_behind a.held b.held c old.held mid.held _ _ tells.text begun)
+    subst (λ (t : Totals). GrowsByBeginning a.held c
+    (old.held ++ (finding_lines family old.additions (reported_by old found) ++ last_lines old.additions.json t))) same
+    (broken_behind a.held b.held c old.held mid.held _ _ tells.text
+    (subst (λ (additions : Additions). GrowsByBeginning b.held c (mid.held ++ last_lines additions.json totals)) tells.additions begun))
 
 -- a finding was not put whole
 pub end_broken : {T E : Type 0} (family : Family) (found rest : List (Finding ℕ)) (old new : FindingWriterState) (a b : OutputState) (e : E) (totals : Totals)
@@ -56,21 +66,23 @@ pub end_broken : {T E : Type 0} (family : Family) (found rest : List (Finding �
     GrowsByBeginning a.held b.held (old.held ++ end_text family old.additions (reported_by old (found ++ rest)) totals)
 end_broken {T} family found rest old new a b e totals tells =
     let told = told_broken {T = T} family found rest old new a b e tells in
-    broken_within a.held b.held old.held _ (last_lines totals) told.text
+    broken_within a.held b.held old.held _ (last_lines old.additions.json totals) told.text
 
 pub all_broken : {T E : Type 0} (family : Family) (found : List (Finding ℕ)) (old new : FindingWriterState) (a b : OutputState) (e : E) (totals : Totals)
     → Tells {T = T} family found old new a b (Err e) → GrowsByBeginning a.held b.held (old.held ++ end_text family old.additions (reported_by old found) totals)
-all_broken family found old new a b e totals tells = broken_within a.held b.held old.held _ (last_lines totals) tells.text
+all_broken family found old new a b e totals tells = broken_within a.held b.held old.held _ (last_lines old.additions.json totals) tells.text
 
 -- what was counted
-pub totals_counted : (general specific findings count : ℕ) (state other checking : CheckingValue) (rests : Basis) (found : List (Finding ℕ)) →
-    state ≡ checking → other ≡ checking → general ≡ state.general → specific ≡ other.specific → findings ≡ counted_times (length found) count
-    → record { general = general; specific = specific; findings = findings; basis = rests } ≡ counted_behind count checking rests found
-totals_counted general specific findings count state other checking rests found is is_too is_general is_specific counts =
+pub totals_counted : (general specific : ℕ) (counted count : FindingCounts) (state other checking : CheckingValue) (rests : Basis)
+    (found : List (Finding ℕ)) → state ≡ checking → other ≡ checking → general ≡ state.general → specific ≡ other.specific → counted ≡ counted_by found count
+    → record { general = general; specific = specific; findings = counted.certain; possible = counted.possible; basis = rests }
+    ≡ counted_behind count checking rests found
+totals_counted general specific counted count state other checking rests found is is_too is_general is_specific counts =
     λ i. record {
       general = (is_general ∙ ap (λ (c : CheckingValue). c.general) is) i;
       specific = (is_specific ∙ ap (λ (c : CheckingValue). c.specific) is_too) i;
-      findings = counts i;
+      findings = (counts i).certain;
+      possible = (counts i).possible;
       basis = rests;
     }
 
@@ -78,8 +90,8 @@ totals_counted general specific findings count state other checking rests found 
 both_texts : (family : Family) (additions : Additions) (found last : List (Finding ℕ)) (totals : Totals) →
     end_text family additions (found ++ last) totals ≡ finding_lines family additions found ++ end_text family additions last totals
 both_texts family additions found last totals =
-    ap (λ (t : List ℕ). t ++ last_lines totals) (lines_of_both family additions found last) ∙ append_assoc (finding_lines family additions found)
-    (finding_lines family additions last) (last_lines totals)
+    ap (λ (t : List ℕ). t ++ last_lines additions.json totals) (lines_of_both family additions found last) ∙ append_assoc (finding_lines family additions found)
+    (finding_lines family additions last) (last_lines additions.json totals)
 
 begins : (family : Family) (told : FindingWriterState) (number : ℕ) (c : CheckingValue) (rests : Basis) (found last : List (Finding ℕ)) → (more : List ℕ) ×
     ((end_behind family told number c rests found last).text ≡ finding_lines family told.additions (reported_by told found) ++ more)
@@ -118,7 +130,7 @@ ended_full family number c rests found last old new a b is tells = rw is (refl, 
 -- what is found at the end was put behind what was found up to it
 ended_open : (family : Family) (told mid : FindingWriterState) (number : ℕ) (c : CheckingValue) (rests : Basis) (found last : List (Finding ℕ)) →
     c.waiting.is_full ≡ false
-    → mid.additions ≡ told.additions → mid.last ≡ with_findings found told.last → mid.count ≡ counted_times (length (reported_by told found)) told.count
+    → mid.additions ≡ told.additions → mid.last ≡ with_findings found told.last → mid.count ≡ counted_by (reported_by told found) told.count
     → end_behind family told number c rests found last
     ≡ record {
       text = finding_lines family told.additions (reported_by told found) ++ end_text family told.additions (reported_by mid last)
@@ -130,12 +142,11 @@ ended_open family told mid number c rests found last is additions lasts counts =
     let more = reported_by mid last in
     let all = reported_by told (found ++ last) in
     let both : all ≡ first ++ more = reported_after told mid found last additions lasts in
-    let findings : counted_times (length all) told.count ≡ counted_times (length more) mid.count =
-    ap (λ (n : ℕ). counted_times n told.count) (ap length both ∙ length-append first more) ∙ times_more (length first) (length more) told.count ∙
-    ap (counted_times (length more)) (sym counts) in
+    let counted : counted_by all told.count ≡ counted_by more mid.count =
+    ap (λ (fs : List (Finding ℕ)). counted_by fs told.count) both ∙ counted_more first more told.count ∙ ap (counted_by more) (sym counts) in
     let before = counted_behind told.count c rests all in
     let totals : before ≡ counted_behind mid.count c rests more =
-    λ i. record { general = c.general; specific = c.specific; findings = findings i; basis = rests } in
+    λ i. record { general = c.general; specific = c.specific; findings = (counted i).certain; possible = (counted i).possible; basis = rests } in
     rw is (λ i. record {
       text = (ap (λ (fs : List (Finding ℕ)). end_text family told.additions fs before) both ∙ both_texts family told.additions first more before
           ∙ ap (λ (t : Totals). finding_lines family told.additions first ++ end_text family told.additions more t) totals) i;
@@ -174,7 +185,7 @@ ended_unput family number c rests found last old mid x y z is tells begun =
 -- the end, from a check at the end and one that has looked ahead
 abbrev end_from : Configuration → (within : ℕ) → FindingWriterState → (moment number : ℕ) → (found : List (Finding ℕ)) → (at left : Checked) → Report Totals
 end_from config within told moment number found at left =
-    end_behind config.family told number left.checking at.basis (found ++ (looked_ahead config within moment at).found)
+    end_behind config.family told number left.checking (basis_at_end at) (found ++ (looked_ahead config within moment at).found)
     (told_at_end within config.timing moment (silence_up_to within config.timing moment at.checking.phase) left.checking)
 
 -- the end in the terms of the code: the check at the end, and the one that has looked ahead
@@ -208,7 +219,7 @@ broken_to_end {T} {E} config within end number r family old new x y e is_family 
     tells_in {T = T} family config.family _ old new x y (Err e) is_family tells in
     subst (λ (v : Report Totals). GrowsByBeginning x.held y.held (old.held ++ v.text))
     (sym (ended_as config within old end number r done.checked ahead.checked refl refl))
-    (ended_broken {T = T} config.family number ahead.checked.checking done.checked.basis (done.found ++ ahead.found) _ old new x y e
+    (ended_broken {T = T} config.family number ahead.checked.checking (basis_at_end done.checked) (done.found ++ ahead.found) _ old new x y e
     (told_broken {T = T} config.family done.found ahead.found old new x y e here))
 
 -- a write failed in the look-ahead
@@ -220,7 +231,7 @@ pub broken_ahead : {S T E E' : Type 0} (config : Configuration) (within end numb
 broken_ahead {T = T} config within end number r at o family old mid new x y z s e is_family is same first second =
     let left = (looked_ahead config within end at).checked in
     subst (λ (v : Report Totals). GrowsByBeginning x.held z.held (old.held ++ v.text)) (sym (ended_as config within old end number r at left is refl))
-    (ended_broken {T = T} config.family number left.checking at.basis _ _ old new x z e
+    (ended_broken {T = T} config.family number left.checking (basis_at_end at) _ _ old new x z e
     (told_ahead {T = T} config within end r at o family old mid new x y z s (Err e) is_family same first second))
 
 -- too much waits after the look-ahead
@@ -233,13 +244,13 @@ pub full_at_end : {E E' : Type 0} (config : Configuration) (within end number : 
 full_at_end {E} config within end number r at left o family old mid new x y z is_family is same ahead full first second =
     rest_as _ _ x.held z.held old.held new.held (Err (answer.Waiting number))
     (sym (ended_as config within old end number r at left is (ahead ∙ ap (λ (p : Outcome). p.checked) same)))
-    (ended_full {E = E} config.family number left.checking at.basis _ _ old new x z full
+    (ended_full {E = E} config.family number left.checking (basis_at_end at) _ _ old new x z full
     (told_ahead config within end r at o family old mid new x y z tt (Ok tt) is_family same first second))
 
 -- the end was put whole, or not
 pub put_at_end : {E E' : Type 0} (config : Configuration) (within end number : ℕ) (r at left : Checked) (o : Outcome) (rests : Basis)
     (last : List (Finding ℕ)) (family : Family) (old mid near new : FindingWriterState) (x y z w : OutputState) (totals : Totals) → family ≡ config.family
-    → at ≡ (settled_through config within end r).checked → o ≡ looked_ahead config within end at → left ≡ o.checked → rests ≡ at.basis
+    → at ≡ (settled_through config within end r).checked → o ≡ looked_ahead config within end at → left ≡ o.checked → rests ≡ basis_at_end at
     → last ≡ told_at_end within config.timing end (silence_up_to within config.timing end at.checking.phase) left.checking →
     left.checking.waiting.is_full ≡ false
     → Tells {T = Unit} {E = E'} family (settled_through config within end r).found old mid x y (Ok tt) →
@@ -252,18 +263,18 @@ put_at_end {E} config within end number r at left o rests last family old mid ne
     second counts passed =
     let final = told_at_end within config.timing end (silence_up_to within config.timing end at.checking.phase) left.checking in
     let text : end_text family near.additions (reported_by near last) (counted_behind near.count left.checking rests (reported_by near last))
-    ≡ end_text config.family near.additions (reported_by near final) (counted_behind near.count left.checking at.basis (reported_by near final)) =
+    ≡ end_text config.family near.additions (reported_by near final) (counted_behind near.count left.checking (basis_at_end at) (reported_by near final)) =
     λ i. end_text (is_family i) near.additions (reported_by near (finds i)) (counted_behind near.count left.checking (basis i) (reported_by near (finds i))) in
     rest_as _ _ x.held w.held old.held new.held (Ok totals)
     (sym (ended_as config within old end number r at left is (ahead ∙ ap (λ (p : Outcome). p.checked) same)))
-    (ended_put {E = E} config.family number left.checking at.basis _ _ old near new x z w totals free
+    (ended_put {E = E} config.family number left.checking (basis_at_end at) _ _ old near new x z w totals free
     (told_ahead config within end r at o family old mid near x y z tt (Ok tt) is_family same first second)
     (counts ∙ (λ i. counted_behind near.count left.checking (basis i) (reported_by near (finds i))))
     (subst (λ (t : List ℕ). Passes z.held w.held near.held new.held t) text passed))
 
 pub unput_at_end : {E E' : Type 0} (config : Configuration) (within end number : ℕ) (r at left : Checked) (o : Outcome) (rests : Basis)
     (last : List (Finding ℕ)) (family : Family) (old mid near : FindingWriterState) (x y z w : OutputState) → family ≡ config.family
-    → at ≡ (settled_through config within end r).checked → o ≡ looked_ahead config within end at → left ≡ o.checked → rests ≡ at.basis
+    → at ≡ (settled_through config within end r).checked → o ≡ looked_ahead config within end at → left ≡ o.checked → rests ≡ basis_at_end at
     → last ≡ told_at_end within config.timing end (silence_up_to within config.timing end at.checking.phase) left.checking →
     left.checking.waiting.is_full ≡ false
     → Tells {T = Unit} {E = E'} family (settled_through config within end r).found old mid x y (Ok tt) →
@@ -274,10 +285,10 @@ pub unput_at_end : {E E' : Type 0} (config : Configuration) (within end number :
 unput_at_end {E} config within end number r at left o rests last family old mid near x y z w is_family is same ahead basis finds free first second begun =
     let final = told_at_end within config.timing end (silence_up_to within config.timing end at.checking.phase) left.checking in
     let text : end_text family near.additions (reported_by near last) (counted_behind near.count left.checking rests (reported_by near last))
-    ≡ end_text config.family near.additions (reported_by near final) (counted_behind near.count left.checking at.basis (reported_by near final)) =
+    ≡ end_text config.family near.additions (reported_by near final) (counted_behind near.count left.checking (basis_at_end at) (reported_by near final)) =
     λ i. end_text (is_family i) near.additions (reported_by near (finds i)) (counted_behind near.count left.checking (basis i) (reported_by near (finds i))) in
     subst (λ (v : Report Totals). GrowsByBeginning x.held w.held (old.held ++ v.text))
     (sym (ended_as config within old end number r at left is (ahead ∙ ap (λ (p : Outcome). p.checked) same)))
-    (ended_unput {E = E} config.family number left.checking at.basis _ _ old near x z w free
+    (ended_unput {E = E} config.family number left.checking (basis_at_end at) _ _ old near x z w free
     (told_ahead config within end r at o family old mid near x y z tt (Ok tt) is_family same first second)
     (subst (λ (t : List ℕ). GrowsByBeginning z.held w.held (near.held ++ t)) text begun))

@@ -5,6 +5,7 @@ use Rattle.mq_table.specs.declared.timing.Timing.{Timing}
 use Rattle.mq_check.specs.declared.asked.Asked.{Asked}
 use Rattle.mq_check.specs.declared.asked.Asked.TheVariants.{AllGroups}
 use Rattle.mq_check.specs.declared.entry.Entry.TheVariants.{Wanted, Seen}
+use Rattle.mq_check.specs.declared.entry.Need.{Need}
 use Rattle.mq_check.specs.declared.entry.Unpaired.{Unpaired}
 use Rattle.mq_check.specs.declared.entry.Unpaired.TheVariants.{Extra}
 use Rattle.mq_check.specs.declared.finding.ExtraReason.TheVariants.{NoChange}
@@ -14,12 +15,12 @@ use Rattle.mq_check.specs.declared.phase.Phase.TheVariants.{NotQuerier}
 use Rattle.mq_check.specs.declared.terms.Terms.{Terms}
 use Rattle.mq_check.specs.declared.waiting.Side.TheVariants.{OfWanted, OfSeen}
 use Rattle.mq_check.specs.Checking.{CheckingValue, with_wanted, with_seen, with_interval, with_silence, with_general, role_lost, role_returned}
-use Rattle.mq_check.specs.Checking.{with_known, alone_after, all_blocked, one_blocked, counted_up, is_late_in, near, paired, paired_if, partner_if}
-use Rattle.mq_check.specs.Checking.{partner_of}
-use Rattle.mq_check.specs.Entries.{first_terms, may_be_left_out}
+use Rattle.mq_check.specs.Checking.{alone_after, all_changed, one_changed, counted_up, is_late_in, may_be_missing, near, need_by, paired, paired_if}
+use Rattle.mq_check.specs.Checking.{partner_if, partner_of, with_unmuted, without_all_next}
+use Rattle.mq_check.specs.Entries.{first_terms, is_possible, may_be_left_out}
 use Rattle.mq_check.specs.General.{wrong_interval, phase_behind, phase_again, silence_up_to}
 use Rattle.mq_check.specs.Numbered.{numbered_terms_if}
-use Rattle.mq_check.specs.Schedules.{SchedulesValue, recent, schedules_seen, schedules_wanted}
+use Rattle.mq_check.specs.Schedules.{SchedulesValue, caused, first_of, followed, placed, recent, schedules_wanted, without_next}
 use Rattle.mq_check.specs.Waiting.{WaitingValue, with_entry, with_partner, is_free}
 
 -- whether there are terms doesn't depend on how addresses are seen
@@ -27,54 +28,67 @@ pub has_terms : {K : Type 0} (number : K → ℕ) (r : Option (Terms K)) → is_
 has_terms number None = refl
 has_terms number (Some terms) = refl
 
--- `knowing` is the check behind the note of the subject, and `scheduling` the one behind that of the schedule
-pub wanted_put : (moment : ℕ) (terms : Terms ℕ) (asked : Asked ℕ) (from : ℕ) (viewed scheduling knowing old : CheckingValue)
-    (partnered put : WaitingValue) (is_optional is_found : Bool)
-    → from ≡ near moment old → viewed ≡ scheduling →
-    scheduling ≡ record knowing { schedules = schedules_wanted moment terms asked (recent moment knowing.schedules) } →
-    knowing ≡ record old { known = with_known moment terms asked old }
-    → is_optional ≡ may_be_left_out moment asked terms scheduling.waiting.entries →
-    is_found ≡ is_some (first_terms (is_free OfSeen asked from) viewed.waiting.entries)
-    → partnered ≡ with_partner OfSeen asked from terms viewed.waiting → put ≡ with_entry (Wanted moment asked terms is_optional is_found) partnered
-    → record viewed { waiting = put } ≡ with_wanted moment terms old asked
+-- `recently` is the check behind the removal of old schedules, and `scheduling` the one behind the note of its schedule
+pub wanted_put : (moment : ℕ) (is_again : Bool) (terms : Terms ℕ) (asked : Asked ℕ) (from : ℕ) (viewed scheduling recently old : CheckingValue)
+    (partnered put : WaitingValue) (need : Need) (is_found : Bool)
+    → from ≡ near moment old → viewed ≡ scheduling → recently ≡ record old { schedules = recent moment old.schedules } →
+    need ≡ need_by (may_be_left_out moment asked terms recently.waiting.entries) (may_be_missing moment is_again asked recently)
+    → scheduling ≡ record recently { schedules = without_next asked (schedules_wanted moment terms asked recently.schedules) }
+    → is_found ≡ is_some (first_terms (is_free OfSeen asked from) viewed.waiting.entries)
+    → partnered ≡ with_partner OfSeen asked from terms viewed.waiting → put ≡ with_entry (Wanted moment asked terms need is_found) partnered
+    → record viewed { waiting = put } ≡ with_wanted moment is_again terms old asked
 unfolding with_wanted
-wanted_put moment terms asked from viewed scheduling knowing old partnered put is_optional is_found is_from same schedules knows optional found joined is =
-    let before : scheduling
-    ≡ record old { known = with_known moment terms asked old; schedules = schedules_wanted moment terms asked (recent moment old.schedules) } =
-    schedules ∙ ap (λ (v : CheckingValue). record v { schedules = schedules_wanted moment terms asked (recent moment v.schedules) }) knows in
-    let all = same ∙ before in
-    let optional_too = optional ∙ ap (λ (v : CheckingValue). may_be_left_out moment asked terms v.waiting.entries) before in
+wanted_put moment is_again terms asked from viewed scheduling recently old partnered put need is_found is_from same recents needs schedules found
+    joined is =
+    let all = same ∙ schedules
+    ∙ ap (λ (c : CheckingValue). record c { schedules = without_next asked (schedules_wanted moment terms asked c.schedules) }) recents in
+    let needs_too = needs
+    ∙ ap (λ (c : CheckingValue). need_by (may_be_left_out moment asked terms c.waiting.entries) (may_be_missing moment is_again asked c)) recents in
     let found_too = found ∙ (λ i. is_some (first_terms (is_free OfSeen asked (is_from i)) (all i).waiting.entries)) in
     let joined_too = joined ∙ (λ i. with_partner OfSeen asked (is_from i) terms (all i).waiting) in
-    λ i. record (all i) { waiting = (is ∙ (λ j. with_entry (Wanted moment asked terms (optional_too j) (found_too j)) (joined_too j))) i }
+    λ i. record (all i) { waiting = (is ∙ (λ j. with_entry (Wanted moment asked terms (needs_too j) (found_too j)) (joined_too j))) i }
 
--- `recently` is the check behind the removal of old schedules, and `pairing` the one behind the search for a partner
-pub seen_put : (moment : ℕ) (terms : Terms ℕ) (standing : Standing ℕ) (asked : Asked ℕ) (from : ℕ) (viewed pairing recently old : CheckingValue)
-    (put : WaitingValue) (partner : Option (Terms ℕ)) (alone : Unpaired ℕ)
-    (has_partner : Bool) (scheduled : SchedulesValue)
+-- `recently` is the check behind the removal of old schedules, `noting` the one behind the note of its group, and `pairing` the
+-- one behind the search for a partner
+pub seen_put : (moment : ℕ) (terms : Terms ℕ) (standing : Standing) (asked : Asked ℕ) (from : ℕ) (viewed pairing noting recently old : CheckingValue)
+    (put : WaitingValue) (partner next either may_cause : Option (Terms ℕ)) (alone : Unpaired ℕ)
+    (has_partner follows possible : Bool) (scheduled : SchedulesValue)
     → from ≡ near moment old → viewed ≡ pairing → recently ≡ record old { schedules = recent moment old.schedules } →
     alone ≡ alone_after moment terms standing asked recently
-    → partner ≡ partner_if (is_late_in from moment asked recently.waiting recently.schedules) from terms asked recently.waiting
-    → pairing ≡ record recently { waiting = paired_if (is_late_in from moment asked recently.waiting recently.schedules) from terms asked recently.waiting }
-    → has_partner ≡ is_some partner → scheduled ≡ schedules_seen moment terms asked has_partner viewed.schedules
-    → put ≡ with_entry (Seen moment asked terms partner alone) viewed.waiting
+    → next ≡ followed moment standing.is_above asked recently.schedules → may_cause ≡ caused moment asked recently.schedules
+    → noting ≡ record recently { unmuted = with_unmuted moment terms asked recently }
+    → partner ≡ partner_if (is_late_in from moment asked noting.waiting noting.schedules) from terms asked noting.waiting
+    → pairing ≡ record noting { waiting = paired_if (is_late_in from moment asked noting.waiting noting.schedules) from terms asked noting.waiting }
+    → has_partner ≡ is_some partner → follows ≡ is_some next → possible ≡ is_possible alone → either ≡ first_of partner next
+    → scheduled ≡ placed moment terms asked has_partner follows possible may_cause viewed.schedules
+    → put ≡ with_entry (Seen moment asked terms either alone) viewed.waiting
     → record viewed { waiting = put; schedules = scheduled } ≡ with_seen moment terms standing old asked
 unfolding with_seen
-seen_put moment terms standing asked from viewed pairing recently old put partner alone has_partner scheduled is_from same recents without found joined
-    has follows is =
+seen_put moment terms standing asked from viewed pairing noting recently old put partner next either may_cause alone has_partner follows possible
+    scheduled is_from same recents without goes_on causes notes found joined has has_next possibly is_either places is =
+    let before = recent moment old.schedules in
+    let there : CheckingValue = record old { schedules = before } in
+    let noted : noting ≡ record there { unmuted = with_unmuted moment terms asked there } =
+    notes ∙ (λ i. record (recents i) { unmuted = with_unmuted moment terms asked (recents i) }) in
     let without_too = without ∙ ap (alone_after moment terms standing asked) recents in
+    let next_too = goes_on ∙ ap (λ (c : CheckingValue). followed moment standing.is_above asked c.schedules) recents in
+    let cause_too = causes ∙ ap (λ (c : CheckingValue). caused moment asked c.schedules) recents in
     let found_too : partner ≡ partner_of moment terms asked old =
-    found ∙ (λ i. partner_if (is_late_in (is_from i) moment asked (recents i).waiting (recents i).schedules) (is_from i) terms asked (recents i).waiting) in
-    let all : viewed ≡ record old { waiting = paired moment terms asked old; schedules = recent moment old.schedules } =
+    found ∙ (λ i. partner_if (is_late_in (is_from i) moment asked (noted i).waiting (noted i).schedules) (is_from i) terms asked (noted i).waiting) in
+    let all : viewed ≡ record old { waiting = paired moment terms asked old; unmuted = with_unmuted moment terms asked there; schedules = before } =
     same ∙ joined
-    ∙ (λ i. record (recents i) {
-      waiting = paired_if (is_late_in (is_from i) moment asked (recents i).waiting (recents i).schedules)
-          (is_from i) terms asked (recents i).waiting;
+    ∙ (λ i. record (noted i) {
+      waiting = paired_if (is_late_in (is_from i) moment asked (noted i).waiting (noted i).schedules)
+          (is_from i) terms asked (noted i).waiting;
     }) in
     let has_too = has ∙ ap is_some found_too in
+    let has_next_too = has_next ∙ ap is_some next_too in
+    let possibly_too = possibly ∙ ap is_possible without_too in
+    let either_too = is_either ∙ (λ i. first_of (found_too i) (next_too i)) in
     λ i. record (all i) {
-      waiting = (is ∙ (λ j. with_entry (Seen moment asked terms (found_too j) (without_too j)) (all j).waiting)) i;
-      schedules = (follows ∙ (λ j. schedules_seen moment terms asked (has_too j) (all j).schedules)) i;
+      waiting = (is ∙ (λ j. with_entry (Seen moment asked terms (either_too j) (without_too j)) (all j).waiting)) i;
+      schedules =
+          (places ∙ (λ j. placed moment terms asked (has_too j) (has_next_too j) (possibly_too j) (cause_too j) (all j).schedules)) i;
     }
 
 pub general_put : (within : ℕ) (configured : Timing) (moment at from : ℕ) (terms wanted : Terms ℕ) (viewed old : CheckingValue)
@@ -95,17 +109,21 @@ general_put within configured moment at from terms wanted viewed old judged part
     } in
     here ∙ ap (with_general within configured moment terms wanted) same
 
+-- `silent` is the check behind the finding of a silence
 pub lost_put : (within : ℕ) (configured : Timing) (moment at : ℕ) (viewed old : CheckingValue) (put : WaitingValue) (passed : Option ℕ)
+    (scheduled : SchedulesValue)
     → viewed ≡ old → at ≡ moment → passed ≡ silence_up_to within configured moment viewed.phase → put ≡ with_silence configured moment passed viewed.waiting
-    → record viewed { waiting = put; changed = Some at; phase = NotQuerier } ≡ role_lost within configured moment old
+    → scheduled ≡ without_all_next viewed.schedules
+    → record viewed { waiting = put; changed = Some at; phase = NotQuerier; schedules = scheduled } ≡ role_lost within configured moment old
 unfolding role_lost
-lost_put within configured moment at viewed old put passed same now silent is =
-    let here : record viewed { waiting = put; changed = Some at; phase = NotQuerier } ≡ role_lost within configured moment viewed =
+lost_put within configured moment at viewed old put passed scheduled same now silent is drops =
+    let here : record viewed { waiting = put; changed = Some at; phase = NotQuerier; schedules = scheduled } ≡ role_lost within configured moment viewed =
     λ i. record viewed {
       waiting = (is ∙ ap (λ (p : Option ℕ). with_silence configured moment p viewed.waiting) silent) i;
       changed =
           Some (now i);
       phase = NotQuerier;
+      schedules = drops i;
     } in
     here ∙ ap (role_lost within configured moment) same
 
@@ -126,7 +144,8 @@ specific_counted viewed now seen count same is counts =
     let all = same ∙ is in
     λ i. record (all i) { specific = (counts ∙ ap (λ (v : CheckingValue). counted_up v.specific) all) i }
 
--- sources that are blocked after others
-pub blocked_both : (moment : ℕ) (xs ys : List (Asked ℕ)) (c : CheckingValue) → all_blocked moment (xs ++ ys) c ≡ all_blocked moment ys (all_blocked moment xs c)
-blocked_both moment [] ys c = refl
-blocked_both moment (x ∷ xs) ys c = blocked_both moment xs ys (one_blocked moment c x)
+-- changes that come after others
+pub changed_both : (moment : ℕ) (terms : ℕ → Terms ℕ) (xs ys : List (Asked ℕ)) (c : CheckingValue) →
+    all_changed moment terms (xs ++ ys) c ≡ all_changed moment terms ys (all_changed moment terms xs c)
+changed_both moment terms [] ys c = refl
+changed_both moment terms (x ∷ xs) ys c = changed_both moment terms xs ys (one_changed moment terms c x)

@@ -2,10 +2,10 @@ pub mod Announcing
 pub mod Bases
 pub mod CheckedOver
 pub mod CheckedPackets
+pub mod Earlier
 pub mod EndedChecks
 pub mod Entering
 pub mod Excusing
-pub mod IpOptions
 pub mod LinkedSlots
 pub mod MarkedEntries
 pub mod Repeating

@@ -9,7 +9,6 @@ use Rattle.mq_check.specs.Checking.{CheckingValue, general_seen, query_came, spe
 use Rattle.mq_link.specs.State.{LinkState}
 use Rattle.mq_check.specs.Queries.{asked_in, general_terms, is_general, terms_of}
 use Rattle.mq_check.specs.Standing.{standing_in}
-use Rattle.mq_check.specs.Unheld.{specific_terms}
 
 -- one of two, by whether it is general
 abbrev by_kind : CheckingValue → CheckingValue → Bool → CheckingValue
@@ -23,17 +22,17 @@ unfolding query_came
 general_came within config link configured moment packet to query terms wanted c new general is_terms is_wanted is_configured is =
     let x = general_seen within config.timing moment (terms_of config.family packet to query) (general_terms config link.election.timing) c in
     let y = specific_seen moment (terms_of config.family packet to query)
-    (standing_in config.family link.groups moment (specific_terms config link.election.timing query)) (asked_in query) c in
+    (standing_in config.family link.groups link.election.timing moment) (asked_in query) c in
     is ∙ (λ i. general_seen within (is_configured i) moment (is_terms i) (is_wanted i) c) ∙ ap (by_kind x y) (sym general)
 
 pub specific_came : (within : ℕ) (config : Configuration) (link : LinkState) (moment m packet to : ℕ) (query : Query ℕ) (family : Family)
-    (terms wanted : Terms ℕ) (c new : CheckingValue) → is_general query ≡ false → family ≡ config.family → terms ≡ terms_of config.family packet to query
-    → wanted ≡ specific_terms config link.election.timing query → m ≡ moment → new ≡ specific_seen m terms (standing_in family link.groups m wanted)
-    (asked_in query) c → new ≡ query_came within config link moment packet to query c
+    (terms : Terms ℕ) (c new : CheckingValue) → is_general query ≡ false → family ≡ config.family → terms ≡ terms_of config.family packet to query
+    → m ≡ moment → new ≡ specific_seen m terms (standing_in family link.groups link.election.timing m) (asked_in query) c
+    → new ≡ query_came within config link moment packet to query c
 unfolding query_came
-specific_came within config link moment m packet to query family terms wanted c new other is_family is_terms is_wanted is_moment is =
+specific_came within config link moment m packet to query family terms c new other is_family is_terms is_moment is =
     let x = general_seen within config.timing moment (terms_of config.family packet to query) (general_terms config link.election.timing) c in
     let y = specific_seen moment (terms_of config.family packet to query)
-    (standing_in config.family link.groups moment (specific_terms config link.election.timing query)) (asked_in query) c in
-    is ∙ (λ i. specific_seen (is_moment i) (is_terms i) (standing_in (is_family i) link.groups (is_moment i) (is_wanted i)) (asked_in query) c)
+    (standing_in config.family link.groups link.election.timing moment) (asked_in query) c in
+    is ∙ (λ i. specific_seen (is_moment i) (is_terms i) (standing_in (is_family i) link.groups link.election.timing (is_moment i)) (asked_in query) c)
     ∙ ap (by_kind x y) (sym other)

@@ -14,9 +14,10 @@ use Rattle.mq_text.specs.Printing.{OutputState}
 use Rattle.mq_replay.specs.Report.{Datagram, all_sent}
 use Rattle.mq_check.specs.Check.{Checked, Outcome, settled_at, settled_through, wanted_by, ticked, ticked_through, received}
 use Rattle.mq_check.specs.Basis as basis
-use Rattle.mq_check.specs.Blocked.{blocked_in}
-use Rattle.mq_check.specs.Checking.{all_blocked, settled, told, with_messages, role_after_tick, role_changed}
+use Rattle.mq_check.specs.Causes.{causes_in}
+use Rattle.mq_check.specs.Checking.{all_changed, settled, told, with_messages, role_after_tick, role_changed}
 use Rattle.mq_check.specs.Coming.{Comes, checked_in}
+use Rattle.mq_check.specs.Queries.{specific_terms}
 use Rattle.mq_check.specs.Telling.{FindingWriterState, Tells}
 use Rattle.mq_check.specs.Wanting.{WantingValue, TakesMessage}
 use Rattle.mq_check.proofs.Tellings.{broken_as, tells_as, then_told, told_broken}
@@ -66,7 +67,10 @@ ticked_is family within now before after old begun new last messages answers is_
 pub received_is : (family : Family) (within now : ℕ) (datagram : Datagram) (before after : LinkValue) (old noted begun new last : WantingValue)
     (messages : List Outgoing) (answers : List Bool)
     → family ≡ before.config.family →
-    noted ≡ record old { checking = all_blocked now (blocked_in before.config.family datagram) old.checking } → begun ≡ begun_at now false before noted
+    noted ≡ record old {
+      checking = all_changed now (specific_terms before.config before.state.election.timing old.basis.packets)
+          (causes_in before.config.family datagram) old.checking;
+    } → begun ≡ begun_at now false before noted
     → HandsOut before.config (receipt_of before.config datagram.envelope datagram.body now before.state).step messages answers after.state →
     HandsOver (TakesMessage family) begun messages answers new
     → last.checking ≡ role_changed within before.config.timing now (is_querier before.state.election.role) (is_querier after.state.election.role) new.checking

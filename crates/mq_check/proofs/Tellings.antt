@@ -4,6 +4,7 @@ use Rattle.std.proofs.Common.{length-append, refl, ap, sym, subst, ◌∙◌, ar
 use Rattle.std.proofs.Math.Bool.{or-false}
 use Rattle.std.proofs.lemmas.Grind.{flat_map-append}
 use Rattle.std.proofs.lemmas.List.{map-append}
+use Rattle.std.proofs.lemmas.List.Elements.{filter-append}
 use Rattle.mq_wire.specs.Family.{Family}
 use Rattle.mq_text.specs.Printing.{OutputState, Puts}
 use Rattle.mq_text.proofs.Passing.{nothing_passed, then_put, put_as, broken_within}
@@ -14,10 +15,11 @@ use Rattle.mq_check.specs.declared.finding.Finding.{Finding}
 use Rattle.mq_check.specs.declared.finding.Finding.TheVariants.{Differs}
 use Rattle.mq_check.specs.Checking.{counted_up}
 use Rattle.mq_check.specs.Entries.{differ_at}
-use Rattle.mq_check.specs.FindingLines.{finding_line, finding_lines}
+use Rattle.mq_check.specs.FindingLines.{certain_in, finding_line, finding_lines, is_certain, is_possible, possible_in}
 use Rattle.mq_check.specs.declared.repeated.LastDifferences.{LastDifferences}
+use Rattle.mq_check.specs.declared.totals.FindingCounts.{FindingCounts}
 use Rattle.mq_check.specs.Repeated.{is_left_out, reported, unless, with_finding, with_findings}
-use Rattle.mq_check.specs.Telling.{FindingWriterState, Tells, counted_times, reported_by}
+use Rattle.mq_check.specs.Telling.{FindingWriterState, Tells, counted_by, counted_if, counted_times, reported_by}
 use Rattle.mq_check.proofs.Repeating.{last_of_both, reported_of_both}
 
 -- a count that went up so many times, and then so many more
@@ -46,11 +48,19 @@ both_noted : {T E : Type 0} (xs ys : List (Finding ℕ)) (old mid new : LastDiff
 both_noted xs ys old mid new (Ok x) first second = second ∙ ap (with_findings ys) first ∙ sym (last_of_both xs ys old)
 both_noted xs ys old mid new (Err e) first second = tt
 
-both_counted : {T E : Type 0} (xs ys all : List (Finding ℕ)) (old mid new : ℕ) (r : Result T E) → all ≡ xs ++ ys → mid ≡ counted_times (length xs) old
-    → IfOk r (λ _. new ≡ counted_times (length ys) mid) → IfOk r (λ _. new ≡ counted_times (length all) old)
+-- the counts of two lists, one after the other
+pub counted_more : (xs ys : List (Finding ℕ)) (count : FindingCounts) → counted_by (xs ++ ys) count ≡ counted_by ys (counted_by xs count)
+counted_more xs ys count = λ i. record {
+  certain = (ap (λ (n : ℕ). counted_times n count.certain) (ap length (filter-append is_certain xs ys) ∙ length-append (certain_in xs) (certain_in ys))
+      ∙ times_more (length (certain_in xs)) (length (certain_in ys)) count.certain) i;
+  possible = (ap (λ (n : ℕ). counted_times n count.possible) (ap length (filter-append is_possible xs ys) ∙ length-append (possible_in xs) (possible_in ys))
+      ∙ times_more (length (possible_in xs)) (length (possible_in ys)) count.possible) i;
+}
+
+both_counted : {T E : Type 0} (xs ys all : List (Finding ℕ)) (old mid new : FindingCounts) (r : Result T E) → all ≡ xs ++ ys → mid ≡ counted_by xs old
+    → IfOk r (λ _. new ≡ counted_by ys mid) → IfOk r (λ _. new ≡ counted_by all old)
 both_counted xs ys all old mid new (Ok x) both first second =
-    second ∙ ap (counted_times (length ys)) first ∙ sym (times_more (length xs) (length ys) old) ∙
-    ap (λ (n : ℕ). counted_times n old) (sym (ap length both ∙ length-append xs ys))
+    second ∙ ap (counted_by ys) first ∙ sym (counted_more xs ys old) ∙ ap (λ (fs : List (Finding ℕ)). counted_by fs old) (sym both)
 both_counted xs ys all old mid new (Err e) both first second = tt
 
 -- some were told, and then others
@@ -95,18 +105,32 @@ noted : {T E : Type 0} (new last : LastDifferences) (r : Result T E) → new ≡
 noted new last (Ok x) is = is
 noted new last (Err e) is = tt
 
-pub one_told : {T E : Type 0} (family : Family) (x : Finding ℕ) (old new : FindingWriterState) (a b : OutputState) (r : Result T E) →
-    is_left_out old.additions.once old.last x ≡ false → new.additions ≡ old.additions → new.last ≡ with_finding x old.last
-    → IfOk r (λ _. new.count ≡ counted_up old.count) → Puts a.held b.held old.held new.held (finding_line family old.additions x) r →
+one_counted : {T E : Type 0} (x : Finding ℕ) (old new : FindingCounts) (r : Result T E) → new ≡ counted_if (is_possible x) old →
+    IfOk r (λ _. new ≡ counted_by (x ∷ []) old)
+one_counted x old new (Ok y) is = elim (is_possible x) as (λ b. is_possible x ≡ b → new ≡ counted_by (x ∷ []) old) [
+  | true ↦ λ same. is ∙ ap (λ (b : Bool). counted_if b old) same ∙ rw same refl
+  | false ↦ λ same. is ∙ ap (λ (b : Bool). counted_if b old) same ∙ rw same refl
+] refl
+one_counted x old new (Err e) is = tt
+
+pub one_told : {T E : Type 0} (family : Family) (x : Finding ℕ) (old counted new : FindingWriterState) (a b : OutputState) (r : Result T E) →
+    is_left_out old.additions.once old.last x ≡ false → counted ≡ record old { last = with_finding x old.last; count = counted_if (is_possible x) old.count } →
+    new.additions ≡ counted.additions → new.last ≡ counted.last → new.count ≡ counted.count
+    → Puts a.held b.held counted.held new.held (finding_line family counted.additions x) r →
     b.failed ≡ a.failed || is_err r → Tells family (x ∷ []) old new a b r
-one_told family x old new a b r is additions last count text failed =
+one_told family x old counted new a b r is counts additions last count text failed =
     let one : reported_by old (x ∷ []) ≡ x ∷ [] = ap (λ (b : Bool). unless b x []) is in
+    let held : counted.held ≡ old.held = ap (λ (t : FindingWriterState). t.held) counts in
+    let cited : counted.additions ≡ old.additions = ap (λ (t : FindingWriterState). t.additions) counts in
     record {
-      additions = additions;
-      last = noted new.last (with_finding x old.last) r last;
-      count = subst (λ (fs : List (Finding ℕ)). IfOk r (λ _. new.count ≡ counted_times (length fs) old.count)) (sym one) count;
+      additions = additions ∙ cited;
+      last = noted new.last (with_finding x old.last) r (last ∙ ap (λ (t : FindingWriterState). t.last) counts);
+      count = subst (λ (fs : List (Finding ℕ)). IfOk r (λ _. new.count ≡ counted_by fs old.count)) (sym one)
+          (one_counted x old.count new.count r (count ∙ ap (λ (t : FindingWriterState). t.count) counts));
       text = put_as a.held b.held old.held new.held _ _ r (sym (append-nil (finding_line family old.additions x)) ∙
-          ap (finding_lines family old.additions) (sym one)) text;
+          ap (finding_lines family old.additions) (sym one))
+          (subst (λ (h : List ℕ). Puts a.held b.held h new.held (finding_line family old.additions x) r) held
+          (subst (λ (s : Additions). Puts a.held b.held counted.held new.held (finding_line family s x) r) cited text));
       failed = failed;
     }
 
@@ -119,7 +143,7 @@ one_left_out {T} {E} family x old new at y is same =
     let left : Tells {T = T} {E = E} family (x ∷ []) old (record old { last = with_finding x old.last }) at at (Ok y) = record {
       additions = refl;
       last = refl;
-      count = ap (λ (fs : List (Finding ℕ)). counted_times (length fs) old.count) (sym none);
+      count = ap (λ (fs : List (Finding ℕ)). counted_by fs old.count) (sym none);
       text = put_as {T = T} {E = E} at.held at.held old.held old.held [] _ (Ok y) (ap (finding_lines family old.additions) (sym none))
           (nothing_passed at.held old.held);
       failed = sym (or-false at.failed);

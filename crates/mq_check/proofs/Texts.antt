@@ -2,6 +2,9 @@
 use Rattle.std.proofs.Common.{◌≡◌, refl, ℕ, List, ◌++◌}
 use Rattle.std.proofs.lemmas.List.{append_assoc}
 
+pub three_parts : (old a b c : List ℕ) → old ++ a ++ b ++ c ≡ old ++ (a ++ b ++ c)
+three_parts old a b c = simp append_assoc refl
+
 pub four_parts : (old a b c d : List ℕ) → old ++ a ++ b ++ c ++ d ≡ old ++ (a ++ b ++ c ++ d)
 four_parts old a b c d = simp append_assoc refl
 

@@ -1,5 +1,5 @@
 -- Findings that are written before a read that may wait.
-use Rattle.std.proofs.Common.{◌≡◌, ℕ, Bool, ◌||◌, List, [], ◌++◌, length, Result, Ok, Err, IfOk, is_err, append-nil, ap, ◌∙◌}
+use Rattle.std.proofs.Common.{◌≡◌, ℕ, Bool, ◌||◌, List, [], ◌++◌, Result, Ok, Err, IfOk, is_err, append-nil, ap, ◌∙◌}
 use Rattle.std.proofs.Math.Bool.{or-false}
 use Rattle.mq_wire.specs.Family.{Family}
 use Rattle.mq_text.specs.Printing.{OutputState, Puts}
@@ -7,13 +7,14 @@ use Rattle.mq_text.proofs.Passing.{put_as, then_put}
 use Rattle.mq_check.specs.declared.finding.Finding.{Finding}
 use Rattle.mq_check.specs.FindingLines.{finding_lines}
 use Rattle.mq_check.specs.declared.repeated.LastDifferences.{LastDifferences}
+use Rattle.mq_check.specs.declared.totals.FindingCounts.{FindingCounts}
 use Rattle.mq_check.specs.Repeated.{with_findings}
-use Rattle.mq_check.specs.Telling.{FindingWriterState, Tells, counted_times, reported_by}
+use Rattle.mq_check.specs.Telling.{FindingWriterState, Tells, counted_by, reported_by}
 
-still_counted : {T E : Type 0} (times old mid new : ℕ) (r : Result T E) → mid ≡ counted_times times old → new ≡ mid →
-    IfOk r (λ _. new ≡ counted_times times old)
-still_counted times old mid new (Ok x) counted same = same ∙ counted
-still_counted times old mid new (Err e) counted same = tt
+still_counted : {T E : Type 0} (xs : List (Finding ℕ)) (old mid new : FindingCounts) (r : Result T E) → mid ≡ counted_by xs old → new ≡ mid →
+    IfOk r (λ _. new ≡ counted_by xs old)
+still_counted xs old mid new (Ok x) counted same = same ∙ counted
+still_counted xs old mid new (Err e) counted same = tt
 
 still_noted : {T E : Type 0} (xs : List (Finding ℕ)) (old mid new : LastDifferences) (r : Result T E) → mid ≡ with_findings xs old → new ≡ mid →
     IfOk r (λ _. new ≡ with_findings xs old)
@@ -30,7 +31,7 @@ then_nothing T E family xs old mid new a b c x r tells put additions last count 
     record {
       additions = additions ∙ tells.additions;
       last = still_noted xs old.last mid.last new.last r tells.last last;
-      count = still_counted (length (reported_by old xs)) old.count mid.count new.count r tells.count count;
+      count = still_counted (reported_by old xs) old.count mid.count new.count r tells.count count;
       text = put_as a.held c.held old.held new.held (text ++ []) text r (append-nil text)
           (then_put a.held b.held c.held old.held mid.held new.held text [] r tells.text put);
       failed = failed ∙ ap (λ (f : Bool). f || is_err r) (tells.failed ∙ or-false a.failed);

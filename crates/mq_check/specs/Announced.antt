@@ -1,7 +1,7 @@
--- The variables that the first queries of a capture announce. Addresses are numbers.
-use Rattle.std.specs.Prelude.{◌≡◌, ℕ, zero, suc, not, ◌==◌, ◌&&◌, Bool, true, false, if◌then◌else◌, List, [], ◌∷◌, Option, None, Some, Result, Ok, Err}
+-- The querier of a capture and the variables that its queries announce. Addresses are numbers.
+use Rattle.std.specs.Prelude.{◌≡◌, ℕ, zero, suc, ◌+◌, ◌-◌, ◌*◌, ◌/◌, ◌==◌, ◌&&◌, nat_lt, length, Bool, true, false, if◌then◌else◌, List, [], ◌∷◌, Option, None, Some, Result, Ok, Err}
 use Rattle.std.specs.Io.KnownBytes.{IsAtEnd}
-use Rattle.std.specs.Option.{option_or}
+use Rattle.std.specs.Option.{option_or, option_map}
 use Rattle.mq_pcap.specs.declared.fault.PcapFault.{PcapFault}
 use Rattle.mq_pcap.specs.declared.form.Form.{Form}
 use Rattle.mq_pcap.specs.declared.link_type.LinkType.{LinkType}
@@ -12,13 +12,17 @@ use Rattle.mq_wire.specs.declared.query.Query.{Query}
 use Rattle.mq_wire.specs.declared.query.QueryVersion.{QueryVersion}
 use Rattle.mq_wire.specs.declared.query.QueryVersion.TheVariants.{Older, Current}
 use Rattle.mq_wire.specs.Family.{Family}
+use Rattle.mq_wire.specs.RoundTrip.{interval_lowered, response_lowered}
+use Rattle.mq_lines.specs.Text.{query_sources}
 use Rattle.mq_link.specs.Family.{is_router_address}
 use Rattle.mq_link.specs.Receive.{envelope_tests}
 use Rattle.mq_link.specs.Tests.{first_named}
 use Rattle.mq_replay.specs.Listing.{IsOfTheFile}
-use Rattle.mq_replay.specs.PlacedPackets.{PlacedPacket}
+use Rattle.mq_replay.specs.PlacedPackets.{Place, PlacedPacket, at_first, place_behind, placed}
 use Rattle.mq_replay.specs.Report.{Datagram, datagram_of}
 use Rattle.mq_check.specs.declared.announced.Announced.{Announced}
+use Rattle.mq_check.specs.declared.sought.AskedLast.{AskedLast}
+use Rattle.mq_check.specs.declared.sought.Sought.{Sought}
 use Rattle.mq_replay.specs.declared.capture_fault.CaptureFault.{CaptureFault}
 use Rattle.mq_replay.specs.declared.capture_fault.CaptureFault.TheVariants as answer
 use Rattle.mq_check.specs.Queries.{if_acted_on, is_general, query_spelled}
@@ -38,16 +42,6 @@ abbrev pub interval_in : QueryVersion ℕ → Option ℕ
 interval_in (Older version) = None
 interval_in (Current fields) = if_any fields.interval
 
--- the variables in a general query, with the interval of specific queries
-abbrev pub announced_by : (source : ℕ) → Query ℕ → (last_member : Option ℕ) → Announced ℕ
-announced_by source query last_member = record {
-  querier = source;
-  robustness = robustness_in query.version;
-  query_seconds = interval_in query.version;
-  response_interval = if_any query.response;
-  last_member_interval = last_member;
-}
-
 -- A query on which hosts act, from an address that a router may have.
 abbrev pub query_in : Family → Datagram → Option (Query ℕ)
 query_in family datagram = if_acted_on
@@ -55,70 +49,137 @@ query_in family datagram = if_acted_on
     (first_named (envelope_tests family datagram.envelope))
     (query_spelled family datagram.envelope datagram.body)
 
--- a general query, with its source
-abbrev pub general_of : (source : ℕ) → Option (Query ℕ) → Option (ℕ × Query ℕ)
-general_of source None = None
-general_of source (Some query) = if is_general query then Some (source, query) else None
+-- The interval that a time between two general queries shows. A code may stand for several intervals. The time in whole
+-- seconds is the interval if it has the code of the announced one. At most 31744 seconds have a code.
+abbrev pub shown_seconds : (passed announced : ℕ) → ℕ
+shown_seconds passed announced =
+    if nat_lt passed 31744500 && interval_lowered ((passed + 500) / 1000) == announced then (passed + 500) / 1000 else announced
 
-abbrev pub general_in : Family → Option Datagram → Option (ℕ × Query ℕ)
-general_in family None = None
-general_in family (Some datagram) = general_of datagram.envelope.source (query_in family datagram)
+-- the interval of retransmissions that a time between two queries shows, in tenths of a second
+abbrev pub shown_response : Family → (passed announced : ℕ) → ℕ
+shown_response family passed announced =
+    if nat_lt passed 3174450 && response_lowered family ((passed + 50) / 100 * 100) == announced
+    then (passed + 50) / 100 * 100
+    else announced
 
--- the response of a specific query of the querier, if it isn't 0
-abbrev pub specific_of : (querier source : ℕ) → Option (Query ℕ) → Option ℕ
-specific_of querier source None = None
-specific_of querier source (Some query) =
-    if (source == querier) && not (query.group == 0) then if_any query.response else None
+-- the querier by its first general query
+abbrev pub sought_by : (moment source : ℕ) → Query ℕ → (beside : Option ℕ) → Sought ℕ
+sought_by moment source query beside = record {
+  querier = source;
+  robustness = robustness_in query.version;
+  query_seconds = interval_in query.version;
+  response_interval = if_any query.response;
+  last_member_interval = None;
+  beside = beside;
+  general = moment;
+  asked = None;
+}
 
-abbrev pub specific_in : Family → (querier : ℕ) → Option Datagram → Option ℕ
-specific_in family querier None = None
-specific_in family querier (Some datagram) =
-    specific_of querier datagram.envelope.source (query_in family datagram)
+-- the querier after a further general query of its own
+abbrev pub with_general_again : (moment : ℕ) → Sought ℕ → Sought ℕ
+with_general_again moment s = record s {
+  query_seconds = option_map (shown_seconds (moment - s.general)) s.query_seconds;
+  general = moment;
+}
 
--- the response of the first specific query of the querier that has one
-unfoldable pub first_specific : Family → LinkType → (querier : ℕ) → List Captured → Option ℕ
-first_specific family link querier [] = None
-first_specific family link querier (packet ∷ packets) =
-    option_or (specific_in family querier (datagram_of family (carried_in link packet.bytes)))
-    (first_specific family link querier packets)
+-- the lower one of an address and another, if there is another
+abbrev pub lower_of : (source : ℕ) → Option ℕ → ℕ
+lower_of source None = source
+lower_of source (Some other) = if nat_lt other source then other else source
 
--- The querier of these packets, if there is one, and its variables. The querier is the source of the first general query.
--- The variables are those of this query and of its first specific query after it.
-unfoldable pub announced_in : Family → LinkType → List Captured → Option (Announced ℕ)
-announced_in family link [] = None
-announced_in family link (packet ∷ packets) =
-    elim (general_in family (datagram_of family (carried_in link packet.bytes))) [
-      | None ↦ announced_in family link packets
-      | Some general ↦ Some (announced_by general.0 general.1 (first_specific family link general.0 packets))
-    ]
+-- the querier after a general query from a higher address
+abbrev pub with_other : (source : ℕ) → Sought ℕ → Sought ℕ
+with_other source s = record s { beside = Some (lower_of source s.beside) }
 
--- The same packet by packet: what is announced up to and including a query.
-abbrev pub with_specific : (source : ℕ) → Option (Query ℕ) → Announced ℕ → Announced ℕ
-with_specific source query found =
-    record found { last_member_interval = option_or found.last_member_interval (specific_of found.querier source query) }
+-- The querier after a general query. The lowest source is elected (RFC 3376 section 6.6.2, RFC 3810 section 7.6.2).
+abbrev pub with_general : (moment source : ℕ) → Query ℕ → Sought ℕ → Sought ℕ
+with_general moment source query s =
+    if nat_lt source s.querier
+    then sought_by moment source query (Some s.querier)
+    else if source == s.querier
+    then with_general_again moment s
+    else with_other source s
 
-abbrev pub announced_first : Option (ℕ × Query ℕ) → Option (Announced ℕ)
-announced_first None = None
-announced_first (Some general) = Some (announced_by general.0 general.1 None)
+-- a query for a group or for sources
+abbrev pub asked_last : (moment : ℕ) → Query ℕ → AskedLast ℕ
+asked_last moment query = record { group = query.group; sources = length (query_sources query.version); at = moment }
 
-abbrev pub with_query : (source : ℕ) → Option (Query ℕ) → Option (Announced ℕ) → Option (Announced ℕ)
-with_query source query None = announced_first (general_of source query)
-with_query source query (Some found) = Some (with_specific source query found)
+-- The interval of retransmissions that two queries show. They are on one group, with as many sources.
+abbrev pub shown_by : Family → (asked : AskedLast ℕ) → Option (AskedLast ℕ) → (announced : ℕ) → ℕ
+shown_by family asked None announced = announced
+shown_by family asked (Some last) announced =
+    if (last.group == asked.group) && (last.sources == asked.sources)
+    then shown_response family (asked.at - last.at) announced
+    else announced
 
-abbrev pub with_datagram : Family → Option Datagram → Option (Announced ℕ) → Option (Announced ℕ)
-with_datagram family None found = found
-with_datagram family (Some datagram) found = with_query datagram.envelope.source (query_in family datagram) found
+abbrev pub shown_interval : Family → (asked : AskedLast ℕ) → Option (AskedLast ℕ) → (announced : Option ℕ) → Option ℕ
+shown_interval family asked last None = None
+shown_interval family asked last (Some announced) = Some (shown_by family asked last announced)
 
--- the effect of a packet on what is announced
-abbrev pub TakesLooked : Family → PlacedPacket → (old new : Option (Announced ℕ)) → Result (Unit {0}) PcapFault → Type 0
-TakesLooked family packet old new (Ok u) =
-    new ≡ with_datagram family (datagram_of family (carried_in packet.link packet.frame)) old
+-- the querier after a query of its own for a group or for sources
+abbrev pub with_specific_own : Family → (moment : ℕ) → Query ℕ → Sought ℕ → Sought ℕ
+with_specific_own family moment query s =
+    let asked = asked_last moment query in
+    record s {
+      last_member_interval =
+          shown_interval family asked s.asked (option_or s.last_member_interval (if_any query.response));
+      asked = Some asked;
+    }
+
+abbrev pub with_specific : Family → (moment source : ℕ) → Query ℕ → Sought ℕ → Sought ℕ
+with_specific family moment source query s =
+    if source == s.querier then with_specific_own family moment query s else s
+
+-- the querier up to and including a query
+abbrev pub with_one : Family → (moment source : ℕ) → Query ℕ → Option (Sought ℕ) → Option (Sought ℕ)
+with_one family moment source query None =
+    if is_general query then Some (sought_by moment source query None) else None
+with_one family moment source query (Some s) =
+    if is_general query
+    then Some (with_general moment source query s)
+    else Some (with_specific family moment source query s)
+
+abbrev pub with_query : Family → (moment source : ℕ) → Option (Query ℕ) → Option (Sought ℕ) → Option (Sought ℕ)
+with_query family moment source None sought = sought
+with_query family moment source (Some query) sought = with_one family moment source query sought
+
+abbrev pub with_datagram : Family → (moment : ℕ) → Option Datagram → Option (Sought ℕ) → Option (Sought ℕ)
+with_datagram family moment None sought = sought
+with_datagram family moment (Some datagram) sought =
+    with_query family moment datagram.envelope.source (query_in family datagram) sought
+
+-- the querier up to and including a packet
+abbrev pub with_packet : Family → PlacedPacket → Option (Sought ℕ) → Option (Sought ℕ)
+with_packet family packet sought =
+    with_datagram family packet.moment (datagram_of family (carried_in packet.link packet.frame)) sought
+
+-- the querier by these packets, from this place on
+unfoldable pub sought_in : Family → LinkType → Place → List Captured → Option (Sought ℕ) → Option (Sought ℕ)
+sought_in family link at [] sought = sought
+sought_in family link at (packet ∷ packets) sought =
+    sought_in family link (place_behind at packet.stamp) packets (with_packet family (placed link at packet) sought)
+
+-- the querier and its variables, if a querier is known
+abbrev pub found_in : Option (Sought ℕ) → Option (Announced ℕ)
+found_in None = None
+found_in (Some s) = Some (record {
+  querier = s.querier;
+  robustness = s.robustness;
+  query_seconds = s.query_seconds;
+  response_interval = s.response_interval;
+  last_member_interval = s.last_member_interval;
+  beside = s.beside;
+})
+
+-- the effect of a packet on what is known
+abbrev pub TakesLooked : Family → PlacedPacket → (old new : Option (Sought ℕ)) → Result (Unit {0}) PcapFault → Type 0
+TakesLooked family packet old new (Ok u) = new ≡ with_packet family packet old
 TakesLooked family packet old new (Err f) = ⊥
 
--- the querier of a capture and its variables, by the capture's header
-abbrev pub announced_of : Family → Result Form PcapFault → List Captured → Option (Announced ℕ)
-announced_of family (Err f) packets = None
-announced_of family (Ok form) packets = announced_in family form.link packets
+-- the querier of a capture, by the capture's header
+abbrev pub sought_of : Family → Result Form PcapFault → List Captured → Option (Sought ℕ)
+sought_of family (Err f) packets = None
+sought_of family (Ok form) packets = sought_in family form.link at_first packets None
 
 -- the capture was read to its end, or up to a fault that later bytes don't change, or a read failed
 abbrev pub IsReadBy : (is_read : Bool) → Result Form PcapFault → (end : Option PcapFault) → (bytes : List ℕ) → (old new : InputState) → PcapFault → Type 0
@@ -131,14 +192,14 @@ IsRead header end bytes old new (Ok done) = (end ≡ None) × IsAtEnd new.ahead 
 IsRead header end bytes old new (Err f) = IsReadBy (is_read f) header end bytes old new f
 
 -- a capture was looked at
-pub record LooksIn (family : Family) (old new : InputState) (found : Option (Announced ℕ)) (r : Result (Unit {0}) PcapFault) : Type 0 where
+pub record LooksIn (family : Family) (old new : InputState) (sought : Option (Sought ℕ)) (r : Result (Unit {0}) PcapFault) : Type 0 where
   pub bytes : List ℕ
   pub header : Result Form PcapFault
   pub packets : List Captured
   pub end : Option PcapFault
   pub takes : Takes old new bytes
   pub capture : Captures bytes header packets end
-  pub is_found : found ≡ announced_of family header packets
+  pub is_found : sought ≡ sought_of family header packets
   pub ended : IsRead header end bytes old new r
 
 -- the result by what was found and by how the reading ended
@@ -162,5 +223,5 @@ Announces family old new (Err answer.Write) = ⊥
 Announces family old new (Err (answer.Gap number)) = ⊥
 Announces family old new (Err (answer.Waiting number)) = ⊥
 Announces family old new r =
-    (found : Option (Announced ℕ)) × (read : Result (Unit {0}) PcapFault) × LooksIn family old new found read
-    × (r ≡ concluded found read)
+    (sought : Option (Sought ℕ)) × (read : Result (Unit {0}) PcapFault) × LooksIn family old new sought read
+    × (r ≡ concluded (found_in sought) read)

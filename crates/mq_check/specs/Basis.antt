@@ -1,5 +1,5 @@
 -- The basis of a verdict: the packets of the capture, and who was querier when.
-use Rattle.std.specs.Prelude.{ℕ, ◌+◌, ◌*◌, ◌==◌, ◌&&◌, nat_lt, nat_le, Bool, true, false, if◌then◌else◌, List, [], ◌∷◌, length, Option, None, Some, Result, Ok, Err}
+use Rattle.std.specs.Prelude.{ℕ, ◌+◌, ◌*◌, ◌==◌, ◌&&◌, ◌||◌, not, nat_lt, nat_le, Bool, true, false, if◌then◌else◌, List, [], ◌∷◌, length, Option, None, Some, is_some, Result, Ok, Err}
 use Rattle.std.specs.List.{list_any}
 use Rattle.mq_pcap.specs.declared.link_type.LinkType.{LinkType}
 use Rattle.mq_pcap.specs.declared.link_type.LinkType.TheVariants.{Ethernet, RawIp}
@@ -12,6 +12,7 @@ use Rattle.mq_wire.specs.Family.{Family}
 use Rattle.mq_wire.specs.Family as family
 use Rattle.mq_sched.specs.declared.roles.OtherQuerier.{OtherQuerier}
 use Rattle.mq_sched.specs.Election.{Role, Querier, Other}
+use Rattle.mq_link.specs.Configuration.{Configuration}
 use Rattle.mq_link.specs.Receive.{pseudo_of, read_of}
 use Rattle.mq_replay.specs.Report.{Datagram}
 use Rattle.mq_check.specs.declared.basis.Basis.{Basis}
@@ -19,7 +20,8 @@ use Rattle.mq_check.specs.declared.querier_address.QuerierAddress.{QuerierAddres
 use Rattle.mq_check.specs.declared.querier_address.QuerierAddress.TheVariants.{V4, V6}
 use Rattle.mq_check.specs.declared.totals.Totals.{Totals}
 use Rattle.mq_check.specs.declared.unjudged.Unjudged.{Unjudged}
-use Rattle.mq_check.specs.declared.unjudged.Unjudged.TheVariants.{NotUnderstood, OutOfOrder, NoMessage, NoQuery}
+use Rattle.mq_check.specs.declared.unjudged.Unjudged.TheVariants.{NotUnderstood, OutOfOrder, NoMessage, NoQuery, LimitsExceeded}
+use Rattle.mq_check.specs.Announced.{query_in}
 use Rattle.mq_check.specs.Checking.{counted_up}
 
 -- the address of a router of a family
@@ -36,7 +38,10 @@ basis_at_start own = record {
   cut = 0;
   unread = 0;
   back = 0;
+  refused = 0;
   own = own;
+  is_heard = false;
+  has_higher = false;
   is_querier = true;
   lost = 0;
   lost_at = 0;
@@ -73,9 +78,24 @@ with_read (Err Checksum) b = with_malformed b
 with_read (Err UnknownType) b = b
 with_read (Err QueryLength) b = with_malformed b
 
-abbrev pub with_datagram : Family → Datagram → Basis → Basis
-with_datagram family datagram b =
-    with_read (read_of family (pseudo_of family datagram.envelope datagram.body) datagram.body) b
+-- a query on which hosts act, from a router with a higher address than the checked one
+abbrev pub is_of_higher : Configuration → Datagram → Bool
+is_of_higher config datagram =
+    nat_lt config.own datagram.envelope.source && is_some (query_in config.family datagram)
+
+-- The basis after the sender of a datagram of the family was noted. A router with a higher address is querier only if the
+-- checked one isn't there.
+abbrev pub with_sender : Configuration → Datagram → Basis → Basis
+with_sender config datagram b =
+    record b {
+      is_heard = b.is_heard || (datagram.envelope.source == config.own);
+      has_higher = b.has_higher || is_of_higher config datagram;
+    }
+
+abbrev pub with_datagram : Configuration → Datagram → Basis → Basis
+with_datagram config datagram b =
+    with_sender config datagram
+    (with_read (read_of config.family (pseudo_of config.family datagram.envelope datagram.body) datagram.body) b)
 
 -- The types of Ethernet after which an IP packet may follow that isn't parsed: further tags, MPLS, PPPoE and MACsec.
 -- The last is the type that `convert` writes for a packet whose link type it doesn't read.
@@ -100,13 +120,13 @@ abbrev pub with_other : LinkType → (frame : List ℕ) → Carried → Basis �
 with_other link frame carried.Cut b = with_cut b
 with_other link frame carried.Fragment b = with_unread b
 with_other link frame carried.Other b = if is_wrapped (type_in link frame) then with_unread b else b
-with_other link frame (carried.Igmp source body) b = b
+with_other link frame (carried.Igmp source destination ttl alert body) b = b
 with_other link frame (carried.Mld source destination hop_limit alert body) b = b
 
 -- the basis after the content of a packet
-abbrev pub with_frame : Family → LinkType → (frame : List ℕ) → Carried → Option Datagram → Basis → Basis
-with_frame family link frame content (Some datagram) b = with_datagram family datagram b
-with_frame family link frame content None b = with_other link frame content b
+abbrev pub with_frame : Configuration → LinkType → (frame : List ℕ) → Carried → Option Datagram → Basis → Basis
+with_frame config link frame content (Some datagram) b = with_datagram config datagram b
+with_frame config link frame content None b = with_other link frame content b
 
 -- the basis after a loss or a return of the role
 abbrev pub role_lost : (moment : ℕ) → Basis → Basis
@@ -145,8 +165,13 @@ is_hardly_understood b = nat_lt 0 (b.cut + b.unread) && nat_le b.packets (2 * (b
 abbrev pub is_out_of_order : Basis → Bool
 is_out_of_order b = nat_lt 0 b.back && nat_le b.packets (2 * b.back)
 
+-- nothing came from the checked router, though a router with a higher address sends queries
+abbrev pub is_unseen : Basis → Bool
+is_unseen b = not b.is_heard && b.has_higher
+
 -- The reason why a check judged nothing, if there is one. Too much of the capture is truncated or unread, or has stamps
--- that go back, or it has no message of the family. Or it has no query of the checked router and no finding.
+-- that go back, or it has no message of the family. Or it has no query of the checked router, and no finding or nothing at
+-- all from this address. Or it has findings that the limits of the check's own link may cause.
 abbrev pub unjudged_by : Totals → Option Unjudged
 unjudged_by totals =
     if is_hardly_understood totals.basis
@@ -155,6 +180,8 @@ unjudged_by totals =
     then Some OutOfOrder
     else if totals.basis.messages + totals.basis.malformed == 0
     then Some NoMessage
-    else if totals.general + totals.specific + totals.findings == 0
+    else if is_unseen totals.basis || totals.general + totals.specific + totals.findings == 0
     then Some NoQuery
+    else if nat_lt 0 totals.basis.refused && nat_lt 0 totals.findings
+    then Some LimitsExceeded
     else None

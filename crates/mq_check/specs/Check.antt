@@ -20,6 +20,7 @@ use Rattle.mq_replay.specs.Report.{Datagram, datagram_of, all_sent}
 use Rattle.mq_replay.specs.Ticks as ticks
 use Rattle.mq_check.specs.declared.basis.Basis.{Basis}
 use Rattle.mq_check.specs.declared.check_terms.Additions.{Additions}
+use Rattle.mq_check.specs.declared.check_terms.CheckFlags.{CheckFlags}
 use Rattle.mq_check.specs.declared.check_terms.CheckTerms.{CheckTerms}
 use Rattle.mq_check.specs.declared.finding.Finding.{Finding}
 use Rattle.mq_check.specs.declared.headers.HeaderFault.{HeaderFault}
@@ -27,12 +28,12 @@ use Rattle.mq_check.specs.declared.headers.Headers.{Headers}
 use Rattle.mq_check.specs.declared.totals.Totals.{Totals}
 use Rattle.mq_check.specs.Basis.{basis_at_start, named, with_frame, with_other_querier}
 use Rattle.mq_check.specs.Basis as basis
-use Rattle.mq_check.specs.Blocked.{blocked_in}
-use Rattle.mq_check.specs.Checking.{CheckingValue, checking_at_start, told, settled, faults_seen, with_all_excused, with_messages, role_changed, role_after_tick, query_came, all_blocked, told_at_end}
-use Rattle.mq_check.specs.FindingLines.{finding_lines, last_lines}
+use Rattle.mq_check.specs.Causes.{causes_in}
+use Rattle.mq_check.specs.Checking.{CheckingValue, checking_at_start, told, settled, faults_seen, with_all_excused, with_messages, role_changed, role_after_tick, query_came, all_changed, told_at_end}
+use Rattle.mq_check.specs.FindingLines.{certain_in, finding_lines, last_lines, possible_in}
 use Rattle.mq_check.specs.General.{silence_up_to}
-use Rattle.mq_check.specs.Headers.{faults_if, faults_of, has_reserved_bits, headers4_in, is_broken_query, is_own_query}
-use Rattle.mq_check.specs.Queries.{query_seen}
+use Rattle.mq_check.specs.Headers.{faults_if, faults_of, headers4_in, headers6_in, is_broken_query, is_own_query}
+use Rattle.mq_check.specs.Queries.{query_seen, specific_terms}
 use Rattle.mq_check.specs.Repeated.{all_reported}
 
 -- A check in progress: the link, its treatment of queries, and the basis of the verdict.
@@ -42,10 +43,10 @@ pub record Checked : Type 0 where
   pub basis : Basis
 
 -- the check whose link starts at 0, without a wanted or a seen query
-abbrev pub at_the_start : Configuration → (within : ℕ) → (strict : Bool) → Checked
-at_the_start config within strict = record {
+abbrev pub at_the_start : Configuration → (within : ℕ) → CheckFlags → Checked
+at_the_start config within flags = record {
   link = link_at config 0;
-  checking = checking_at_start within config.timing strict;
+  checking = checking_at_start within config.timing flags;
   basis = basis_at_start (named config.family config.own);
 }
 
@@ -131,21 +132,25 @@ abbrev pub destination_in : Family → LinkType → (frame : List ℕ) → Envel
 destination_in Igmp link frame envelope = destination4_in (packet_in link frame)
 destination_in Mld link frame envelope = envelope.destination
 
--- the headers of a packet with a datagram
-abbrev pub headers_in : Family → LinkType → (frame : List ℕ) → Envelope → Headers
-headers_in Igmp link frame envelope = headers4_in (packet_in link frame)
-headers_in Mld link frame envelope = record { ttl = envelope.hop_limit; alert = envelope.alert }
+-- the fields of a packet and of the query in it
+abbrev pub headers_in : Family → LinkType → (frame : List ℕ) → Datagram → Headers
+headers_in Igmp link frame datagram = headers4_in (packet_in link frame) datagram.body
+headers_in Mld link frame datagram = headers6_in datagram.envelope datagram.body
 
--- their faults and those of the message, if the datagram is a query of the checked querier
+-- their faults, if the datagram is a query of the checked querier
 abbrev pub faults_in : Configuration → LinkType → (frame : List ℕ) → Datagram → List HeaderFault
 faults_in config link frame datagram =
     faults_if (is_own_query config datagram) (is_broken_query config datagram)
-    (faults_of (headers_in config.family link frame datagram.envelope) (has_reserved_bits config.family datagram.body))
+    (faults_of (headers_in config.family link frame datagram))
 
--- the check after the sources were noted that a datagram of a host blocks
-abbrev pub noting_blocked : Configuration → (moment : ℕ) → Datagram → Checked → Checked
-noting_blocked config moment datagram r =
-    record r { checking = all_blocked moment (blocked_in config.family datagram) r.checking }
+-- the check after the changes of a datagram of a host were noted that may make a querier send a query
+abbrev pub noting_changes : Configuration → (moment : ℕ) → Datagram → Checked → Checked
+noting_changes config moment datagram r =
+    record r {
+      checking =
+          all_changed moment (specific_terms config r.link.election.timing r.basis.packets) (causes_in config.family datagram)
+          r.checking;
+    }
 
 -- the check after the link received a datagram, by which the role may change
 unfoldable pub received : Configuration → (within moment : ℕ) → Datagram → Checked → Checked
@@ -155,7 +160,7 @@ received config within moment datagram r =
       link = answered (all_sent (outgoing_of config step)) step;
       checking =
           role_changed within config.timing moment (is_querier r.link.election.role) (is_querier step.state.election.role)
-          (wanted_by config moment false step (noting_blocked config moment datagram r));
+          (wanted_by config moment false step (noting_changes config moment datagram r));
       basis =
           with_other_querier config.family step.state.election.role
           (basis.role_changed moment (is_querier r.link.election.role) (is_querier step.state.election.role) r.basis);
@@ -189,7 +194,7 @@ with_datagram config link within moment number frame (Some datagram) r =
 -- the check after a packet was counted
 abbrev pub noted : Configuration → LinkType → (goes_back : Bool) → (frame : List ℕ) → Option Datagram → Checked → Checked
 noted config link goes_back frame datagram r =
-    record r { basis = with_frame config.family link frame (carried_in link frame) datagram (basis.with_packet goes_back r.basis) }
+    record r { basis = with_frame config link frame (carried_in link frame) datagram (basis.with_packet goes_back r.basis) }
 
 -- the outcome of a packet with this number, after the ticks up to its moment
 unfoldable pub with_packet : Configuration → LinkType → (within moment number : ℕ) → (goes_back : Bool) → (frame : List ℕ) → Checked → Outcome
@@ -199,12 +204,13 @@ with_packet config link within moment number goes_back frame r =
     behind before.found
     (with_datagram config link within moment number frame datagram (noted config link goes_back frame datagram before.checked))
 
--- the totals of a check with these reported findings
+-- The totals of a check with these reported findings. All possible findings are reported. Those have their own count.
 abbrev pub totals_of : CheckingValue → Basis → List (Finding ℕ) → Totals
 totals_of c basis found = record {
   general = c.general;
   specific = c.specific;
-  findings = min (length found) (2 ^ 64 - 1);
+  findings = min (length (certain_in found)) (2 ^ 64 - 1);
+  possible = min (length (possible_in found)) (2 ^ 64 - 1);
   basis = basis;
 }
 
@@ -217,9 +223,13 @@ abbrev pub concluded : Configuration → (additions : Additions) → CheckingVal
 concluded config additions c basis found =
     let told = all_reported additions found in
     record {
-      text = finding_lines config.family additions told ++ last_lines (totals_of c basis told);
+      text = finding_lines config.family additions told ++ last_lines additions.json (totals_of c basis told);
       answer = Ok (totals_of c basis told);
     }
+
+-- the basis at the end, with the number of records that the link refused for its limits
+abbrev pub basis_at_end : Checked → Basis
+basis_at_end r = record r.basis { refused = r.link.counters.refused }
 
 -- The verdict after a check up to and including a moment, with the earlier findings first. The link is ticked further,
 -- so that each seen query can find its partner. The basis and the silence are those of the moment.
@@ -230,13 +240,13 @@ ended_at config within additions moment number found r =
     let silence = silence_up_to within config.timing moment done.checked.checking.phase in
     if ahead.checked.checking.waiting.is_full
     then record { text = found_text config additions (found ++ done.found ++ ahead.found); answer = Err (Waiting number) }
-    else concluded config additions ahead.checked.checking done.checked.basis
+    else concluded config additions ahead.checked.checking (basis_at_end done.checked)
     (found ++ done.found ++ ahead.found ++ told_at_end within config.timing moment silence ahead.checked.checking)
 
 -- the check of a capture, as work over its packets
 abbrev pub check_of : Configuration → CheckTerms → Work Outcome Totals
 check_of config terms = record {
-  start = quiet (at_the_start config terms.within terms.strict);
+  start = quiet (at_the_start config terms.within terms.flags);
   step = λ packet o.
       behind o.found
       (with_packet config packet.link terms.within packet.moment packet.number packet.goes_back packet.frame o.checked);

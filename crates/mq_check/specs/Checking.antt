@@ -1,17 +1,22 @@
 -- A check's treatment of queries, in order. A wanted query and a seen one are partners if they have the same subject
 -- and lie at most the tolerance apart. Each has at most one partner, and the earlier query is paired first. A seen query
--- without such a partner may have an earlier one, if it comes when the next query of a schedule is due.
-use Rattle.std.specs.Prelude.{ℕ, ◌+◌, ◌-◌, ◌^◌, ◌&&◌, min, nat_lt, nat_le, not, Bool, true, false, if◌then◌else◌, List, [], ◌∷◌, ◌++◌, Option, None, Some, is_some, flat_map, fold}
+-- without such a partner may have an earlier one, if it comes when the next query of a schedule is due. Or it may belong
+-- to a schedule from before the capture.
+use Rattle.std.specs.Prelude.{ℕ, ◌+◌, ◌-◌, ◌^◌, ◌&&◌, ◌||◌, min, nat_lt, nat_le, not, Bool, true, false, if◌then◌else◌, List, [], ◌∷◌, ◌++◌, Option, None, Some, is_some, flat_map, fold}
 use Rattle.mq_wire.specs.declared.query.Query.{Query}
 use Rattle.mq_wire.specs.Family.{Family}
 use Rattle.mq_table.specs.declared.timing.Timing.{Timing}
-use Rattle.mq_table.specs.Timing.{membership_interval, query_interval}
+use Rattle.mq_table.specs.Timing.{query_interval}
 use Rattle.mq_check.specs.declared.asked.Asked.{Asked}
-use Rattle.mq_check.specs.declared.asked.Asked.TheVariants.{AllGroups}
+use Rattle.mq_check.specs.declared.asked.Asked.TheVariants.{AllGroups, Group, Source}
+use Rattle.mq_check.specs.declared.check_terms.CheckFlags.{CheckFlags}
 use Rattle.mq_check.specs.declared.entry.Entry.{Entry}
 use Rattle.mq_check.specs.declared.entry.Entry.TheVariants.{Wanted, Seen, Interval, Silence, Packet}
+use Rattle.mq_check.specs.declared.entry.Need.{Need}
+use Rattle.mq_check.specs.declared.entry.Need.TheVariants.{Required, Optional}
+use Rattle.mq_check.specs.declared.entry.Need.TheVariants as need
 use Rattle.mq_check.specs.declared.entry.Unpaired.{Unpaired}
-use Rattle.mq_check.specs.declared.entry.Unpaired.TheVariants.{Extra, Allowed}
+use Rattle.mq_check.specs.declared.entry.Unpaired.TheVariants.{Extra, Possible}
 use Rattle.mq_check.specs.declared.finding.ExtraReason.{ExtraReason}
 use Rattle.mq_check.specs.declared.finding.ExtraReason.TheVariants.{NoChange, OlderHost, NotQuerier}
 use Rattle.mq_check.specs.declared.finding.Finding.{Finding}
@@ -22,21 +27,21 @@ use Rattle.mq_check.specs.declared.phase.Phase.TheVariants.{Starting, Heard, Ret
 use Rattle.mq_check.specs.declared.standing.Standing.{Standing}
 use Rattle.mq_check.specs.declared.terms.Terms.{Terms}
 use Rattle.mq_check.specs.declared.waiting.Side.TheVariants.{OfWanted, OfSeen}
-use Rattle.mq_check.specs.Entries.{moment_of, first_terms, may_be_left_out, excused_if, findings_of}
+use Rattle.mq_check.specs.Entries.{moment_of, first_terms, may_be_left_out, excused_if, findings_of, is_possible}
 use Rattle.mq_check.specs.General.{phase_at_start, wrong_interval, phase_behind, silence_up_to, phase_again}
-use Rattle.mq_check.specs.Standing.{held, standing_in}
-use Rattle.mq_check.specs.Unheld.{specific_terms}
-use Rattle.mq_check.specs.Schedules.{SchedulesValue, schedules_at_start, schedules_seen, schedules_wanted, schedules_blocked, recent, allowed_by, as_seen, before_in, is_next, terms_wanted}
+use Rattle.mq_check.specs.Standing.{plain, standing_in}
+use Rattle.mq_check.specs.Schedules.{SchedulesValue, schedules_at_start, schedules_wanted, schedules_changed, recent, as_seen, before_in, is_next, terms_wanted}
+use Rattle.mq_check.specs.Schedules.{at_first, caused, cause_in, first_of, followed, is_near_cause, placed, unclear, without_next}
 use Rattle.mq_link.specs.Configuration.{Configuration}
 use Rattle.mq_link.specs.Sent.{Outgoing}
 use Rattle.mq_link.specs.State.{LinkState}
 use Rattle.mq_check.specs.Queries.{asked_in, is_general, terms_of, general_terms}
-use Rattle.mq_check.specs.Waiting.{WaitingValue, nothing, with_entry, with_partner, is_free, has_free}
+use Rattle.mq_check.specs.Waiting.{WaitingValue, nothing, emptied, with_entry, with_partner, is_free, has_free}
 use Rattle.mq_check.specs.Waiting as waits
 
 -- The pending entries, the last change of the role, the phase of general queries, and the counts of seen queries.
--- Before the moment `known_from`, a querier may hold what the link doesn't hold. `known` has the subjects of the queries
--- that were wanted before: their timers were lowered then. `schedules` has the schedules that a querier may keep.
+-- `unmuted` has the groups for whose sources the querier asked after a change that older hosts mute. So none was there
+-- before the capture. `schedules` has the schedules that a querier may keep.
 pub record CheckingValue : Type 0 where
   pub waiting : WaitingValue
   pub changed : Option ℕ
@@ -44,36 +49,34 @@ pub record CheckingValue : Type 0 where
   pub last_general : Option ℕ
   pub general : ℕ
   pub specific : ℕ
-  pub known_from : ℕ
-  pub known : WaitingValue
+  pub unmuted : WaitingValue
   pub schedules : SchedulesValue
 
--- A group from before the capture is held for at most a Group Membership Interval after its start. The tolerance comes
--- on top. A strict check accepts none of these groups.
-abbrev pub known_from : (within : ℕ) → Timing → (strict : Bool) → ℕ
-known_from within timing true = 0
-known_from within timing false = membership_interval timing + within + 1
-
-abbrev pub checking_at_start : (within : ℕ) → Timing → (strict : Bool) → CheckingValue
-checking_at_start within timing strict = record {
+abbrev pub checking_at_start : (within : ℕ) → Timing → CheckFlags → CheckingValue
+checking_at_start within timing flags = record {
   waiting = nothing;
   changed = None;
   phase = phase_at_start timing;
   last_general = None;
   general = 0;
   specific = 0;
-  known_from = known_from within timing strict;
-  known = nothing;
-  schedules = schedules_at_start within timing strict;
+  unmuted = nothing;
+  schedules = schedules_at_start within timing flags;
 }
 
--- The findings of the entries that have expired at a moment, and the check after their removal. If an entry had no
--- room, nothing more is found.
+-- The findings of the entries that have expired at a moment, and the check after their removal. The queries that were still
+-- to come in schedules from before the capture follow. If an entry had no room, nothing more is found.
 abbrev pub told : (within now : ℕ) → CheckingValue → List (Finding ℕ)
-told within now c = waits.told c.schedules.repeats.keep within now c.changed c.waiting
+told within now c =
+    waits.told c.schedules.repeats.keep within now c.changed c.waiting
+    ++ waits.told c.schedules.repeats.within within now c.changed c.schedules.next
 
 abbrev pub settled : (now : ℕ) → CheckingValue → CheckingValue
-settled now c = record c { waiting = waits.settled c.schedules.repeats.keep now c.waiting }
+settled now c =
+    record c {
+      waiting = waits.settled c.schedules.repeats.keep now c.waiting;
+      schedules = record c.schedules { next = waits.settled c.schedules.repeats.within now c.schedules.next };
+    }
 
 -- a count, which stays at the greatest number of 64 bits
 abbrev pub counted_up : ℕ → ℕ
@@ -86,38 +89,44 @@ is_querier_in (Heard before startup) = true
 is_querier_in Returned = true
 is_querier_in NotQuerier = false
 
--- a query on this subject was wanted before
-abbrev pub is_known : Asked ℕ → CheckingValue → Bool
-is_known asked c = has_free OfWanted asked 0 c.known
+-- An older host from before the capture may mute the change that asks for a source. That ends when the time is over for
+-- which it is assumed to be there. It also ends when the querier asks for a source of the group after a muted change. Up to
+-- that time a source may also be asked for again at another moment, together with sources that the querier held before.
+abbrev pub may_be_muted : (moment : ℕ) → (is_again : Bool) → Asked ℕ → CheckingValue → Bool
+may_be_muted moment is_again AllGroups c = false
+may_be_muted moment is_again (Group group) c = false
+may_be_muted moment is_again (Source group source) c =
+    nat_lt moment c.schedules.repeats.held_until && (is_again || not (has_free OfWanted (Group group) 0 c.unmuted))
 
-abbrev pub may_be_unknown : (moment : ℕ) → Asked ℕ → CheckingValue → Bool
-may_be_unknown moment asked c = nat_lt moment c.known_from && not (is_known asked c)
+-- Another reading, or such a host, may explain that a query doesn't come.
+abbrev pub may_be_missing : (moment : ℕ) → (is_again : Bool) → Asked ℕ → CheckingValue → Bool
+may_be_missing moment is_again asked c = is_some (unclear asked c.schedules) || may_be_muted moment is_again asked c
 
--- the known subjects after a query on this one became wanted
-abbrev pub with_known : (moment : ℕ) → Terms ℕ → Asked ℕ → CheckingValue → WaitingValue
-with_known moment terms asked c =
-    if may_be_unknown moment asked c then with_entry (Wanted moment asked terms true false) c.known else c.known
+abbrev pub need_by : (may_be_left_out may_be_missing : Bool) → Need
+need_by true may_be_missing = Optional
+need_by false true = need.Possible
+need_by false false = Required
 
 -- the first moment within the tolerance before another
 abbrev pub near : (moment : ℕ) → CheckingValue → ℕ
 near moment c = moment - c.schedules.repeats.within
 
 -- The check after a query became wanted. Its partner is the first seen query on the subject within the tolerance that
--- has none.
-unfoldable pub with_wanted : (moment : ℕ) → Terms ℕ → CheckingValue → Asked ℕ → CheckingValue
-with_wanted moment terms c asked =
-    let is_optional = may_be_left_out moment asked terms c.waiting.entries in
+-- has none. A schedule from before the capture on the subject is replaced.
+unfoldable pub with_wanted : (moment : ℕ) → (is_again : Bool) → Terms ℕ → CheckingValue → Asked ℕ → CheckingValue
+with_wanted moment is_again terms c asked =
+    let before : CheckingValue = record c { schedules = recent moment c.schedules } in
+    let need = need_by (may_be_left_out moment asked terms c.waiting.entries) (may_be_missing moment is_again asked before) in
     let from = near moment c in
     let is_found = is_some (first_terms (is_free OfSeen asked from) c.waiting.entries) in
     record c {
-      waiting = with_entry (Wanted moment asked terms is_optional is_found) (with_partner OfSeen asked from terms c.waiting);
-      known = with_known moment terms asked c;
-      schedules = schedules_wanted moment terms asked (recent moment c.schedules);
+      waiting = with_entry (Wanted moment asked terms need is_found) (with_partner OfSeen asked from terms c.waiting);
+      schedules = without_next asked (schedules_wanted moment terms asked before.schedules);
     }
 
 -- the check after the link sent a query about a subject; `is_again` is set if a tick sent it again
 abbrev pub subject_wanted : (moment : ℕ) → (is_again : Bool) → Terms ℕ → CheckingValue → Asked ℕ → CheckingValue
-subject_wanted moment is_again terms c asked = with_wanted moment (terms_wanted is_again terms asked c.schedules) c asked
+subject_wanted moment is_again terms c asked = with_wanted moment is_again (terms_wanted is_again terms asked c.schedules) c asked
 
 -- The reason why a query is extra that is seen while the router is querier. `is_muted` is set if an older host mutes the
 -- change that asks for it.
@@ -125,24 +134,23 @@ abbrev pub reason_of : (is_muted : Bool) → ExtraReason
 reason_of false = NoChange
 reason_of true = OlderHost
 
--- A seen query if it finds no partner. It is allowed if the router is querier, and its subject may be held since before
--- the capture, or it belongs to an earlier schedule. `wanted` has the terms of such a query, if there are any.
-abbrev pub allowed_if : (is_querier is_muted : Bool) → (wanted : Option (Terms ℕ)) → Unpaired ℕ
-allowed_if false is_muted wanted = Extra NotQuerier
-allowed_if true is_muted None = Extra (reason_of is_muted)
-allowed_if true is_muted (Some wanted) = Allowed wanted
+-- A seen query if it finds no partner. It is extra while another router is querier. Otherwise it is possibly extra if another
+-- reading explains it, or a change that asks for a subject from before the capture. It has the terms of such a query.
+abbrev pub alone_if : (is_querier is_muted : Bool) → (possible : Option (Terms ℕ)) → Unpaired ℕ
+alone_if false is_muted possible = Extra NotQuerier
+alone_if true is_muted (Some wanted) = Possible wanted
+alone_if true is_muted None = Extra (reason_of is_muted)
 
-abbrev pub either_of : (may_be_unknown : Bool) → (unheld earlier : Option (Terms ℕ)) → Option (Terms ℕ)
-either_of false unheld earlier = earlier
-either_of true None earlier = earlier
-either_of true (Some wanted) earlier = Some wanted
+abbrev pub possible_by : (moment : ℕ) → Terms ℕ → Asked ℕ → SchedulesValue → Option (Terms ℕ)
+possible_by moment terms asked s = first_of
+    (as_seen terms (first_of (unclear asked s) (caused moment asked s)))
+    (at_first moment terms s)
 
-abbrev pub alone_after : (moment : ℕ) → Terms ℕ → Standing ℕ → Asked ℕ → CheckingValue → Unpaired ℕ
+abbrev pub alone_after : (moment : ℕ) → Terms ℕ → Standing → Asked ℕ → CheckingValue → Unpaired ℕ
 alone_after moment terms standing asked c =
-    allowed_if (is_querier_in c.phase) standing.is_muted
-    (either_of (may_be_unknown moment asked c) standing.unheld (allowed_by moment terms asked c.schedules))
+    alone_if (is_querier_in c.phase) standing.is_muted (possible_by moment terms asked c.schedules)
 
-abbrev pub alone_in : (moment : ℕ) → Terms ℕ → Standing ℕ → Asked ℕ → CheckingValue → Unpaired ℕ
+abbrev pub alone_in : (moment : ℕ) → Terms ℕ → Standing → Asked ℕ → CheckingValue → Unpaired ℕ
 alone_in moment terms standing asked c =
     alone_after moment terms standing asked (record c { schedules = recent moment c.schedules })
 
@@ -172,14 +180,32 @@ partner_of moment terms asked c = partner_if (is_late moment asked c) (near mome
 abbrev pub paired : (moment : ℕ) → Terms ℕ → Asked ℕ → CheckingValue → WaitingValue
 paired moment terms asked c = paired_if (is_late moment asked c) (near moment c) terms asked c.waiting
 
--- the check after a query was seen
-unfoldable pub with_seen : (moment : ℕ) → Terms ℕ → Standing ℕ → CheckingValue → Asked ℕ → CheckingValue
+-- The groups whose changes no older host mutes, after a query was seen. It shows that if it comes after a change that such a
+-- host mutes, and no other change explains it.
+abbrev pub shows_unmuted : (moment group source : ℕ) → CheckingValue → Bool
+shows_unmuted moment group source c =
+    is_querier_in c.phase && is_near_cause c.schedules.repeats moment (cause_in (Source group source) c.schedules)
+    && not (is_some (unclear (Source group source) c.schedules)) && not (has_free OfWanted (Group group) 0 c.unmuted)
+
+abbrev pub with_unmuted : (moment : ℕ) → Terms ℕ → Asked ℕ → CheckingValue → WaitingValue
+with_unmuted moment terms AllGroups c = c.unmuted
+with_unmuted moment terms (Group group) c = c.unmuted
+with_unmuted moment terms (Source group source) c =
+    if shows_unmuted moment group source c then with_entry (Wanted moment (Group group) terms Optional false) c.unmuted else c.unmuted
+
+-- The check after a query was seen. Its partner is a wanted query, or it is the next one of a schedule from before the
+-- capture.
+unfoldable pub with_seen : (moment : ℕ) → Terms ℕ → Standing → CheckingValue → Asked ℕ → CheckingValue
 with_seen moment terms standing c asked =
+    let before = recent moment c.schedules in
     let partner = partner_of moment terms asked c in
+    let next = followed moment standing.is_above asked before in
+    let alone = alone_in moment terms standing asked c in
     record c {
-      waiting =
-          with_entry (Seen moment asked terms partner (alone_in moment terms standing asked c)) (paired moment terms asked c);
-      schedules = schedules_seen moment terms asked (is_some partner) (recent moment c.schedules);
+      waiting = with_entry (Seen moment asked terms (first_of partner next) alone) (paired moment terms asked c);
+      unmuted = with_unmuted moment terms asked (record c { schedules = before });
+      schedules =
+          placed moment terms asked (is_some partner) (is_some next) (is_possible alone) (caused moment asked before) before;
     }
 
 -- the entries with a wrong interval, or with a silence that is too long, if there is one
@@ -209,7 +235,7 @@ abbrev pub general_compared : (within : ℕ) → (configured : Timing) → (mome
 general_compared within configured moment terms wanted c =
     if is_querier_in c.phase
     then with_general within configured moment terms wanted c
-    else with_seen moment terms held c AllGroups
+    else with_seen moment terms plain c AllGroups
 
 abbrev pub general_seen : (within : ℕ) → (configured : Timing) → (moment : ℕ) → (terms wanted : Terms ℕ) → CheckingValue → CheckingValue
 general_seen within configured moment terms wanted c =
@@ -217,10 +243,10 @@ general_seen within configured moment terms wanted c =
     record compared { last_general = Some moment; general = counted_up compared.general }
 
 -- the check after a query for a group or for sources was seen
-abbrev pub one_seen : (moment : ℕ) → Terms ℕ → (standing : Asked ℕ → Standing ℕ) → CheckingValue → Asked ℕ → CheckingValue
+abbrev pub one_seen : (moment : ℕ) → Terms ℕ → (standing : Asked ℕ → Standing) → CheckingValue → Asked ℕ → CheckingValue
 one_seen moment terms standing c asked = with_seen moment terms (standing asked) c asked
 
-abbrev pub specific_seen : (moment : ℕ) → Terms ℕ → (standing : Asked ℕ → Standing ℕ) → List (Asked ℕ) → CheckingValue → CheckingValue
+abbrev pub specific_seen : (moment : ℕ) → Terms ℕ → (standing : Asked ℕ → Standing) → List (Asked ℕ) → CheckingValue → CheckingValue
 specific_seen moment terms standing asked c =
     let seen = fold (one_seen moment terms standing) c asked in
     record seen { specific = counted_up seen.specific }
@@ -239,7 +265,7 @@ query_came within config link moment packet to query c =
     let terms = terms_of config.family packet to query in
     if is_general query
     then general_seen within config.timing moment terms (general_terms config link.election.timing) c
-    else specific_seen moment terms (standing_in config.family link.groups moment (specific_terms config link.election.timing query)) (asked_in query) c
+    else specific_seen moment terms (standing_in config.family link.groups link.election.timing moment) (asked_in query) c
 
 -- The check after a query that the link sends. A general query is wanted at its moment only if the router becomes
 -- querier again (RFC 3376 section 6.6.2, RFC 3810 section 7.6.2). `packet` is the number of the last packet before. If a
@@ -255,13 +281,18 @@ abbrev pub with_messages : Family → (moment packet : ℕ) → (by_tick is_retu
 with_messages family moment packet by_tick is_returning messages c =
     fold (λ c message. one_wanted family moment packet by_tick is_returning message.to message.query c) c messages
 
--- The check after the role was lost, from which no general query is wanted, or after the role returned.
+-- The check after the role was lost, from which no general query is wanted, or after the role returned. A router that
+-- loses the role sends no query again.
+abbrev pub without_all_next : SchedulesValue → SchedulesValue
+without_all_next s = record s { next = emptied s.next }
+
 unfoldable pub role_lost : (within : ℕ) → (configured : Timing) → (moment : ℕ) → CheckingValue → CheckingValue
 role_lost within configured moment c =
     record c {
       waiting = with_silence configured moment (silence_up_to within configured moment c.phase) c.waiting;
       changed = Some moment;
       phase = NotQuerier;
+      schedules = without_all_next c.schedules;
     }
 
 unfoldable pub role_returned : (within : ℕ) → (moment : ℕ) → CheckingValue → CheckingValue
@@ -279,18 +310,26 @@ role_after_tick within moment true is_querier c = c
 role_after_tick within moment false true c = role_returned within moment c
 role_after_tick within moment false false c = c
 
--- the check after a host blocked these subjects
-abbrev pub one_blocked : (moment : ℕ) → CheckingValue → Asked ℕ → CheckingValue
-one_blocked moment c asked = record c { schedules = schedules_blocked moment asked (recent moment c.schedules) }
+-- The check after hosts made changes that may make a querier ask for these subjects. `terms` has the terms of a query for
+-- each group, or for its sources.
+abbrev pub group_of : Asked ℕ → ℕ
+group_of AllGroups = 0
+group_of (Group group) = group
+group_of (Source group source) = group
 
-abbrev pub all_blocked : (moment : ℕ) → List (Asked ℕ) → CheckingValue → CheckingValue
-all_blocked moment asked c = fold (one_blocked moment) c asked
+abbrev pub one_changed : (moment : ℕ) → (terms : ℕ → Terms ℕ) → CheckingValue → Asked ℕ → CheckingValue
+one_changed moment terms c asked =
+    record c { schedules = schedules_changed moment (terms (group_of asked)) asked (recent moment c.schedules) }
 
--- the check at the end of a capture, after which the partners of wanted queries may come
+abbrev pub all_changed : (moment : ℕ) → (terms : ℕ → Terms ℕ) → List (Asked ℕ) → CheckingValue → CheckingValue
+all_changed moment terms asked c = fold (one_changed moment terms) c asked
+
+-- The check at the end of a capture. Afterwards the partners of wanted queries may come, and the next queries of schedules
+-- from before the capture.
 abbrev pub with_all_excused : (within end : ℕ) → CheckingValue → CheckingValue
 with_all_excused within end c =
     let schedules = recent end c.schedules in
-    record c { waiting = waits.all_excused within end schedules.sent c.waiting; schedules = schedules }
+    record c { waiting = waits.all_excused within end schedules.sent c.waiting; schedules = without_all_next schedules }
 
 -- The findings of an entry that is pending after the end of a capture, if the role changed last at `changed`. A query
 -- that is wanted at most the tolerance before the end, or later, isn't reported.

@@ -1,5 +1,5 @@
 -- The end of a check, after earlier findings.
-use Rattle.std.specs.Prelude.{ℕ, if◌then◌else◌, List, ◌++◌, length, Ok, Err}
+use Rattle.std.specs.Prelude.{ℕ, if◌then◌else◌, List, ◌++◌, Ok, Err}
 use Rattle.mq_wire.specs.Family.{Family}
 use Rattle.mq_link.specs.Configuration.{Configuration}
 use Rattle.mq_replay.specs.declared.capture_fault.CaptureFault.TheVariants as answer
@@ -7,25 +7,27 @@ use Rattle.mq_replay.specs.Courses.{Report}
 use Rattle.mq_check.specs.declared.basis.Basis.{Basis}
 use Rattle.mq_check.specs.declared.check_terms.Additions.{Additions}
 use Rattle.mq_check.specs.declared.finding.Finding.{Finding}
+use Rattle.mq_check.specs.declared.totals.FindingCounts.{FindingCounts}
 use Rattle.mq_check.specs.declared.totals.Totals.{Totals}
-use Rattle.mq_check.specs.Check.{Checked, looked_ahead, settled_through}
+use Rattle.mq_check.specs.Check.{Checked, basis_at_end, looked_ahead, settled_through}
 use Rattle.mq_check.specs.Checking.{CheckingValue, told_at_end}
 use Rattle.mq_check.specs.FindingLines.{finding_lines, last_lines}
 use Rattle.mq_check.specs.General.{silence_up_to}
-use Rattle.mq_check.specs.Telling.{FindingWriterState, counted_times, reported_by}
+use Rattle.mq_check.specs.Telling.{FindingWriterState, counted_by, reported_by}
 
--- the totals of a check with these reported findings, after `count` earlier ones
-abbrev pub counted_behind : (count : ℕ) → CheckingValue → Basis → List (Finding ℕ) → Totals
+-- the totals of a check with these reported findings, after earlier ones
+abbrev pub counted_behind : (count : FindingCounts) → CheckingValue → Basis → List (Finding ℕ) → Totals
 counted_behind count c basis found = record {
   general = c.general;
   specific = c.specific;
-  findings = counted_times (length found) count;
+  findings = (counted_by found count).certain;
+  possible = (counted_by found count).possible;
   basis = basis;
 }
 
 -- the text of the end
 abbrev pub end_text : Family → (additions : Additions) → List (Finding ℕ) → Totals → List ℕ
-end_text family additions found totals = finding_lines family additions found ++ last_lines totals
+end_text family additions found totals = finding_lines family additions found ++ last_lines additions.json totals
 
 -- The verdict up to and including a moment, after earlier findings.
 abbrev pub end_behind : Family → FindingWriterState → (number : ℕ) → CheckingValue → Basis → (found last : List (Finding ℕ)) → Report Totals
@@ -43,5 +45,5 @@ ended_behind config within told moment number r =
     let done = settled_through config within moment r in
     let ahead = looked_ahead config within moment done.checked in
     let silence = silence_up_to within config.timing moment done.checked.checking.phase in
-    end_behind config.family told number ahead.checked.checking done.checked.basis (done.found ++ ahead.found)
+    end_behind config.family told number ahead.checked.checking (basis_at_end done.checked) (done.found ++ ahead.found)
     (told_at_end within config.timing moment silence ahead.checked.checking)

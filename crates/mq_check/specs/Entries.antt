@@ -1,13 +1,16 @@
 -- Pending entries: wanted and seen queries whose partners may still come, and findings, in ascending order of their
 -- moments.
-use Rattle.std.specs.Prelude.{ℕ, ◌+◌, ◌==◌, ◌&&◌, ◌||◌, not, nat_lt, nat_le, Bool, true, false, if◌then◌else◌, List, [], ◌∷◌, ◌++◌, map as list_map, Option, None, Some, is_some}
+use Rattle.std.specs.Prelude.{ℕ, ◌+◌, ◌==◌, ◌&&◌, not, nat_lt, nat_le, Bool, true, false, if◌then◌else◌, List, [], ◌∷◌, ◌++◌, map as list_map, Option, None, Some, is_some}
 use Rattle.std.specs.List.{list_any}
 use Rattle.mq_check.specs.declared.asked.Asked.{Asked}
 use Rattle.mq_check.specs.declared.asked.Asked.TheVariants.{AllGroups, Group, Source}
 use Rattle.mq_check.specs.declared.entry.Entry.{Entry}
 use Rattle.mq_check.specs.declared.entry.Entry.TheVariants.{Wanted, Seen, Interval, Silence, Packet}
 use Rattle.mq_check.specs.declared.entry.Unpaired.{Unpaired}
-use Rattle.mq_check.specs.declared.entry.Unpaired.TheVariants.{Extra, Allowed, Scheduled}
+use Rattle.mq_check.specs.declared.entry.Need.{Need}
+use Rattle.mq_check.specs.declared.entry.Need.TheVariants.{Required, Optional}
+use Rattle.mq_check.specs.declared.entry.Need.TheVariants as need
+use Rattle.mq_check.specs.declared.entry.Unpaired.TheVariants.{Extra, Possible, Scheduled, Next}
 use Rattle.mq_check.specs.declared.finding.Difference.{Difference}
 use Rattle.mq_check.specs.declared.finding.Difference.TheVariants as field
 use Rattle.mq_check.specs.declared.finding.Finding.{Finding}
@@ -17,7 +20,7 @@ use Rattle.mq_check.specs.declared.terms.QuerierTerms.{QuerierTerms}
 use Rattle.mq_check.specs.Queries.{is_same}
 
 abbrev pub moment_of : Entry ℕ → ℕ
-moment_of (Wanted moment asked terms is_optional is_found) = moment
+moment_of (Wanted moment asked terms need is_found) = moment
 moment_of (Seen moment asked terms partner alone) = moment
 moment_of (Interval moment packet after wanted) = moment
 moment_of (Silence moment after wanted) = moment
@@ -33,7 +36,7 @@ is_over within now entry = nat_lt (moment_of entry + within) now
 
 -- a wanted query that has no partner yet
 abbrev pub is_free_wanted : Asked ℕ → Entry ℕ → Bool
-is_free_wanted asked (Wanted moment asked' terms is_optional is_found) = is_same asked asked' && not is_found
+is_free_wanted asked (Wanted moment asked' terms need is_found) = is_same asked asked' && not is_found
 is_free_wanted asked (Seen moment asked' terms partner alone) = false
 is_free_wanted asked (Interval moment packet after wanted) = false
 is_free_wanted asked (Silence moment after wanted) = false
@@ -41,14 +44,14 @@ is_free_wanted asked (Packet moment number fault) = false
 
 -- a seen query that has no partner yet
 abbrev pub is_free_seen : Asked ℕ → Entry ℕ → Bool
-is_free_seen asked (Wanted moment asked' terms is_optional is_found) = false
+is_free_seen asked (Wanted moment asked' terms need is_found) = false
 is_free_seen asked (Seen moment asked' terms partner alone) = is_same asked asked' && not (is_some partner)
 is_free_seen asked (Interval moment packet after wanted) = false
 is_free_seen asked (Silence moment after wanted) = false
 is_free_seen asked (Packet moment number fault) = false
 
 abbrev pub terms_in : Entry ℕ → Option (Terms ℕ)
-terms_in (Wanted moment asked terms is_optional is_found) = Some terms
+terms_in (Wanted moment asked terms need is_found) = Some terms
 terms_in (Seen moment asked terms partner alone) = Some terms
 terms_in (Interval moment packet after wanted) = None
 terms_in (Silence moment after wanted) = None
@@ -56,7 +59,7 @@ terms_in (Packet moment number fault) = None
 
 -- the entry with a partner, whose terms a seen query keeps
 abbrev pub joined : Terms ℕ → Entry ℕ → Entry ℕ
-joined other (Wanted moment asked terms is_optional is_found) = Wanted moment asked terms is_optional true
+joined other (Wanted moment asked terms need is_found) = Wanted moment asked terms need true
 joined other (Seen moment asked terms partner alone) = Seen moment asked terms (Some other) alone
 joined other (Interval moment packet after wanted) = Interval moment packet after wanted
 joined other (Silence moment after wanted) = Silence moment after wanted
@@ -79,11 +82,12 @@ first_entry test (entry ∷ entries) = if test entry then Some entry else first_
 -- the number of queries that may come after a seen one in its schedule
 abbrev pub left_of : Unpaired ℕ → ℕ
 left_of (Extra reason) = 0
-left_of (Allowed wanted) = 0
+left_of (Possible wanted) = 0
 left_of (Scheduled left) = left
+left_of (Next left) = left
 
 abbrev pub left_in : Entry ℕ → ℕ
-left_in (Wanted moment asked terms is_optional is_found) = 0
+left_in (Wanted moment asked terms need is_found) = 0
 left_in (Seen moment asked terms partner alone) = left_of alone
 left_in (Interval moment packet after wanted) = 0
 left_in (Silence moment after wanted) = 0
@@ -91,7 +95,7 @@ left_in (Packet moment number fault) = 0
 
 -- a query for a group that is wanted at a moment
 abbrev pub is_group_wanted : (moment group : ℕ) → Entry ℕ → Bool
-is_group_wanted moment group (Wanted moment' asked terms is_optional is_found) = is_same (Group group) asked && (moment == moment')
+is_group_wanted moment group (Wanted moment' asked terms need is_found) = is_same (Group group) asked && (moment == moment')
 is_group_wanted moment group (Seen moment' asked terms partner alone) = false
 is_group_wanted moment group (Interval moment' packet after wanted) = false
 is_group_wanted moment group (Silence moment' after wanted) = false
@@ -153,23 +157,59 @@ differ_at moment packet asked differences = list_map (finding.Differs moment pac
 abbrev pub differences_found : (moment : ℕ) → Asked ℕ → (seen wanted : Terms ℕ) → List (Finding ℕ)
 differences_found moment asked seen wanted = differ_at moment seen.packet asked (terms_differ seen wanted)
 
--- The findings of a seen query without a partner. It is extra, or it is allowed and compared with a query of these
--- terms.
+-- the finding that a query is missing, by its need
+abbrev pub missing_by : Need → (moment packet : ℕ) → Asked ℕ → List (Finding ℕ)
+missing_by Required moment packet asked = finding.Missing moment packet asked ∷ []
+missing_by need.Possible moment packet asked = finding.PossiblyMissing moment packet asked ∷ []
+missing_by Optional moment packet asked = []
+
+-- a query that another reading, or a state from before the capture, may explain
+abbrev pub is_possible : Unpaired ℕ → Bool
+is_possible (Extra reason) = false
+is_possible (Possible wanted) = true
+is_possible (Scheduled left) = false
+is_possible (Next left) = false
+
+-- The findings of a seen query without a partner. It is extra, or possibly extra. Then it is compared with a query of these
+-- terms. A query that is still to come is possibly missing: a timer from before may have ended.
 abbrev pub findings_alone : (moment : ℕ) → Asked ℕ → Terms ℕ → Unpaired ℕ → List (Finding ℕ)
 findings_alone moment asked terms (Extra reason) = finding.Extra moment terms.packet asked reason ∷ []
-findings_alone moment asked terms (Allowed wanted) = differences_found moment asked terms wanted
+findings_alone moment asked terms (Possible wanted) =
+    finding.PossiblyExtra moment terms.packet asked ∷ differences_found moment asked terms wanted
 findings_alone moment asked terms (Scheduled left) = []
+findings_alone moment asked terms (Next left) = finding.PossiblyMissing moment terms.packet asked ∷ []
+
+-- both queries have S, and it differs
+abbrev pub has_other_s : (seen wanted : Option QuerierTerms) → Bool
+has_other_s None wanted = false
+has_other_s (Some seen) None = false
+has_other_s (Some seen) (Some wanted) = is_unlike seen.suppress wanted.suppress
+
+-- the fields of a wanted query, with S as seen: S depends on timers at that moment
+abbrev pub with_suppress : Bool → Option QuerierTerms → Option QuerierTerms
+with_suppress suppress None = None
+with_suppress suppress (Some wanted) = Some (record wanted { suppress = suppress })
+
+abbrev pub with_s_of : (seen wanted : Terms ℕ) → Terms ℕ
+with_s_of seen wanted = record wanted { querier = with_suppress (is_suppressed seen.querier) wanted.querier }
+
+-- The findings of a seen query with a partner. If the query is possibly another one, another S makes it possibly extra.
+abbrev pub findings_of_pair : (moment : ℕ) → Asked ℕ → (seen wanted : Terms ℕ) → Unpaired ℕ → List (Finding ℕ)
+findings_of_pair moment asked seen wanted alone =
+    if is_possible alone && has_other_s seen.querier wanted.querier
+    then findings_alone moment asked seen (Possible (with_s_of seen wanted))
+    else differences_found moment asked seen wanted
 
 -- The findings of a seen query. Without a partner it has none if the role changed within the tolerance of it.
 abbrev pub findings_of_seen : (within : ℕ) → (changed : Option ℕ) → (moment : ℕ) → Asked ℕ → Terms ℕ → Option (Terms ℕ) → Unpaired ℕ → List (Finding ℕ)
 findings_of_seen within changed moment asked terms None alone =
     if is_near_change within moment changed then [] else findings_alone moment asked terms alone
-findings_of_seen within changed moment asked terms (Some wanted) alone = differences_found moment asked terms wanted
+findings_of_seen within changed moment asked terms (Some wanted) alone = findings_of_pair moment asked terms wanted alone
 
 -- The entry at the end of a capture. The partner of a wanted query may come after the end, so the query may be left
 -- out.
 abbrev pub excused : Entry ℕ → Entry ℕ
-excused (Wanted moment asked terms is_optional is_found) = Wanted moment asked terms true is_found
+excused (Wanted moment asked terms need is_found) = Wanted moment asked terms Optional is_found
 excused (Seen moment asked terms partner alone) = Seen moment asked terms partner alone
 excused (Interval moment packet after wanted) = Interval moment packet after wanted
 excused (Silence moment after wanted) = Silence moment after wanted
@@ -181,8 +221,8 @@ excused_if false entry = entry
 
 -- the findings of an expired entry, if the role changed last at `changed`
 abbrev pub findings_of : (within : ℕ) → (changed : Option ℕ) → Entry ℕ → List (Finding ℕ)
-findings_of within changed (Wanted moment asked terms is_optional is_found) =
-    if is_optional || is_found then [] else finding.Missing moment terms.packet asked ∷ []
+findings_of within changed (Wanted moment asked terms need is_found) =
+    if is_found then [] else missing_by need moment terms.packet asked
 findings_of within changed (Seen moment asked terms partner alone) =
     findings_of_seen within changed moment asked terms partner alone
 findings_of within changed (Interval moment packet after wanted) = finding.Interval moment packet after wanted ∷ []

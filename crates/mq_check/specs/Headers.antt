@@ -1,9 +1,11 @@
--- The headers of a query's packet: TTL 1, or hop limit 1, and Router Alert (RFC 3376 section 4, RFC 3810 section 5). In
--- the message the checksum is right, and reserved fields are zero (RFC 3376 sections 4.1.2 and 4.1.4, RFC 3810 sections
--- 5.1.1, 5.1.2 and 5.1.4).
-use Rattle.std.specs.Prelude.{ℕ, zero, suc, ◌+◌, ◌-◌, ◌==◌, ◌||◌, ◌&&◌, nat_lt, Bool, true, false, if◌then◌else◌, List, [], ◌∷◌, ◌++◌, length, drop, slice_index, slice_range, is_some, Result, Ok, Err}
-use Rattle.std.specs.List.{list_any}
-use Rattle.mq_pcap.specs.Frame.{header_length}
+-- The headers of a query's packet. They have TTL 1, or hop limit 1, and Router Alert. An IPv4 header has the precedence of
+-- Internetwork Control and a right checksum (RFC 3376 section 4, RFC 3810 section 5). The message has a right checksum and
+-- zero in its reserved fields (RFC 3376 sections 4.1.2 and 4.1.4, RFC 3810 sections 5.1.1, 5.1.2 and 5.1.4). Nothing
+-- follows its fields (RFC 3376 section 4.1.10, RFC 3810 section 5.1.12).
+use Rattle.std.specs.Prelude.{ℕ, ◌+◌, ◌-◌, ◌*◌, ◌/◌, ◌%◌, ◌==◌, ◌||◌, ◌&&◌, min, not, nat_lt, nat_le, Bool, true, false, if◌then◌else◌, List, [], ◌∷◌, ◌++◌, length, slice_index, take, drop, is_some, Result, Ok, Err}
+use Rattle.mq_pcap.specs.Frame.{word_at}
+use Rattle.mq_pcap.specs.IpOptions.{has_router_alert_v4}
+use Rattle.mq_wire.specs.Checksum.{is_right}
 use Rattle.mq_wire.specs.declared.message.Message.{Message}
 use Rattle.mq_wire.specs.declared.message.WireFault.{WireFault}
 use Rattle.mq_wire.specs.declared.message.WireFault.TheVariants.{Truncated, Checksum, UnknownType, QueryLength}
@@ -13,57 +15,21 @@ use Rattle.mq_link.specs.Receive.{Envelope, read_of, pseudo_of}
 use Rattle.mq_replay.specs.Report.{Datagram}
 use Rattle.mq_check.specs.declared.headers.Headers.{Headers}
 use Rattle.mq_check.specs.declared.headers.HeaderFault.{HeaderFault}
-use Rattle.mq_check.specs.declared.headers.HeaderFault.TheVariants.{TimeToLive, NoRouterAlert, WrongChecksum, ReservedBits}
+use Rattle.mq_check.specs.declared.headers.HeaderFault.TheVariants.{TimeToLive, NoRouterAlert, Precedence, HeaderChecksum, WrongChecksum, ReservedBits, AdditionalData}
 use Rattle.mq_check.specs.Queries.{query_spelled}
 
--- The types of the options in an IPv4 header, up to the first that does not fit, and at most `most`. Type 0 ends them, and
--- type 1 is a single byte. After every other type stands the number of the option's bytes, with these two.
-abbrev pub types_within : (most : ℕ) → List ℕ → List ℕ
-types_within zero bytes = []
-types_within (suc most) [] = []
-types_within (suc most) (kind ∷ bytes) =
-    let end = slice_index bytes 0 in
-    if kind == 0
-    then []
-    else (
-    if kind == 1
-    then 1 ∷ types_within most bytes
-    else (
-    if nat_lt end 2 || nat_lt (length bytes + 1) end
-    then []
-    else kind ∷ types_within most (drop (end - 1) bytes)))
+-- a byte, or 0 after the end
+abbrev pub byte_at : (bytes : List ℕ) → (place : ℕ) → ℕ
+byte_at bytes place = if nat_lt place (length bytes) then slice_index bytes place else 0
 
--- all of them: there are no more options than bytes
-abbrev pub types_of : List ℕ → List ℕ
-types_of bytes = types_within (length bytes) bytes
+-- the IPv4 header of a packet, as far as it is there
+abbrev pub header4 : (packet : List ℕ) → List ℕ
+header4 packet = take (min (byte_at packet 0 % 16 * 4) (length packet)) packet
 
--- type 148
-abbrev pub has_router_alert : List ℕ → Bool
-has_router_alert bytes = list_any (λ kind. kind == 148) (types_of bytes)
-
-abbrev pub no_headers : Headers
-no_headers = record { ttl = 0; alert = false }
-
--- the fields of an IPv4 header, if it is whole
-abbrev pub headers4_in : (packet : List ℕ) → Headers
-headers4_in packet =
-    if nat_lt (length packet) 20
-    then no_headers
-    else (
-    if nat_lt (header_length packet) 20 || nat_lt (length packet) (header_length packet)
-    then no_headers
-    else record { ttl = slice_index packet 8; alert = has_router_alert (slice_range packet 20 (header_length packet)) })
-
--- each fault of the headers of a query's packet
-abbrev pub ttl_faults : (ttl : ℕ) → List HeaderFault
-ttl_faults ttl = if ttl == 1 then [] else TimeToLive ttl ∷ []
-
-abbrev pub alert_faults : (alert : Bool) → List HeaderFault
-alert_faults alert = if alert then [] else NoRouterAlert ∷ []
-
--- a byte of a message, or 0 after its end
-abbrev pub byte_at : (body : List ℕ) → (place : ℕ) → ℕ
-byte_at body place = if nat_lt place (length body) then slice_index body place else 0
+-- The checksum of an IPv4 header is right, or 0. A sender's hardware may write it after the capture, and it is 0 until
+-- then.
+abbrev pub is_sound4 : (header : List ℕ) → Bool
+is_sound4 header = (byte_at header 10 == 0 && byte_at header 11 == 0) || is_right header
 
 -- A bit of a query's reserved fields is set. For IGMP these are the high half of the byte with S and QRV. For MLD they are
 -- the code and the two bytes after the response. No sentence of RFC 3810 says what stands beside S and QRV.
@@ -71,11 +37,52 @@ abbrev pub has_reserved_bits : Family → (body : List ℕ) → Bool
 has_reserved_bits Igmp body = nat_lt 15 (byte_at body 8)
 has_reserved_bits Mld body = nat_lt 0 (byte_at body 1) || nat_lt 0 (byte_at body 6) || nat_lt 0 (byte_at body 7)
 
-abbrev pub reserved_faults : (has_reserved_bits : Bool) → List HeaderFault
-reserved_faults has_reserved_bits = if has_reserved_bits then ReservedBits ∷ [] else []
+-- Bytes follow the sources of a query. Before the sources stand these fields, and the last two bytes of them are the
+-- number of sources. A query of an older version is shorter.
+abbrev pub has_more : (fields size : ℕ) → (body : List ℕ) → Bool
+has_more fields size body =
+    nat_le fields (length body) && nat_lt (fields + word_at (fields - 2) body * size) (length body)
 
-abbrev pub faults_of : Headers → (has_reserved_bits : Bool) → List HeaderFault
-faults_of headers has_reserved_bits = ttl_faults headers.ttl ++ alert_faults headers.alert ++ reserved_faults has_reserved_bits
+abbrev pub has_additional_data : Family → (body : List ℕ) → Bool
+has_additional_data Igmp body = has_more 12 4 body
+has_additional_data Mld body = has_more 28 16 body
+
+-- the fields of an IPv4 packet and of the query in it
+abbrev pub headers4_in : (packet body : List ℕ) → Headers
+headers4_in packet body =
+    let header = header4 packet in
+    record {
+      ttl = byte_at header 8;
+      alert = has_router_alert_v4 (drop (min (length header) 20) header);
+      precedence = byte_at header 1 / 32;
+      is_sound = is_sound4 header;
+      has_reserved_bits = has_reserved_bits Igmp body;
+      has_additional_data = has_additional_data Igmp body;
+    }
+
+-- The fields of an IPv6 packet and of the query in it. An IPv6 header has no precedence and no checksum.
+abbrev pub headers6_in : Envelope → (body : List ℕ) → Headers
+headers6_in envelope body = record {
+  ttl = envelope.hop_limit;
+  alert = envelope.alert;
+  precedence = 6;
+  is_sound = true;
+  has_reserved_bits = has_reserved_bits Mld body;
+  has_additional_data = has_additional_data Mld body;
+}
+
+-- the faults of these fields
+abbrev pub fault_if : (is_there : Bool) → HeaderFault → List HeaderFault
+fault_if is_there fault = if is_there then fault ∷ [] else []
+
+abbrev pub faults_of : Headers → List HeaderFault
+faults_of headers =
+    fault_if (not (headers.ttl == 1)) (TimeToLive headers.ttl)
+    ++ fault_if (not headers.alert) NoRouterAlert
+    ++ fault_if (not (headers.precedence == 6)) (Precedence headers.precedence)
+    ++ fault_if (not headers.is_sound) HeaderChecksum
+    ++ fault_if headers.has_reserved_bits ReservedBits
+    ++ fault_if headers.has_additional_data AdditionalData
 
 -- a query of the checked router, even if hosts drop it
 abbrev pub is_own_query : Configuration → Datagram → Bool

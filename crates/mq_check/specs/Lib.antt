@@ -1,13 +1,12 @@
 pub mod Announced
 pub mod Basis
-pub mod Blocked
+pub mod Causes
 pub mod Check
 pub mod CheckedCaptures
 pub mod Checking
 pub mod Coming
 pub mod Ending
 pub mod Entries
-pub mod Examples
 pub mod FindingLines
 pub mod General
 pub mod Headers
@@ -21,6 +20,5 @@ pub mod Slots
 pub mod Standing
 pub mod Telling
 pub mod Trails
-pub mod Unheld
 pub mod Waiting
 pub mod Wanting

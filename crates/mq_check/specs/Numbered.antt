@@ -1,18 +1,19 @@
 -- Entries and findings with addresses as numbers.
 use Rattle.std.specs.Prelude.{ℕ, List, [], ◌∷◌, Option, None, Some, Result, Ok, Err}
 use Rattle.mq_check.specs.declared.announced.Announced.{Announced}
+use Rattle.mq_check.specs.declared.sought.AskedLast.{AskedLast}
+use Rattle.mq_check.specs.declared.sought.Sought.{Sought}
 use Rattle.mq_check.specs.declared.asked.Asked.{Asked}
 use Rattle.mq_check.specs.declared.asked.Asked.TheVariants.{AllGroups, Group, Source}
 use Rattle.mq_replay.specs.declared.capture_fault.CaptureFault.{CaptureFault}
 use Rattle.mq_check.specs.declared.entry.Entry.{Entry}
 use Rattle.mq_check.specs.declared.entry.Entry.TheVariants.{Wanted, Seen, Interval, Silence, Packet}
 use Rattle.mq_check.specs.declared.entry.Unpaired.{Unpaired}
-use Rattle.mq_check.specs.declared.entry.Unpaired.TheVariants.{Extra, Allowed, Scheduled}
+use Rattle.mq_check.specs.declared.entry.Unpaired.TheVariants.{Extra, Possible, Scheduled, Next}
 use Rattle.mq_check.specs.declared.finding.Difference.{Difference}
 use Rattle.mq_check.specs.declared.finding.Difference.TheVariants as difference
 use Rattle.mq_check.specs.declared.finding.Finding.{Finding}
 use Rattle.mq_check.specs.declared.finding.Finding.TheVariants as finding
-use Rattle.mq_check.specs.declared.standing.Standing.{Standing}
 use Rattle.mq_check.specs.declared.terms.Terms.{Terms}
 use Rattle.mq_wire.specs.declared.query.Query.{Query}
 use Rattle.mq_wire.specs.Numbered.{numbered_query}
@@ -30,6 +31,11 @@ abbrev pub numbered_terms : {K : Type 0} → (K → ℕ) → Terms K → Terms �
 numbered_terms number terms =
     record { version = terms.version; response = terms.response; querier = terms.querier; to = number terms.to; packet = terms.packet }
 
+-- an address as its number, if there is one
+abbrev pub number_if : {K : Type 0} → (K → ℕ) → Option K → Option ℕ
+number_if number None = None
+number_if number (Some address) = Some (number address)
+
 abbrev pub numbered_announced : {K : Type 0} → (K → ℕ) → Announced K → Announced ℕ
 numbered_announced number a = record {
   querier = number a.querier;
@@ -37,11 +43,35 @@ numbered_announced number a = record {
   query_seconds = a.query_seconds;
   response_interval = a.response_interval;
   last_member_interval = a.last_member_interval;
+  beside = number_if number a.beside;
 }
 
 abbrev pub numbered_announced_if : {K : Type 0} → (K → ℕ) → Option (Announced K) → Option (Announced ℕ)
 numbered_announced_if number None = None
 numbered_announced_if number (Some a) = Some (numbered_announced number a)
+
+abbrev pub numbered_asked_last : {K : Type 0} → (K → ℕ) → AskedLast K → AskedLast ℕ
+numbered_asked_last number a = record { group = number a.group; sources = a.sources; at = a.at }
+
+abbrev pub numbered_asked_last_if : {K : Type 0} → (K → ℕ) → Option (AskedLast K) → Option (AskedLast ℕ)
+numbered_asked_last_if number None = None
+numbered_asked_last_if number (Some a) = Some (numbered_asked_last number a)
+
+abbrev pub numbered_sought : {K : Type 0} → (K → ℕ) → Sought K → Sought ℕ
+numbered_sought number s = record {
+  querier = number s.querier;
+  robustness = s.robustness;
+  query_seconds = s.query_seconds;
+  response_interval = s.response_interval;
+  last_member_interval = s.last_member_interval;
+  beside = number_if number s.beside;
+  general = s.general;
+  asked = numbered_asked_last_if number s.asked;
+}
+
+abbrev pub numbered_sought_if : {K : Type 0} → (K → ℕ) → Option (Sought K) → Option (Sought ℕ)
+numbered_sought_if number None = None
+numbered_sought_if number (Some s) = Some (numbered_sought number s)
 
 abbrev pub numbered_answer : {K : Type 0} → (K → ℕ) → Result (Option (Announced K)) CaptureFault → Result (Option (Announced ℕ)) CaptureFault
 numbered_answer number (Ok found) = Ok (numbered_announced_if number found)
@@ -51,17 +81,15 @@ abbrev pub numbered_terms_if : {K : Type 0} → (K → ℕ) → Option (Terms K)
 numbered_terms_if number None = None
 numbered_terms_if number (Some terms) = Some (numbered_terms number terms)
 
-abbrev pub numbered_standing : {K : Type 0} → (K → ℕ) → Standing K → Standing ℕ
-numbered_standing number s = record { unheld = numbered_terms_if number s.unheld; is_muted = s.is_muted }
-
 abbrev pub numbered_unpaired : {K : Type 0} → (K → ℕ) → Unpaired K → Unpaired ℕ
 numbered_unpaired number (Extra reason) = Extra reason
-numbered_unpaired number (Allowed terms) = Allowed (numbered_terms number terms)
+numbered_unpaired number (Possible terms) = Possible (numbered_terms number terms)
 numbered_unpaired number (Scheduled left) = Scheduled left
+numbered_unpaired number (Next left) = Next left
 
 abbrev pub numbered_entry : {K : Type 0} → (K → ℕ) → Entry K → Entry ℕ
-numbered_entry number (Wanted moment asked terms is_optional is_found) =
-    Wanted moment (numbered_asked number asked) (numbered_terms number terms) is_optional is_found
+numbered_entry number (Wanted moment asked terms need is_found) =
+    Wanted moment (numbered_asked number asked) (numbered_terms number terms) need is_found
 numbered_entry number (Seen moment asked terms partner alone) =
     Seen moment (numbered_asked number asked) (numbered_terms number terms) (numbered_terms_if number partner)
     (numbered_unpaired number alone)
@@ -91,6 +119,10 @@ numbered_finding number (finding.Missing moment packet asked) =
     finding.Missing moment packet (numbered_asked number asked)
 numbered_finding number (finding.Extra moment packet asked reason) =
     finding.Extra moment packet (numbered_asked number asked) reason
+numbered_finding number (finding.PossiblyMissing moment packet asked) =
+    finding.PossiblyMissing moment packet (numbered_asked number asked)
+numbered_finding number (finding.PossiblyExtra moment packet asked) =
+    finding.PossiblyExtra moment packet (numbered_asked number asked)
 numbered_finding number (finding.Differs moment packet asked difference) =
     finding.Differs moment packet (numbered_asked number asked) (numbered_difference number difference)
 numbered_finding number (finding.Interval moment packet after wanted) = finding.Interval moment packet after wanted

@@ -77,6 +77,14 @@ terms_of family packet to query = record {
   packet = packet;
 }
 
+-- the S flag, QRV and the interval of QQIC under the timing in force, with S clear
+abbrev pub in_force_terms : Timing → QuerierTerms
+in_force_terms in_force = record {
+  suppress = false;
+  robustness = in_force.robustness;
+  interval = interval_lowered in_force.query_seconds;
+}
+
 -- The terms of a general query. The response is the Query Response Interval, and QRV and QQIC are those in force, each
 -- rounded by its code. S is clear. RFC 3376 sections 4.1.1, 4.1.5 to 4.1.7, 4.1.12 and 8.3, RFC 3810 sections 5.1.3,
 -- 5.1.7 to 5.1.9, 5.1.15 and 9.3.
@@ -84,13 +92,20 @@ abbrev pub general_terms : Configuration → (in_force : Timing) → Terms ℕ
 general_terms config in_force = record {
   version = current_version config.family;
   response = Some (response_lowered config.family config.timing.response_interval);
-  querier = Some (record {
-    suppress = false;
-    robustness = in_force.robustness;
-    interval = interval_lowered in_force.query_seconds;
-  });
+  querier = Some (in_force_terms in_force);
   to = general_destination config.family;
   packet = 0;
+}
+
+-- The terms of the first query for a group or for its sources, which a change in this packet asks for. The response is the
+-- Last Member Query Interval. S is clear, since the timers were lowered.
+abbrev pub specific_terms : Configuration → (in_force : Timing) → (packet group : ℕ) → Terms ℕ
+specific_terms config in_force packet group = record {
+  version = current_version config.family;
+  response = Some (response_lowered config.family config.timing.last_member_interval);
+  querier = Some (in_force_terms in_force);
+  to = group;
+  packet = packet;
 }
 
 -- the query that was read, if there is one

@@ -7,7 +7,7 @@ use Rattle.mq_check.specs.declared.check_terms.Additions.{Additions}
 use Rattle.mq_check.specs.declared.finding.Difference.{Difference}
 use Rattle.mq_check.specs.declared.finding.Difference.TheVariants.{Version, Response, Suppress, Robustness, QueryInterval, Destination}
 use Rattle.mq_check.specs.declared.finding.Finding.{Finding}
-use Rattle.mq_check.specs.declared.finding.Finding.TheVariants.{Missing, Extra, Differs, Interval, Silence, Packet}
+use Rattle.mq_check.specs.declared.finding.Finding.TheVariants.{Missing, Extra, PossiblyMissing, PossiblyExtra, Differs, Interval, Silence, Packet}
 use Rattle.mq_check.specs.declared.repeated.LastDifferences.{LastDifferences}
 use Rattle.mq_check.specs.declared.repeated.LastOfKind.{LastOfKind}
 use Rattle.mq_check.specs.declared.repeated.Values.{Values}
@@ -57,6 +57,8 @@ with_values_in (Source group source) difference last = record last { specific = 
 abbrev pub repeats : Finding ℕ → LastDifferences → Bool
 repeats (Missing moment packet asked) last = false
 repeats (Extra moment packet asked reason) last = false
+repeats (PossiblyMissing moment packet asked) last = false
+repeats (PossiblyExtra moment packet asked) last = false
 repeats (Differs moment packet asked difference) last = has_values_in asked difference last
 repeats (Interval moment packet after wanted) last = false
 repeats (Silence moment after wanted) last = false
@@ -66,6 +68,8 @@ repeats (Packet moment number fault) last = false
 abbrev pub with_finding : Finding ℕ → LastDifferences → LastDifferences
 with_finding (Missing moment packet asked) last = last
 with_finding (Extra moment packet asked reason) last = last
+with_finding (PossiblyMissing moment packet asked) last = last
+with_finding (PossiblyExtra moment packet asked) last = last
 with_finding (Differs moment packet asked difference) last = with_values_in asked difference last
 with_finding (Interval moment packet after wanted) last = last
 with_finding (Silence moment after wanted) last = last

@@ -1,29 +1,37 @@
--- Schedules that a querier may keep. A query for a group or a source is sent again after a Last Member Query Interval. If
--- a new query becomes wanted in between, the link starts a new schedule in place of the earlier one. The standards' words
--- allow a querier to keep both. It may count the interval from the query that it sent last. If a host blocks a source
--- again, it may send a query at once. RFC 3376 sections 6.4.2, 6.6.3.1 and 6.6.3.2, RFC 3810 sections 7.4.2, 7.6.3.1 and
--- 7.6.3.2.
-use Rattle.std.specs.Prelude.{ℕ, ◌+◌, ◌-◌, ◌^◌, ◌&&◌, ◌||◌, max, min, nat_lt, nat_le, not, Bool, true, false, if◌then◌else◌, Option, None, Some}
+-- Schedules that a querier may keep beside those of the link. A query for a group or a source is sent again after a Last
+-- Member Query Interval. A querier may count the interval from the query that it sent last. If a change comes while the
+-- schedule of an earlier one may run, readings of the standards part: the new schedule replaces the earlier one, or runs
+-- beside it. A querier that held a subject before the capture may start a schedule that the link doesn't have. RFC 3376
+-- sections 6.4.2, 6.6.3.1 and 6.6.3.2, RFC 3810 sections 7.4.2, 7.6.3.1 and 7.6.3.2.
+use Rattle.std.specs.Prelude.{ℕ, ◌+◌, ◌-◌, ◌*◌, ◌^◌, ◌==◌, ◌&&◌, ◌||◌, max, min, nat_lt, nat_le, not, Bool, true, false, if◌then◌else◌, Option, None, Some, is_some}
 use Rattle.mq_table.specs.declared.timing.Timing.{Timing}
-use Rattle.mq_table.specs.Timing.{last_member_count}
+use Rattle.mq_table.specs.Timing.{last_member_count, membership_interval}
 use Rattle.mq_check.specs.declared.asked.Asked.{Asked}
+use Rattle.mq_check.specs.declared.asked.Asked.TheVariants.{AllGroups, Group, Source}
+use Rattle.mq_check.specs.declared.check_terms.CheckFlags.{CheckFlags}
 use Rattle.mq_check.specs.declared.entry.Entry.{Entry}
-use Rattle.mq_check.specs.declared.entry.Entry.TheVariants.{Wanted, Seen, Interval, Silence, Packet}
-use Rattle.mq_check.specs.declared.entry.Unpaired.TheVariants.{Scheduled}
+use Rattle.mq_check.specs.declared.entry.Entry.TheVariants.{Wanted, Seen}
+use Rattle.mq_check.specs.declared.entry.Need.TheVariants.{Optional}
+use Rattle.mq_check.specs.declared.entry.Unpaired.TheVariants.{Extra, Scheduled, Next}
+use Rattle.mq_check.specs.declared.finding.ExtraReason.TheVariants.{NoChange}
 use Rattle.mq_check.specs.declared.schedules.Repeats.{Repeats}
 use Rattle.mq_check.specs.declared.terms.Terms.{Terms}
-use Rattle.mq_check.specs.declared.terms.QuerierTerms.{QuerierTerms}
 use Rattle.mq_check.specs.declared.waiting.Side.TheVariants.{OfWanted, OfSeen}
-use Rattle.mq_check.specs.Entries.{moment_of, left_in, terms_in, first_entry, is_suppressed}
-use Rattle.mq_check.specs.Waiting.{WaitingValue, nothing, is_free, with_entry, with_partner, settled}
+use Rattle.mq_check.specs.Entries.{moment_of, left_in, terms_in, first_entry, with_s_of, with_suppress}
+use Rattle.mq_check.specs.Waiting.{WaitingValue, nothing, has_free, is_free, with_entry, with_partner, settled}
 
 -- The retransmission of queries, and the queries of schedules. `sent` has the seen queries after which one more may come,
--- and for each subject the last wanted one. The moment of each is an interval later: then the next query is due.
+-- and for each subject the last wanted one. The moment of each is an interval later: then the next query is due. `causes`
+-- has for each subject the last change of a host that may make a querier ask for it. A seen entry there is a change that
+-- came close to an earlier one. `next` has the queries that are still to come in schedules from before the capture, at the
+-- moments when they are due.
 pub record SchedulesValue : Type 0 where
   pub repeats : Repeats
   pub sent : WaitingValue
+  pub causes : WaitingValue
+  pub next : WaitingValue
 
--- the retransmission of queries under this timing; a strict check accepts no second schedule
+-- The number of queries after the first one of a schedule. A strict check accepts no other reading, so it has none.
 abbrev pub more_in : Timing → (strict : Bool) → ℕ
 more_in timing true = 0
 more_in timing false = last_member_count timing - 1
@@ -34,16 +42,38 @@ abbrev pub keep_in : (within : ℕ) → Timing → (strict : Bool) → ℕ
 keep_in within timing true = within
 keep_in within timing false = max within (min (within + timing.last_member_interval) (2 ^ 32 - 1))
 
-abbrev pub repeats_in : (within : ℕ) → Timing → (strict : Bool) → Repeats
-repeats_in within timing strict = record {
+-- The time for which a change counts: the Last Member Query Time, for which the timers run that it lowers, and the tolerance. It
+-- is at most 2^32 - 1, but never shorter than the tolerance.
+abbrev pub span_in : (within : ℕ) → Timing → ℕ
+span_in within timing = max within (min (within + last_member_count timing * timing.last_member_interval) (2 ^ 32 - 1))
+
+-- The moment from which nothing lasts that the querier held before the capture. A group is held for at most a Group
+-- Membership Interval. A host of an older version is assumed to be there as long. The tolerance comes on top. A check from
+-- the querier's beginning knows all that it holds.
+abbrev pub held_until : (within : ℕ) → Timing → (began : Bool) → ℕ
+held_until within timing true = 0
+held_until within timing false = membership_interval timing + within + 1
+
+-- the moment from which no query belongs to a schedule that a change before the capture started
+abbrev pub first_until : (within : ℕ) → Timing → (began : Bool) → ℕ
+first_until within timing true = 0
+first_until within timing false = (last_member_count timing - 1) * timing.last_member_interval + within + 1
+
+abbrev pub repeats_in : (within : ℕ) → Timing → CheckFlags → Repeats
+repeats_in within timing flags = record {
   within = within;
   interval = timing.last_member_interval;
-  more = more_in timing strict;
-  keep = keep_in within timing strict;
+  more = more_in timing flags.strict;
+  count = last_member_count timing - 1;
+  span = span_in within timing;
+  keep = keep_in within timing flags.strict;
+  held_until = held_until within timing flags.began;
+  first_until = first_until within timing flags.began;
 }
 
-abbrev pub schedules_at_start : (within : ℕ) → Timing → (strict : Bool) → SchedulesValue
-schedules_at_start within timing strict = record { repeats = repeats_in within timing strict; sent = nothing }
+abbrev pub schedules_at_start : (within : ℕ) → Timing → CheckFlags → SchedulesValue
+schedules_at_start within timing flags =
+    record { repeats = repeats_in within timing flags; sent = nothing; causes = nothing; next = nothing }
 
 -- The moment an interval after another. No moment of a capture exceeds 2^53.
 abbrev pub due_after : Repeats → (moment : ℕ) → ℕ
@@ -57,17 +87,14 @@ is_long_before repeats a b = nat_le a (2 ^ 53) && nat_lt (a + repeats.within) b
 abbrev pub is_due : Repeats → (due moment : ℕ) → Bool
 is_due repeats due moment = not (is_long_before repeats due moment) && not (is_long_before repeats moment due)
 
--- The last wanted query replaced this schedule. It came more than the tolerance after the query before, and before the
--- next one.
-abbrev pub is_replaced : Repeats → (due last : ℕ) → Bool
-is_replaced repeats due last = is_long_before repeats due last && is_long_before repeats last (due_after repeats due)
-
--- the queries of schedules at a moment, without those after which none may come any more
+-- The schedules at a moment. The queries after which none may come any more are gone, and so are changes that no longer count.
 abbrev pub recent : (moment : ℕ) → SchedulesValue → SchedulesValue
 recent moment s =
-    if nat_le moment (2 ^ 53) then record s { sent = settled s.repeats.within moment s.sent } else s
+    if nat_le moment (2 ^ 53)
+    then record s { sent = settled s.repeats.within moment s.sent; causes = settled s.repeats.span moment s.causes }
+    else s
 
--- the query of an earlier schedule on the subject that waits for its next one, and the last wanted query
+-- the query of a schedule on the subject that waits for its next one, and the last wanted query
 abbrev pub before_in : Asked ℕ → SchedulesValue → Option (Entry ℕ)
 before_in asked s = first_entry (is_free OfSeen asked 0) s.sent.entries
 
@@ -85,63 +112,19 @@ left_after repeats moment None = repeats.more
 left_after repeats moment (Some before) =
     if is_due repeats (moment_of before) moment then left_in before - 1 else repeats.more
 
--- the fields of a wanted query, with S as seen: S depends on timers at that moment
-abbrev pub with_suppress : Bool → Option QuerierTerms → Option QuerierTerms
-with_suppress suppress None = None
-with_suppress suppress (Some wanted) = Some (record wanted { suppress = suppress })
-
+-- the terms of a wanted query, with S as seen
 abbrev pub as_seen : (seen : Terms ℕ) → (wanted : Option (Terms ℕ)) → Option (Terms ℕ)
 as_seen seen None = None
-as_seen seen (Some wanted) =
-    Some (record wanted { querier = with_suppress (is_suppressed seen.querier) wanted.querier })
-
--- The wanted fields of a seen query that belongs to an earlier schedule, which the link has replaced.
-abbrev pub of_earlier : Repeats → (moment : ℕ) → (seen : Terms ℕ) → (before last : Option (Entry ℕ)) → Option (Terms ℕ)
-of_earlier repeats moment seen None last = None
-of_earlier repeats moment seen (Some before) None = None
-of_earlier repeats moment seen (Some before) (Some last) =
-    if is_due repeats (moment_of before) moment && is_replaced repeats (moment_of before) (moment_of last)
-    then as_seen seen (terms_in last)
-    else None
-
--- A host blocked the subject while it was pending, and the query is seen within the tolerance of that. An entry that may
--- not be left out marks the subject as blocked.
-abbrev pub is_blocked : Entry ℕ → Bool
-is_blocked (Wanted moment asked terms is_optional is_found) = not is_optional
-is_blocked (Seen moment asked terms partner alone) = false
-is_blocked (Interval moment packet after wanted) = false
-is_blocked (Silence moment after wanted) = false
-is_blocked (Packet moment number fault) = false
-
-abbrev pub is_asked_again : Repeats → (moment : ℕ) → (last : Option (Entry ℕ)) → Bool
-is_asked_again repeats moment None = false
-is_asked_again repeats moment (Some last) = is_blocked last && is_due repeats (moment_of last) (due_after repeats moment)
-
--- the wanted fields of such a query
-abbrev pub of_blocked : Repeats → (moment : ℕ) → (seen : Terms ℕ) → (last : Option (Entry ℕ)) → Option (Terms ℕ)
-of_blocked repeats moment seen None = None
-of_blocked repeats moment seen (Some last) =
-    if is_asked_again repeats moment (Some last) then as_seen seen (terms_in last) else None
+as_seen seen (Some wanted) = Some (with_s_of seen wanted)
 
 abbrev pub first_of : (a b : Option (Terms ℕ)) → Option (Terms ℕ)
 first_of (Some terms) b = Some terms
 first_of None b = b
 
-abbrev pub allowed_by : (moment : ℕ) → (seen : Terms ℕ) → Asked ℕ → SchedulesValue → Option (Terms ℕ)
-allowed_by moment seen asked s = first_of
-    (of_earlier s.repeats moment seen (before_in asked s) (last_in asked s))
-    (of_blocked s.repeats moment seen (last_in asked s))
-
--- The schedules after a query was seen. It goes on with a schedule, or starts one if it has a partner or was asked again
--- for a blocked source.
+-- The schedules after a query was seen. It goes on with a schedule, or starts one if it has a partner.
 abbrev pub without_before : (is_next : Bool) → Terms ℕ → Asked ℕ → WaitingValue → WaitingValue
 without_before true terms asked w = with_partner OfSeen asked 0 terms w
 without_before false terms asked w = w
-
--- the schedules after a query for a blocked source; a second query at once is no longer accepted
-abbrev pub without_blocked : (is_again : Bool) → Terms ℕ → Asked ℕ → WaitingValue → WaitingValue
-without_blocked true terms asked w = with_partner OfWanted asked 0 terms w
-without_blocked false terms asked w = w
 
 abbrev pub with_scheduled : (left due : ℕ) → (is_scheduled : Bool) → Terms ℕ → Asked ℕ → WaitingValue → WaitingValue
 with_scheduled left due is_scheduled terms asked w =
@@ -151,11 +134,10 @@ unfoldable pub schedules_seen : (moment : ℕ) → Terms ℕ → Asked ℕ → (
 schedules_seen moment terms asked has_partner s =
     let before = before_in asked s in
     let follows = is_next s.repeats moment before in
-    let is_again = not (follows || has_partner) && is_asked_again s.repeats moment (last_in asked s) in
     record s {
       sent =
-          with_scheduled (left_after s.repeats moment before) (due_after s.repeats moment) (follows || has_partner || is_again) terms asked
-          (without_blocked is_again terms asked (without_before follows terms asked s.sent));
+          with_scheduled (left_after s.repeats moment before) (due_after s.repeats moment) (follows || has_partner) terms asked
+          (without_before follows terms asked s.sent);
     }
 
 -- the schedules after a query became wanted
@@ -163,7 +145,7 @@ unfoldable pub schedules_wanted : (moment : ℕ) → Terms ℕ → Asked ℕ →
 schedules_wanted moment terms asked s =
     record s {
       sent =
-          with_entry (Wanted (due_after s.repeats moment) asked terms true false)
+          with_entry (Wanted (due_after s.repeats moment) asked terms Optional false)
           (with_partner OfWanted asked 0 terms s.sent);
     }
 
@@ -182,18 +164,141 @@ abbrev pub terms_wanted : (is_again : Bool) → Terms ℕ → Asked ℕ → Sche
 terms_wanted false terms asked s = terms
 terms_wanted true terms asked s = with_packet_of (terms_of (last_in asked s)) terms
 
--- The schedules after a host blocked a source. If a query for it was wanted in the last interval, the source is pending.
-abbrev pub marked_blocked : (moment : ℕ) → Asked ℕ → (last : Option (Terms ℕ)) → SchedulesValue → SchedulesValue
-marked_blocked moment asked None s = s
-marked_blocked moment asked (Some terms) s =
+-- the query on the subject that is still to come in a schedule from before the capture
+abbrev pub next_in : Asked ℕ → SchedulesValue → Option (Entry ℕ)
+next_in asked s = first_entry (is_free OfSeen asked 0) s.next.entries
+
+-- A change comes while the last one on the subject counts, or one of a change from before the capture.
+abbrev pub is_close : (moment : ℕ) → Asked ℕ → SchedulesValue → Bool
+is_close moment asked s =
+    nat_lt moment s.repeats.held_until && not (nat_lt s.repeats.span moment) || has_free OfWanted asked 0 s.causes
+
+-- the schedules after a change that is close to an earlier one
+abbrev pub with_close : (is_close : Bool) → (moment : ℕ) → Terms ℕ → Asked ℕ → SchedulesValue → SchedulesValue
+with_close true moment terms asked s = record s { causes = with_entry (Seen moment asked terms None (Extra NoChange)) s.causes }
+with_close false moment terms asked s = s
+
+-- The schedules after a host made a change that may make a querier ask for a subject, with these terms.
+unfoldable pub with_cause : (moment : ℕ) → Terms ℕ → Asked ℕ → SchedulesValue → SchedulesValue
+with_cause moment terms asked s =
     record s {
-      sent =
-          with_entry (Wanted (due_after s.repeats moment) asked terms false false)
-          (with_partner OfWanted asked 0 terms s.sent);
+      causes =
+          with_entry (Wanted moment asked terms Optional false)
+          (with_partner OfWanted asked 0 terms s.causes);
     }
 
-unfoldable pub schedules_blocked : (moment : ℕ) → Asked ℕ → SchedulesValue → SchedulesValue
-schedules_blocked moment asked s =
-    if nat_lt 0 s.repeats.more
-    then marked_blocked moment asked (terms_of (last_in asked s)) s
-    else s
+abbrev pub schedules_changed : (moment : ℕ) → Terms ℕ → Asked ℕ → SchedulesValue → SchedulesValue
+schedules_changed moment terms asked s = with_cause moment terms asked (with_close (is_close moment asked s) moment terms asked s)
+
+-- The group, or all sources of the group, to which a subject belongs. The source zero stands for all sources.
+abbrev pub whole_of : Asked ℕ → Asked ℕ
+whole_of AllGroups = AllGroups
+whole_of (Group group) = Group group
+whole_of (Source group source) = Source group 0
+
+-- A change that counts asked for the subject, or for its group. None asks for the source zero.
+abbrev pub has_changed : Asked ℕ → SchedulesValue → Bool
+has_changed AllGroups s = false
+has_changed (Group group) s = has_free OfWanted (Group group) 0 s.causes
+has_changed (Source group source) s =
+    not (source == 0) && (has_free OfWanted (Source group source) 0 s.causes || has_free OfWanted (Group group) 0 s.causes)
+
+-- The terms of a query on the subject that some reading may want: a change asked for it, and changes of its group, or of
+-- all sources, came close together. A strict check accepts no other reading.
+abbrev pub unclear : Asked ℕ → SchedulesValue → Option (Terms ℕ)
+unclear asked s =
+    if nat_lt 0 s.repeats.more && has_changed asked s
+    then terms_of (first_entry (is_free OfSeen (whole_of asked) 0) s.causes.entries)
+    else None
+
+abbrev pub cause_in : Asked ℕ → SchedulesValue → Option (Entry ℕ)
+cause_in asked s = first_entry (is_free OfWanted asked 0) s.causes.entries
+
+-- A query is seen at most the tolerance after a change.
+abbrev pub is_near_cause : Repeats → (moment : ℕ) → (cause : Option (Entry ℕ)) → Bool
+is_near_cause repeats moment None = false
+is_near_cause repeats moment (Some cause) = not (is_long_before repeats (moment_of cause) moment)
+
+-- No query on the subject was wanted, or seen for a subject from before the capture, since the change.
+abbrev pub is_unused : Repeats → (last : Option (Entry ℕ)) → Entry ℕ → Bool
+is_unused repeats None cause = true
+is_unused repeats (Some last) cause = nat_lt (moment_of last) (due_after repeats (moment_of cause))
+
+-- The terms of a query that a change makes a querier send if it held the subject before the capture. The change comes while
+-- that may be held.
+abbrev pub caused_by : Repeats → (moment : ℕ) → (last cause : Option (Entry ℕ)) → Option (Terms ℕ)
+caused_by repeats moment last None = None
+caused_by repeats moment last (Some cause) =
+    if nat_lt (moment_of cause) repeats.held_until && is_near_cause repeats moment (Some cause) && is_unused repeats last cause
+    then terms_in cause
+    else None
+
+-- The terms of a query that any change makes a querier send. After a change of a group it may ask for each source of it.
+abbrev pub caused : (moment : ℕ) → Asked ℕ → SchedulesValue → Option (Terms ℕ)
+caused moment AllGroups s = None
+caused moment (Group group) s = caused_by s.repeats moment (last_in (Group group) s) (cause_in (Group group) s)
+caused moment (Source group source) s = first_of
+    (caused_by s.repeats moment (last_in (Source group source) s) (cause_in (Source group source) s))
+    (caused_by s.repeats moment (last_in (Source group source) s) (cause_in (Group group) s))
+
+-- The terms of a query at the start of a capture, which a change from before may ask for. They are those that are seen,
+-- since that change isn't known.
+abbrev pub at_first : (moment : ℕ) → (seen : Terms ℕ) → SchedulesValue → Option (Terms ℕ)
+at_first moment seen s = if nat_lt moment s.repeats.first_until then Some seen else None
+
+-- The wanted terms of a query that is the next one. S depends on timers at that moment: `is_above` is set if the timer of the
+-- subject exceeds the Last Member Query Time.
+abbrev pub with_s : (is_above : Bool) → Option (Terms ℕ) → Option (Terms ℕ)
+with_s is_above None = None
+with_s is_above (Some wanted) = Some (record wanted { querier = with_suppress is_above wanted.querier })
+
+abbrev pub followed : (moment : ℕ) → (is_above : Bool) → Asked ℕ → SchedulesValue → Option (Terms ℕ)
+followed moment is_above asked s =
+    if is_next s.repeats moment (next_in asked s) && not (is_some (caused moment asked s))
+    then with_s is_above (terms_of (next_in asked s))
+    else None
+
+-- the schedules without that query, which comes no more
+abbrev pub dropped : (next : Option (Terms ℕ)) → Asked ℕ → WaitingValue → WaitingValue
+dropped None asked w = w
+dropped (Some terms) asked w = with_partner OfSeen asked 0 terms w
+
+unfoldable pub without_next : Asked ℕ → SchedulesValue → SchedulesValue
+without_next asked s = record s { next = dropped (terms_of (next_in asked s)) asked s.next }
+
+abbrev pub with_next : (left due : ℕ) → Terms ℕ → Asked ℕ → SchedulesValue → SchedulesValue
+with_next left due terms asked s =
+    if nat_lt 0 left then record s { next = with_entry (Seen due asked terms None (Next left)) s.next } else s
+
+-- the number of queries from it on
+abbrev pub left_in_next : (next : Option (Entry ℕ)) → ℕ
+left_in_next None = 0
+left_in_next (Some next) = left_in next
+
+abbrev pub terms_or : (terms : Terms ℕ) → Option (Terms ℕ) → Terms ℕ
+terms_or terms None = terms
+terms_or terms (Some other) = other
+
+-- The schedules after the query was seen that was still to come. The next one is due an interval later.
+unfoldable pub gone_on : (moment : ℕ) → (seen : Terms ℕ) → Asked ℕ → SchedulesValue → SchedulesValue
+gone_on moment seen asked s =
+    let next = next_in asked s in
+    with_next (left_in_next next - 1) (due_after s.repeats moment) (terms_or seen (terms_of next)) asked
+    (without_next asked s)
+
+-- The schedules after the first query was seen of a schedule for a subject from before the capture. It counts as wanted.
+unfoldable pub begun : (moment : ℕ) → (wanted : Terms ℕ) → Asked ℕ → SchedulesValue → SchedulesValue
+begun moment wanted asked s =
+    with_next s.repeats.count (due_after s.repeats moment) wanted asked (without_next asked (schedules_wanted moment wanted asked s))
+
+-- The schedules after a query was seen. It has a partner among the wanted queries, or is the next one of a schedule from
+-- before the capture. Or a change in the capture caused it: then it is the first one of such a schedule.
+abbrev pub placed_alone : (moment : ℕ) → Terms ℕ → Asked ℕ → (is_possible : Bool) → (caused : Option (Terms ℕ)) → SchedulesValue → SchedulesValue
+placed_alone moment terms asked false caused s = schedules_seen moment terms asked false s
+placed_alone moment terms asked true None s = schedules_seen moment terms asked false s
+placed_alone moment terms asked true (Some wanted) s = begun moment wanted asked (schedules_seen moment terms asked true s)
+
+abbrev pub placed : (moment : ℕ) → Terms ℕ → Asked ℕ → (has_partner follows is_possible : Bool) → (caused : Option (Terms ℕ)) → SchedulesValue → SchedulesValue
+placed moment terms asked true follows is_possible caused s = schedules_seen moment terms asked true s
+placed moment terms asked false true is_possible caused s = gone_on moment terms asked (schedules_seen moment terms asked true s)
+placed moment terms asked false false is_possible caused s = placed_alone moment terms asked is_possible caused s

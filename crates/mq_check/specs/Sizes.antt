@@ -21,6 +21,10 @@ bytes_of_entries entry_size = bytes_for entry_size room + bytes_of_trails + byte
 abbrev pub bytes_of_waiting : RattleType → ℕ
 bytes_of_waiting K = bytes_of_entries (item_bytes (entry.the_row K))
 
--- the bytes of a check: its pending entries, the subjects that it knows, and the queries of schedules
+-- the bytes of the queries of schedules: three lists
+abbrev pub bytes_of_schedules : RattleType → ℕ
+bytes_of_schedules K = bytes_of_waiting K + bytes_of_waiting K + bytes_of_waiting K
+
+-- the bytes of a check: its pending entries, the groups that no older host mutes, and the queries of schedules
 abbrev pub bytes_of_checking : RattleType → ℕ
-bytes_of_checking K = bytes_of_waiting K + bytes_of_waiting K + bytes_of_waiting K
+bytes_of_checking K = bytes_of_waiting K + bytes_of_waiting K + bytes_of_schedules K

@@ -43,7 +43,7 @@ slot_of_seen width asked (Some partner) = unused
 slot_of_seen width asked None = slot_of width OfSeen asked
 
 abbrev pub slot_in : (width : ℕ) → Entry ℕ → ℕ
-slot_in width (Wanted moment asked terms is_optional is_found) = slot_of_wanted width asked is_found
+slot_in width (Wanted moment asked terms need is_found) = slot_of_wanted width asked is_found
 slot_in width (Seen moment asked terms partner alone) = slot_of_seen width asked partner
 slot_in width (Interval moment packet after wanted) = unused
 slot_in width (Silence moment after wanted) = unused
@@ -67,14 +67,14 @@ pub record AreNoneOf (width slot from : ℕ) (entries : List (Entry ℕ)) (place
 
 -- the slot and the moment of a wanted query
 abbrev pub wanted_slot : (width : ℕ) → Entry ℕ → ℕ
-wanted_slot width (Wanted moment asked terms is_optional is_found) = slot_of width OfWanted asked
+wanted_slot width (Wanted moment asked terms need is_found) = slot_of width OfWanted asked
 wanted_slot width (Seen moment asked terms partner alone) = unused
 wanted_slot width (Interval moment packet after wanted) = unused
 wanted_slot width (Silence moment after wanted) = unused
 wanted_slot width (Packet moment number fault) = unused
 
 abbrev pub wanted_moment : Entry ℕ → ℕ
-wanted_moment (Wanted moment asked terms is_optional is_found) = moment
+wanted_moment (Wanted moment asked terms need is_found) = moment
 wanted_moment (Seen moment asked terms partner alone) = 0
 wanted_moment (Interval moment packet after wanted) = 0
 wanted_moment (Silence moment after wanted) = 0

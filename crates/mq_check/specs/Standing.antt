@@ -1,14 +1,15 @@
 -- The standing of a subject in the link when a query on it is seen.
-use Rattle.std.specs.Prelude.{ℕ, ◌||◌, Bool, false, None}
+use Rattle.std.specs.Prelude.{ℕ, ◌||◌, Bool, false}
 use Rattle.mq_wire.specs.Family.{Family, Igmp, Mld}
 use Rattle.mq_table.specs.declared.older_hosts.Hosts.{Hosts}
+use Rattle.mq_table.specs.declared.timing.Timing.{Timing}
+use Rattle.mq_table.specs.Group.{deadline_of, group_deadline, is_ahead, timer_at}
+use Rattle.mq_table.specs.Lowering.{lowered_to}
 use Rattle.mq_table.specs.OlderHosts.{hosts_of}
 use Rattle.mq_link.specs.State.{Groups, group_at}
 use Rattle.mq_check.specs.declared.asked.Asked.{Asked}
 use Rattle.mq_check.specs.declared.asked.Asked.TheVariants.{AllGroups, Group, Source}
 use Rattle.mq_check.specs.declared.standing.Standing.{Standing}
-use Rattle.mq_check.specs.declared.terms.Terms.{Terms}
-use Rattle.mq_check.specs.Unheld.{unheld}
 
 -- These older hosts of a group mute the change that asks for a query. RFC 3376 section 7.3.2, RFC 3810 section 8.3.2. Any
 -- of them mutes BLOCK, which asks for sources. Hosts of IGMPv1 mute Leave and TO_IN, which ask for the group. Those of
@@ -25,13 +26,22 @@ hosts_in groups now AllGroups = record { v1 = false; v2 = false }
 hosts_in groups now (Group group) = hosts_of (group_at groups group).group now
 hosts_in groups now (Source group source) = hosts_of (group_at groups group).group now
 
--- The standing of a subject in these groups. `wanted` has the terms of a query on it.
-abbrev pub standing_in : Family → Groups → (now : ℕ) → (wanted : Terms ℕ) → Asked ℕ → Standing ℕ
-standing_in family groups now wanted asked = record {
-  unheld = unheld family groups wanted asked;
+-- The timer of a subject exceeds the Last Member Query Time. Then S is set in a query on it. RFC 3376 sections 6.6.3.1 and
+-- 6.6.3.2, RFC 3810 sections 7.6.3.1 and 7.6.3.2.
+abbrev pub is_above : Groups → (in_force : Timing) → (now : ℕ) → Asked ℕ → Bool
+is_above groups in_force now AllGroups = false
+is_above groups in_force now (Group group) =
+    is_ahead (lowered_to in_force now) (group_deadline (group_at groups group).group.mode)
+is_above groups in_force now (Source group source) =
+    is_ahead (lowered_to in_force now) (deadline_of (timer_at (group_at groups group).group source))
+
+-- the standing of a subject in these groups
+abbrev pub standing_in : Family → Groups → (in_force : Timing) → (now : ℕ) → Asked ℕ → Standing
+standing_in family groups in_force now asked = record {
   is_muted = muted_by family (hosts_in groups now asked) asked;
+  is_above = is_above groups in_force now asked;
 }
 
--- the standing of a subject that the link holds and nobody mutes, and that of all groups
-abbrev pub held : Standing ℕ
-held = record { unheld = None; is_muted = false }
+-- the standing of a subject that nobody mutes and that has no timer, and that of all groups
+abbrev pub plain : Standing
+plain = record { is_muted = false; is_above = false }

@@ -1,24 +1,29 @@
 -- Buffered output of findings, as contracts see it.
-use Rattle.std.specs.Prelude.{◌≡◌, ℕ, zero, suc, ◌||◌, List, [], length, Result, IfOk, is_err}
+use Rattle.std.specs.Prelude.{◌≡◌, ℕ, zero, suc, ◌||◌, Bool, true, false, List, [], length, Result, IfOk, is_err}
 use Rattle.mq_wire.specs.Family.{Family}
 use Rattle.mq_text.specs.Printing.{OutputState, Puts}
 use Rattle.mq_check.specs.declared.check_terms.Additions.{Additions}
 use Rattle.mq_check.specs.declared.finding.Finding.{Finding}
 use Rattle.mq_check.specs.declared.repeated.LastDifferences.{LastDifferences}
+use Rattle.mq_check.specs.declared.totals.FindingCounts.{FindingCounts}
 use Rattle.mq_check.specs.Checking.{counted_up}
-use Rattle.mq_check.specs.FindingLines.{finding_lines}
+use Rattle.mq_check.specs.FindingLines.{certain_in, finding_lines, possible_in}
 use Rattle.mq_check.specs.Repeated.{no_differences, reported, with_findings}
 
--- the unwritten text, the additions to lines of findings, the last differences, and the number of reported findings
+-- no finding
+abbrev pub none_counted : FindingCounts
+none_counted = record { certain = 0; possible = 0 }
+
+-- The unwritten text, the additions to lines of findings, the last differences, and the numbers of reported findings.
 pub record FindingWriterState : Type 0 where
   pub held : List ℕ
   pub additions : Additions
   pub last : LastDifferences
-  pub count : ℕ
+  pub count : FindingCounts
 
 -- the state before the first finding
 abbrev pub nothing_told : Additions → FindingWriterState
-nothing_told additions = record { held = []; additions = additions; last = no_differences; count = 0 }
+nothing_told additions = record { held = []; additions = additions; last = no_differences; count = none_counted }
 
 -- the reported ones of these findings
 abbrev pub reported_by : FindingWriterState → List (Finding ℕ) → List (Finding ℕ)
@@ -29,10 +34,22 @@ abbrev pub counted_times : (times count : ℕ) → ℕ
 counted_times zero count = count
 counted_times (suc n) count = counted_up (counted_times n count)
 
+-- the counts after one more finding
+abbrev pub counted_if : (is_possible : Bool) → FindingCounts → FindingCounts
+counted_if false count = record count { certain = counted_up count.certain }
+counted_if true count = record count { possible = counted_up count.possible }
+
+-- the counts after these findings
+abbrev pub counted_by : List (Finding ℕ) → FindingCounts → FindingCounts
+counted_by findings count = record {
+  certain = counted_times (length (certain_in findings)) count.certain;
+  possible = counted_times (length (possible_in findings)) count.possible;
+}
+
 -- the reported ones of these findings were printed in order, or a write failed
 pub record Tells {T E : Type 0} (family : Family) (findings : List (Finding ℕ)) (old new : FindingWriterState) (before after : OutputState) (r : Result T E) : Type 0 where
   pub additions : new.additions ≡ old.additions
   pub last : IfOk r (λ _. new.last ≡ with_findings findings old.last)
-  pub count : IfOk r (λ _. new.count ≡ counted_times (length (reported_by old findings)) old.count)
+  pub count : IfOk r (λ _. new.count ≡ counted_by (reported_by old findings) old.count)
   pub text : Puts before.held after.held old.held new.held (finding_lines family old.additions (reported_by old findings)) r
   pub failed : after.failed ≡ before.failed || is_err r

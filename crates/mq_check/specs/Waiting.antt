@@ -22,6 +22,10 @@ pub record WaitingValue : Type 0 where
 abbrev pub nothing : WaitingValue
 nothing = record { entries = []; is_full = false }
 
+-- the list without its entries
+abbrev pub emptied : WaitingValue → WaitingValue
+emptied w = record w { entries = [] }
+
 -- the list with an entry appended if there is room
 unfoldable pub with_entry : Entry ℕ → WaitingValue → WaitingValue
 with_entry entry w =
@@ -48,7 +52,7 @@ has_free side asked from w = is_some (first_terms (is_free side asked from) w.en
 -- The partner of a wanted query may come after the end of a capture. The end is at most the tolerance after its moment,
 -- or the next query of a schedule on its subject is still due. `sent` has the queries of schedules.
 abbrev pub may_still_come : (within end : ℕ) → (sent : WaitingValue) → Entry ℕ → Bool
-may_still_come within end sent (Wanted moment asked terms is_optional is_found) =
+may_still_come within end sent (Wanted moment asked terms need is_found) =
     nat_le end (moment + within) || has_free OfSeen asked 0 sent
 may_still_come within end sent (Seen moment asked terms partner alone) = false
 may_still_come within end sent (Interval moment packet after wanted) = false

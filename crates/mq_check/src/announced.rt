@@ -7,44 +7,47 @@ ghost use Rattle.mq_pcap.specs.Filling.{input_of};
 ghost use Rattle.mq_pcap.specs.Frame.{carried_in};
 ghost use Rattle.mq_replay.specs.Faults.{is_granted};
 ghost use Rattle.mq_replay.specs.Report.{datagram_of};
-ghost use Rattle.mq_wire.specs.Numbered.{numbered_query};
 ghost use Rattle.mq_check.specs.Announced as spec;
-ghost use Rattle.mq_check.specs.Numbered.{numbered_announced, numbered_announced_if, numbered_answer, numbered_query_if};
+ghost use Rattle.mq_check.specs.Numbered.{numbered_answer, numbered_query_if, numbered_sought_if};
 
+use crate::checked_family::CheckedFamily;
 use crate::seen_queries::query_spelled;
-use crate::wanting::is_general;
+use crate::sought::{Sought, found_in, with_query};
+use crate::stamp::Stamp;
 use mq_arena::{OfAllocator, VectorSource, filled};
 use mq_count::Watched;
 use mq_lines::LineKey;
-use mq_link::Family;
 use mq_pcap::{GREATEST_PACKET, LinkType, PcapFault, Ready, unwrap_frame};
 use mq_replay::{CaptureFault, CapturedDatagram, CapturedFamily, NumberedPacket, Step, walk};
-use mq_wire::{Query, QueryVersion, WireKey};
+use mq_wire::{Query, WireKey};
 use std::alloc::{AllocError, Allocator};
 use std::io::Read;
 
 /// The variables that a querier announces in its queries. A variable is None if no query has it, or if it is 0: then
-/// its default holds (RFC 3376 sections 4.1.6 and 4.1.7, RFC 3810 sections 5.1.8 and 5.1.9).
+/// its default holds (RFC 3376 sections 4.1.6 and 4.1.7, RFC 3810 sections 5.1.8 and 5.1.9). If the code of an interval
+/// stands for several, the times between queries show the interval.
 #[derive(Clone, Copy)]
 pub struct Announced<K: WireKey> {
-    /// The querier's address: the source of the first general query.
+    /// The querier's address: the lowest source of general queries, which is elected.
     pub querier: K,
-    /// QRV of the first general query.
+    /// QRV of its first general query.
     pub robustness: Option<u32>,
-    /// The interval in seconds, decoded from QQIC of the first general query.
+    /// The interval in seconds, from QQIC of its first general query.
     pub query_seconds: Option<u32>,
-    /// The response of the first general query in milliseconds, decoded from its code.
+    /// The response of its first general query in milliseconds, decoded from its code.
     pub response_interval: Option<u32>,
-    /// The response in milliseconds of the querier's first specific query after it that has one.
+    /// The response in milliseconds of its first specific query after it that has one.
     pub last_member_interval: Option<u32>,
+    /// The lowest other source of general queries, if there is one.
+    pub beside: Option<K>,
 }
 
 /// Returns what the querier of a capture announces, if the capture has a general query of the family.
 ///
-/// The querier is the source of the first general query on which hosts act, from an address that a router may have. The
+/// The querier has the lowest address of those from which general queries come on which hosts act. The
 /// capture is read to its end. A fault after that query doesn't matter here: the check reports it. Memory for one
 /// packet is allocated before anything is read.
-pub fn announced_variables<F: CapturedFamily, A: Allocator + Copy, R: Read>(
+pub fn announced_variables<F: CheckedFamily, A: Allocator + Copy, R: Read>(
     alloc: A,
     reader: &mut Watched<R>,
 ) -> Result<Option<Announced<F::Address>>, CaptureFault>
@@ -57,7 +60,7 @@ where
 }
 
 /// Acts like `announced_variables`, with memory for one packet from `memory`. Fails with `Memory` only if that is refused.
-pub fn announced_variables_in<F: CapturedFamily, A: Allocator, M: VectorSource<A>, R: Read>(
+pub fn announced_variables_in<F: CheckedFamily, A: Allocator, M: VectorSource<A>, R: Read>(
     memory: &mut M,
     reader: &mut Watched<R>,
 ) -> Result<Option<Announced<F::Address>>, CaptureFault>
@@ -71,9 +74,9 @@ where
     let Ok(mut packet) = packet else {
         return Err(CaptureFault::Memory);
     };
-    let mut looking = Looking::<F> { found: None };
+    let mut looking = Looking::<F> { sought: None };
     let read = look_in_file(&mut looking, packet.as_mut_slice(), reader);
-    concluded(looking.found, read)
+    concluded(found_in(looking.sought), read)
 }
 
 /// Returns what was found, or why nothing can be said: a read failed, or the capture has a fault before its first
@@ -91,34 +94,36 @@ fn concluded<K: WireKey>(
     }
 }
 
-/// A search for queries: what the packets so far announce.
+/// A search for queries: what is known of the querier by the packets so far.
 #[derive(Drop)]
-struct Looking<F: CapturedFamily>
+struct Looking<F: CheckedFamily>
 where
     F::Address: LineKey,
 {
-    found: Option<Announced<F::Address>>,
+    sought: Option<Sought<F::Address>>,
 }
 
-impl<F: CapturedFamily> Step<()> for Looking<F>
+impl<F: CheckedFamily> Step<()> for Looking<F>
 where
     F::Address: LineKey,
 {
     ghost use Rattle.mq_check.specs.Announced.{TakesLooked};
-    ghost use Rattle.mq_check.specs.Numbered.{numbered_announced_if};
+    ghost use Rattle.mq_check.specs.Numbered.{numbered_sought_if};
 
     type Fault = PcapFault;
 
-    ghost takes = { λ packet old new r. TakesLooked F.FAMILY packet (numbered_announced_if F.Address.number old.0.found) (numbered_announced_if F.Address.number new.0.found) r };
+    ghost takes = { λ packet old new r. TakesLooked F.FAMILY packet (numbered_sought_if F.Address.number old.0.sought) (numbered_sought_if F.Address.number new.0.sought) r };
+
+    ghost is_written = { λ _. Unit };
 
     fn packet(&mut self, packet: &NumberedPacket<'_>, _output: &mut ()) -> Result<(), PcapFault> {
-        self.found = with_frame::<F>(packet.link, packet.frame, self.found);
+        self.sought = with_frame::<F>(packet.link, packet.moment, packet.frame, self.sought);
         Ok(())
     }
 }
 
 /// Looks for queries in a capture, from its header to its end.
-fn look_in_file<F: CapturedFamily, R: Read>(
+fn look_in_file<F: CheckedFamily, R: Read>(
     looking: &mut Looking<F>,
     packet: &mut [u8],
     reader: &mut Watched<R>,
@@ -126,138 +131,66 @@ fn look_in_file<F: CapturedFamily, R: Read>(
 where
     F::Address: LineKey,
     requires room { most_bytes ≤ length packet.old }
-    requires nothing { looking.old.found ≡ None }
-    ensures { spec.LooksIn F.FAMILY (input_of R.remaining reader.old) (input_of R.remaining reader.new) (numbered_announced_if F.Address.number looking.new.found) result }
+    requires nothing { looking.old.sought ≡ None }
+    ensures { spec.LooksIn F.FAMILY (input_of R.remaining reader.old) (input_of R.remaining reader.new) (numbered_sought_if F.Address.number looking.new.sought) result }
 {
     walk(looking, packet, &Ready, reader, &mut ())?;
     Ok(())
 }
 
-/// Returns what is announced up to and including a packet.
-fn with_frame<F: CapturedFamily>(
+/// Returns what is known of the querier up to and including a packet.
+fn with_frame<F: CheckedFamily>(
     link: LinkType,
+    stamp: Stamp,
     frame: &[u8],
-    found: Option<Announced<F::Address>>,
-) -> Option<Announced<F::Address>>
+    sought: Option<Sought<F::Address>>,
+) -> Option<Sought<F::Address>>
 where
     F::Address: LineKey,
-    ensures { numbered_announced_if F.Address.number result
-        ≡ spec.with_datagram F.FAMILY (datagram_of F.FAMILY (carried_in link frame.now)) (numbered_announced_if F.Address.number found) }
+    ensures { numbered_sought_if F.Address.number result
+        ≡ spec.with_datagram F.FAMILY stamp (datagram_of F.FAMILY (carried_in link frame.now)) (numbered_sought_if F.Address.number sought) }
 {
     let inner = unwrap_frame(link, frame);
     match F::datagram(&inner) {
-        Some(datagram) => with_datagram::<F>(datagram, found),
-        None => found,
+        Some(datagram) => with_datagram::<F>(stamp, datagram, sought),
+        None => sought,
     }
 }
 
-/// Returns what is announced up to and including a datagram.
-fn with_datagram<F: CapturedFamily>(
+/// Returns what is known of the querier up to and including a datagram.
+fn with_datagram<F: CheckedFamily>(
+    stamp: Stamp,
     datagram: CapturedDatagram<'_, F::Envelope>,
-    found: Option<Announced<F::Address>>,
-) -> Option<Announced<F::Address>>
+    sought: Option<Sought<F::Address>>,
+) -> Option<Sought<F::Address>>
 where
     F::Address: LineKey,
-    ensures { numbered_announced_if F.Address.number result
-        ≡ spec.with_query (F.envelope_of datagram.entry.envelope).source
+    ensures { numbered_sought_if F.Address.number result
+        ≡ spec.with_query F.FAMILY stamp (F.envelope_of datagram.entry.envelope).source
         (spec.query_in F.FAMILY (record { envelope = F.envelope_of datagram.entry.envelope; body = datagram.entry.body.now }))
-        (numbered_announced_if F.Address.number found) }
+        (numbered_sought_if F.Address.number sought) }
 {
-    match query_in::<F>(&datagram) {
-        Some(query) => with_query::<F>(F::source(&datagram.envelope), &query, found),
-        None => found,
+    match query_in::<F>(&datagram.envelope, datagram.body) {
+        Some(query) => with_query::<F>(stamp, F::source(&datagram.envelope), &query, sought),
+        None => sought,
     }
 }
 
 /// Returns the query in a datagram, if hosts act on it and its source is an address that a router may have.
-fn query_in<'a, F: CapturedFamily>(
-    datagram: &CapturedDatagram<'a, F::Envelope>,
+pub(crate) fn query_in<'a, F: CapturedFamily>(
+    envelope: &F::Envelope,
+    body: &'a [u8],
 ) -> Option<Query<'a, F::Address>>
 where
     F::Address: LineKey,
     ensures { numbered_query_if F.Address.number result
-        ≡ spec.query_in F.FAMILY (record { envelope = F.envelope_of datagram.now.envelope; body = datagram.now.body.now }) }
+        ≡ spec.query_in F.FAMILY (record { envelope = F.envelope_of envelope.now; body = body.entry.now }) }
 {
-    if !F::is_router_address(F::source(&datagram.envelope)) {
+    if !F::is_router_address(F::source(envelope)) {
         return None;
     }
-    if F::envelope_fault(&datagram.envelope).is_some() {
+    if F::envelope_fault(envelope).is_some() {
         return None;
     }
-    query_spelled::<F>(&datagram.envelope, datagram.body)
-}
-
-/// Returns what is announced up to and including a query.
-fn with_query<F: Family>(
-    source: F::Address,
-    query: &Query<'_, F::Address>,
-    found: Option<Announced<F::Address>>,
-) -> Option<Announced<F::Address>>
-    ensures { numbered_announced_if F.Address.number result
-        ≡ spec.with_query (F.Address.number source) (Some (numbered_query F.Address.number query.now)) (numbered_announced_if F.Address.number found) }
-{
-    match found {
-        None if is_general::<F>(query) => Some(announced_by(source, query)),
-        None => None,
-        Some(found) => Some(with_specific::<F>(source, query, found)),
-    }
-}
-
-/// Returns what a general query announces.
-fn announced_by<K: WireKey>(source: K, query: &Query<'_, K>) -> Announced<K>
-    ensures { numbered_announced K.number result ≡ spec.announced_by (K.number source) (numbered_query K.number query.now) None }
-{
-    let (robustness, query_seconds) = match &query.version {
-        QueryVersion::Older(_) => (None, None),
-        QueryVersion::Current(fields) => (
-            if_any(u32::from(fields.robustness.get())),
-            if_any(fields.interval),
-        ),
-    };
-    Announced {
-        querier: source,
-        robustness,
-        query_seconds,
-        response_interval: if_any(query.response),
-        last_member_interval: None,
-    }
-}
-
-/// Returns what is announced up to and including a query after the first general one.
-fn with_specific<F: Family>(
-    source: F::Address,
-    query: &Query<'_, F::Address>,
-    found: Announced<F::Address>,
-) -> Announced<F::Address>
-    ensures { numbered_announced F.Address.number result
-        ≡ spec.with_specific (F.Address.number source) (Some (numbered_query F.Address.number query.now)) (numbered_announced F.Address.number found) }
-{
-    let interval = specific_of::<F>(found.querier, source, query);
-    Announced {
-        last_member_interval: found.last_member_interval.or(interval),
-        ..found
-    }
-}
-
-/// Returns the response of a specific query of the querier, if it isn't 0.
-fn specific_of<F: Family>(
-    querier: F::Address,
-    source: F::Address,
-    query: &Query<'_, F::Address>,
-) -> Option<u32>
-    ensures { result
-        ≡ spec.specific_of (F.Address.number querier) (F.Address.number source) (Some (numbered_query F.Address.number query.now)) }
-{
-    if F::is_same(source, querier) && !F::is_zero(query.group) {
-        if_any(query.response)
-    } else {
-        None
-    }
-}
-
-/// Returns a value, unless it is 0.
-fn if_any(value: u32) -> Option<u32>
-    ensures { result ≡ spec.if_any value }
-{
-    if value == 0 { None } else { Some(value) }
+    query_spelled::<F>(envelope, body)
 }

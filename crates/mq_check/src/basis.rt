@@ -4,12 +4,15 @@ ghost use Rattle.std.specs.Prelude.{◌≡◌, ◌+◌, ◌==◌, not};
 ghost use Rattle.mq_pcap.specs.Frame.{carried_of};
 ghost use Rattle.mq_check.specs.Basis as spec;
 
+use crate::announced::query_in;
 use crate::querier_address::QuerierAddress;
-use mq_count::Moment;
+use mq_count::{Key, Meter, Moment};
 use mq_lines::LineKey;
+use mq_link::Config;
 use mq_pcap::{Endian, Inner, LinkType};
 use mq_replay::{CapturedDatagram, CapturedFamily};
 use mq_wire::WireFault;
+use std::cmp::Ordering;
 
 /// The basis of a verdict: the packets of a capture, and who was querier. A count stays at the greatest u64.
 #[derive(Clone, Copy)]
@@ -26,8 +29,14 @@ pub struct Basis {
     pub unread: u64,
     /// The number of packets whose stamps go back.
     pub back: u64,
+    /// The number of records that the check's own link refused for its limits. It is set at the end.
+    pub refused: u64,
     /// The checked router.
     pub own: QuerierAddress,
+    /// True if a datagram of the family came from the checked router.
+    pub is_heard: bool,
+    /// True if a query came from a router with a higher address.
+    pub has_higher: bool,
     /// True if the checked router is querier.
     pub is_querier: bool,
     /// The number of times that it lost the role.
@@ -72,6 +81,22 @@ fn is_wrapped(kind: u16) -> bool
     )
 }
 
+/// Returns whether a datagram is a query on which hosts act, from a router with a higher address than the checked one.
+fn is_of_higher<F: CapturedFamily>(
+    config: &Config<F>,
+    datagram: &CapturedDatagram<'_, F::Envelope>,
+) -> bool
+where
+    F::Address: LineKey,
+    ensures { result
+        ≡ spec.is_of_higher config.now (record { envelope = F.envelope_of datagram.now.envelope; body = datagram.now.body.now }) }
+{
+    config.is_faultless();
+    let source = F::source(&datagram.envelope);
+    config.own().order(source, &mut Meter::new()) == Ordering::Less
+        && query_in::<F>(&datagram.envelope, datagram.body).is_some()
+}
+
 impl Basis {
     /// Returns the basis before the first packet. No other querier is known yet, so `other` is the router itself.
     pub(crate) fn at_start(own: QuerierAddress, other: QuerierAddress, start: Moment) -> Basis
@@ -86,13 +111,23 @@ impl Basis {
             cut: 0,
             unread: 0,
             back: 0,
+            refused: 0,
             own,
+            is_heard: false,
+            has_higher: false,
             is_querier: true,
             lost: 0,
             lost_at: start,
             other,
             again_at: start,
         }
+    }
+
+    /// Returns the basis at the end, with the number of records that the link refused.
+    pub(crate) fn with_refused(&self, refused: u64) -> Basis
+        ensures { result ≡ record self.now { refused = refused } }
+    {
+        Basis { refused, ..*self }
     }
 
     /// Counts a packet, whose stamp goes back or doesn't.
@@ -105,21 +140,41 @@ impl Basis {
         }
     }
 
-    /// Counts a datagram of the family.
+    /// Counts a datagram of the family, and notes its sender.
     pub(crate) fn note_datagram<F: CapturedFamily>(
         &mut self,
+        config: &Config<F>,
         datagram: &CapturedDatagram<'_, F::Envelope>,
     )
     where
         F::Address: LineKey,
-        ensures { self.new ≡ spec.with_datagram F.FAMILY
+        ensures { self.new ≡ spec.with_datagram config.now
             (record { envelope = F.envelope_of datagram.now.envelope; body = datagram.now.body.now }) self.old }
     {
+        config.is_faultless();
         match F::read(&datagram.envelope, datagram.body) {
             Ok(_) => self.messages = self.messages.saturating_add(1),
             Err(WireFault::UnknownType) => {}
             Err(_) => self.malformed = self.malformed.saturating_add(1),
         }
+        self.note_sender::<F>(config, datagram);
+    }
+
+    /// Notes whether a datagram comes from the checked router, or is a query of a router with a higher address.
+    fn note_sender<F: CapturedFamily>(
+        &mut self,
+        config: &Config<F>,
+        datagram: &CapturedDatagram<'_, F::Envelope>,
+    )
+    where
+        F::Address: LineKey,
+        ensures { self.new ≡ spec.with_sender config.now
+            (record { envelope = F.envelope_of datagram.now.envelope; body = datagram.now.body.now }) self.old }
+    {
+        config.is_faultless();
+        let source = F::source(&datagram.envelope);
+        self.is_heard = self.is_heard || F::is_same(source, config.own());
+        self.has_higher = self.has_higher || is_of_higher::<F>(config, datagram);
     }
 
     /// Counts a frame without a datagram of the family.
@@ -173,6 +228,13 @@ impl Basis {
         ensures { result ≡ spec.is_out_of_order self.now }
     {
         0 < self.back && u128::from(self.packets) <= 2 * u128::from(self.back)
+    }
+
+    /// Returns whether nothing came from the checked router, though a router with a higher address sends queries.
+    pub(crate) fn is_unseen(&self) -> bool
+        ensures { result ≡ spec.is_unseen self.now }
+    {
+        !self.is_heard && self.has_higher
     }
 
     /// Returns whether the capture has a message of the family, well-formed or malformed.

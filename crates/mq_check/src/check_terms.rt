@@ -1,6 +1,6 @@
 //! Terms of a check.
 
-/// Additions to the lines of findings, and their omission.
+/// The form of the lines of findings, and their omission.
 #[derive(Clone, Copy)]
 pub struct Additions {
     /// True if a line has the number of the packet.
@@ -9,6 +9,20 @@ pub struct Additions {
     pub cite: bool,
     /// True if a difference in the response, QRV or QQIC has no line if it repeats the last one of its kind of query.
     pub once: bool,
+    /// True if possible findings have lines.
+    pub possible: bool,
+    /// True if each line is an object of JSON, which has the number and the section.
+    pub json: bool,
+}
+
+/// The flags of a check that decide what it finds.
+#[derive(Clone, Copy)]
+pub struct CheckFlags {
+    /// True if the capture begins before the querier, so the querier held nothing and had heard no host. Then each finding is
+    /// certain.
+    pub began: bool,
+    /// True if only this project's own readings of the standard are accepted.
+    pub strict: bool,
 }
 
 /// The terms of a check.
@@ -18,8 +32,8 @@ pub struct CheckTerms {
     pub within: u32,
     /// The end of the capture if it is later than the last packet, in milliseconds from the first packet; at most 2^53.
     pub until: Option<u64>,
-    /// The additions to the lines of findings, and their omission.
+    /// The form of the lines of findings, and their omission.
     pub additions: Additions,
-    /// True if only this project's own readings of the standard are accepted.
-    pub strict: bool,
+    /// The flags that decide what it finds.
+    pub flags: CheckFlags,
 }

@@ -86,7 +86,7 @@ where
     ensures failed { has_failed writer.new ≡ has_failed writer.old || faults.is_failed_write result }
     ensures memory { result ≡ Err CaptureFault.Memory → (reader.new ≡ reader.old) × (writer.new ≡ writer.old) }
     ensures takes { Takes
-        (bytes_for 1 most_bytes + (bytes_of_workspace F.Address.row config.limits + bytes_of_link (page.the_row u16 A.row ⟦<A as Allocator>⟧) F.Address.row config.limits) + bytes_of_checking F.Address.row)
+        (bytes_for 1 most_bytes + (bytes_of_workspace F.Address.row config.room + bytes_of_link (page.the_row u16 A.row ⟦<A as Allocator>⟧) F.Address.row config.room) + bytes_of_checking F.Address.row)
         (M.less_than memory.old) (M.less_than memory.new) (faults.is_granted result) }
 {
     let packet: Result<Vec<u8, A>, AllocError> = filled(memory, 0, GREATEST_PACKET);
@@ -98,8 +98,8 @@ where
     let Ok(link) = Link::new_in(memory, config, first_moment()) else {
         return Err(CaptureFault::Memory);
     };
-    let strict = terms.strict;
-    let Ok(checking) = Checking::<F, A>::new(memory, terms.within, timing, last_member, strict)
+    let flags = terms.flags;
+    let Ok(checking) = Checking::<F, A>::new(memory, terms.within, timing, last_member, flags)
     else {
         return Err(CaptureFault::Memory);
     };
@@ -121,7 +121,7 @@ where
     F::Address: LineKey,
     requires room { most_bytes ≤ length packet.old }
     requires in_range { IfSome check.old.steps.terms.until (λ ms. ms ≤ 2 ^ 53) }
-    requires starts { checked_in check.old.steps.link check.old.steps.queries ≡ at_the_start check.old.steps.link.config check.old.steps.terms.within check.old.steps.terms.strict }
+    requires starts { checked_in check.old.steps.link check.old.steps.queries ≡ at_the_start check.old.steps.link.config check.old.steps.terms.within check.old.steps.terms.flags }
     requires told { check.old.steps.told ≡ nothing_told check.old.steps.terms.additions }
     ensures checks { spec.Checks check.old.steps.link.config check.old.steps.terms
         (input_of R.remaining reader.old) (input_of R.remaining reader.new)
@@ -146,7 +146,7 @@ where
     F::Address: LineKey,
     requires room { most_bytes ≤ length packet.old }
     requires in_range { IfSome check.old.steps.terms.until (λ ms. ms ≤ 2 ^ 53) }
-    requires starts { checked_in check.old.steps.link check.old.steps.queries ≡ at_the_start check.old.steps.link.config check.old.steps.terms.within check.old.steps.terms.strict }
+    requires starts { checked_in check.old.steps.link check.old.steps.queries ≡ at_the_start check.old.steps.link.config check.old.steps.terms.within check.old.steps.terms.flags }
     requires told { check.old.steps.told ≡ nothing_told check.old.steps.terms.additions }
     ensures puts { PutsReport (check_of check.old.steps.link.config check.old.steps.terms)
         (input_of R.remaining reader.old) (input_of R.remaining reader.new)

@@ -4,15 +4,15 @@ ghost use Rattle.std.specs.Prelude.{◌≡◌};
 ghost use Rattle.mq_wire.specs.RoundTrip.{response_lowered};
 ghost use Rattle.mq_check.specs.Check.{packet_in, destination_in, headers_in};
 ghost use Rattle.mq_check.specs.Basis.{named};
-ghost use Rattle.mq_check.specs.Headers.{has_query_type, has_reserved_bits};
+ghost use Rattle.mq_check.specs.Headers.{has_query_type};
 
-use crate::headers::{Headers, byte_at, headers4};
+use crate::headers::{Headers, byte_at, has_more, headers4};
 use crate::querier_address::QuerierAddress;
 use mq_count::{Addr4, Addr6};
 use mq_lines::LineKey;
 use mq_link::{Igmp, IgmpEnvelope, Mld, MldEnvelope};
 use mq_pcap::{Endian, LinkType};
-use mq_replay::CapturedFamily;
+use mq_replay::{CapturedDatagram, CapturedFamily};
 use mq_wire::{WireKey, code8, code16, resp8, resp16};
 
 /// A family whose queriers are checked.
@@ -24,17 +24,18 @@ where
     fn destination(link: LinkType, frame: &[u8], envelope: &Self::Envelope) -> Self::Address
         ensures { Self.Address.number result ≡ destination_in Self.FAMILY link frame.now (Self.envelope_of envelope.now) };
 
-    /// Returns the TTL, or hop limit, and the presence of Router Alert in the packet of a datagram.
-    fn headers(link: LinkType, frame: &[u8], envelope: &Self::Envelope) -> Headers
-        ensures { result ≡ headers_in Self.FAMILY link frame.now (Self.envelope_of envelope.now) };
+    /// Returns the fields of a packet, and of the query in it, that have the same right values in every query.
+    fn headers(
+        link: LinkType,
+        frame: &[u8],
+        datagram: &CapturedDatagram<'_, Self::Envelope>,
+    ) -> Headers
+        ensures { result ≡ headers_in Self.FAMILY link frame.now
+            (record { envelope = Self.envelope_of datagram.now.envelope; body = datagram.now.body.now }) };
 
     /// Returns whether a message's bytes have the type of a query.
     fn has_query_type(body: &[u8]) -> bool
         ensures { result ≡ has_query_type Self.FAMILY body.now };
-
-    /// Returns whether a bit of a query's reserved fields is set.
-    fn has_reserved_bits(body: &[u8]) -> bool
-        ensures { result ≡ has_reserved_bits Self.FAMILY body.now };
 
     /// Returns the address of a querier of this family.
     fn named(address: Self::Address) -> QuerierAddress
@@ -76,16 +77,16 @@ impl CheckedFamily for Igmp {
         Addr4::read(&packet[16..])
     }
 
-    fn headers(link: LinkType, frame: &[u8], _envelope: &IgmpEnvelope) -> Headers {
-        headers4(packet_in(link, frame))
+    fn headers(
+        link: LinkType,
+        frame: &[u8],
+        datagram: &CapturedDatagram<'_, IgmpEnvelope>,
+    ) -> Headers {
+        headers4(packet_in(link, frame), datagram.body)
     }
 
     fn has_query_type(body: &[u8]) -> bool {
         byte_at(body, 0) == 0x11
-    }
-
-    fn has_reserved_bits(body: &[u8]) -> bool {
-        byte_at(body, 8) > 15
     }
 
     fn named(address: Addr4) -> QuerierAddress {
@@ -102,19 +103,24 @@ impl CheckedFamily for Mld {
         envelope.destination
     }
 
-    fn headers(_link: LinkType, _frame: &[u8], envelope: &MldEnvelope) -> Headers {
+    fn headers(
+        _link: LinkType,
+        _frame: &[u8],
+        datagram: &CapturedDatagram<'_, MldEnvelope>,
+    ) -> Headers {
+        let body = datagram.body;
         Headers {
-            ttl: envelope.hop_limit,
-            alert: envelope.alert,
+            ttl: datagram.envelope.hop_limit,
+            alert: datagram.envelope.alert,
+            precedence: 6,
+            is_sound: true,
+            has_reserved_bits: byte_at(body, 1) > 0 || byte_at(body, 6) > 0 || byte_at(body, 7) > 0,
+            has_additional_data: has_more(28, 16, body),
         }
     }
 
     fn has_query_type(body: &[u8]) -> bool {
         byte_at(body, 0) == 130
-    }
-
-    fn has_reserved_bits(body: &[u8]) -> bool {
-        byte_at(body, 1) > 0 || byte_at(body, 6) > 0 || byte_at(body, 7) > 0
     }
 
     fn named(address: Addr6) -> QuerierAddress {

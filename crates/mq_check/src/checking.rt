@@ -5,13 +5,14 @@ ghost use Rattle.mq_arena.specs.Vectors.{Takes};
 ghost use Rattle.mq_text.specs.Printing.{output_of};
 ghost use Rattle.mq_check.specs.Checking as spec;
 ghost use Rattle.mq_check.specs.General.{phase_again, silence_up_to};
-ghost use Rattle.mq_check.specs.Numbered.{numbered_asked};
+ghost use Rattle.mq_check.specs.Numbered.{numbered_asked, numbered_terms};
 ghost use Rattle.mq_check.specs.Queries as queries;
-ghost use Rattle.mq_check.specs.Schedules.{recent};
+ghost use Rattle.mq_check.specs.Schedules.{recent, schedules_changed};
 ghost use Rattle.mq_check.specs.Sizes.{bytes_of_checking};
 ghost use Rattle.mq_check.specs.Telling.{Tells};
 
 use crate::asked::Asked;
+use crate::check_terms::CheckFlags;
 use crate::checked_family::CheckedFamily;
 use crate::earliest_partner::EarliestPartner;
 use crate::entry::Entry;
@@ -21,7 +22,8 @@ use crate::phase::Phase;
 use crate::schedules::Schedules;
 use crate::settling::{Expiry, settle, tell_rest};
 use crate::stamp::Stamp;
-use crate::waiting::{Side, Waiting, is_before};
+use crate::terms::Terms;
+use crate::waiting::Waiting;
 use mq_arena::VectorSource;
 use mq_count::{Meter, Moment, Span, Watched};
 use mq_lines::LineKey;
@@ -33,8 +35,7 @@ use std::alloc::{AllocError, Allocator};
 use std::io::Write;
 use std::marker::Model;
 
-/// The pending entries, the last change of the role, the phase of general queries, and the counts of seen queries. Before
-/// the moment `known_from`, a querier may hold what the link doesn't hold.
+/// The pending entries, the last change of the role, the phase of general queries, and the counts of seen queries.
 #[derive(Drop)]
 pub(crate) struct Checking<F: Family, A: Allocator> {
     pub(crate) waiting: Waiting<F, A>,
@@ -43,9 +44,8 @@ pub(crate) struct Checking<F: Family, A: Allocator> {
     pub(crate) last_general: Option<Stamp>,
     pub(crate) general: u64,
     pub(crate) specific: u64,
-    pub(crate) known_from: Moment,
-    // The subjects of the wanted queries before that moment.
-    pub(crate) known: Waiting<F, A>,
+    // The groups for whose sources the querier asked after a change that older hosts mute.
+    pub(crate) unmuted: Waiting<F, A>,
     pub(crate) schedules: Schedules<F, A>,
 }
 
@@ -55,23 +55,9 @@ impl<F: Family, A: Allocator> Model for Checking<F, A> {
 
     ghost Value = { CheckingValue };
 
-    ghost view = { λ c. record { waiting = c.waiting; changed = c.changed; phase = c.phase; last_general = c.last_general; general = c.general; specific = c.specific; known_from = c.known_from; known = c.known; schedules = c.schedules } };
+    ghost view = { λ c. record { waiting = c.waiting; changed = c.changed; phase = c.phase; last_general = c.last_general; general = c.general; specific = c.specific; unmuted = c.unmuted; schedules = c.schedules } };
 
     ghost invariant = { λ c. IfSome c.changed (λ moment. moment ≤ 2 ^ 53) };
-}
-
-/// Returns the moment from which the link holds every group that a querier may hold.
-fn known_from(within: u32, configured: Timing, strict: bool) -> Moment
-    ensures { result ≡ spec.known_from within configured strict }
-{
-    let start = Stamp::of(0).moment();
-    if strict {
-        return start;
-    }
-    start
-        .after(configured.membership_interval())
-        .after(Span::from_ms(within))
-        .after(Span::from_ms(1))
 }
 
 /// Queues a finding if there were no general queries for too long.
@@ -96,15 +82,15 @@ impl<F: Family, A: Allocator> Checking<F, A> {
         within: u32,
         configured: Timing,
         last_member: u32,
-        strict: bool,
+        flags: CheckFlags,
     ) -> Result<Checking<F, A>, AllocError>
         requires interval { last_member ≡ configured.last_member_interval }
-        ensures starts { IfOk result (λ c. c ≡ spec.checking_at_start within configured strict) }
+        ensures starts { IfOk result (λ c. c ≡ spec.checking_at_start within configured flags) }
         ensures memory { Takes (bytes_of_checking F.Address.row) (M.less_than memory.old) (M.less_than memory.new) (is_ok result) }
     {
         let waiting = Waiting::new(memory)?;
-        let known = Waiting::new(memory)?;
-        let schedules = Schedules::new(memory, within, configured, last_member, strict)?;
+        let unmuted = Waiting::new(memory)?;
+        let schedules = Schedules::new(memory, within, configured, last_member, flags)?;
         Ok(Checking {
             waiting,
             changed: None,
@@ -112,8 +98,7 @@ impl<F: Family, A: Allocator> Checking<F, A> {
             last_general: None,
             general: 0,
             specific: 0,
-            known_from: known_from(within, configured, strict),
-            known,
+            unmuted,
             schedules,
         })
     }
@@ -154,19 +139,21 @@ impl<F: Family, A: Allocator> Checking<F, A> {
         self.schedules.forget(moment);
     }
 
-    /// Handles a source that a host blocks.
-    pub(crate) fn block(&mut self, moment: Moment, asked: Asked<F::Address>)
-        ensures { self.new ≡ spec.one_blocked moment self.old (numbered_asked F.Address.number asked) }
+    /// Handles a change of a host that may make a querier ask for a subject, with these terms.
+    pub(crate) fn note_change(
+        &mut self,
+        moment: Moment,
+        terms: Terms<F::Address>,
+        asked: Asked<F::Address>,
+    )
+        ensures { self.new ≡ record self.old {
+          schedules =
+              schedules_changed moment (numbered_terms F.Address.number terms) (numbered_asked F.Address.number asked)
+              (recent moment self.old.schedules);
+        } }
     {
         self.forget(moment);
-        self.schedules.block(moment, asked);
-    }
-
-    /// Returns whether a querier may hold a subject that the link doesn't hold.
-    pub(crate) fn may_be_unknown(&self, moment: Moment, asked: Asked<F::Address>) -> bool
-        ensures { result ≡ spec.may_be_unknown moment (numbered_asked F.Address.number asked) self.now }
-    {
-        is_before(moment, self.known_from) && !self.known.has_any(Side::OfWanted, asked)
+        self.schedules.change(moment, terms, asked);
     }
 
     /// Returns the time without general queries up to a moment, if it is too long.
@@ -182,6 +169,7 @@ impl<F: Family, A: Allocator> Checking<F, A> {
     {
         let passed = self.phase.silence(within, configured, stamp.ms());
         put_silence(&mut self.waiting, configured, stamp, passed);
+        self.schedules.drop_all_next();
         self.changed = Some(stamp.moment());
         self.phase = Phase::NotQuerier;
     }
@@ -223,6 +211,7 @@ where
         self.schedules.forget(end);
         self.waiting
             .excuse(Span::from_ms(within), end, self.schedules.sent());
+        self.schedules.drop_all_next();
     }
 
     /// Removes all pending entries at the end of a capture, and reports their findings.
@@ -248,6 +237,8 @@ where
     }
 
     /// Removes the entries that have expired at a moment, and reports their findings.
+    ///
+    /// The queries that were still to come in schedules from before the capture follow.
     pub(crate) fn settle<W: Write>(
         &mut self,
         within: u32,
@@ -262,15 +253,11 @@ where
     {
         let expiry = Expiry {
             keep: self.schedules.keep(),
+            within: Span::from_ms(within),
             moment: now,
         };
-        settle::<F, A, W>(
-            &mut self.waiting,
-            &expiry,
-            Span::from_ms(within),
-            &self.changed,
-            told,
-            writer,
-        )
+        settle::<F, A, W>(&mut self.waiting, &expiry, &self.changed, told, writer)?;
+        self.schedules
+            .settle_next(Span::from_ms(within), now, &self.changed, told, writer)
     }
 }

@@ -71,7 +71,8 @@ where
             .queries
             .checking()
             .silence(self.terms.within, configured, end);
-        let rests_on = *self.queries.basis();
+        let refused = self.link.counts().refused();
+        let rests_on = self.queries.basis().with_refused(refused);
         self.look_ahead(end, writer)?;
         if self.queries.checking().is_full() {
             return Err(CaptureFault::Waiting { number });
@@ -102,10 +103,12 @@ where
         self.queries
             .tell_rest(self.terms.within, end.moment(), &mut self.told, writer)?;
         tell_silence::<F, W>(configured, end, passed, &mut self.told, writer)?;
+        let counts = self.told.count();
         let totals = Totals {
             general: general_queries,
             specific: other_queries,
-            findings: self.told.count(),
+            findings: counts.certain,
+            possible: counts.possible,
             basis: rests_on,
         };
         self.told.tell_last(&totals, writer)?;

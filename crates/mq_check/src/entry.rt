@@ -2,8 +2,7 @@
 
 ghost use Rattle.std.specs.Prelude.{◌≡◌};
 ghost use Rattle.mq_check.specs.Entries as spec;
-ghost use Rattle.mq_check.specs.Numbered.{numbered_entry, numbered_terms, numbered_terms_if};
-ghost use Rattle.mq_check.specs.Schedules as schedules;
+ghost use Rattle.mq_check.specs.Numbered.{numbered_entry, numbered_terms, numbered_terms_if, numbered_unpaired};
 
 use crate::asked::Asked;
 use crate::finding::ExtraReason;
@@ -15,8 +14,8 @@ use mq_wire::WireKey;
 /// A pending entry. It expires when more than the tolerance has passed since its moment.
 #[derive(Clone, Copy)]
 pub enum Entry<K: WireKey> {
-    /// A wanted query: its moment, subject and terms, whether it may be left out, and whether it has a partner.
-    Wanted(Moment, Asked<K>, Terms<K>, bool, bool),
+    /// A wanted query: its moment, subject, terms and need, and whether it has a partner.
+    Wanted(Moment, Asked<K>, Terms<K>, Need, bool),
     /// A seen query: its moment, subject and terms, its partner's terms if it has one, and its verdict without one.
     Seen(Moment, Asked<K>, Terms<K>, Option<Terms<K>>, Unpaired<K>),
     /// A general query at a wrong interval: its moment, the number of its packet, the interval, and the wanted one.
@@ -27,15 +26,40 @@ pub enum Entry<K: WireKey> {
     Packet(Moment, u64, HeaderFault),
 }
 
+/// The need of a wanted query.
+#[derive(Clone, Copy)]
+pub enum Need {
+    /// A query that is missing if it finds no partner.
+    Required,
+    /// A query that is missing only if no other reading and no state from before the capture explains that.
+    Possible,
+    /// A query that may be left out.
+    Optional,
+}
+
 /// The verdict on a seen query that finds no partner.
 #[derive(Clone, Copy)]
 pub enum Unpaired<K: WireKey> {
     /// An extra query, and the reason.
     Extra(ExtraReason),
-    /// A query that the standard's words allow, with these terms.
-    Allowed(Terms<K>),
+    /// A query with these terms that is extra only if no other reading and no state from before the capture explains it.
+    Possible(Terms<K>),
     /// A query of a schedule, after which so many more may come.
     Scheduled(u32),
+    /// A query that is still to come in a schedule from before the capture: the number of queries from it on.
+    Next(u32),
+}
+
+impl<K: WireKey> Unpaired<K> {
+    /// Returns whether another reading, or a state from before the capture, may explain the query.
+    pub(crate) fn is_possible(&self) -> bool
+        ensures { result ≡ spec.is_possible (numbered_unpaired K.number self.now) }
+    {
+        match self {
+            Unpaired::Possible(_) => true,
+            _ => false,
+        }
+    }
 }
 
 impl<K: WireKey> Entry<K> {
@@ -67,18 +91,8 @@ impl<K: WireKey> Entry<K> {
         ensures { result ≡ spec.left_in (numbered_entry K.number self.now) }
     {
         match self {
-            Entry::Seen(_, _, _, _, Unpaired::Scheduled(left)) => *left,
+            Entry::Seen(_, _, _, _, Unpaired::Scheduled(left) | Unpaired::Next(left)) => *left,
             _ => 0,
-        }
-    }
-
-    /// Returns whether a host blocked its subject while it was pending, if it is the last entry of wanted queries.
-    pub(crate) fn is_blocked(&self) -> bool
-        ensures { result ≡ schedules.is_blocked (numbered_entry K.number self.now) }
-    {
-        match self {
-            Entry::Wanted(_, _, _, is_optional, _) => !is_optional,
-            _ => false,
         }
     }
 
@@ -88,7 +102,7 @@ impl<K: WireKey> Entry<K> {
     {
         match self {
             Entry::Wanted(moment, asked, terms, _, is_found) => {
-                Entry::Wanted(moment, asked, terms, true, is_found)
+                Entry::Wanted(moment, asked, terms, Need::Optional, is_found)
             }
             other => other,
         }
@@ -107,8 +121,8 @@ impl<K: WireKey> Entry<K> {
             ≡ spec.joined (numbered_terms K.number other) (numbered_entry K.number self) }
     {
         match self {
-            Entry::Wanted(moment, asked, terms, is_optional, _) => {
-                Entry::Wanted(moment, asked, terms, is_optional, true)
+            Entry::Wanted(moment, asked, terms, need, _) => {
+                Entry::Wanted(moment, asked, terms, need, true)
             }
             Entry::Seen(moment, asked, terms, _, alone) => {
                 Entry::Seen(moment, asked, terms, Some(other), alone)

@@ -1,7 +1,7 @@
 //! Findings of a check.
 
 ghost use Rattle.std.specs.Prelude.{◌≡◌};
-ghost use Rattle.mq_check.specs.FindingLines.{packet_in};
+ghost use Rattle.mq_check.specs.FindingLines.{is_possible, packet_in};
 ghost use Rattle.mq_check.specs.Numbered.{numbered_finding};
 
 use crate::asked::Asked;
@@ -9,13 +9,18 @@ use crate::headers::HeaderFault;
 use mq_count::Moment;
 use mq_wire::WireKey;
 
-/// A finding of a check. Each but `Silence` has the moment of its query and the number of a packet.
+/// A finding of a check. Each but `Silence` has the moment of its query and the number of a packet. It is certain: the
+/// querier is wrong whatever it held, and whatever hosts it had heard, before the capture. The two `Possibly` are not.
 #[derive(Clone, Copy)]
 pub enum Finding<K: WireKey> {
     /// A missing query: it is wanted at this moment, after this packet, and none was seen.
     Missing(Moment, u64, Asked<K>),
     /// An extra query: it was seen, and none is wanted, for this reason.
     Extra(Moment, u64, Asked<K>, ExtraReason),
+    /// A query that is missing unless a host from before the capture mutes the change that asks for it.
+    PossiblyMissing(Moment, u64, Asked<K>),
+    /// A query that is extra unless the querier held its subject before the capture.
+    PossiblyExtra(Moment, u64, Asked<K>),
     /// A seen query that differs from the wanted one.
     Differs(Moment, u64, Asked<K>, Difference<K>),
     /// A general query this many milliseconds after the one before it, or after the start of the capture. The last
@@ -36,10 +41,22 @@ impl<K: WireKey> Finding<K> {
         match self {
             Finding::Missing(_, packet, ..)
             | Finding::Extra(_, packet, ..)
+            | Finding::PossiblyMissing(_, packet, ..)
+            | Finding::PossiblyExtra(_, packet, ..)
             | Finding::Differs(_, packet, ..)
             | Finding::Interval(_, packet, ..) => *packet,
             Finding::Silence(..) | Finding::Packet(..) => 0,
         }
+    }
+
+    /// Returns whether it depends on what was there before the capture.
+    pub(crate) fn is_possible(&self) -> bool
+        ensures { result ≡ is_possible (numbered_finding K.number self.now) }
+    {
+        matches!(
+            self,
+            Finding::PossiblyMissing(..) | Finding::PossiblyExtra(..)
+        )
     }
 }
 

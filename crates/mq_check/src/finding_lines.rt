@@ -18,7 +18,7 @@ use mq_text::{Text, put, put_decimal};
 
 /// Appends a moment and the text after it.
 #[tactic(auto, unfolding(crate::specs::FindingLines::at_moment))]
-fn put_moment(text: &mut Text, moment: Moment, what: &[u8])
+pub(crate) fn put_moment(text: &mut Text, moment: Moment, what: &[u8])
     requires { array_vec_len text.old + 20 + length what.now ≤ 4096 }
     ensures text { text.new.items ≡ text.old.items ++ spec.at_moment moment what.now }
     ensures room { array_vec_len text.new ≤ array_vec_len text.old + 20 + length what.now }
@@ -120,6 +120,14 @@ where
             put_moment(text, moment, b" extra ");
             put_asked::<F>(text, asked);
         }
+        Finding::PossiblyMissing(moment, _, asked) => {
+            put_moment(text, moment, b" possible missing ");
+            put_asked::<F>(text, asked);
+        }
+        Finding::PossiblyExtra(moment, _, asked) => {
+            put_moment(text, moment, b" possible extra ");
+            put_asked::<F>(text, asked);
+        }
         Finding::Differs(moment, _, asked, difference) => {
             put_moment(text, moment, b" differs ");
             put_asked::<F>(text, asked);
@@ -156,9 +164,9 @@ fn put_interval(text: &mut Text, passed: u64, wanted: u64)
 /// Appends the number of a packet and a fault of its headers.
 #[tactic(auto, unfolding(crate::specs::FindingLines::header_fault_text))]
 fn put_header_fault(text: &mut Text, number: u64, fault: HeaderFault)
-    requires { array_vec_len text.old + 55 ≤ 4096 }
+    requires { array_vec_len text.old + 62 ≤ 4096 }
     ensures text { text.new.items ≡ text.old.items ++ spec.header_fault_text number fault }
-    ensures room { array_vec_len text.new ≤ array_vec_len text.old + 55 }
+    ensures room { array_vec_len text.new ≤ array_vec_len text.old + 62 }
 {
     put_decimal(text, number);
     match fault {
@@ -168,13 +176,20 @@ fn put_header_fault(text: &mut Text, number: u64, fault: HeaderFault)
             put(text, b", wanted 1");
         }
         HeaderFault::NoRouterAlert => put(text, b" alert 0"),
+        HeaderFault::Precedence(precedence) => {
+            put(text, b" precedence ");
+            put_decimal(text, u64::from(precedence));
+            put(text, b", wanted 6");
+        }
+        HeaderFault::HeaderChecksum => put(text, b" header checksum"),
         HeaderFault::WrongChecksum => put(text, b" checksum"),
         HeaderFault::ReservedBits => put(text, b" reserved"),
+        HeaderFault::AdditionalData => put(text, b" additional"),
     }
 }
 
 /// Appends the section of RFC 3376 or that of RFC 3810, by the family.
-fn put_of_family<K: LineKey>(text: &mut Text, igmp: &[u8], mld: &[u8])
+pub(crate) fn put_of_family<K: LineKey>(text: &mut Text, igmp: &[u8], mld: &[u8])
     requires { array_vec_len text.old + length igmp.now + length mld.now ≤ 4096 }
     ensures text { text.new.items ≡ text.old.items ++ spec.of_family K.family igmp.now mld.now }
     ensures room { array_vec_len text.new ≤ array_vec_len text.old + length igmp.now + length mld.now }
@@ -256,22 +271,26 @@ fn put_fault_section<K: LineKey>(text: &mut Text, fault: HeaderFault)
     ensures room { array_vec_len text.new ≤ array_vec_len text.old + 14 }
 {
     match fault {
-        HeaderFault::TimeToLive(_) | HeaderFault::NoRouterAlert => {
-            put_of_family::<K>(text, b"4", b"5")
-        }
+        HeaderFault::TimeToLive(_)
+        | HeaderFault::NoRouterAlert
+        | HeaderFault::Precedence(_)
+        | HeaderFault::HeaderChecksum => put_of_family::<K>(text, b"4", b"5"),
         HeaderFault::WrongChecksum => put_of_family::<K>(text, b"4.1.2", b"5.1.2"),
         HeaderFault::ReservedBits => put_of_family::<K>(text, b"4.1.4", b"5.1"),
+        HeaderFault::AdditionalData => put_of_family::<K>(text, b"4.1.10", b"5.1.12"),
     }
 }
 
 /// Appends the section that a finding violates.
-fn put_section<K: LineKey>(text: &mut Text, finding: Finding<K>)
+pub(crate) fn put_section<K: LineKey>(text: &mut Text, finding: Finding<K>)
     requires { array_vec_len text.old + 14 ≤ 4096 }
     ensures text { text.new.items ≡ text.old.items ++ spec.section_of K.family (numbered_finding K.number finding) }
     ensures room { array_vec_len text.new ≤ array_vec_len text.old + 14 }
 {
     match finding {
-        Finding::Missing(_, _, asked) => put_sending_section(text, asked),
+        Finding::Missing(_, _, asked)
+        | Finding::PossiblyMissing(_, _, asked)
+        | Finding::PossiblyExtra(_, _, asked) => put_sending_section(text, asked),
         Finding::Extra(_, _, asked, reason) => put_extra_section(text, asked, reason),
         Finding::Differs(_, _, asked, difference) => put_field_section(text, asked, difference),
         Finding::Interval(..) | Finding::Silence(..) => put_of_family::<K>(text, b"8.2", b"9.2"),
@@ -309,10 +328,35 @@ pub(crate) fn put_citation<K: LineKey>(text: &mut Text, cite: bool, finding: Fin
     put(text, b"\n");
 }
 
-/// Appends the line of the totals.
+/// Appends the line of the totals, and that of possible findings if there are any.
 pub(crate) fn put_totals(text: &mut Text, totals: &Totals)
-    requires { array_vec_len text.old + 120 ≤ 4096 }
+    requires { array_vec_len text.old + 220 ≤ 4096 }
     ensures { text.new.items ≡ text.old.items ++ spec.totals_line totals.now }
+{
+    put_counts(text, totals);
+    put_possible(text, totals.possible);
+}
+
+/// Appends the number of possible findings, if there are any.
+fn put_possible(text: &mut Text, possible: u64)
+    requires { array_vec_len text.old + 100 ≤ 4096 }
+    ensures { text.new.items ≡ text.old.items ++ spec.possible_line possible }
+{
+    if possible == 0 {
+        return;
+    }
+    put_count(text, b"possible ", possible);
+    put(
+        text,
+        b": another reading or an earlier state may explain them\n",
+    );
+}
+
+/// Appends the numbers of queries and of certain findings.
+fn put_counts(text: &mut Text, totals: &Totals)
+    requires { array_vec_len text.old + 120 ≤ 4096 }
+    ensures text { text.new.items ≡ text.old.items ++ spec.counts_line totals.now }
+    ensures room { array_vec_len text.new ≤ array_vec_len text.old + 120 }
 {
     put_count(text, b"checked general ", totals.general);
     put_count(text, b" specific ", totals.specific);
@@ -322,7 +366,7 @@ pub(crate) fn put_totals(text: &mut Text, totals: &Totals)
 
 /// Appends a name and a count.
 #[tactic(auto, unfolding(crate::specs::FindingLines::count_text))]
-fn put_count(text: &mut Text, name: &[u8], count: u64)
+pub(crate) fn put_count(text: &mut Text, name: &[u8], count: u64)
     requires { array_vec_len text.old + 20 + length name.now ≤ 4096 }
     ensures text { text.new.items ≡ text.old.items ++ spec.count_text name.now count }
     ensures room { array_vec_len text.new ≤ array_vec_len text.old + 20 + length name.now }
@@ -331,21 +375,32 @@ fn put_count(text: &mut Text, name: &[u8], count: u64)
     put_decimal(text, count);
 }
 
-/// Appends the number of unread packets, and of packets whose stamps go back if there are any.
+/// Appends a name and a count, if there are any.
+fn put_count_if(text: &mut Text, name: &[u8], count: u64)
+    requires { array_vec_len text.old + 20 + length name.now ≤ 4096 }
+    ensures text { text.new.items ≡ text.old.items ++ spec.count_if name.now count }
+    ensures room { array_vec_len text.new ≤ array_vec_len text.old + 20 + length name.now }
+{
+    if 0 < count {
+        put_count(text, name, count);
+    }
+}
+
+/// Appends the number of unread packets. Then those of packets whose stamps go back, and of records that the link
+/// refused, if there are any.
 fn put_unread(text: &mut Text, basis: &Basis)
-    requires { array_vec_len text.old + 54 ≤ 4096 }
+    requires { array_vec_len text.old + 83 ≤ 4096 }
     ensures text { text.new.items ≡ text.old.items ++ spec.unread_text basis.now }
-    ensures room { array_vec_len text.new ≤ array_vec_len text.old + 54 }
+    ensures room { array_vec_len text.new ≤ array_vec_len text.old + 83 }
 {
     put_count(text, b" unread ", basis.unread);
-    if 0 < basis.back {
-        put_count(text, b" back ", basis.back);
-    }
+    put_count_if(text, b" back ", basis.back);
+    put_count_if(text, b" refused ", basis.refused);
 }
 
 /// Appends the line of the packets.
 pub(crate) fn put_packets(text: &mut Text, basis: &Basis)
-    requires { array_vec_len text.old + 203 ≤ 4096 }
+    requires { array_vec_len text.old + 232 ≤ 4096 }
     ensures { text.new.items ≡ text.old.items ++ spec.packets_line basis.now }
 {
     put_count(text, b"packets ", basis.packets);
@@ -357,7 +412,7 @@ pub(crate) fn put_packets(text: &mut Text, basis: &Basis)
 }
 
 /// Appends the address of a querier.
-fn put_querier(text: &mut Text, querier: &QuerierAddress)
+pub(crate) fn put_querier(text: &mut Text, querier: &QuerierAddress)
     requires { array_vec_len text.old + 40 ≤ 4096 }
     ensures text { text.new.items ≡ text.old.items ++ spec.querier_text querier.now }
     ensures room { array_vec_len text.new ≤ array_vec_len text.old + 40 }
@@ -396,6 +451,17 @@ fn put_lost(text: &mut Text, basis: &Basis)
     put_again(text, basis);
 }
 
+/// Appends that nothing came from the router, if a router with a higher address sends queries.
+fn put_unseen(text: &mut Text, basis: &Basis)
+    requires { array_vec_len text.old + 8 ≤ 4096 }
+    ensures text { text.new.items ≡ text.old.items ++ spec.unseen_text basis.now }
+    ensures room { array_vec_len text.new ≤ array_vec_len text.old + 8 }
+{
+    if basis.is_unseen() {
+        put(text, b", unseen");
+    }
+}
+
 /// Appends the line of the checked router.
 pub(crate) fn put_querier_line(text: &mut Text, basis: &Basis)
     requires { array_vec_len text.old + 200 ≤ 4096 }
@@ -404,6 +470,7 @@ pub(crate) fn put_querier_line(text: &mut Text, basis: &Basis)
     put(text, b"querier ");
     put_querier(text, &basis.own);
     put(text, b" from 0");
+    put_unseen(text, basis);
     put_lost(text, basis);
     put(text, b"\n");
 }

@@ -1,22 +1,23 @@
 //! Buffered output of findings.
 
-ghost use Rattle.std.specs.Prelude.{◌≡◌, ◌-◌, ◌||◌, [], ◌∷◌, IfOk, is_err};
+ghost use Rattle.std.specs.Prelude.{◌≡◌, ◌||◌, [], ◌∷◌, IfOk, false, true, is_err};
 ghost use Rattle.mq_count.specs.Streams.{inner_of, has_failed};
 ghost use Rattle.mq_text.specs.Printing.{Puts, output_of};
-ghost use Rattle.mq_check.specs.FindingLines.{additions_text, finding_line, finding_text, last_lines, packets_line, querier_line, totals_line};
+ghost use Rattle.mq_check.specs.FindingLines.{finding_in_form, finding_line, is_possible, last_lines};
 ghost use Rattle.mq_check.specs.Numbered.{numbered_finding};
-ghost use Rattle.mq_check.specs.Checking.{counted_up};
 ghost use Rattle.mq_check.specs.Repeated.{is_left_out, with_finding};
-ghost use Rattle.mq_check.specs.Telling.{Tells, nothing_told};
+ghost use Rattle.mq_check.specs.Telling.{Tells, counted_if, nothing_told};
 
-use crate::basis::Basis;
 use crate::check_terms::Additions;
 use crate::finding::Finding;
 use crate::finding_lines::{
     put_citation, put_finding, put_packet, put_packets, put_querier_line, put_totals,
 };
+use crate::finding_objects::{
+    put_finding_rest, put_finding_start, put_packets_field, put_roles, put_summary_start,
+};
 use crate::repeated::LastDifferences;
-use crate::totals::Totals;
+use crate::totals::{FindingCounts, Totals};
 use mq_count::Watched;
 use mq_lines::LineKey;
 use mq_link::Family;
@@ -25,13 +26,13 @@ use mq_wire::WireKey;
 use std::io::Write;
 use std::marker::Model;
 
-/// The unwritten text of findings, their additions, the last differences, and the number of reported findings.
+/// The unwritten text of findings, their additions, the last differences, and the numbers of reported findings.
 #[derive(Drop)]
 pub(crate) struct FindingWriter {
     pub(crate) buffer: Text,
     additions: Additions,
     last: LastDifferences,
-    count: u64,
+    count: FindingCounts,
 }
 
 impl Model for FindingWriter {
@@ -51,12 +52,15 @@ impl FindingWriter {
             buffer: Text::new(),
             additions,
             last: LastDifferences::new(),
-            count: 0,
+            count: FindingCounts {
+                certain: 0,
+                possible: 0,
+            },
         }
     }
 
-    /// Returns the number of reported findings.
-    pub(crate) fn count(&self) -> u64
+    /// Returns the numbers of reported findings.
+    pub(crate) fn count(&self) -> FindingCounts
         ensures { result ≡ self.now.count }
     {
         self.count
@@ -78,7 +82,21 @@ impl FindingWriter {
         if is_left_out {
             return Ok(());
         }
+        self.count_one(&finding);
         self.put_line::<F, W>(finding, writer)
+    }
+
+    /// Counts a reported finding.
+    fn count_one<K: WireKey>(&mut self, finding: &Finding<K>)
+        ensures { self.new ≡ record self.old {
+          count = counted_if (is_possible (numbered_finding K.number finding.now)) self.old.count;
+        } }
+    {
+        if finding.is_possible() {
+            self.count.possible = self.count.possible.saturating_add(1);
+        } else {
+            self.count.certain = self.count.certain.saturating_add(1);
+        }
     }
 
     /// Returns whether a finding is left out because it repeats the last one of its variable.
@@ -95,7 +113,7 @@ impl FindingWriter {
         self.last = self.last.with(finding);
     }
 
-    /// Puts and counts the line of a finding.
+    /// Puts the line of a finding. A possible one has a line only if it is requested.
     fn put_line<F: Family, W: Write>(
         &mut self,
         finding: Finding<F::Address>,
@@ -108,56 +126,13 @@ impl FindingWriter {
             self.old.held self.new.held (finding_line F.Address.family self.old.additions (numbered_finding F.Address.number finding)) result }
         ensures additions { self.new.additions ≡ self.old.additions }
         ensures last { self.new.last ≡ self.old.last }
-        ensures count { IfOk result (λ _. self.new.count ≡ counted_up self.old.count) }
-        ensures failed { has_failed writer.new ≡ has_failed writer.old || is_err result }
-    {
-        self.put_text::<F, W>(finding, writer)?;
-        self.put_rest::<F, W>(finding, writer)?;
-        self.count = self.count.saturating_add(1);
-        Ok(())
-    }
-
-    /// Puts the text of a finding.
-    fn put_text<F: Family, W: Write>(
-        &mut self,
-        finding: Finding<F::Address>,
-        writer: &mut Watched<W>,
-    ) -> Result<(), LineFault>
-    where
-        F::Address: LineKey,
-        ensures text { Puts
-            (W.contents (inner_of writer.old)) (W.contents (inner_of writer.new))
-            self.old.held self.new.held (finding_text F.Address.family (numbered_finding F.Address.number finding)) result }
-        ensures additions { self.new.additions ≡ self.old.additions }
-        ensures last { self.new.last ≡ self.old.last }
         ensures count { self.new.count ≡ self.old.count }
         ensures failed { has_failed writer.new ≡ has_failed writer.old || is_err result }
     {
-        make_room(&mut self.buffer, writer)?;
-        put_finding::<F>(&mut self.buffer, finding);
-        Ok(())
-    }
-
-    /// Puts the additions to the line of a finding, and its end.
-    fn put_rest<F: Family, W: Write>(
-        &mut self,
-        finding: Finding<F::Address>,
-        writer: &mut Watched<W>,
-    ) -> Result<(), LineFault>
-    where
-        F::Address: LineKey,
-        ensures text { Puts
-            (W.contents (inner_of writer.old)) (W.contents (inner_of writer.new))
-            self.old.held self.new.held (additions_text F.Address.family self.old.additions (numbered_finding F.Address.number finding)) result }
-        ensures additions { self.new.additions ≡ self.old.additions }
-        ensures last { self.new.last ≡ self.old.last }
-        ensures count { self.new.count ≡ self.old.count }
-        ensures failed { has_failed writer.new ≡ has_failed writer.old || is_err result }
-    {
-        make_room(&mut self.buffer, writer)?;
-        put_packet(&mut self.buffer, self.additions.packets, finding);
-        put_citation(&mut self.buffer, self.additions.cite, finding);
-        Ok(())
+        if finding.is_possible() && !self.additions.possible {
+            return Ok(());
+        }
+        put_in_form::<F, W>(finding, self.additions, &mut self.buffer, writer)
     }
 
     /// Reports the totals and the basis of the verdict.
@@ -168,60 +143,10 @@ impl FindingWriter {
     ) -> Result<(), LineFault>
         ensures text { Puts
             (W.contents (inner_of writer.old)) (W.contents (inner_of writer.new))
-            self.old.held self.new.held (last_lines totals.now) result }
+            self.old.held self.new.held (last_lines self.old.additions.json totals.now) result }
         ensures failed { has_failed writer.new ≡ has_failed writer.old || is_err result }
     {
-        self.tell_totals(totals, writer)?;
-        self.tell_packets(&totals.basis, writer)?;
-        self.tell_querier(&totals.basis, writer)
-    }
-
-    /// Reports the counts of packets.
-    fn tell_packets<W: Write>(
-        &mut self,
-        basis: &Basis,
-        writer: &mut Watched<W>,
-    ) -> Result<(), LineFault>
-        ensures text { Puts
-            (W.contents (inner_of writer.old)) (W.contents (inner_of writer.new))
-            self.old.held self.new.held (packets_line basis.now) result }
-        ensures failed { has_failed writer.new ≡ has_failed writer.old || is_err result }
-    {
-        make_room(&mut self.buffer, writer)?;
-        put_packets(&mut self.buffer, basis);
-        Ok(())
-    }
-
-    /// Reports the checked router, and when it was querier.
-    fn tell_querier<W: Write>(
-        &mut self,
-        basis: &Basis,
-        writer: &mut Watched<W>,
-    ) -> Result<(), LineFault>
-        ensures text { Puts
-            (W.contents (inner_of writer.old)) (W.contents (inner_of writer.new))
-            self.old.held self.new.held (querier_line basis.now) result }
-        ensures failed { has_failed writer.new ≡ has_failed writer.old || is_err result }
-    {
-        make_room(&mut self.buffer, writer)?;
-        put_querier_line(&mut self.buffer, basis);
-        Ok(())
-    }
-
-    /// Reports the counts of queries and findings.
-    fn tell_totals<W: Write>(
-        &mut self,
-        totals: &Totals,
-        writer: &mut Watched<W>,
-    ) -> Result<(), LineFault>
-        ensures text { Puts
-            (W.contents (inner_of writer.old)) (W.contents (inner_of writer.new))
-            self.old.held self.new.held (totals_line totals.now) result }
-        ensures failed { has_failed writer.new ≡ has_failed writer.old || is_err result }
-    {
-        make_room(&mut self.buffer, writer)?;
-        put_totals(&mut self.buffer, totals);
-        Ok(())
+        put_last(self.additions, totals, &mut self.buffer, writer)
     }
 
     /// Writes the buffered text if reading the next record may wait.
@@ -235,6 +160,7 @@ impl FindingWriter {
             self.old.held self.new.held [] result }
         ensures additions { self.new.additions ≡ self.old.additions }
         ensures last { self.new.last ≡ self.old.last }
+        ensures written { may_wait ≡ true → IfOk result (λ _. self.new.held ≡ []) }
         ensures count { self.new.count ≡ self.old.count }
         ensures failed { has_failed writer.new ≡ has_failed writer.old || is_err result }
     {
@@ -243,4 +169,124 @@ impl FindingWriter {
         }
         Ok(())
     }
+}
+
+/// Puts a finding as a line of text or as an object of JSON.
+fn put_in_form<F: Family, W: Write>(
+    finding: Finding<F::Address>,
+    additions: Additions,
+    buffer: &mut Text,
+    writer: &mut Watched<W>,
+) -> Result<(), LineFault>
+where
+    F::Address: LineKey,
+    ensures text { Puts
+        (W.contents (inner_of writer.old)) (W.contents (inner_of writer.new))
+        buffer.old.items buffer.new.items (finding_in_form additions.json F.Address.family additions (numbered_finding F.Address.number finding)) result }
+    ensures failed { has_failed writer.new ≡ has_failed writer.old || is_err result }
+{
+    if additions.json {
+        return put_finding_object::<F, W>(finding, buffer, writer);
+    }
+    put_finding_line::<F, W>(finding, additions, buffer, writer)
+}
+
+/// Puts the text of a finding and its additions.
+fn put_finding_line<F: Family, W: Write>(
+    finding: Finding<F::Address>,
+    additions: Additions,
+    buffer: &mut Text,
+    writer: &mut Watched<W>,
+) -> Result<(), LineFault>
+where
+    F::Address: LineKey,
+    ensures text { Puts
+        (W.contents (inner_of writer.old)) (W.contents (inner_of writer.new))
+        buffer.old.items buffer.new.items (finding_in_form false F.Address.family additions (numbered_finding F.Address.number finding)) result }
+    ensures failed { has_failed writer.new ≡ has_failed writer.old || is_err result }
+{
+    make_room(buffer, writer)?;
+    put_finding::<F>(buffer, finding);
+    make_room(buffer, writer)?;
+    put_packet(buffer, additions.packets, finding);
+    put_citation(buffer, additions.cite, finding);
+    Ok(())
+}
+
+/// Puts the object of a finding.
+fn put_finding_object<F: Family, W: Write>(
+    finding: Finding<F::Address>,
+    buffer: &mut Text,
+    writer: &mut Watched<W>,
+) -> Result<(), LineFault>
+where
+    F::Address: LineKey,
+    ensures text { (additions : Additions) → Puts
+        (W.contents (inner_of writer.old)) (W.contents (inner_of writer.new))
+        buffer.old.items buffer.new.items (finding_in_form true F.Address.family additions (numbered_finding F.Address.number finding)) result }
+    ensures failed { has_failed writer.new ≡ has_failed writer.old || is_err result }
+{
+    make_room(buffer, writer)?;
+    put_finding_start::<F>(buffer, finding);
+    make_room(buffer, writer)?;
+    put_finding_rest(buffer, finding);
+    Ok(())
+}
+
+/// Puts the totals and their basis in the requested form.
+fn put_last<W: Write>(
+    additions: Additions,
+    totals: &Totals,
+    buffer: &mut Text,
+    writer: &mut Watched<W>,
+) -> Result<(), LineFault>
+    ensures text { Puts
+        (W.contents (inner_of writer.old)) (W.contents (inner_of writer.new))
+        buffer.old.items buffer.new.items (last_lines additions.json totals.now) result }
+    ensures failed { has_failed writer.new ≡ has_failed writer.old || is_err result }
+{
+    if additions.json {
+        return put_summary(totals, buffer, writer);
+    }
+    put_last_lines(totals, buffer, writer)
+}
+
+/// Puts the lines of the totals and of their basis.
+fn put_last_lines<W: Write>(
+    totals: &Totals,
+    buffer: &mut Text,
+    writer: &mut Watched<W>,
+) -> Result<(), LineFault>
+    ensures text { Puts
+        (W.contents (inner_of writer.old)) (W.contents (inner_of writer.new))
+        buffer.old.items buffer.new.items (last_lines false totals.now) result }
+    ensures failed { has_failed writer.new ≡ has_failed writer.old || is_err result }
+{
+    make_room(buffer, writer)?;
+    put_totals(buffer, totals);
+    make_room(buffer, writer)?;
+    put_packets(buffer, &totals.basis);
+    make_room(buffer, writer)?;
+    put_querier_line(buffer, &totals.basis);
+    Ok(())
+}
+
+/// Puts the object of the totals and of their basis.
+fn put_summary<W: Write>(
+    totals: &Totals,
+    buffer: &mut Text,
+    writer: &mut Watched<W>,
+) -> Result<(), LineFault>
+    ensures text { Puts
+        (W.contents (inner_of writer.old)) (W.contents (inner_of writer.new))
+        buffer.old.items buffer.new.items (last_lines true totals.now) result }
+    ensures failed { has_failed writer.new ≡ has_failed writer.old || is_err result }
+{
+    make_room(buffer, writer)?;
+    put_summary_start(buffer, totals);
+    make_room(buffer, writer)?;
+    put_roles(buffer, &totals.basis);
+    make_room(buffer, writer)?;
+    put_packets_field(buffer, &totals.basis);
+    Ok(())
 }

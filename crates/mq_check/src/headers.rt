@@ -1,15 +1,26 @@
 //! The headers of a query's packet.
 
-ghost use Rattle.std.specs.Prelude.{◌≡◌, ◌∷◌, ◌<◌, [], length, IfSome, MatchOption};
+ghost use Rattle.std.specs.Prelude.{◌≡◌, ◌≤◌};
 ghost use Rattle.mq_check.specs.Headers as spec;
 
-/// The fields of a packet's headers that every message has in the same way.
+use mq_pcap::{Endian, has_router_alert_v4};
+use mq_wire::checksum_ok;
+
+/// The fields of a query's packet, and of the query itself, that have the same right values in every query.
 #[derive(Clone, Copy)]
 pub struct Headers {
     /// The time to live of IPv4, or the hop limit of IPv6.
     pub ttl: u8,
     /// The presence of a Router Alert option.
     pub alert: bool,
+    /// The precedence of IPv4, from 0 to 7. IPv6 has none, and it is 6.
+    pub precedence: u8,
+    /// True if the checksum of the IPv4 header is right, or 0 as before the hardware writes it. True for IPv6, which has none.
+    pub is_sound: bool,
+    /// True if a bit of a reserved field is set.
+    pub has_reserved_bits: bool,
+    /// True if bytes follow the fields of the query.
+    pub has_additional_data: bool,
 }
 
 /// A fault in the headers of a query's packet or message (RFC 3376 section 4, RFC 3810 section 5).
@@ -19,83 +30,65 @@ pub enum HeaderFault {
     TimeToLive(u8),
     /// No Router Alert option.
     NoRouterAlert,
+    /// The precedence of IPv4, which is not 6, that of Internetwork Control.
+    Precedence(u8),
+    /// A wrong checksum of the IPv4 header.
+    HeaderChecksum,
     /// A wrong checksum of the message.
     WrongChecksum,
     /// A reserved field of the message that is not zero.
     ReservedBits,
+    /// Bytes after the fields of the message.
+    AdditionalData,
 }
 
-/// The type that ends the options of an IPv4 header, and the other type of a single byte.
-const END_OF_OPTIONS: u8 = 0;
-
-const NO_OPERATION: u8 = 1;
-
-const ROUTER_ALERT: u8 = 148;
-
-/// Returns the fields in an IPv4 header. A packet without a whole header has neither.
-pub(crate) fn headers4(packet: &[u8]) -> Headers
-    ensures { result ≡ spec.headers4_in packet.now }
+/// Returns the fields of an IPv4 packet and of the query in it.
+pub(crate) fn headers4(packet: &[u8], body: &[u8]) -> Headers
+    ensures { result ≡ spec.headers4_in packet.now body.now }
 {
-    if packet.len() < 20 {
-        return no_headers();
-    }
-    let end = usize::from(packet[0] % 16) * 4;
-    if end < 20 || packet.len() < end {
-        return no_headers();
-    }
+    let header = header4(packet);
     Headers {
-        ttl: packet[8],
-        alert: has_router_alert(&packet[20..end]),
+        ttl: byte_at(header, 8),
+        alert: has_router_alert_v4(&header[header.len().min(20)..]),
+        precedence: byte_at(header, 1) / 32,
+        is_sound: is_sound4(header),
+        has_reserved_bits: byte_at(body, 8) > 15,
+        has_additional_data: has_more(12, 4, body),
     }
 }
 
-/// Returns a byte of a message, or 0 after its end.
-pub(crate) fn byte_at(body: &[u8], place: usize) -> u8
-    ensures { result ≡ spec.byte_at body.now place }
+/// Returns the IPv4 header of a packet, as far as it is there.
+fn header4(packet: &[u8]) -> &[u8]
+    ensures { result.now ≡ spec.header4 packet.now }
 {
-    if place < body.len() { body[place] } else { 0 }
+    let end = usize::from(byte_at(packet, 0) % 16) * 4;
+    &packet[..end.min(packet.len())]
 }
 
-fn no_headers() -> Headers
-    ensures { result ≡ spec.no_headers }
+/// Returns whether the checksum of an IPv4 header is right, or 0 as before the hardware writes it.
+fn is_sound4(header: &[u8]) -> bool
+    ensures { result ≡ spec.is_sound4 header.now }
 {
-    Headers {
-        ttl: 0,
-        alert: false,
-    }
+    byte_at(header, 10) == 0 && byte_at(header, 11) == 0 || checksum_ok(header)
 }
 
-/// Returns whether Router Alert is among the options of an IPv4 header. The walk stops at an option that does not fit.
-fn has_router_alert(options: &[u8]) -> bool
-    ensures { result ≡ spec.has_router_alert options.now }
+/// Returns whether bytes follow the sources of a query. Before the sources stand `fields` bytes, and a source has `size`.
+pub(crate) fn has_more(fields: usize, size: usize, body: &[u8]) -> bool
+    requires fields { 2 ≤ fields }
+    requires few { fields ≤ 28 }
+    requires small { size ≤ 16 }
+    ensures { result ≡ spec.has_more fields size body.now }
 {
-    let mut rest = options;
-    while let Some((kind, behind)) = first_option(rest) {
-        if kind == ROUTER_ALERT {
-            return true;
-        }
-        rest = behind;
+    if body.len() < fields {
+        return false;
     }
-    false
+    let sources = usize::from(Endian::Big.word(body, fields - 2));
+    fields + sources * size < body.len()
 }
 
-/// Returns the type of the first option, and the bytes after it, or None if none fits.
-fn first_option(bytes: &[u8]) -> Option<(u8, &[u8])>
-    ensures option { MatchOption result
-        (spec.types_of bytes.now ≡ [])
-        (λ o. spec.types_of bytes.now ≡ o.0 ∷ spec.types_of o.1.now) }
-    ensures shorter { IfSome result (λ o. length o.1.now < length bytes.now) }
+/// Returns a byte, or 0 after the end.
+pub(crate) fn byte_at(bytes: &[u8], place: usize) -> u8
+    ensures { result ≡ spec.byte_at bytes.now place }
 {
-    let (kind, behind) = bytes.split_first()?;
-    if *kind == END_OF_OPTIONS {
-        return None;
-    }
-    if *kind == NO_OPERATION {
-        return Some((NO_OPERATION, behind));
-    }
-    let end = usize::from(*behind.first()?);
-    if end < 2 || behind.len() + 1 < end {
-        return None;
-    }
-    Some((*kind, &behind[end - 1..]))
+    if place < bytes.len() { bytes[place] } else { 0 }
 }

@@ -8,10 +8,10 @@ ghost use Rattle.mq_check.specs.Numbered.{difference_list, numbered_asked, numbe
 ghost use Rattle.mq_check.specs.Telling.{Tells};
 
 use crate::asked::Asked;
-use crate::entry::{Entry, Unpaired};
+use crate::entry::{Entry, Need, Unpaired};
 use crate::finding::{Difference, Finding};
 use crate::finding_writer::FindingWriter;
-use crate::terms::{QuerierTerms, Terms};
+use crate::terms::{QuerierTerms, Terms, with_s_of};
 use mq_count::{Meter, Moment, Span, Watched};
 use mq_lines::LineKey;
 use mq_link::Family;
@@ -71,19 +71,15 @@ where
         (output_of W.contents writer.old) (output_of W.contents writer.new) result }
 {
     match entry {
-        Entry::Wanted(moment, asked, terms, is_optional, is_found) => {
-            if *is_optional {
-                return Ok(());
-            }
+        Entry::Wanted(moment, asked, terms, need, is_found) => {
             if *is_found {
                 return Ok(());
             }
-            let missing = Finding::Missing(*moment, terms.packet, *asked);
-            tell_finding::<F, W>(missing, told, writer)
+            tell_missing::<F, W>(*need, *moment, terms.packet, *asked, told, writer)
         }
         Entry::Seen(moment, asked, terms, partner, alone) => match partner {
             Some(wanted) => {
-                tell_differences::<F, W>(*moment, *asked, terms, wanted, told, writer)
+                tell_pair::<F, W>(*moment, *asked, terms, wanted, alone, told, writer)
             }
             None => {
                 if is_near_change(within, *moment, changed) {
@@ -102,6 +98,35 @@ where
         Entry::Packet(moment, number, fault) => {
             tell_finding::<F, W>(Finding::Packet(*moment, *number, *fault), told, writer)
         }
+    }
+}
+
+/// Reports that a query is missing, by how it is needed.
+fn tell_missing<F: Family, W: Write>(
+    need: Need,
+    moment: Moment,
+    packet: u64,
+    asked: Asked<F::Address>,
+    told: &mut FindingWriter,
+    writer: &mut Watched<W>,
+) -> Result<(), LineFault>
+where
+    F::Address: LineKey,
+    ensures { Tells F.Address.family (spec.missing_by need moment packet (numbered_asked F.Address.number asked)) told.old told.new
+        (output_of W.contents writer.old) (output_of W.contents writer.new) result }
+{
+    match need {
+        Need::Required => {
+            tell_finding::<F, W>(Finding::Missing(moment, packet, asked), told, writer)
+        }
+        Need::Possible => {
+            tell_finding::<F, W>(
+                Finding::PossiblyMissing(moment, packet, asked),
+                told,
+                writer,
+            )
+        }
+        Need::Optional => Ok(()),
     }
 }
 
@@ -125,10 +150,49 @@ where
             let extra = Finding::Extra(moment, terms.packet, asked, *reason);
             tell_finding::<F, W>(extra, told, writer)
         }
-        Unpaired::Allowed(wanted) => {
+        Unpaired::Possible(wanted) => {
+            let extra = Finding::PossiblyExtra(moment, terms.packet, asked);
+            tell_finding::<F, W>(extra, told, writer)?;
             tell_differences::<F, W>(moment, asked, terms, wanted, told, writer)
         }
         Unpaired::Scheduled(_) => Ok(()),
+        Unpaired::Next(_) => {
+            let missing = Finding::PossiblyMissing(moment, terms.packet, asked);
+            tell_finding::<F, W>(missing, told, writer)
+        }
+    }
+}
+
+/// Reports the findings of a seen query with a partner. `alone` is its verdict without one.
+fn tell_pair<F: Family, W: Write>(
+    moment: Moment,
+    asked: Asked<F::Address>,
+    seen: &Terms<F::Address>,
+    wanted: &Terms<F::Address>,
+    alone: &Unpaired<F::Address>,
+    told: &mut FindingWriter,
+    writer: &mut Watched<W>,
+) -> Result<(), LineFault>
+where
+    F::Address: LineKey,
+    ensures { Tells F.Address.family
+        (spec.findings_of_pair moment (numbered_asked F.Address.number asked) (numbered_terms F.Address.number seen.now) (numbered_terms F.Address.number wanted.now) (numbered_unpaired F.Address.number alone.now))
+        told.old told.new (output_of W.contents writer.old) (output_of W.contents writer.new) result }
+{
+    if alone.is_possible() && has_other_s(seen.querier, wanted.querier) {
+        let possible = Unpaired::Possible(with_s_of(seen, wanted));
+        return tell_alone::<F, W>(moment, asked, seen, &possible, told, writer);
+    }
+    tell_differences::<F, W>(moment, asked, seen, wanted, told, writer)
+}
+
+/// Returns whether both queries have S, and it differs.
+fn has_other_s(seen: Option<QuerierTerms>, wanted: Option<QuerierTerms>) -> bool
+    ensures { result ≡ spec.has_other_s seen wanted }
+{
+    match (seen, wanted) {
+        (Some(seen), Some(wanted)) => seen.suppress != wanted.suppress,
+        _ => false,
     }
 }
 

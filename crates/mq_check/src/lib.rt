@@ -10,13 +10,12 @@
 //! - The check: `check`, or `check_in` with memory from a source, with `CheckTerms`. It returns `Totals` with the `Basis` of the verdict, or a `CaptureFault` if
 //!   it ends early.
 //! - Findings: `Finding`, on a subject `Asked`. `specs/Check` defines them.
-//! - Worked examples of the definitions: `examples`.
 #![tactic(auto)]
 
 mod announced;
 mod asked;
 mod basis;
-mod blocked;
+mod causes;
 mod check_terms;
 mod checked_capture;
 mod checked_family;
@@ -24,13 +23,14 @@ mod checking;
 mod earliest_partner;
 mod ending;
 mod entry;
-pub mod examples;
 mod finding;
 mod finding_lines;
+mod finding_objects;
 mod finding_writer;
 mod general;
 mod headers;
 mod judging;
+mod past;
 mod phase;
 mod querier_address;
 mod repeated;
@@ -40,13 +40,13 @@ mod seeing;
 mod seen_queries;
 mod settling;
 mod slots;
+mod sought;
 mod stamp;
 mod standing;
 mod stepping;
 mod terms;
 mod totals;
 mod trails;
-mod unheld;
 mod unjudged;
 mod waiting;
 mod wanted_queries;
@@ -55,10 +55,10 @@ mod wanting;
 pub use announced::{Announced, announced_variables, announced_variables_in};
 pub use asked::Asked;
 pub use basis::Basis;
-pub use check_terms::{Additions, CheckTerms};
+pub use check_terms::{Additions, CheckFlags, CheckTerms};
 pub use checked_capture::{check, check_in};
 pub use checked_family::CheckedFamily;
-pub use entry::{Entry, Unpaired};
+pub use entry::{Entry, Need, Unpaired};
 pub use finding::{Difference, ExtraReason, Finding};
 pub use headers::{HeaderFault, Headers};
 pub use phase::Phase;
@@ -67,6 +67,6 @@ pub use repeated::{LastDifferences, LastOfKind, Values};
 pub use schedules::Repeats;
 pub use standing::Standing;
 pub use terms::{QuerierTerms, Terms};
-pub use totals::Totals;
+pub use totals::{FindingCounts, Totals};
 pub use unjudged::Unjudged;
 pub use waiting::Side;

@@ -40,10 +40,10 @@ where
     /// Returns a check before its first packet.
     pub(crate) fn new(link: Link<F, A>, checking: Checking<F, A>, terms: CheckTerms) -> Check<F, A>
         requires link_starts { link.state ≡ link_at link.config 0 }
-        requires starts { checking ≡ checking_at_start terms.within link.config.timing terms.strict }
+        requires starts { checking ≡ checking_at_start terms.within link.config.timing terms.flags }
         ensures link { result.link ≡ link }
         ensures terms { result.terms ≡ terms }
-        ensures starts { checked_in result.link result.queries ≡ at_the_start result.link.config result.terms.within result.terms.strict }
+        ensures starts { checked_in result.link result.queries ≡ at_the_start result.link.config result.terms.within result.terms.flags }
         ensures told { result.told ≡ nothing_told result.terms.additions }
     {
         link.config().is_faultless();
@@ -89,12 +89,15 @@ impl<F: CheckedFamily, A: Allocator, W: Write> GaplessStep<Watched<W>> for Check
 where
     F::Address: LineKey,
 {
+    ghost use Rattle.std.specs.Prelude.{◌≡◌, []};
     ghost use Rattle.mq_text.specs.Printing.{output_of};
     ghost use Rattle.mq_check.specs.Coming.{TakesChecked};
 
     ghost takes = { λ packet old new r. TakesChecked F.Address.family packet
         (record { link = old.0.link; queries = old.0.queries; terms = old.0.terms; told = old.0.told; output = output_of W.contents old.1 })
         (record { link = new.0.link; queries = new.0.queries; terms = new.0.terms; told = new.0.told; output = output_of W.contents new.1 }) r };
+
+    ghost is_written = { λ state. state.0.told.held ≡ [] };
 
     fn packet(
         &mut self,

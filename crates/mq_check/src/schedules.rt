@@ -1,17 +1,18 @@
 //! Schedules that a querier may keep beside those of the link.
 
-ghost use Rattle.std.specs.Prelude.{◌≡◌, ◌&&◌, ◌||◌, not, IfOk, is_ok};
+ghost use Rattle.std.specs.Prelude.{◌≡◌, ◌||◌, IfOk, is_ok};
 ghost use Rattle.mq_arena.specs.Vectors.{Takes};
 ghost use Rattle.mq_check.specs.Numbered.{numbered_asked, numbered_entry_if, numbered_terms, numbered_terms_if};
 ghost use Rattle.mq_check.specs.Checking as checks;
 ghost use Rattle.mq_check.specs.Schedules as spec;
-ghost use Rattle.mq_check.specs.Sizes.{bytes_of_waiting};
-ghost use Rattle.mq_check.specs.Entries as entries;
+ghost use Rattle.mq_check.specs.Sizes.{bytes_of_schedules};
 ghost use Rattle.mq_check.specs.Waiting as waits;
 
 use crate::asked::Asked;
-use crate::entry::{Entry, Unpaired};
-use crate::terms::{QuerierTerms, Terms};
+use crate::check_terms::CheckFlags;
+use crate::entry::{Entry, Need, Unpaired};
+use crate::past::{first_until, held_until};
+use crate::terms::{Terms, with_s_of};
 use crate::waiting::{Side, Waiting, is_before};
 use mq_arena::VectorSource;
 use mq_count::{Moment, Span};
@@ -21,22 +22,39 @@ use mq_wire::WireKey;
 use std::alloc::{AllocError, Allocator};
 use std::marker::Model;
 
-/// The retransmission of queries: the tolerance, the Last Member Query Interval, how many queries follow the first one, and
-/// the time after which an entry expires.
+/// The retransmission of queries.
 #[derive(Clone, Copy)]
 pub struct Repeats {
+    // The tolerance.
     pub(crate) within: Span,
+    // The Last Member Query Interval.
     pub(crate) interval: Span,
+    // The number of queries after the first one of a schedule. A strict check accepts no other reading, so it has none.
     pub(crate) more: u32,
+    // The number of queries after the first one of a schedule.
+    pub(crate) count: u32,
+    // The time for which a change counts.
+    pub(crate) span: Span,
+    // The time after which an entry expires.
     pub(crate) keep: Span,
+    // The moment from which nothing lasts that the querier held before the capture.
+    pub(crate) held_until: Moment,
+    // The moment from which no query belongs to a schedule that a change before the capture started.
+    pub(crate) first_until: Moment,
 }
 
-/// The seen queries after which one more may come, and for each subject the last wanted one. `new` allocates all memory.
+/// The queries of schedules. `new` allocates all memory.
 #[derive(Drop)]
 pub(crate) struct Schedules<F: Family, A: Allocator> {
-    repeats: Repeats,
-    // Each entry has the moment at which the next query is due.
-    sent: Waiting<F, A>,
+    pub(crate) repeats: Repeats,
+    // The seen queries after which one more may come, and for each subject the last wanted one. Each entry has the moment at
+    // which the next query is due.
+    pub(crate) sent: Waiting<F, A>,
+    // For each subject the last change of a host that may make a querier ask for it. A seen entry is a change that came close to
+    // an earlier one.
+    pub(crate) causes: Waiting<F, A>,
+    // The queries that are still to come in schedules from before the capture, at the moments when they are due.
+    pub(crate) next: Waiting<F, A>,
 }
 
 impl<F: Family, A: Allocator> Model for Schedules<F, A> {
@@ -44,10 +62,10 @@ impl<F: Family, A: Allocator> Model for Schedules<F, A> {
 
     ghost Value = { SchedulesValue };
 
-    ghost view = { λ s. record { repeats = s.repeats; sent = s.sent } };
+    ghost view = { λ s. record { repeats = s.repeats; sent = s.sent; causes = s.causes; next = s.next } };
 }
 
-/// Returns how many queries of a schedule follow the first one. A strict check accepts no second schedule.
+/// Returns how many queries of a schedule follow the first one. A strict check accepts no other reading, so it has none.
 fn more_in(timing: Timing, strict: bool) -> u32
     ensures { result ≡ spec.more_in timing strict }
 {
@@ -72,21 +90,36 @@ fn keep_in(within: u32, timing: Timing, last_member: u32, strict: bool) -> Span
     Span::from_ms(keep)
 }
 
-/// Returns the retransmission under this timing.
-fn repeats_in(within: u32, timing: Timing, last_member: u32, strict: bool) -> Repeats
+/// Returns the time for which a change counts: the Last Member Query Time and the tolerance.
+fn span_in(within: u32, timing: Timing, last_member: u32) -> Span
     requires interval { last_member ≡ timing.last_member_interval }
-    ensures { result ≡ spec.repeats_in within timing strict }
+    ensures { result ≡ spec.span_in within timing }
 {
+    timing.is_in_range();
+    let count = timing.last_member_count();
+    Span::from_ms(within.saturating_add(count * last_member))
+}
+
+/// Returns the retransmission under this timing.
+fn repeats_in(within: u32, timing: Timing, last_member: u32, flags: CheckFlags) -> Repeats
+    requires interval { last_member ≡ timing.last_member_interval }
+    ensures { result ≡ spec.repeats_in within timing flags }
+{
+    timing.is_in_range();
     Repeats {
         within: Span::from_ms(within),
         interval: timing.last_member_interval(),
-        more: more_in(timing, strict),
-        keep: keep_in(within, timing, last_member, strict),
+        more: more_in(timing, flags.strict),
+        count: timing.last_member_count() - 1,
+        span: span_in(within, timing, last_member),
+        keep: keep_in(within, timing, last_member, flags.strict),
+        held_until: held_until(within, timing, flags.began),
+        first_until: first_until(within, timing, last_member, flags.began),
     }
 }
 
 /// Returns the moment an interval after another.
-fn due_after(repeats: &Repeats, moment: Moment) -> Moment
+pub(crate) fn due_after(repeats: &Repeats, moment: Moment) -> Moment
     ensures { result ≡ spec.due_after repeats.now moment }
 {
     if moment.in_range() {
@@ -97,7 +130,7 @@ fn due_after(repeats: &Repeats, moment: Moment) -> Moment
 }
 
 /// Returns whether a moment is more than the tolerance before another.
-fn is_long_before(repeats: &Repeats, a: Moment, b: Moment) -> bool
+pub(crate) fn is_long_before(repeats: &Repeats, a: Moment, b: Moment) -> bool
     ensures { result ≡ spec.is_long_before repeats.now a b }
 {
     a.in_range() && is_before(a.after(repeats.within), b)
@@ -110,15 +143,12 @@ fn is_due(repeats: &Repeats, due: Moment, moment: Moment) -> bool
     !is_long_before(repeats, due, moment) && !is_long_before(repeats, moment, due)
 }
 
-/// Returns whether the last wanted query replaced a schedule.
-fn is_replaced(repeats: &Repeats, due: Moment, last: Moment) -> bool
-    ensures { result ≡ spec.is_replaced repeats.now due last }
-{
-    is_long_before(repeats, due, last) && is_long_before(repeats, last, due_after(repeats, due))
-}
-
 /// Returns whether the next query is seen after this one.
-fn is_next<K: WireKey>(repeats: &Repeats, moment: Moment, before: &Option<Entry<K>>) -> bool
+pub(crate) fn is_next<K: WireKey>(
+    repeats: &Repeats,
+    moment: Moment,
+    before: &Option<Entry<K>>,
+) -> bool
     ensures { result ≡ spec.is_next repeats.now moment (numbered_entry_if K.number before.now) }
 {
     match before {
@@ -144,36 +174,11 @@ fn left_after<K: WireKey>(repeats: &Repeats, moment: Moment, before: &Option<Ent
     }
 }
 
-/// Returns whether a query belongs to a schedule: it follows another one, has a partner, or is asked again for a blocked
-/// source.
-fn is_any_of(follows: bool, has_partner: bool, is_again: bool) -> bool
-    ensures { result ≡ follows || has_partner || is_again }
+/// Returns whether a query belongs to a schedule: it follows another one, or has a partner.
+fn is_any_of(follows: bool, has_partner: bool) -> bool
+    ensures { result ≡ follows || has_partner }
 {
-    follows || has_partner || is_again
-}
-
-/// Returns whether the S flag is set.
-fn is_suppressed(querier: Option<QuerierTerms>) -> bool
-    ensures { result ≡ entries.is_suppressed querier }
-{
-    match querier {
-        Some(querier) => querier.suppress,
-        None => false,
-    }
-}
-
-/// Returns the fields with this S flag.
-fn with_suppress(suppress: bool, wanted: Option<QuerierTerms>) -> Option<QuerierTerms>
-    ensures { result ≡ spec.with_suppress suppress wanted }
-{
-    match wanted {
-        Some(wanted) => Some(QuerierTerms {
-            suppress,
-            robustness: wanted.robustness,
-            interval: wanted.interval,
-        }),
-        None => None,
-    }
+    follows || has_partner
 }
 
 /// Returns the terms of a wanted query, with the S flag of a seen one.
@@ -182,83 +187,13 @@ pub(crate) fn as_seen<K: WireKey>(seen: Terms<K>, wanted: Option<Terms<K>>) -> O
         ≡ spec.as_seen (numbered_terms K.number seen) (numbered_terms_if K.number wanted) }
 {
     match wanted {
-        Some(wanted) => Some(Terms {
-            version: wanted.version,
-            response: wanted.response,
-            querier: with_suppress(is_suppressed(seen.querier), wanted.querier),
-            to: wanted.to,
-            packet: wanted.packet,
-        }),
+        Some(wanted) => Some(with_s_of(&seen, &wanted)),
         None => None,
     }
-}
-
-/// Returns the wanted terms of a seen query that belongs to an earlier schedule, which the link has replaced.
-fn of_earlier<K: WireKey>(
-    repeats: &Repeats,
-    moment: Moment,
-    seen: Terms<K>,
-    before: Option<Entry<K>>,
-    last: Option<Entry<K>>,
-) -> Option<Terms<K>>
-    ensures { numbered_terms_if K.number result
-        ≡ spec.of_earlier repeats.now moment (numbered_terms K.number seen) (numbered_entry_if K.number before) (numbered_entry_if K.number last) }
-{
-    let Some(before) = before else {
-        return None;
-    };
-    let Some(last) = last else {
-        return None;
-    };
-    if !is_due(repeats, before.moment(), moment) {
-        return None;
-    }
-    if is_replaced(repeats, before.moment(), last.moment()) {
-        as_seen(seen, last.terms())
-    } else {
-        None
-    }
-}
-
-/// Returns whether a host blocked the subject while it was pending, and a query is seen within the tolerance of that.
-fn is_asked_again<K: WireKey>(repeats: &Repeats, moment: Moment, last: &Option<Entry<K>>) -> bool
-    ensures { result ≡ spec.is_asked_again repeats.now moment (numbered_entry_if K.number last.now) }
-{
-    match last {
-        Some(last) => last.is_blocked()
-            && is_due(repeats, last.moment(), due_after(repeats, moment)),
-        None => false,
-    }
-}
-
-/// Returns the wanted terms of a seen query that is asked again for a blocked source.
-fn of_blocked<K: WireKey>(
-    repeats: &Repeats,
-    moment: Moment,
-    seen: Terms<K>,
-    last: Option<Entry<K>>,
-) -> Option<Terms<K>>
-    ensures { numbered_terms_if K.number result
-        ≡ spec.of_blocked repeats.now moment (numbered_terms K.number seen) (numbered_entry_if K.number last) }
-{
-    if !is_asked_again(repeats, moment, &last) {
-        return None;
-    }
-    match last {
-        Some(last) => as_seen(seen, last.terms()),
-        None => None,
-    }
-}
-
-/// Returns whether a query that neither follows another one nor has a partner is asked again for a blocked source.
-fn is_only_again(follows: bool, has_partner: bool, is_blocked: bool) -> bool
-    ensures { result ≡ not (follows || has_partner) && is_blocked }
-{
-    !(follows || has_partner) && is_blocked
 }
 
 /// Returns the terms of a query, if there is one.
-fn terms_of<K: WireKey>(query: &Option<Entry<K>>) -> Option<Terms<K>>
+pub(crate) fn terms_of<K: WireKey>(query: &Option<Entry<K>>) -> Option<Terms<K>>
     ensures { numbered_terms_if K.number result ≡ spec.terms_of (numbered_entry_if K.number query.now) }
 {
     match query {
@@ -285,7 +220,7 @@ fn with_packet_of<K: WireKey>(last: Option<Terms<K>>, terms: Terms<K>) -> Terms<
 }
 
 /// Returns the first of two terms.
-fn first_of<K: WireKey>(a: Option<Terms<K>>, b: Option<Terms<K>>) -> Option<Terms<K>>
+pub(crate) fn first_of<K: WireKey>(a: Option<Terms<K>>, b: Option<Terms<K>>) -> Option<Terms<K>>
     ensures { numbered_terms_if K.number result ≡ spec.first_of (numbered_terms_if K.number a) (numbered_terms_if K.number b) }
 {
     match a {
@@ -302,16 +237,20 @@ impl<F: Family, A: Allocator> Schedules<F, A> {
         within: u32,
         timing: Timing,
         last_member: u32,
-        strict: bool,
+        flags: CheckFlags,
     ) -> Result<Schedules<F, A>, AllocError>
         requires interval { last_member ≡ timing.last_member_interval }
-        ensures starts { IfOk result (λ s. s ≡ spec.schedules_at_start within timing strict) }
-        ensures memory { Takes (bytes_of_waiting F.Address.row) (M.less_than memory.old) (M.less_than memory.new) (is_ok result) }
+        ensures starts { IfOk result (λ s. s ≡ spec.schedules_at_start within timing flags) }
+        ensures memory { Takes (bytes_of_schedules F.Address.row) (M.less_than memory.old) (M.less_than memory.new) (is_ok result) }
     {
         let sent = Waiting::new(memory)?;
+        let causes = Waiting::new(memory)?;
+        let next = Waiting::new(memory)?;
         Ok(Schedules {
-            repeats: repeats_in(within, timing, last_member, strict),
+            repeats: repeats_in(within, timing, last_member, flags),
             sent,
+            causes,
+            next,
         })
     }
 
@@ -336,7 +275,7 @@ impl<F: Family, A: Allocator> Schedules<F, A> {
         &self.sent
     }
 
-    /// Removes the queries after which none may come any more.
+    /// Removes the queries after which none may come any more, and changes that no longer count.
     pub(crate) fn forget(&mut self, moment: Moment)
         ensures { self.new ≡ spec.recent moment self.old }
     {
@@ -344,6 +283,7 @@ impl<F: Family, A: Allocator> Schedules<F, A> {
             return;
         }
         self.sent.forget(self.repeats.within, moment);
+        self.causes.forget(self.repeats.span, moment);
     }
 
     /// Returns whether a query is seen when the next query of a schedule is due.
@@ -354,24 +294,7 @@ impl<F: Family, A: Allocator> Schedules<F, A> {
         is_next(&self.repeats, moment, &before)
     }
 
-    /// Returns the wanted terms of a seen query that belongs to an earlier schedule, or is asked again for a blocked source.
-    pub(crate) fn allowed(
-        &self,
-        moment: Moment,
-        seen: Terms<F::Address>,
-        asked: Asked<F::Address>,
-    ) -> Option<Terms<F::Address>>
-        ensures { numbered_terms_if F.Address.number result
-            ≡ spec.allowed_by moment (numbered_terms F.Address.number seen) (numbered_asked F.Address.number asked) self.now }
-    {
-        let before = self.sent.first(Side::OfSeen, asked);
-        let last = self.sent.first(Side::OfWanted, asked);
-        let earlier = of_earlier(&self.repeats, moment, seen, before, last);
-        first_of(earlier, of_blocked(&self.repeats, moment, seen, last))
-    }
-
-    /// Handles a query that is seen. It goes on with a schedule, or starts one if it has a partner or was asked again for a
-    /// blocked source.
+    /// Handles a query that is seen. It goes on with a schedule, or starts one if it has a partner.
     pub(crate) fn see(
         &mut self,
         moment: Moment,
@@ -382,15 +305,11 @@ impl<F: Family, A: Allocator> Schedules<F, A> {
         ensures { self.new ≡ spec.schedules_seen moment (numbered_terms F.Address.number terms) (numbered_asked F.Address.number asked) has_partner self.old }
     {
         let before = self.sent.first(Side::OfSeen, asked);
-        let last = self.sent.first(Side::OfWanted, asked);
         let follows = is_next(&self.repeats, moment, &before);
         let left = left_after(&self.repeats, moment, &before);
         let due = due_after(&self.repeats, moment);
-        let is_blocked = is_asked_again(&self.repeats, moment, &last);
-        let is_again = is_only_again(follows, has_partner, is_blocked);
-        let is_scheduled = is_any_of(follows, has_partner, is_again);
+        let is_scheduled = is_any_of(follows, has_partner);
         self.take_before(follows, terms, asked);
-        self.take_blocked(is_again, terms, asked);
         self.put_scheduled(left, due, is_scheduled, terms, asked);
     }
 
@@ -400,15 +319,6 @@ impl<F: Family, A: Allocator> Schedules<F, A> {
     {
         if follows {
             self.sent.join_any(Side::OfSeen, asked, terms);
-        }
-    }
-
-    /// Marks a blocked source that is asked again.
-    fn take_blocked(&mut self, is_again: bool, terms: Terms<F::Address>, asked: Asked<F::Address>)
-        ensures { self.new ≡ record self.old { sent = spec.without_blocked is_again (numbered_terms F.Address.number terms) (numbered_asked F.Address.number asked) self.old.sent } }
-    {
-        if is_again {
-            self.sent.join_any(Side::OfWanted, asked, terms);
         }
     }
 
@@ -457,42 +367,7 @@ impl<F: Family, A: Allocator> Schedules<F, A> {
     {
         let due = due_after(&self.repeats, moment);
         self.sent.join_any(Side::OfWanted, asked, terms);
-        self.sent.put(Entry::Wanted(due, asked, terms, true, false));
-    }
-
-    /// Handles a source that a host blocks. It is pending if a query for it was wanted in the last interval.
-    pub(crate) fn block(&mut self, moment: Moment, asked: Asked<F::Address>)
-        ensures { self.new ≡ spec.schedules_blocked moment (numbered_asked F.Address.number asked) self.old }
-    {
-        if self.repeats.more == 0 {
-            return;
-        }
-        let last = self.sent.first(Side::OfWanted, asked);
-        self.mark_blocked(moment, asked, terms_of(&last));
-    }
-
-    /// Marks that a source was blocked at a moment, if it is pending. `last` has the terms of its last wanted query.
-    fn mark_blocked(
-        &mut self,
-        moment: Moment,
-        asked: Asked<F::Address>,
-        last: Option<Terms<F::Address>>,
-    )
-        ensures { self.new ≡ spec.marked_blocked moment (numbered_asked F.Address.number asked) (numbered_terms_if F.Address.number last) self.old }
-    {
-        match last {
-            Some(terms) => self.put_blocked(moment, asked, terms),
-            None => {}
-        }
-    }
-
-    /// Marks that a pending source was blocked at a moment. `terms` are those of its last wanted query.
-    fn put_blocked(&mut self, moment: Moment, asked: Asked<F::Address>, terms: Terms<F::Address>)
-        ensures { self.new ≡ spec.marked_blocked moment (numbered_asked F.Address.number asked) (Some (numbered_terms F.Address.number terms)) self.old }
-    {
-        let due = due_after(&self.repeats, moment);
-        self.sent.join_any(Side::OfWanted, asked, terms);
         self.sent
-            .put(Entry::Wanted(due, asked, terms, false, false));
+            .put(Entry::Wanted(due, asked, terms, Need::Optional, false));
     }
 }

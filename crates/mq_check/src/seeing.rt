@@ -4,9 +4,8 @@ ghost use Rattle.std.specs.Prelude.{◌≡◌, ◌≤◌, ◌^◌, fold, map as 
 ghost use Rattle.mq_wire.specs.Numbered.{numbered_query};
 ghost use Rattle.mq_check.specs.declared.asked.Asked.TheVariants.{Source};
 ghost use Rattle.mq_check.specs.Checking as spec;
-ghost use Rattle.mq_check.specs.declared.headers.HeaderFault.TheVariants.{WrongChecksum};
-ghost use Rattle.mq_check.specs.Headers.{faults_of};
-ghost use Rattle.mq_check.specs.Numbered.{numbered_asked, numbered_standing, numbered_terms, numbered_terms_if, numbered_unpaired};
+ghost use Rattle.mq_check.specs.Headers.{fault_if, faults_of};
+ghost use Rattle.mq_check.specs.Numbered.{numbered_asked, numbered_terms, numbered_terms_if, numbered_unpaired};
 ghost use Rattle.mq_check.specs.Queries as queries;
 ghost use Rattle.mq_check.specs.Standing.{standing_in};
 
@@ -14,15 +13,14 @@ use crate::asked::Asked;
 use crate::checked_family::CheckedFamily;
 use crate::checking::Checking;
 use crate::earliest_partner::EarliestPartner;
-use crate::entry::{Entry, Unpaired};
+use crate::entry::{Entry, Need, Unpaired};
 use crate::finding::ExtraReason;
 use crate::general::query_interval;
 use crate::headers::{HeaderFault, Headers};
-use crate::schedules::as_seen;
+use crate::schedules::{as_seen, first_of};
 use crate::stamp::Stamp;
 use crate::standing::{Standing, standing_in};
 use crate::terms::{Terms, general_terms, terms_of};
-use crate::unheld::specific_terms;
 use crate::waiting::{Side, Waiting};
 use crate::wanting::{asked_without_sources, is_general, sources_of};
 use mq_count::Moment;
@@ -40,12 +38,11 @@ pub(crate) struct SeenPacket<K: WireKey> {
     pub(crate) to: K,
 }
 
-/// A seen query: its moment, its terms, and those of a query that the link would send.
+/// A seen query: its moment and its terms.
 #[derive(Clone, Copy)]
 struct SeenQuery<K: WireKey> {
     moment: Moment,
     terms: Terms<K>,
-    wanted: Terms<K>,
 }
 
 /// Returns the reason why a query is extra that is seen while the router is querier.
@@ -59,30 +56,16 @@ fn reason_of(is_muted: bool) -> ExtraReason
     }
 }
 
-/// Returns the verdict on a seen query without a partner, which is allowed if it has terms.
-fn allowed_if<K: WireKey>(is_querier: bool, is_muted: bool, wanted: Option<Terms<K>>) -> Unpaired<K>
+/// Returns the verdict on a seen query without a partner. `possible` has the terms of a query that another reading, or a state
+/// from before the capture, may explain.
+fn alone_if<K: WireKey>(is_querier: bool, is_muted: bool, possible: Option<Terms<K>>) -> Unpaired<K>
     ensures { numbered_unpaired K.number result
-        ≡ spec.allowed_if is_querier is_muted (numbered_terms_if K.number wanted) }
+        ≡ spec.alone_if is_querier is_muted (numbered_terms_if K.number possible) }
 {
-    match (is_querier, wanted) {
+    match (is_querier, possible) {
         (false, _) => Unpaired::Extra(ExtraReason::NotQuerier),
+        (true, Some(wanted)) => Unpaired::Possible(wanted),
         (true, None) => Unpaired::Extra(reason_of(is_muted)),
-        (true, Some(wanted)) => Unpaired::Allowed(wanted),
-    }
-}
-
-/// Returns the terms of a query on a subject that the link doesn't hold, or else those of an earlier schedule.
-fn either_of<K: WireKey>(
-    may_be_unknown: bool,
-    unheld: Option<Terms<K>>,
-    earlier: Option<Terms<K>>,
-) -> Option<Terms<K>>
-    ensures { numbered_terms_if K.number result
-        ≡ spec.either_of may_be_unknown (numbered_terms_if K.number unheld) (numbered_terms_if K.number earlier) }
-{
-    match (may_be_unknown, unheld) {
-        (true, Some(wanted)) => Some(wanted),
-        _ => earlier,
     }
 }
 
@@ -103,25 +86,70 @@ fn put_interval<F: Family, A: Allocator>(
 }
 
 impl<F: Family, A: Allocator> Checking<F, A> {
-    /// Adds a seen query, and pairs it with a wanted query on the subject that has no partner.
+    /// Adds a seen query, and pairs it.
+    ///
+    /// Its partner is a wanted query on the subject, or the next query of a schedule from before the capture.
     fn see(
         &mut self,
         moment: Moment,
         terms: Terms<F::Address>,
-        standing: Standing<F::Address>,
+        standing: Standing,
         asked: Asked<F::Address>,
     )
         requires in_range { moment ≤ 2 ^ 53 }
-        ensures { self.new ≡ spec.with_seen moment (numbered_terms F.Address.number terms) (numbered_standing F.Address.number standing) self.old (numbered_asked F.Address.number asked) }
+        ensures { self.new ≡ spec.with_seen moment (numbered_terms F.Address.number terms) standing self.old (numbered_asked F.Address.number asked) }
     {
         let from = self.near(moment);
         self.forget(moment);
         let alone = self.alone(moment, terms, standing, asked);
+        let next = self.schedules.followed(moment, standing.is_above, asked);
+        let caused = self.schedules.caused(moment, asked);
+        self.note_unmuted(moment, terms, asked);
         let partner = self.pair(moment, &from, terms, asked);
         let has_partner = partner.is_some();
-        self.schedules.see(moment, terms, asked, has_partner);
+        let follows = next.is_some();
+        let is_possible = alone.is_possible();
+        self.schedules.place(
+            moment,
+            terms,
+            asked,
+            has_partner,
+            follows,
+            is_possible,
+            caused,
+        );
+        let either = first_of(partner, next);
         self.waiting
-            .put(Entry::Seen(moment, asked, terms, partner, alone));
+            .put(Entry::Seen(moment, asked, terms, either, alone));
+    }
+
+    /// Returns whether a query for a source shows that no older host mutes the changes of its group, and that isn't known. No
+    /// other change may explain it.
+    fn shows_unmuted(&self, moment: Moment, group: F::Address, source: F::Address) -> bool
+        ensures { result ≡ spec.shows_unmuted moment (F.Address.number group) (F.Address.number source) self.now }
+    {
+        self.phase.is_querier()
+            && self
+                .schedules
+                .has_cause(moment, Asked::Source(group, source))
+            && self
+                .schedules
+                .unclear(Asked::Source(group, source))
+                .is_none()
+            && !self.unmuted.has_any(Side::OfWanted, Asked::Group(group))
+    }
+
+    /// Notes the group of a source whose query comes after a change that older hosts mute.
+    fn note_unmuted(&mut self, moment: Moment, terms: Terms<F::Address>, asked: Asked<F::Address>)
+        ensures { self.new ≡ record self.old { unmuted = spec.with_unmuted moment (numbered_terms F.Address.number terms) (numbered_asked F.Address.number asked) self.old } }
+    {
+        if let Asked::Source(group, source) = asked {
+            if self.shows_unmuted(moment, group, source) {
+                let asked = Asked::Group(group);
+                self.unmuted
+                    .put(Entry::Wanted(moment, asked, terms, Need::Optional, false));
+            }
+        }
     }
 
     /// Returns whether the partner of a seen query may be before `from`: no wanted query from then on may be it, and the seen
@@ -163,20 +191,18 @@ impl<F: Family, A: Allocator> Checking<F, A> {
         &self,
         moment: Moment,
         terms: Terms<F::Address>,
-        standing: Standing<F::Address>,
+        standing: Standing,
         asked: Asked<F::Address>,
     ) -> Unpaired<F::Address>
         ensures { numbered_unpaired F.Address.number result
-            ≡ spec.alone_after moment (numbered_terms F.Address.number terms) (numbered_standing F.Address.number standing) (numbered_asked F.Address.number asked) self.now }
+            ≡ spec.alone_after moment (numbered_terms F.Address.number terms) standing (numbered_asked F.Address.number asked) self.now }
     {
         let is_querier = self.phase.is_querier();
-        let is_unknown = self.may_be_unknown(moment, asked);
-        let earlier = self.schedules.allowed(moment, terms, asked);
-        allowed_if(
-            is_querier,
-            standing.is_muted,
-            either_of(is_unknown, standing.unheld, earlier),
-        )
+        let unclear = self.schedules.unclear(asked);
+        let caused = self.schedules.caused(moment, asked);
+        let first = self.schedules.at_first(moment, terms);
+        let possible = first_of(as_seen(terms, first_of(unclear, caused)), first);
+        alone_if(is_querier, standing.is_muted, possible)
     }
 
     /// Adds a seen query for each subject of a query.
@@ -187,13 +213,13 @@ impl<F: Family, A: Allocator> Checking<F, A> {
         query: &Query<'_, F::Address>,
     )
         requires in_range { seen.moment ≤ 2 ^ 53 }
-        ensures { self.new ≡ fold (spec.one_seen seen.moment (numbered_terms F.Address.number seen.terms) (standing_in F.FAMILY link.now.state.groups seen.moment (numbered_terms F.Address.number seen.wanted)))
+        ensures { self.new ≡ fold (spec.one_seen seen.moment (numbered_terms F.Address.number seen.terms) (standing_in F.FAMILY link.now.state.groups link.now.state.election.timing seen.moment))
             self.old (queries.asked_in (numbered_query F.Address.number query.now)) }
     {
         let sources = sources_of(&query.version);
         if sources.is_empty() {
             let asked = asked_without_sources::<F>(query.group);
-            let standing = standing_in(link, seen.moment, seen.wanted, asked);
+            let standing = standing_in(link, seen.moment, asked);
             self.see(seen.moment, seen.terms, standing, asked);
             return;
         }
@@ -209,12 +235,12 @@ impl<F: Family, A: Allocator> Checking<F, A> {
         sources: Sources<'_, F::Address>,
     )
         requires in_range { seen.moment ≤ 2 ^ 53 }
-        ensures { self.new ≡ fold (spec.one_seen seen.moment (numbered_terms F.Address.number seen.terms) (standing_in F.FAMILY link.now.state.groups seen.moment (numbered_terms F.Address.number seen.wanted)))
+        ensures { self.new ≡ fold (spec.one_seen seen.moment (numbered_terms F.Address.number seen.terms) (standing_in F.FAMILY link.now.state.groups link.now.state.election.timing seen.moment))
             self.old (list_map (Source (F.Address.number group)) sources.entry) }
     {
         for source in sources {
             let asked = Asked::Source(group, source);
-            let standing = standing_in(link, seen.moment, seen.wanted, asked);
+            let standing = standing_in(link, seen.moment, asked);
             self.see(seen.moment, seen.terms, standing, asked);
         }
     }
@@ -261,8 +287,8 @@ impl<F: Family, A: Allocator> Checking<F, A> {
             return;
         }
         let standing = Standing {
-            unheld: None,
             is_muted: false,
+            is_above: false,
         };
         self.see(stamp.moment(), terms, standing, Asked::AllGroups);
     }
@@ -291,7 +317,7 @@ impl<F: Family, A: Allocator> Checking<F, A> {
         query: &Query<'_, F::Address>,
     )
         requires in_range { seen.moment ≤ 2 ^ 53 }
-        ensures { self.new ≡ spec.specific_seen seen.moment (numbered_terms F.Address.number seen.terms) (standing_in F.FAMILY link.now.state.groups seen.moment (numbered_terms F.Address.number seen.wanted))
+        ensures { self.new ≡ spec.specific_seen seen.moment (numbered_terms F.Address.number seen.terms) (standing_in F.FAMILY link.now.state.groups link.now.state.election.timing seen.moment)
             (queries.asked_in (numbered_query F.Address.number query.now)) self.old }
     {
         self.see_all(seen, link, query);
@@ -299,34 +325,39 @@ impl<F: Family, A: Allocator> Checking<F, A> {
     }
 
     /// Handles the headers of a packet with a query of the checked router.
-    pub(crate) fn see_headers(
-        &mut self,
-        moment: Moment,
-        number: u64,
-        headers: Headers,
-        has_reserved_bits: bool,
-    )
-        ensures { self.new ≡ spec.faults_seen moment number (faults_of headers has_reserved_bits) self.old }
+    pub(crate) fn see_headers(&mut self, moment: Moment, number: u64, headers: Headers)
+        ensures { self.new ≡ spec.faults_seen moment number (faults_of headers) self.old }
     {
-        if headers.ttl != 1 {
-            let fault = HeaderFault::TimeToLive(headers.ttl);
-            self.waiting.put(Entry::Packet(moment, number, fault));
-        }
-        if !headers.alert {
-            let fault = HeaderFault::NoRouterAlert;
-            self.waiting.put(Entry::Packet(moment, number, fault));
-        }
-        if has_reserved_bits {
-            let fault = HeaderFault::ReservedBits;
-            self.waiting.put(Entry::Packet(moment, number, fault));
+        let ttl = HeaderFault::TimeToLive(headers.ttl);
+        let precedence = HeaderFault::Precedence(headers.precedence);
+        self.see_fault_if(moment, number, headers.ttl != 1, ttl);
+        self.see_fault_if(moment, number, !headers.alert, HeaderFault::NoRouterAlert);
+        self.see_fault_if(moment, number, headers.precedence != 6, precedence);
+        self.see_fault_if(
+            moment,
+            number,
+            !headers.is_sound,
+            HeaderFault::HeaderChecksum,
+        );
+        let reserved = HeaderFault::ReservedBits;
+        self.see_fault_if(moment, number, headers.has_reserved_bits, reserved);
+        let additional = HeaderFault::AdditionalData;
+        self.see_fault_if(moment, number, headers.has_additional_data, additional);
+    }
+
+    /// Handles a fault of a packet with a query of the checked router, if it is there.
+    fn see_fault_if(&mut self, moment: Moment, number: u64, is_there: bool, fault: HeaderFault)
+        ensures { self.new ≡ spec.faults_seen moment number (fault_if is_there fault) self.old }
+    {
+        if is_there {
+            self.see_fault(moment, number, fault);
         }
     }
 
-    /// Handles a query of the checked router with a wrong checksum.
-    pub(crate) fn see_broken(&mut self, moment: Moment, number: u64)
-        ensures { self.new ≡ spec.with_fault moment number self.old WrongChecksum }
+    /// Handles a fault of a packet with a query of the checked router.
+    pub(crate) fn see_fault(&mut self, moment: Moment, number: u64, fault: HeaderFault)
+        ensures { self.new ≡ spec.with_fault moment number self.old fault }
     {
-        let fault = HeaderFault::WrongChecksum;
         self.waiting.put(Entry::Packet(moment, number, fault));
     }
 }
@@ -355,11 +386,9 @@ where
             self.see_general(within, configured, packet.stamp, terms, wanted);
             return;
         }
-        let wanted = specific_terms(config, in_force, query);
         let seen = SeenQuery {
             moment: packet.stamp.moment(),
             terms,
-            wanted,
         };
         self.see_specific(seen, link, query);
     }

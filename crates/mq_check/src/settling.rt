@@ -18,10 +18,11 @@ use mq_text::LineFault;
 use std::alloc::Allocator;
 use std::io::Write;
 
-/// The time after which an entry expires, and the moment at which expired entries are removed.
+/// The time after which an entry expires, the tolerance, and the moment at which expired entries are removed.
 #[derive(Drop)]
 pub(crate) struct Expiry {
     pub(crate) keep: Span,
+    pub(crate) within: Span,
     pub(crate) moment: Moment,
 }
 
@@ -29,7 +30,6 @@ pub(crate) struct Expiry {
 pub(crate) fn settle<F: Family, A: Allocator, W: Write>(
     waiting: &mut Waiting<F, A>,
     expiry: &Expiry,
-    within: Span,
     changed: &Option<Moment>,
     told: &mut FindingWriter,
     writer: &mut Watched<W>,
@@ -39,11 +39,11 @@ where
     requires in_range { expiry.now.moment ≤ 2 ^ 53 }
     requires changed_in_range { IfSome changed.now (λ moment. moment ≤ 2 ^ 53) }
     ensures settled { IfOk result (λ _. waiting.new ≡ waits.settled expiry.now.keep expiry.now.moment waiting.old) }
-    ensures tells { Tells F.Address.family (waits.told expiry.now.keep within expiry.now.moment changed.now waiting.old) told.old told.new
+    ensures tells { Tells F.Address.family (waits.told expiry.now.keep expiry.now.within expiry.now.moment changed.now waiting.old) told.old told.new
         (output_of W.contents writer.old) (output_of W.contents writer.new) result }
 {
     while let Some(entry) = waiting.pop_over(expiry.keep, expiry.moment) {
-        tell_entry::<F, W>(&entry, within, changed, told, writer)?;
+        tell_entry::<F, W>(&entry, expiry.within, changed, told, writer)?;
     }
     Ok(())
 }

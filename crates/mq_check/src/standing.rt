@@ -1,27 +1,26 @@
 //! The standing of subjects in the link.
 
-ghost use Rattle.std.specs.Prelude.{◌≡◌};
+ghost use Rattle.std.specs.Prelude.{◌≡◌, ◌≤◌, ◌^◌};
+ghost use Rattle.mq_table.specs.Group.{deadline_of, group_deadline, timer_at};
+ghost use Rattle.mq_table.specs.Lowering as lowering;
 ghost use Rattle.mq_table.specs.OlderHosts.{hosts_of};
 ghost use Rattle.mq_link.specs.State.{group_at};
-ghost use Rattle.mq_check.specs.Numbered.{numbered_asked, numbered_standing, numbered_terms};
+ghost use Rattle.mq_check.specs.Numbered.{numbered_asked};
 ghost use Rattle.mq_check.specs.Standing as spec;
 
 use crate::asked::Asked;
-use crate::terms::Terms;
-use crate::unheld::unheld;
 use mq_count::{Meter, Moment};
-use mq_link::{Family, Link};
-use mq_table::{Hosts, runs_on};
-use mq_wire::WireKey;
+use mq_link::{Family, Link, SourceTimer};
+use mq_table::{Hosts, Timing, runs_on, timer_among};
 use std::alloc::Allocator;
 
 /// The standing of a subject in the link when a query on it is seen.
 #[derive(Clone, Copy)]
-pub struct Standing<K: WireKey> {
-    /// The terms of a query on it, if the link doesn't hold it.
-    pub unheld: Option<Terms<K>>,
+pub struct Standing {
     /// True if an older host of its group mutes the change that asks for the query.
     pub is_muted: bool,
+    /// True if its timer exceeds the Last Member Query Time.
+    pub is_above: bool,
 }
 
 /// Returns the older versions that have hosts in a group, as far as the link knows.
@@ -59,18 +58,81 @@ fn is_muted<F: Family, A: Allocator>(
     }
 }
 
-/// Returns the standing of a subject. `wanted` has the terms of a query on it.
+/// Returns the deadline of a timer, if it runs.
+fn running_until(timer: Option<SourceTimer>) -> Option<Moment>
+    ensures { result ≡ deadline_of timer }
+{
+    match timer {
+        Some(timer) => timer.deadline(),
+        None => None,
+    }
+}
+
+/// Returns the deadline of the group timer of a group, if it runs in the link.
+fn group_timer<F: Family, A: Allocator>(link: &Link<F, A>, group: F::Address) -> Option<Moment>
+    ensures { result ≡ group_deadline (group_at link.now.state.groups (F.Address.number group)).group.mode }
+{
+    match link.find(group) {
+        Some(held) => held.mode.deadline(),
+        None => None,
+    }
+}
+
+/// Returns the deadline of the timer of a source, if it runs in the link.
+fn source_timer<F: Family, A: Allocator>(
+    link: &Link<F, A>,
+    group: F::Address,
+    source: F::Address,
+) -> Option<Moment>
+    ensures { result ≡ deadline_of (timer_at (group_at link.now.state.groups (F.Address.number group)).group (F.Address.number source)) }
+{
+    match link.find(group) {
+        Some(held) => running_until(timer_among(held.sources, source, &mut Meter::new())),
+        None => None,
+    }
+}
+
+/// Returns the moment the Last Member Query Time after another.
+fn lowered_to(in_force: Timing, now: Moment) -> Moment
+    requires in_range { now ≤ 2 ^ 53 }
+    ensures { result ≡ lowering.lowered_to in_force now }
+{
+    now.after(in_force.last_member_time())
+}
+
+/// Returns whether the timer of a subject exceeds the Last Member Query Time.
+fn is_above<F: Family, A: Allocator>(
+    link: &Link<F, A>,
+    in_force: Timing,
+    now: Moment,
+    asked: Asked<F::Address>,
+) -> bool
+    requires in_range { now ≤ 2 ^ 53 }
+    ensures { result ≡ spec.is_above link.now.state.groups in_force now (numbered_asked F.Address.number asked) }
+{
+    let limit = lowered_to(in_force, now);
+    match asked {
+        Asked::AllGroups => false,
+        Asked::Group(group) => runs_on(group_timer(link, group), limit, &mut Meter::new()),
+        Asked::Source(group, source) => {
+            runs_on(source_timer(link, group, source), limit, &mut Meter::new())
+        }
+    }
+}
+
+/// Returns the standing of a subject.
 pub(crate) fn standing_in<F: Family, A: Allocator>(
     link: &Link<F, A>,
     now: Moment,
-    wanted: Terms<F::Address>,
     asked: Asked<F::Address>,
-) -> Standing<F::Address>
-    ensures { numbered_standing F.Address.number result
-        ≡ spec.standing_in F.FAMILY link.now.state.groups now (numbered_terms F.Address.number wanted) (numbered_asked F.Address.number asked) }
+) -> Standing
+    requires in_range { now ≤ 2 ^ 53 }
+    ensures { result
+        ≡ spec.standing_in F.FAMILY link.now.state.groups link.now.state.election.timing now (numbered_asked F.Address.number asked) }
 {
+    let in_force = link.timing();
     Standing {
-        unheld: unheld(link, wanted, asked),
         is_muted: is_muted(link, now, asked),
+        is_above: is_above(link, in_force, now, asked),
     }
 }

@@ -9,6 +9,7 @@ ghost use Rattle.mq_check.specs.Checking.{faults_seen, role_changed};
 ghost use Rattle.mq_check.specs.Coming.{Comes, checked_in};
 
 use crate::checked_family::CheckedFamily;
+use crate::headers::HeaderFault;
 use crate::running_check::Check;
 use crate::seen_queries::{is_broken_query, is_own_query, query_seen};
 use crate::stamp::Stamp;
@@ -69,7 +70,9 @@ where
         let configured = self.link.config().timing();
         let was_querier = self.link.is_querier();
         let now = stamp.moment();
-        self.queries.block_all(now, datagram);
+        let in_force = self.link.timing();
+        self.queries
+            .change_all(now, self.link.config(), in_force, datagram);
         self.queries.begin(now, false, !was_querier);
         self.link
             .receive(&datagram.envelope, datagram.body, now, &mut self.queries);
@@ -151,7 +154,7 @@ where
         let inner = unwrap_frame(packet.link, packet.frame);
         match F::datagram(&inner) {
             Some(datagram) => {
-                self.queries.note_datagram(&datagram);
+                self.queries.note_datagram(self.link.config(), &datagram);
                 self.check_datagram(packet, datagram, writer)
             }
             None => {
@@ -239,12 +242,11 @@ where
 {
     config.is_faultless();
     if is_own_query(config, datagram) {
-        let headers = F::headers(packet.link, packet.frame, &datagram.envelope);
-        let has_reserved_bits = F::has_reserved_bits(datagram.body);
-        queries.see_headers(now, packet.number, headers, has_reserved_bits);
+        let headers = F::headers(packet.link, packet.frame, datagram);
+        queries.see_headers(now, packet.number, headers);
         return;
     }
     if is_broken_query(config, datagram) {
-        queries.see_broken(now, packet.number);
+        queries.see_fault(now, packet.number, HeaderFault::WrongChecksum);
     }
 }

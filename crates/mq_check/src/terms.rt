@@ -4,6 +4,7 @@ ghost use Rattle.std.specs.Prelude.{◌≡◌};
 ghost use Rattle.mq_wire.specs.Numbered.{numbered_query};
 ghost use Rattle.mq_wire.specs.RoundTrip.{interval_lowered};
 ghost use Rattle.mq_lines.specs.Text.{older_version};
+ghost use Rattle.mq_check.specs.Entries as entries;
 ghost use Rattle.mq_check.specs.Numbered.{numbered_terms};
 ghost use Rattle.mq_check.specs.Queries as spec;
 
@@ -86,6 +87,18 @@ where
     }
 }
 
+/// Returns the further fields of a query under this timing in force, with S clear.
+fn in_force_terms(in_force: Timing) -> QuerierTerms
+    ensures { result ≡ spec.in_force_terms in_force }
+{
+    in_force.is_in_range();
+    QuerierTerms {
+        suppress: false,
+        robustness: in_force.robustness() as u8,
+        interval: interval_said(in_force.query_seconds()),
+    }
+}
+
 /// Returns the terms of a general query under this timing in force.
 pub(crate) fn general_terms<F: CheckedFamily>(
     config: &Config<F>,
@@ -96,17 +109,34 @@ where
     ensures { numbered_terms F.Address.number result ≡ spec.general_terms config.now in_force }
 {
     config.is_faultless();
-    in_force.is_in_range();
     Terms {
         version: F::Address::current_version(),
         response: Some(F::response_said(config.response_interval())),
-        querier: Some(QuerierTerms {
-            suppress: false,
-            robustness: in_force.robustness() as u8,
-            interval: interval_said(in_force.query_seconds()),
-        }),
+        querier: Some(in_force_terms(in_force)),
         to: F::general_destination(),
         packet: 0,
+    }
+}
+
+/// Returns the terms of the first query for a group or for its sources, which a change in a packet asks for.
+pub(crate) fn specific_terms<F: CheckedFamily>(
+    config: &Config<F>,
+    in_force: Timing,
+    packet: u64,
+    group: F::Address,
+) -> Terms<F::Address>
+where
+    F::Address: LineKey,
+    ensures { numbered_terms F.Address.number result
+        ≡ spec.specific_terms config.now in_force packet (F.Address.number group) }
+{
+    config.is_faultless();
+    Terms {
+        version: F::Address::current_version(),
+        response: Some(F::response_said(config.last_member_interval())),
+        querier: Some(in_force_terms(in_force)),
+        to: group,
+        packet,
     }
 }
 
@@ -115,4 +145,42 @@ pub(crate) fn interval_said(seconds: u32) -> u32
     ensures { result ≡ interval_lowered seconds }
 {
     mq_wire::resp8(mq_wire::code8(seconds))
+}
+
+/// Returns whether the S flag is set.
+pub(crate) fn is_suppressed(querier: Option<QuerierTerms>) -> bool
+    ensures { result ≡ entries.is_suppressed querier }
+{
+    match querier {
+        Some(querier) => querier.suppress,
+        None => false,
+    }
+}
+
+/// Returns the fields with this S flag.
+pub(crate) fn with_suppress(suppress: bool, wanted: Option<QuerierTerms>) -> Option<QuerierTerms>
+    ensures { result ≡ entries.with_suppress suppress wanted }
+{
+    match wanted {
+        Some(wanted) => Some(QuerierTerms {
+            suppress,
+            robustness: wanted.robustness,
+            interval: wanted.interval,
+        }),
+        None => None,
+    }
+}
+
+/// Returns the terms of a wanted query, with the S flag of a seen one.
+pub(crate) fn with_s_of<K: WireKey>(seen: &Terms<K>, wanted: &Terms<K>) -> Terms<K>
+    ensures { numbered_terms K.number result
+        ≡ entries.with_s_of (numbered_terms K.number seen.now) (numbered_terms K.number wanted.now) }
+{
+    Terms {
+        version: wanted.version,
+        response: wanted.response,
+        querier: with_suppress(is_suppressed(seen.querier), wanted.querier),
+        to: wanted.to,
+        packet: wanted.packet,
+    }
 }

@@ -6,6 +6,13 @@ ghost use Rattle.mq_check.specs.Basis as spec;
 use crate::basis::Basis;
 use crate::unjudged::Unjudged;
 
+/// The numbers of findings that are certain, and of those that are possible. A count stays at the greatest u64.
+#[derive(Clone, Copy)]
+pub struct FindingCounts {
+    pub certain: u64,
+    pub possible: u64,
+}
+
 /// The totals of a check. A count stays at the greatest u64.
 #[derive(Clone, Copy)]
 pub struct Totals {
@@ -13,8 +20,11 @@ pub struct Totals {
     pub general: u64,
     /// The number of queries for groups and for sources seen.
     pub specific: u64,
-    /// The number of findings.
+    /// The number of certain findings.
     pub findings: u64,
+    /// The number of possible findings: the querier is right if it held some groups, or had heard some hosts, before the
+    /// capture.
+    pub possible: u64,
     /// The basis of the verdict.
     pub basis: Basis,
 }
@@ -33,8 +43,12 @@ impl Totals {
         if !self.basis.has_message() {
             return Some(Unjudged::NoMessage);
         }
-        if self.general == 0 && self.specific == 0 && self.findings == 0 {
+        let has_nothing = self.general == 0 && self.specific == 0 && self.findings == 0;
+        if self.basis.is_unseen() || has_nothing {
             return Some(Unjudged::NoQuery);
+        }
+        if 0 < self.basis.refused && 0 < self.findings {
+            return Some(Unjudged::LimitsExceeded);
         }
         None
     }

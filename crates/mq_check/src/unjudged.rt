@@ -9,6 +9,8 @@ pub enum Unjudged {
     OutOfOrder,
     /// A capture without a message of the family.
     NoMessage,
-    /// A capture without a query of the checked router, and without a finding.
+    /// A capture without a query of the checked router, and without a finding or without anything from this address.
     NoQuery,
+    /// Findings of a check whose own link refused records for its limits, so the limits may cause them.
+    LimitsExceeded,
 }

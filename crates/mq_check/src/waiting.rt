@@ -382,12 +382,21 @@ impl<F: Family, A: Allocator> Waiting<F, A> {
     pub(crate) fn pop(&mut self) -> Option<Entry<F::Address>>
         ensures none { IfNone result (self.old.entries ≡ []) }
         ensures some { IfSome result (λ entry. self.old.entries ≡ numbered_entry F.Address.number entry ∷ self.new.entries) }
+        ensures full { self.new.is_full ≡ self.old.is_full }
+        ensures same { IfNone result (self.new ≡ self.old) }
     {
         if self.entries.is_empty() {
             return None;
         }
         self.trails.pop();
         self.entries.pop_front()
+    }
+
+    /// Removes all entries.
+    pub(crate) fn clear(&mut self)
+        ensures { self.new ≡ waits.emptied self.old }
+    {
+        while let Some(_entry) = self.pop() {}
     }
 
     /// Returns whether a query for this group is wanted at this moment.

@@ -5,22 +5,23 @@ ghost use Rattle.mq_pcap.specs.Frame.{carried_of};
 ghost use Rattle.mq_wire.specs.Numbered.{numbered_query};
 ghost use Rattle.mq_text.specs.Printing.{output_of};
 ghost use Rattle.mq_check.specs.Basis as basis;
-ghost use Rattle.mq_check.specs.Blocked.{blocked_in};
+ghost use Rattle.mq_check.specs.Causes.{causes_in};
 ghost use Rattle.mq_check.specs.Checking as spec;
-ghost use Rattle.mq_check.specs.declared.headers.HeaderFault.TheVariants.{WrongChecksum};
 ghost use Rattle.mq_check.specs.Headers.{faults_of};
+ghost use Rattle.mq_check.specs.Queries.{specific_terms};
 ghost use Rattle.mq_check.specs.Telling.{Tells};
 
 use crate::basis::Basis;
+use crate::causes::Changed;
 use crate::checked_family::CheckedFamily;
 use crate::checking::Checking;
 use crate::finding_writer::FindingWriter;
-use crate::headers::Headers;
+use crate::headers::{HeaderFault, Headers};
 use crate::seeing::SeenPacket;
 use crate::stamp::Stamp;
 use mq_count::{Moment, Watched};
 use mq_lines::LineKey;
-use mq_link::{Link, QueryOutlet};
+use mq_link::{Config, Link, QueryOutlet};
 use mq_pcap::{Inner, LinkType};
 use mq_replay::CapturedDatagram;
 use mq_sched::OtherQuerier;
@@ -112,15 +113,19 @@ where
         self.basis.note_packet(goes_back);
     }
 
-    /// Counts a datagram of the family.
-    pub(crate) fn note_datagram(&mut self, datagram: &CapturedDatagram<'_, F::Envelope>)
+    /// Counts a datagram of the family, and notes its sender.
+    pub(crate) fn note_datagram(
+        &mut self,
+        config: &Config<F>,
+        datagram: &CapturedDatagram<'_, F::Envelope>,
+    )
         ensures { self.new ≡ record self.old {
           basis =
-              basis.with_datagram F.FAMILY
+              basis.with_datagram config.now
               (record { envelope = F.envelope_of datagram.now.envelope; body = datagram.now.body.now }) self.old.basis;
         } }
     {
-        self.basis.note_datagram::<F>(datagram);
+        self.basis.note_datagram::<F>(config, datagram);
     }
 
     /// Counts a frame without a datagram of the family.
@@ -166,17 +171,29 @@ where
         self.checking.excuse_all(within, end);
     }
 
-    /// Handles the sources that a datagram of a host blocks.
-    pub(crate) fn block_all(&mut self, moment: Moment, datagram: &CapturedDatagram<'_, F::Envelope>)
+    /// Handles the changes in a datagram of a host that may make a querier send a query.
+    pub(crate) fn change_all(
+        &mut self,
+        moment: Moment,
+        config: &Config<F>,
+        in_force: Timing,
+        datagram: &CapturedDatagram<'_, F::Envelope>,
+    )
         ensures { self.new ≡ record self.old {
           checking =
-              spec.all_blocked moment
-              (blocked_in F.FAMILY (record { envelope = F.envelope_of datagram.now.envelope; body = datagram.now.body.now }))
+              spec.all_changed moment (specific_terms config.now in_force self.old.basis.packets)
+              (causes_in F.FAMILY (record { envelope = F.envelope_of datagram.now.envelope; body = datagram.now.body.now }))
               self.old.checking;
         } }
     {
+        let at = Changed {
+            config,
+            in_force,
+            moment,
+            packet: self.basis.packets,
+        };
         self.checking
-            .block_all(moment, &datagram.envelope, datagram.body);
+            .change_all(&at, &datagram.envelope, datagram.body);
     }
 
     /// Removes all pending entries at the end of a capture, and reports their findings.
@@ -218,26 +235,19 @@ where
     }
 
     /// Handles the headers of a packet with a query of the checked router.
-    pub(crate) fn see_headers(
-        &mut self,
-        moment: Moment,
-        number: u64,
-        headers: Headers,
-        has_reserved_bits: bool,
-    )
+    pub(crate) fn see_headers(&mut self, moment: Moment, number: u64, headers: Headers)
         ensures { self.new ≡ record self.old {
-          checking = spec.faults_seen moment number (faults_of headers has_reserved_bits) self.old.checking;
+          checking = spec.faults_seen moment number (faults_of headers) self.old.checking;
         } }
     {
-        self.checking
-            .see_headers(moment, number, headers, has_reserved_bits);
+        self.checking.see_headers(moment, number, headers);
     }
 
-    /// Handles a query of the checked router with a wrong checksum.
-    pub(crate) fn see_broken(&mut self, moment: Moment, number: u64)
-        ensures { self.new ≡ record self.old { checking = spec.with_fault moment number self.old.checking WrongChecksum } }
+    /// Handles a fault of a packet with a query of the checked router.
+    pub(crate) fn see_fault(&mut self, moment: Moment, number: u64, fault: HeaderFault)
+        ensures { self.new ≡ record self.old { checking = spec.with_fault moment number self.old.checking fault } }
     {
-        self.checking.see_broken(moment, number);
+        self.checking.see_fault(moment, number, fault);
     }
 
     /// Handles a query of the checked router that is seen.

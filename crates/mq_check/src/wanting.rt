@@ -8,12 +8,12 @@ ghost use Rattle.mq_check.specs.Checking as spec;
 ghost use Rattle.mq_check.specs.Entries.{may_be_left_out};
 ghost use Rattle.mq_check.specs.Numbered.{numbered_asked, numbered_terms};
 ghost use Rattle.mq_check.specs.Queries as queries;
-ghost use Rattle.mq_check.specs.Schedules.{recent, schedules_wanted};
+ghost use Rattle.mq_check.specs.Schedules.{schedules_wanted, without_next};
 
 use crate::asked::Asked;
 use crate::checked_family::CheckedFamily;
 use crate::checking::Checking;
-use crate::entry::Entry;
+use crate::entry::{Entry, Need};
 use crate::terms::{Terms, terms_of};
 use crate::waiting::Side;
 use mq_count::Moment;
@@ -52,38 +52,76 @@ pub(crate) fn asked_without_sources<F: Family>(group: F::Address) -> Asked<F::Ad
 
 impl<F: Family, A: Allocator> Checking<F, A> {
     /// Adds a wanted query, and pairs it with the first seen query on the subject within the tolerance that has no partner.
-    fn want(&mut self, moment: Moment, terms: Terms<F::Address>, asked: Asked<F::Address>)
+    fn want(
+        &mut self,
+        moment: Moment,
+        is_again: bool,
+        terms: Terms<F::Address>,
+        asked: Asked<F::Address>,
+    )
         requires in_range { moment ≤ 2 ^ 53 }
-        ensures { self.new ≡ spec.with_wanted moment (numbered_terms F.Address.number terms) self.old (numbered_asked F.Address.number asked) }
+        ensures { self.new ≡ spec.with_wanted moment is_again (numbered_terms F.Address.number terms) self.old (numbered_asked F.Address.number asked) }
     {
         let from = self.near(moment);
-        self.know(moment, terms, asked);
+        self.forget(moment);
+        let need = self.need(moment, is_again, asked, &terms);
         self.schedule(moment, terms, asked);
-        let is_optional = self.may_be_left_out(moment, asked, &terms);
         let is_found = self
             .waiting
             .join(Side::OfSeen, asked, &from, terms)
             .is_some();
         self.waiting
-            .put(Entry::Wanted(moment, asked, terms, is_optional, is_found));
+            .put(Entry::Wanted(moment, asked, terms, need, is_found));
     }
 
-    /// Notes the subject of a wanted query.
-    fn know(&mut self, moment: Moment, terms: Terms<F::Address>, asked: Asked<F::Address>)
-        ensures { self.new ≡ record self.old { known = spec.with_known moment (numbered_terms F.Address.number terms) (numbered_asked F.Address.number asked) self.old } }
+    /// Returns the need of a wanted query.
+    fn need(
+        &self,
+        moment: Moment,
+        is_again: bool,
+        asked: Asked<F::Address>,
+        terms: &Terms<F::Address>,
+    ) -> Need
+        ensures { result ≡ spec.need_by
+            (may_be_left_out moment (numbered_asked F.Address.number asked) (numbered_terms F.Address.number terms.now) self.now.waiting.entries)
+            (spec.may_be_missing moment is_again (numbered_asked F.Address.number asked) self.now) }
     {
-        if self.may_be_unknown(moment, asked) {
-            self.known
-                .put(Entry::Wanted(moment, asked, terms, true, false));
+        match (
+            self.may_be_left_out(moment, asked, terms),
+            self.may_be_missing(moment, is_again, asked),
+        ) {
+            (true, _) => Need::Optional,
+            (false, true) => Need::Possible,
+            (false, false) => Need::Required,
         }
     }
 
-    /// Notes a wanted query, which starts a schedule or goes on with one.
-    fn schedule(&mut self, moment: Moment, terms: Terms<F::Address>, asked: Asked<F::Address>)
-        ensures { self.new ≡ record self.old { schedules = schedules_wanted moment (numbered_terms F.Address.number terms) (numbered_asked F.Address.number asked) (recent moment self.old.schedules) } }
+    /// Returns whether another reading, or an older host from before the capture, may explain that a query doesn't come.
+    fn may_be_missing(&self, moment: Moment, is_again: bool, asked: Asked<F::Address>) -> bool
+        ensures { result ≡ spec.may_be_missing moment is_again (numbered_asked F.Address.number asked) self.now }
     {
-        self.schedules.forget(moment);
+        self.schedules.unclear(asked).is_some() || self.may_be_muted(moment, is_again, asked)
+    }
+
+    /// Returns whether an older host from before the capture may mute the change that asks for a subject.
+    fn may_be_muted(&self, moment: Moment, is_again: bool, asked: Asked<F::Address>) -> bool
+        ensures { result ≡ spec.may_be_muted moment is_again (numbered_asked F.Address.number asked) self.now }
+    {
+        match asked {
+            Asked::Source(group, _) => {
+                self.schedules.may_be_held(moment)
+                    && (is_again || !self.unmuted.has_any(Side::OfWanted, Asked::Group(group)))
+            }
+            _ => false,
+        }
+    }
+
+    /// Notes a wanted query, which starts a schedule or goes on with one. It replaces a schedule from before the capture.
+    fn schedule(&mut self, moment: Moment, terms: Terms<F::Address>, asked: Asked<F::Address>)
+        ensures { self.new ≡ record self.old { schedules = without_next (numbered_asked F.Address.number asked) (schedules_wanted moment (numbered_terms F.Address.number terms) (numbered_asked F.Address.number asked) self.old.schedules) } }
+    {
         self.schedules.want(moment, terms, asked);
+        self.schedules.drop_next(asked);
     }
 
     /// Returns whether a wanted query may be left out.
@@ -115,7 +153,7 @@ impl<F: Family, A: Allocator> Checking<F, A> {
         ensures { self.new ≡ spec.subject_wanted moment is_again (numbered_terms F.Address.number terms) self.old (numbered_asked F.Address.number asked) }
     {
         let wanted = self.schedules.terms_wanted(is_again, terms, asked);
-        self.want(moment, wanted, asked);
+        self.want(moment, is_again, wanted, asked);
     }
 
     /// Adds a wanted query for each subject of a query. `is_again` is set if a tick sends the query again.

@@ -9,7 +9,8 @@ use Rattle.mq_command.specs.declared.Interface.TheVariants.{Number, Name}
 use Rattle.mq_command.specs.declared.Protocol.{Protocol}
 use Rattle.mq_command.specs.declared.Protocol.TheVariants.{Igmp, Mld}
 use Rattle.mq_command.specs.declared.Request.{Request}
-use Rattle.mq_command.specs.declared.Request.TheVariants.{Message, Convert, Replay, Check}
+use Rattle.mq_command.specs.declared.Request.TheVariants.{Message, Convert, Show, Replay, Check}
+use Rattle.mq_command.specs.declared.check.CheckFlags.{CheckFlags}
 use Rattle.mq_command.specs.declared.replay.Settings.{Settings}
 use Rattle.mq_command.specs.Words.{IsFlag, IsText, IsNumber}
 
@@ -19,9 +20,14 @@ IsFamily words protocol =
     × (first_value (found_of words) (codes "FAMILY") ≡ Some (codes "igmp") → protocol ≡ Igmp)
 
 abbrev pub IsMessageOf : ArgMatches → Request → Type 0
-IsMessageOf words (Message protocol hex from to) =
+IsMessageOf words (Message protocol hex from to json) =
     IsFamily words protocol × IsText words (codes "HEX") (Some hex) × IsText words (codes "from") from × IsText words (codes "to") to
+    × IsFlag words (codes "json") json
 IsMessageOf words _ = ⊥
+
+abbrev pub IsShowOf : ArgMatches → Request → Type 0
+IsShowOf words (Show json file) = IsFlag words (codes "json") json × IsText words (codes "FILE") file
+IsShowOf words _ = ⊥
 
 -- the chosen interface, which has a number or else a name
 abbrev pub IsInterface : (text : Option (List ℕ)) → Option Interface → Type 0
@@ -31,9 +37,9 @@ IsInterface (Some text) (Some (Name name)) = name.now ≡ text
 IsInterface (Some text) None = ⊥
 
 abbrev pub IsConvertOf : ArgMatches → Request → Type 0
-IsConvertOf words (Convert interface vlan once file) =
+IsConvertOf words (Convert interface vlan once json file) =
     IsInterface (first_value (found_of words) (codes "interface")) interface × IsNumber words (codes "vlan") 64 vlan
-    × IsFlag words (codes "once") once × IsText words (codes "FILE") file
+    × IsFlag words (codes "once") once × IsFlag words (codes "json") json × IsText words (codes "FILE") file
 IsConvertOf words _ = ⊥
 
 abbrev pub IsSettingsOf : ArgMatches → Settings → Type 0
@@ -45,14 +51,18 @@ IsSettingsOf words settings =
     × IsFlag words (codes "ssm") settings.source_specific
 
 abbrev pub IsReplayOf : ArgMatches → Request → Type 0
-IsReplayOf words (Replay protocol own settings until changes file) =
+IsReplayOf words (Replay protocol own settings until changes json file) =
     IsFamily words protocol × IsText words (codes "own") (Some own) × IsSettingsOf words settings × IsNumber words (codes "until") 64 until
-    × IsFlag words (codes "changes") changes × IsText words (codes "FILE") file
+    × IsFlag words (codes "changes") changes × IsFlag words (codes "json") json × IsText words (codes "FILE") file
 IsReplayOf words _ = ⊥
 
+abbrev pub IsFlagsOf : ArgMatches → CheckFlags → Type 0
+IsFlagsOf words flags =
+    IsFlag words (codes "began") flags.began × IsFlag words (codes "cite") flags.cite × IsFlag words (codes "packets") flags.packets
+    × IsFlag words (codes "possible") flags.possible × IsFlag words (codes "strict") flags.strict × IsFlag words (codes "json") flags.json
+
 abbrev pub IsCheckOf : ArgMatches → Request → Type 0
-IsCheckOf words (Check protocol querier settings within cite packets strict until file) =
+IsCheckOf words (Check protocol querier settings within flags until file) =
     IsFamily words protocol × IsText words (codes "querier") (Some querier) × IsSettingsOf words settings
-    × IsNumber words (codes "within") 32 within × IsFlag words (codes "cite") cite × IsFlag words (codes "packets") packets
-    × IsFlag words (codes "strict") strict × IsNumber words (codes "until") 64 until × IsText words (codes "FILE") file
+    × IsNumber words (codes "within") 32 within × IsFlagsOf words flags × IsNumber words (codes "until") 64 until × IsText words (codes "FILE") file
 IsCheckOf words _ = ⊥

@@ -5,7 +5,6 @@ use clap::{Arg, ArgAction, Command, value_parser};
 use std::alloc::{AllocError, Global};
 
 /// A command.
-#[derive(Clone, Copy)]
 pub(crate) struct Form {
     pub(crate) name: &'static str,
     pub(crate) about: &'static str,
@@ -44,41 +43,44 @@ pub(crate) const FILE: Argument = ("FILE", Kind::Word, FILE_HELP);
 
 const FILE_HELP: &str = "The capture; - or none is standard input";
 
+/// The form of the lines.
+pub(crate) const JSON: Argument = ("json", Kind::Flag, JSON_HELP);
+
+const JSON_HELP: &str = "Print an object of JSON in place of each line";
+
 /// Returns the command with its arguments.
 pub(crate) fn command_of<'a>(
     alloc: Global,
     form: &'static Form,
 ) -> Result<Command<'a>, AllocError> {
-    let mut command = Command::new(alloc, form.name)
-        .about(form.about)
-        .after_help(form.after_help);
+    let mut arguments = Vec::new(alloc);
     for table in form.arguments {
         for argument in *table {
-            command = command.arg(argument_of(alloc, *argument))?;
+            arguments.push(argument_of(alloc, *argument))?;
         }
     }
-    Ok(command)
+    Command::new(alloc, form.name)
+        .about(form.about)
+        .after_help(form.after_help)
+        .args(arguments)
 }
 
 fn argument_of<'a>(alloc: Global, (name, kind, help): Argument) -> Arg<'a> {
     let arg = Arg::new(alloc, name).help(help);
-    match kind {
-        Kind::Family => arg
-            .required(true)
-            .value_parser(ValueParser::Names(FAMILIES.as_slice())),
-        Kind::Word => arg,
-        Kind::NeededWord => arg.required(true),
-        Kind::Flag => arg.long(name).action(ArgAction::SetTrue),
-        Kind::Text(value) => arg.long(name).value_name(value),
-        Kind::NeededText(value) => arg.long(name).value_name(value).required(true),
-        Kind::Number(value) => arg
-            .long(name)
-            .value_name(value)
-            .value_parser(value_parser!(u32)),
-        Kind::Long(value) => arg
-            .long(name)
-            .value_name(value)
-            .value_parser(value_parser!(u64)),
+    let (value, is_needed, parser) = match kind {
+        Kind::Flag => return arg.long(name).action(ArgAction::SetTrue),
+        Kind::Family => (None, true, ValueParser::Names(FAMILIES.as_slice())),
+        Kind::Word => (None, false, ValueParser::String),
+        Kind::NeededWord => (None, true, ValueParser::String),
+        Kind::Text(value) => (Some(value), false, ValueParser::String),
+        Kind::NeededText(value) => (Some(value), true, ValueParser::String),
+        Kind::Number(value) => (Some(value), false, value_parser!(u32)),
+        Kind::Long(value) => (Some(value), false, value_parser!(u64)),
+    };
+    let arg = arg.required(is_needed).value_parser(parser);
+    match value {
+        Some(value) => arg.long(name).value_name(value),
+        None => arg,
     }
 }
 

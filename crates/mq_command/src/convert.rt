@@ -1,33 +1,28 @@
 //! The command `convert`: its options and its request.
 
-ghost use Rattle.std.specs.Prelude.{codes};
-ghost use Rattle.clap.specs.Matches.{found_of, first_value};
-ghost use Rattle.mq_command.specs.Requests.{IsConvertOf, IsInterface};
+ghost use Rattle.mq_command.specs.Requests.{IsConvertOf};
 
 use crate::arguments::{FILE, Form, Kind};
 use crate::{Interface, Request};
 use clap::ArgMatches;
 
-/// Returns the request of the command's words.
+/// Returns the request of the command's words. A text for the interface that is a number is never read as a name.
 pub(crate) fn request_in<'a>(words: &ArgMatches<'a>) -> Request<'a>
     ensures { IsConvertOf words.now result }
 {
+    let interface = match words.get_str("interface") {
+        None => None,
+        Some(text) => match text.parse::<u64>() {
+            Ok(number) => Some(Interface::Number(number)),
+            Err(_) => Some(Interface::Name(text)),
+        },
+    };
     Request::Convert {
-        interface: interface_in(words),
+        interface,
         vlan: words.get_one::<u64>("vlan"),
         once: words.get_flag("once"),
+        json: words.get_flag("json"),
         file: words.get_str("FILE"),
-    }
-}
-
-/// The requested interface. A text that is a number is never read as a name.
-fn interface_in<'a>(words: &ArgMatches<'a>) -> Option<Interface<'a>>
-    ensures { IsInterface (first_value (found_of words.now) (codes "interface")) result }
-{
-    let text = words.get_str("interface")?;
-    match text.parse::<u64>() {
-        Ok(number) => Some(Interface::Number(number)),
-        Err(_) => Some(Interface::Name(text)),
     }
 }
 
@@ -39,6 +34,7 @@ pub(crate) static FORM: Form = Form {
         ("interface", Kind::Text("WHICH"), INTERFACE_HELP),
         ("vlan", Kind::Long("ID"), VLAN_HELP),
         ("once", Kind::Flag, ONCE_HELP),
+        ("json", Kind::Flag, JSON_HELP),
         FILE,
     ]],
 };
@@ -58,6 +54,9 @@ Leave out a packet whose frame was already written, at a time at most 5 ms
 earlier or later, whatever its interface, direction and tags are. It is
 compared with the last 256 packets written. It is always written if bytes of
 it are missing, or if its frame exceeds 2048 bytes";
+
+const JSON_HELP: &str = "\
+Print the counts on standard error as one object of JSON, also if all are 0";
 
 const AFTER_HELP: &str = "\
 Examples:
@@ -79,8 +78,8 @@ These lines on standard error leave the status 0:
   mquerier: N packets of link types that aren't read
       with a line for each of the first 16 of these link types
 
-A fault of the file is one line there, \"mquerier: conversion fault K\", for K of 2 to 10 with \"at block N\". The
-packets before it are written, and the status is 1:
+A fault of the file is a line there, \"mquerier: conversion fault K\", for K of 2 to 10 with \"at block N\". The
+next line has its words below. The packets before it are written, and the status is 1:
   1 a read of the capture failed
   2 the file is no capture
   3 the version of the file is not 2.4, or of a pcapng file not 1

@@ -2,14 +2,15 @@
 #![tactic(auto)]
 
 ghost use Rattle.std.specs.Prelude.{IfSome};
-ghost use Rattle.mq_command.specs.Requests.{IsMessageOf, IsFamily};
+ghost use Rattle.mq_command.specs.Requests.{IsMessageOf, IsShowOf, IsFamily};
 
 mod arguments;
 mod check;
 mod convert;
 mod replay;
 
-use arguments::{FILE, Form, Kind, command_of};
+use arguments::{FILE, Form, JSON, Kind, command_of};
+pub use check::CheckFlags;
 use clap::error::ErrorKind;
 use clap::{ArgMatches, Command, Error};
 pub use replay::Settings;
@@ -32,6 +33,8 @@ pub enum Request<'a> {
         from: Option<&'a str>,
         /// The destination of the packet, if given.
         to: Option<&'a str>,
+        /// Prints an object of JSON.
+        json: bool,
     },
     /// The conversion of a capture to a classic capture of Ethernet, which `show` and `replay` read.
     Convert {
@@ -41,11 +44,15 @@ pub enum Request<'a> {
         vlan: Option<u64>,
         /// Leaves out a packet whose frame was already written, at nearly the same time.
         once: bool,
+        /// Prints the counts as an object of JSON.
+        json: bool,
         /// The file that the capture is in.
         file: Option<&'a str>,
     },
     /// The listing of the capture.
     Show {
+        /// Prints an object of JSON for each line.
+        json: bool,
         /// The file that the capture is in.
         file: Option<&'a str>,
     },
@@ -59,8 +66,10 @@ pub enum Request<'a> {
         settings: Settings,
         /// The time until which it runs at least, in milliseconds after the first packet, if given.
         until: Option<u64>,
-        /// Prints lines for changed groups.
+        /// Prints changed groups.
         changes: bool,
+        /// Prints an object of JSON for each line.
+        json: bool,
         /// The file that the capture is in.
         file: Option<&'a str>,
     },
@@ -74,12 +83,8 @@ pub enum Request<'a> {
         settings: Settings,
         /// The most milliseconds that a query may be early or late, if given.
         within: Option<u32>,
-        /// Prints the section of the standard after each line.
-        cite: bool,
-        /// Prints the number of the packet after each line.
-        packets: bool,
-        /// Accepts only this project's own readings of the standard.
-        strict: bool,
+        /// The flags.
+        flags: CheckFlags,
         /// The time until which the capture lasts at least, in milliseconds after the first packet, if given.
         until: Option<u64>,
         /// The file that the capture is in.
@@ -93,7 +98,7 @@ impl<'a> Request<'a> {
         let file = match self {
             Request::Message { .. } => None,
             Request::Convert { file, .. }
-            | Request::Show { file }
+            | Request::Show { file, .. }
             | Request::Replay { file, .. }
             | Request::Check { file, .. } => *file,
         };
@@ -122,11 +127,26 @@ pub enum Protocol {
 
 /// Parses a command line, whose first word is the program's name. Its errors are those of `clap`.
 pub fn request_of<'a, S: AsStr>(alloc: Global, words: &'a [S]) -> Result<Request<'a>, Error> {
-    let mut command = command(
-        alloc,
-        [&MESSAGE, &convert::FORM, &SHOW, &replay::FORM, &check::FORM],
-    )?;
+    let mut command = command(alloc, [&replay::FORM, &check::FORM])?;
     asked(&mut command, words)
+}
+
+// The forms with most text come from the caller, since a proof over the text of all takes far longer.
+fn command<'a>(alloc: Global, longest: [&'static Form; 2]) -> Result<Command<'a>, AllocError> {
+    let mut commands = Vec::new(alloc);
+    for form in [&MESSAGE, &convert::FORM, &SHOW] {
+        commands.push(command_of(alloc, form)?)?;
+    }
+    for form in longest {
+        commands.push(command_of(alloc, form)?)?;
+    }
+    Command::new(alloc, "mquerier")
+        .version(VERSION)
+        .about(ABOUT)
+        .after_help(AFTER_HELP)
+        .subcommand_required(true)
+        .arg_required_else_help(true)
+        .subcommands(commands)
 }
 
 // The command and its matches are locals of two functions, since a proof over both takes far longer.
@@ -143,9 +163,7 @@ fn request_in<'a>(matches: &ArgMatches<'a>) -> Option<Request<'a>> {
     match matches.subcommand()? {
         ("message", words) => message_in(words),
         ("convert", words) => Some(convert::request_in(words)),
-        ("show", words) => Some(Request::Show {
-            file: words.get_str("FILE"),
-        }),
+        ("show", words) => Some(show_in(words)),
         ("check", words) => check::request_in(words),
         (_, words) => replay::request_in(words),
     }
@@ -159,7 +177,17 @@ fn message_in<'a>(words: &ArgMatches<'a>) -> Option<Request<'a>>
         hex: words.get_str("HEX")?,
         from: words.get_str("from"),
         to: words.get_str("to"),
+        json: words.get_flag("json"),
     })
+}
+
+fn show_in<'a>(words: &ArgMatches<'a>) -> Request<'a>
+    ensures { IsShowOf words.now result }
+{
+    Request::Show {
+        json: words.get_flag("json"),
+        file: words.get_str("FILE"),
+    }
 }
 
 /// Returns the protocol. `clap` rejects every name that isn't listed.
@@ -198,19 +226,6 @@ Status:
 
 docs/FORMATS.md of the sources explains every line and every status.";
 
-fn command<'a>(alloc: Global, forms: [&'static Form; 5]) -> Result<Command<'a>, AllocError> {
-    let mut command = Command::new(alloc, "mquerier")
-        .version(VERSION)
-        .about(ABOUT)
-        .after_help(AFTER_HELP)
-        .subcommand_required(true)
-        .arg_required_else_help(true);
-    for form in forms {
-        command = command.subcommand(command_of(alloc, form)?)?;
-    }
-    Ok(command)
-}
-
 static MESSAGE: Form = Form {
     name: "message",
     about: "Prints what one message says, or its first fault",
@@ -220,6 +235,7 @@ static MESSAGE: Form = Form {
         ("HEX", Kind::NeededWord, HEX_HELP),
         ("from", Kind::Text("ADDR"), FROM_HELP),
         ("to", Kind::Text("ADDR"), TO_HELP),
+        JSON,
     ]],
 };
 
@@ -258,7 +274,7 @@ static SHOW: Form = Form {
     name: "show",
     about: "Prints a line for each packet of a capture",
     after_help: SHOW_AFTER_HELP,
-    arguments: &[&[FILE]],
+    arguments: &[&[FILE, JSON]],
 };
 
 const SHOW_AFTER_HELP: &str = "\

@@ -3,7 +3,7 @@
 ghost use Rattle.std.specs.Prelude.{IfSome};
 ghost use Rattle.mq_command.specs.Requests.{IsReplayOf, IsSettingsOf};
 
-use crate::arguments::{Argument, FILE, Form, Kind};
+use crate::arguments::{Argument, FILE, Form, JSON, Kind};
 use crate::{Request, protocol_in};
 use clap::ArgMatches;
 
@@ -40,6 +40,7 @@ pub(crate) fn request_in<'a>(words: &ArgMatches<'a>) -> Option<Request<'a>>
         settings: settings_in(words),
         until: words.get_one::<u64>("until"),
         changes: words.get_flag("changes"),
+        json: words.get_flag("json"),
         file: words.get_str("FILE"),
     })
 }
@@ -70,8 +71,10 @@ pub(crate) static FORM: Form = Form {
             FILE,
             ("own", Kind::NeededText("ADDR"), OWN_HELP),
         ],
-        QUERIER,
-        &[("changes", Kind::Flag, CHANGES_HELP)],
+        VARIABLES,
+        LIMITS,
+        SPAN,
+        &[("changes", Kind::Flag, CHANGES_HELP), JSON],
     ],
 };
 
@@ -79,16 +82,24 @@ const OWN_HELP: &str = "The querier's own address; for mld a link-local one, in 
 
 const CHANGES_HELP: &str = "Print a line for each group that is forwarded differently from then on";
 
-/// The settings of a querier, and how long it runs.
-pub(crate) const QUERIER: &[Argument] = &[
+/// The variables of a querier.
+pub(crate) const VARIABLES: &[Argument] = &[
     ("rv", Kind::Number("N"), RV_HELP),
     ("qi", Kind::Number("S"), QI_HELP),
     ("qri", Kind::Number("MS"), QRI_HELP),
     ("lmqi", Kind::Number("MS"), LMQI_HELP),
+];
+
+/// The limits of a querier.
+const LIMITS: &[Argument] = &[
     ("groups", Kind::Number("N"), GROUPS_HELP),
     ("group-sources", Kind::Number("N"), GROUP_SOURCES_HELP),
     ("sources", Kind::Number("N"), SOURCES_HELP),
     ("scheduled", Kind::Number("N"), SCHEDULED_HELP),
+];
+
+/// The range that a querier keeps, and how long it runs.
+pub(crate) const SPAN: &[Argument] = &[
     ("ssm", Kind::Flag, SSM_HELP),
     ("until", Kind::Long("MS"), UNTIL_HELP),
 ];

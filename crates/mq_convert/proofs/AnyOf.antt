@@ -1,10 +1,7 @@
 -- A test of several elements, tried one after the other.
-use Rattle.std.proofs.Common.{◌≡◌, ℕ, suc, ◌+◌, ◌<◌, Bool, true, false, List, ◌∷◌, length, drop, get_or, refl, ap, sym, ◌∙◌, add-one}
-use Rattle.std.specs.Prelude.{map as list_map}
-use Rattle.std.specs.List.{list_any}
+use Rattle.mq_convert.proofs.Common.{◌≡◌, ℕ, suc, ◌+◌, ◌<◌, Bool, true, false, List, ◌∷◌, length, drop, get_or, refl, ap, sym, ◌∙◌, add-one, list_map, list_any}
+use Rattle.mq_convert.proofs.Common.{drop-cons, drop-length, mapped_long}
 use Rattle.std.proofs.Math.ListN.{get_or-map as mapped_at}
-use Rattle.std.proofs.Math.Seq.{drop-cons, drop-length}
-use Rattle.std.proofs.lemmas.List.{length-map as mapped_long}
 
 -- a list of results is as long
 pub made_long : {X Y : Type 0} (f : X → Y) (xs : List X) (ys : List Y) → list_map f xs ≡ ys → length ys ≡ length xs

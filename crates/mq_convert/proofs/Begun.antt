@@ -1,13 +1,7 @@
 -- Bytes that are less than a block end a file, or are a block that is cut.
-use Rattle.std.proofs.Common.{◌≡◌, ℕ, Bool, true, false, List, [], ◌∷◌, length, Option, Some, None, refl, inl, inr, arith}
-use Rattle.std.specs.Prelude.{nat_lt, not, ◌&&◌}
-use Rattle.std.proofs.lemmas.Bool.{lt-ltb, le-ltb}
-use Rattle.mq_convert.specs.declared.fault.BlockFault.{BlockFault}
+use Rattle.mq_convert.proofs.Common.{◌≡◌, ℕ, Bool, true, false, List, [], ◌∷◌, length, Option, Some, None, refl, inl, inr, arith, nat_lt, not, ◌&&◌, lt-ltb}
+use Rattle.mq_convert.proofs.Common.{le-ltb, BlockFault, ContextState, EndsBy, endless, outer_fault, IsBegun, head_size, is_start}
 use Rattle.mq_convert.specs.declared.fault.BlockFault.TheVariants as fault
-use Rattle.mq_convert.specs.Contexts.{ContextState}
-use Rattle.mq_convert.specs.Files.{EndsBy, endless, outer_fault}
-use Rattle.mq_convert.specs.Reading.{IsBegun}
-use Rattle.mq_convert.specs.Sizes.{head_size, is_start}
 
 by_number : (number : ℕ) (context : ContextState) (bytes : List ℕ) → (nat_lt (length bytes) 1 && not (is_start context.kind)) ≡ false →
     IsBegun context.kind bytes

@@ -1,30 +1,17 @@
 -- The result of a conversion, once it is put.
-use Rattle.std.proofs.Common.{◌≡◌, ℕ, ◌++◌, false, List, [], Option, Result, Ok, Err, refl, sym, subst, ◌∙◌, inl, append-nil, arith}
+use Rattle.mq_convert.proofs.Common.{◌≡◌, ℕ, ◌++◌, false, List, [], Option, Result, Ok, Err, refl, sym, subst, ◌∙◌, inl, append-nil, arith, InputState}
+use Rattle.mq_convert.proofs.Common.{Takes-nil, GrowsByBeginning, Passes, broken_behind, both_passed, Choice, ConvertCounts, ConvertFault, at_start, Converts}
+use Rattle.mq_convert.proofs.Common.{IsWritten, is_failed_write, IsPut, PutsCapture, written_of}
 use Rattle.std.specs.Io.KnownBytes.{Appends}
 use Rattle.std.proofs.KnownBytes.{Appends-nil}
-use Rattle.mq_pcap.specs.Filling.{InputState}
-use Rattle.mq_pcap.proofs.Filled.{Takes-nil}
-use Rattle.mq_text.specs.Printing.{GrowsByBeginning, Passes}
-use Rattle.mq_text.proofs.Passing.{broken_behind, both_passed}
-use Rattle.mq_convert.specs.declared.choice.Choice.{Choice}
-use Rattle.mq_convert.specs.declared.counts.ConvertCounts.{ConvertCounts}
-use Rattle.mq_convert.specs.declared.fault.ConvertFault.{ConvertFault}
 use Rattle.mq_convert.specs.declared.fault.ConvertFault.TheVariants as answer
-use Rattle.mq_convert.specs.Contexts.{at_start}
-use Rattle.mq_convert.specs.Converting.{Converts, IsWritten}
-use Rattle.mq_convert.specs.Faults.{is_failed_write}
-use Rattle.mq_convert.specs.Putting.{IsPut, PutsCapture}
-use Rattle.mq_convert.specs.Records.{written_of}
 use Rattle.mq_convert.proofs.Begun.{begun_ends}
 use Rattle.mq_convert.proofs.NextBlocks.{some_head}
 
 put_passed : (before after : Option (List ℕ)) (held left text : List ℕ) (r : Result ConvertCounts ConvertFault) → is_failed_write r ≡ false →
     IsPut before after held left text r → Passes before after held left text
-put_passed before after held left text (Ok counts) unlike put = put
-put_passed before after held left text (Err answer.Read) unlike put = put
 put_passed before after held left text (Err answer.Write) unlike put = absurd (cc)
-put_passed before after held left text (Err answer.Memory) unlike put = put
-put_passed before after held left text (Err (answer.Block number f)) unlike put = put
+put_passed before after held left text _ unlike put = put
 
 -- the rest was not written whole
 pub not_flushed : (choice : Choice) (old new : InputState) (before mid after : Option (List ℕ)) (held left : List ℕ)
@@ -50,11 +37,9 @@ all_written before after text passed =
 
 by_answer : (before after : Option (List ℕ)) (text : List ℕ) (r : Result ConvertCounts ConvertFault) → is_failed_write r ≡ false →
     (r ≡ Err answer.Memory → ⊥) → Appends before after text → IsWritten before after text r
-by_answer before after text (Ok counts) unlike some grows = grows
-by_answer before after text (Err answer.Read) unlike some grows = grows
 by_answer before after text (Err answer.Write) unlike some grows = absurd (cc)
 by_answer before after text (Err answer.Memory) unlike some grows = absurd (some refl)
-by_answer before after text (Err (answer.Block number f)) unlike some grows = grows
+by_answer before after text _ unlike some grows = grows
 
 -- the rest was written
 pub flushed : (choice : Choice) (old new : InputState) (before mid after : Option (List ℕ)) (held left rest : List ℕ)

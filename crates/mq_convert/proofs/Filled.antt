@@ -1,10 +1,7 @@
 -- A buffer that is filled up to a place, and one more read.
-use Rattle.std.proofs.Common.{◌≡◌, ◌≤◌, ◌+◌, ◌-◌, ℕ, List, [], ◌++◌, length, take, refl, arith, ◌∙◌, ap, sym, length-append, append-nil, append_assoc}
-use Rattle.std.proofs.lemmas.List.{length-take-le, take-append-le}
-use Rattle.std.proofs.Math.Seq.{take-append-add}
-use borrow.Rule.Slice.PartMut.{put_mid, mid_of, post_of, mid_len, same_len_mid}
-use Rattle.mq_pcap.specs.Filling.{InputState, Takes}
-use Rattle.mq_pcap.proofs.Filled.{Takes-nil, Takes-trans}
+use Rattle.mq_convert.proofs.Common.{◌≡◌, ◌≤◌, ◌+◌, ◌-◌, ℕ, List, [], ◌++◌, length, take, refl, arith, ◌∙◌, ap, sym, length-append, append-nil, append_assoc}
+use Rattle.mq_convert.proofs.Common.{length-take-le, take-append-le, take-append-add, put_mid, mid_of, post_of, mid_len, same_len_mid, InputState, Takes}
+use Rattle.mq_convert.proofs.Common.{Takes-nil, Takes-trans}
 
 -- these bytes were read after the first `from` bytes, up to a place, and no call has failed
 pub record IsFilledFrom (old new : InputState) (before buffer : List ℕ) (from n to : ℕ) : Type 0 where

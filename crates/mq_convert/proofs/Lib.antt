@@ -1,5 +1,6 @@
 pub mod AnyOf
 pub mod Begun
+mod Common
 pub mod Converted
 pub mod Filled
 pub mod Named

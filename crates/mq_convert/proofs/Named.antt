@@ -1,9 +1,7 @@
 -- A name that is filled up with zeros.
-use Rattle.std.proofs.Common.{◌≡◌, ◌≤◌, ◌-◌, ◌++◌, ℕ, List, length, take, drop, sym, ap, ◌∙◌, arith}
-use Rattle.std.specs.Prelude.{replicate}
-use Rattle.std.proofs.lemmas.List.{drop-replicate, take-append-drop}
+use Rattle.mq_convert.proofs.Common.{◌≡◌, ◌≤◌, ◌-◌, ◌++◌, ℕ, List, length, take, drop, sym, ap, ◌∙◌, arith, replicate, drop-replicate, take-append-drop}
+use Rattle.mq_convert.proofs.Common.{put_mid}
 use Rattle.std.proofs.lemmas.Slice.{drop-put_mid, take-put_mid}
-use borrow.Rule.Slice.PartMut.{put_mid}
 
 pub filled_up : (text copied : List ℕ) (size : ℕ) → size ≡ length text → copied ≡ text → length text ≤ 16 → put_mid 0 size (replicate 16 0) copied
     ≡ text ++ replicate (16 - length text) 0

@@ -1,28 +1,16 @@
 -- The result of reading the next block, step by step.
-use Rattle.std.proofs.Common.{◌≡◌, ℕ, ◌<◌, ◌≤◌, ◌||◌, Bool, true, false, List, [], ◌∷◌, ◌++◌, length, take, Some, Result, Ok, Err, refl, ap}
-use Rattle.std.proofs.Common.{sym, ◌∙◌, inr, arith, append-nil, length-append}
-use Rattle.std.specs.Prelude.{nat_lt, not, ◌&&◌}
-use Rattle.std.proofs.lemmas.Bool.{lt-ltb, le-ltb}
-use Rattle.std.proofs.lemmas.List.{take_all, take-append-le}
-use Rattle.std.proofs.Math.Bool.{or-false, or-true}
-use Rattle.mq_pcap.specs.Filling.{InputState, Takes}
-use Rattle.mq_pcap.proofs.Filled.{Takes-trans}
+use Rattle.mq_convert.proofs.Common.{◌≡◌, ℕ, ◌<◌, ◌≤◌, ◌||◌, Bool, true, false, List, [], ◌∷◌, ◌++◌, length, take, Some, Result, Ok, Err, refl, ap, sym, ◌∙◌}
+use Rattle.mq_convert.proofs.Common.{inr, arith, append-nil, length-append, nat_lt, not, ◌&&◌, lt-ltb, le-ltb, take_all, take-append-le, or-false, or-true}
+use Rattle.mq_convert.proofs.Common.{InputState, Takes, Takes-trans, BlockFault, ConvertFault, endless, outer_fault, size_fault, FillsFrom, FillsSeen, is_cut}
+use Rattle.mq_convert.proofs.Common.{NextBlock, head_size, is_start, least_size, most_seen, seen_of, size_in, size_of}
 use Rattle.mq_convert.specs.declared.context.Kind.{Kind}
 use Rattle.mq_convert.specs.declared.context.Kind.TheVariants.{Start, Classic, Section}
-use Rattle.mq_convert.specs.declared.fault.BlockFault.{BlockFault}
 use Rattle.mq_convert.specs.declared.fault.BlockFault.TheVariants as fault
-use Rattle.mq_convert.specs.declared.fault.ConvertFault.{ConvertFault}
 use Rattle.mq_convert.specs.declared.fault.ConvertFault.TheVariants as answer
-use Rattle.mq_convert.specs.Files.{endless, outer_fault, size_fault}
-use Rattle.mq_convert.specs.Filling.{FillsFrom, FillsSeen}
-use Rattle.mq_convert.specs.Faults.{is_cut}
-use Rattle.mq_convert.specs.Reading.{NextBlock}
-use Rattle.mq_convert.specs.Sizes.{head_size, is_start, least_size, most_seen, seen_of, size_in, size_of}
 
 pub some_head : (kind : Kind) → 0 < head_size kind
 some_head Start = omega arith
-some_head (Classic order fraction) = omega arith
-some_head (Section order) = omega arith
+some_head _ = omega arith
 
 -- bytes that are there, or have to be, are no end
 there : (kind : Kind) (bytes : List ℕ) → (length bytes ≡ 0 → is_start kind ≡ true) → (nat_lt (length bytes) 1 && not (is_start kind)) ≡ false

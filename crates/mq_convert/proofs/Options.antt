@@ -1,11 +1,7 @@
 -- Walking over options: one step of the walk is one option of the list.
-use Rattle.std.proofs.Common.{◌≡◌, ◌≤◌, ◌+◌, ◌-◌, ℕ, zero, suc, Bool, true, false, List, [], ◌∷◌, length, take, drop, min, refl, arith, length-drop}
-use Rattle.std.specs.Prelude.{nat_lt, slice_range}
-use Rattle.std.proofs.lemmas.Bool.{lt-ltb, le-ltb, ltb-false, ne_eqb}
+use Rattle.mq_convert.proofs.Common.{◌≡◌, ◌≤◌, ◌+◌, ◌-◌, ℕ, zero, suc, Bool, true, false, List, [], ◌∷◌, length, take, drop, min, refl, arith, length-drop}
+use Rattle.mq_convert.proofs.Common.{nat_lt, slice_range, lt-ltb, le-ltb, ltb-false, ne_eqb, field, from_place, filled_up, options_within, options_of}
 use Rattle.mq_pcap.specs.declared.form.Endian.{Endian}
-use Rattle.mq_pcap.specs.Capture.{field}
-use Rattle.mq_pcap.proofs.Walk.{from_place}
-use Rattle.mq_convert.specs.Interfaces.{filled_up, options_within, options_of}
 
 -- the bytes after the first option
 abbrev behind : Endian → List ℕ → List ℕ

@@ -1,7 +1,5 @@
 -- Bytes of a block that are passed over.
-use Rattle.std.proofs.Common.{◌≡◌, ◌≤◌, ◌+◌, ℕ, List, [], ◌++◌, length, refl, arith, ◌∙◌, length-append}
-use Rattle.mq_pcap.specs.Filling.{InputState, Takes}
-use Rattle.mq_pcap.proofs.Filled.{Takes-nil, Takes-trans}
+use Rattle.mq_convert.proofs.Common.{◌≡◌, ◌≤◌, ◌+◌, ℕ, List, [], ◌++◌, length, refl, arith, ◌∙◌, length-append, InputState, Takes, Takes-nil, Takes-trans}
 
 -- these bytes were read after the first `from` bytes, up to a place, and no call has failed
 pub record IsPassedFrom (old new : InputState) (from n to : ℕ) : Type 0 where

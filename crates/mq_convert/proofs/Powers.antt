@@ -1,7 +1,5 @@
 -- A count of units that are far below a nanosecond.
-use Rattle.std.proofs.Common.{◌≡◌, ℕ, ◌-◌, ◌^◌, ◌<◌, ◌≤◌, refl, arith, lit<}
-use Rattle.std.proofs.Math.Nat.{pow-le-pow_right, div-eq_of_lt}
-use Rattle.std.proofs.lemmas.Bool.{lt-ltb}
+use Rattle.mq_convert.proofs.Common.{◌≡◌, ℕ, ◌-◌, ◌^◌, ◌<◌, ◌≤◌, refl, arith, lit<, pow-le-pow_right, div-eq_of_lt, lt-ltb}
 use Rattle.mq_convert.specs.Moments.{nanoseconds}
 
 -- one of 64 bits is less than a nanosecond, where the unit is 10 to the power of -29 seconds or less

@@ -1,7 +1,6 @@
 -- A text that is put, and then more.
-use Rattle.std.proofs.Common.{◌≡◌, ℕ, List, [], ◌++◌, Option, Result, Ok, Err, append_assoc, append-nil, sym, ◌∙◌}
-use Rattle.mq_text.specs.Printing.{Passes, Prints, Puts}
-use Rattle.mq_text.proofs.Passing.{held_more, put_as, then_put}
+use Rattle.mq_convert.proofs.Common.{◌≡◌, ℕ, List, [], ◌++◌, Option, Result, Ok, Err, append_assoc, append-nil, sym, ◌∙◌, Passes, Prints, Puts, held_more}
+use Rattle.mq_convert.proofs.Common.{put_as, then_put}
 
 -- a printed text, if the buffer holds nothing
 print_puts : (T E : Type 0) (b c : Option (List ℕ)) (held text : List ℕ) (r : Result T E) → held ≡ [] → Prints b c text r → Puts b c held held text r

@@ -1,14 +1,7 @@
 -- The seen bytes of a block that was read in parts.
-use Rattle.std.proofs.Common.{◌≡◌, ◌≤◌, ◌<◌, ◌+◌, ◌-◌, ◌||◌, ℕ, Bool, true, false, min, List, ◌++◌, length, take, drop, Result, Ok, Err, refl, arith}
-use Rattle.std.proofs.Common.{◌∙◌, ap, sym, length-append, append_assoc}
-use Rattle.std.proofs.lemmas.Bool.{le-ltb, lt-ltb}
-use Rattle.std.proofs.lemmas.List.{length-take-le, take_at}
-use Rattle.std.proofs.Math.Bool.{or-false}
-use Rattle.std.proofs.Math.Seq.{drop-append_seam}
-use Rattle.mq_pcap.specs.Filling.{InputState, Takes}
-use Rattle.mq_pcap.proofs.Filled.{Takes-trans}
-use Rattle.mq_convert.specs.Filling.{FillsFrom, FillsSeen, PassesOver}
-use Rattle.mq_convert.specs.Sizes.{most_seen, seen_of}
+use Rattle.mq_convert.proofs.Common.{◌≡◌, ◌≤◌, ◌<◌, ◌+◌, ◌-◌, ◌||◌, ℕ, Bool, true, false, min, List, ◌++◌, length, take, drop, Result, Ok, Err, refl, arith}
+use Rattle.mq_convert.proofs.Common.{◌∙◌, ap, sym, length-append, append_assoc, le-ltb, lt-ltb, length-take-le, take_at, or-false, drop-append_seam, InputState}
+use Rattle.mq_convert.proofs.Common.{Takes, Takes-trans, FillsFrom, FillsSeen, PassesOver, most_seen, seen_of}
 
 -- all of a block that isn't longer
 pub all_seen : (block : List ℕ) → length block ≤ most_seen → seen_of block ≡ block

@@ -1,17 +1,8 @@
 -- The facts about the packets so far, with one packet more.
-use Rattle.std.proofs.Common.{◌≡◌, ℕ, true, false, Bool, Option, List, [], ◌∷◌, ◌++◌, length, refl, sym, subst, ap, ◌∙◌, arith, append-nil, length-append}
-use Rattle.std.specs.Prelude.{◌&&◌, ◌==◌}
-use Rattle.std.specs.List.{flat_map}
-use Rattle.std.proofs.lemmas.Grind.{flat_map-append}
-use Rattle.mq_convert.specs.declared.choice.Choice.{Choice}
-use Rattle.mq_convert.specs.declared.unread.Unread.{Unread}
-use Rattle.mq_convert.specs.Blocks.{Captured}
-use Rattle.mq_convert.specs.Choices.{is_chosen, is_chosen_packet, number_of}
-use Rattle.mq_convert.specs.Frames.{Framed, frame_of, tag_of}
-use Rattle.mq_convert.specs.Records.{unread_link, unread_links}
-use Rattle.mq_convert.specs.Repeats.{Gone, comes_again, frame_out, gone_after, gone_behind, going_out, is_compared, is_short, left_out}
-use Rattle.mq_convert.specs.Sieving.{HasSieved, SieveState, Sifts, SiftsFrame}
-use Rattle.mq_convert.specs.Tallies.{Tallies}
+use Rattle.mq_convert.proofs.Common.{◌≡◌, ℕ, true, false, Bool, Option, List, [], ◌∷◌, ◌++◌, length, refl, sym, subst, ap, ◌∙◌, arith, append-nil}
+use Rattle.mq_convert.proofs.Common.{length-append, ◌&&◌, ◌==◌, flat_map, flat_map-append, Choice, Unread, Captured, is_chosen, is_chosen_packet, number_of}
+use Rattle.mq_convert.proofs.Common.{Framed, frame_of, tag_of, unread_link, unread_links, Gone, comes_again, frame_out, gone_after, gone_behind, going_out}
+use Rattle.mq_convert.proofs.Common.{is_compared, is_short, left_out, HasSieved, SieveState, Sifts, SiftsFrame, Tallies}
 use Rattle.mq_convert.proofs.Sifted.{gone_behind-more, going_out-more, left_out-more}
 
 unread_links-more : (choice : Choice) (packets more : List Captured)
@@ -30,8 +21,7 @@ chosen_is choice packet number tag chosen numbered tagged is =
 -- a packet isn't compared that isn't whole, or isn't chosen; what is known stays
 cut_packet : (once chosen short : Bool) → (once && (chosen && (false && short))) ≡ false
 cut_packet true true short = refl
-cut_packet true false short = refl
-cut_packet false chosen short = refl
+cut_packet _ _ short = refl
 
 other_packet : (once whole : Bool) → (once && (false && whole)) ≡ false
 other_packet true whole = refl

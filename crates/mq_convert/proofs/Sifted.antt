@@ -1,9 +1,6 @@
 -- Packets that come again, of packets and then more.
-use Rattle.std.proofs.Common.{◌≡◌, List, [], ◌∷◌, ◌++◌, refl, sym, ap, ◌∙◌, append_assoc}
-use Rattle.std.specs.Prelude.{if◌then◌else◌}
-use Rattle.mq_convert.specs.declared.choice.Choice.{Choice}
-use Rattle.mq_convert.specs.Blocks.{Captured}
-use Rattle.mq_convert.specs.Repeats.{Gone, comes_again, gone_after, gone_behind, going_out, left_out}
+use Rattle.mq_convert.proofs.Common.{◌≡◌, List, [], ◌∷◌, ◌++◌, refl, sym, ap, ◌∙◌, append_assoc, if◌then◌else◌, Choice, Captured, Gone, comes_again, gone_after}
+use Rattle.mq_convert.proofs.Common.{gone_behind, going_out, left_out}
 
 pub gone_behind-more : (choice : Choice) (gone : List Gone) (packets more : List Captured)
     → gone_behind choice gone (packets ++ more) ≡ gone_behind choice (gone_behind choice gone packets) more

@@ -1,30 +1,12 @@
 -- The facts about a file once some blocks are read and their packets are put.
-use Rattle.std.proofs.Common.{◌≡◌, ℕ, ◌+◌, ◌≤◌, min, List, [], ◌∷◌, ◌++◌, length, take, Option, Some, None, Result, Ok, Err, refl, ap, sym, subst}
-use Rattle.std.proofs.Common.{◌∙◌, inl, inr, arith, append-nil, append_assoc, length-append}
-use Rattle.std.specs.Prelude.{option_to_list}
-use Rattle.std.specs.List.{flat_map}
-use Rattle.std.proofs.lemmas.Grind.{flat_map-append}
-use Rattle.std.proofs.Math.Bool.{or-false, or-true}
-use Rattle.mq_pcap.specs.Filling.{InputState, Takes}
-use Rattle.mq_pcap.proofs.Filled.{Takes-nil, Takes-trans}
-use Rattle.mq_text.specs.Printing.{Passes, Puts}
-use Rattle.mq_text.proofs.Passing.{both_passed, broken_behind}
-use Rattle.mq_convert.specs.declared.choice.Choice.{Choice}
-use Rattle.mq_convert.specs.declared.counts.ConvertCounts.{ConvertCounts}
-use Rattle.mq_convert.specs.declared.fault.BlockFault.{BlockFault}
-use Rattle.mq_convert.specs.declared.fault.ConvertFault.{ConvertFault}
+use Rattle.mq_convert.proofs.Common.{◌≡◌, ℕ, ◌+◌, ◌≤◌, min, List, [], ◌∷◌, ◌++◌, length, take, Option, Some, None, Result, Ok, Err, refl, ap, sym, subst, ◌∙◌}
+use Rattle.mq_convert.proofs.Common.{inl, inr, arith, append-nil, append_assoc, length-append, option_to_list, flat_map, flat_map-append, or-false, or-true}
+use Rattle.mq_convert.proofs.Common.{InputState, Takes, Takes-nil, Takes-trans, Passes, Puts, both_passed, broken_behind, Choice, ConvertCounts, BlockFault}
+use Rattle.mq_convert.proofs.Common.{ConvertFault, Captured, block_in, seen_in, ContextState, at_start, IsEndedBy, AreBlocks, EndsBy, endless, IsPut}
+use Rattle.mq_convert.proofs.Common.{PutsCapture, ReadsBlock, block_text, held_of, records_of, NextBlock, converted, file_header, packets_of, record_of}
+use Rattle.mq_convert.proofs.Common.{written_of, Gone, gone_behind, going_out, HasSieved, SieveState, IsWhole, most_seen, seen_of}
 use Rattle.mq_convert.specs.declared.fault.ConvertFault.TheVariants as answer
 use Rattle.mq_convert.specs.declared.packet.Packet.{Packet}
-use Rattle.mq_convert.specs.Blocks.{Captured, block_in, seen_in}
-use Rattle.mq_convert.specs.Contexts.{ContextState, at_start}
-use Rattle.mq_convert.specs.Converting.{IsEndedBy}
-use Rattle.mq_convert.specs.Files.{AreBlocks, EndsBy, endless}
-use Rattle.mq_convert.specs.Putting.{IsPut, PutsCapture, ReadsBlock, block_text, held_of, records_of}
-use Rattle.mq_convert.specs.Reading.{NextBlock}
-use Rattle.mq_convert.specs.Records.{converted, file_header, packets_of, record_of, written_of}
-use Rattle.mq_convert.specs.Repeats.{Gone, gone_behind, going_out}
-use Rattle.mq_convert.specs.Sieving.{HasSieved, SieveState}
-use Rattle.mq_convert.specs.Sizes.{IsWhole, most_seen, seen_of}
 use Rattle.mq_convert.proofs.Begun.{begun_ends}
 use Rattle.mq_convert.proofs.NextBlocks.{some_head}
 use Rattle.mq_convert.proofs.Sifted.{going_out-more}
@@ -187,15 +169,13 @@ pub ended_within : (choice : Choice) (old mid new : InputState) (before after : 
     → Passes before after held left (written_of choice r.blocks) → mid.failed ≡ old.failed →
     NextBlock context.kind number mid new buffer (Ok (Some size)) → count ≡ min size most_seen → ReadsBlock number context now size (take count buffer) (Err e)
     → PutsCapture choice old new before after held left (Err e)
-ended_within choice old mid new before after held left context now number size count sieve buffer answer.Read r passed same next front reads = absurd reads
-ended_within choice old mid new before after held left context now number size count sieve buffer answer.Write r passed same next front reads = absurd reads
-ended_within choice old mid new before after held left context now number size count sieve buffer answer.Memory r passed same next front reads = absurd reads
 ended_within choice old mid new before after held left context now number size count sieve buffer (answer.Block n f) r passed same next front reads =
     let few = next.answers.0 in
     ended_with choice old mid new before after held left context number sieve r next.bytes next.takes (omega (arith, few)) (Some f)
     (inr (next.bytes, [], sym (append-nil next.bytes), few, next.answers.5, is_seen context number size count mid new buffer next front ∙ reads.1))
     (Err (answer.Block n f))
     (refl, reads.0 ∙ r.count, λ cut. absurd (cc (cut, reads.2)), next.failed ∙ or-false mid.failed ∙ same) passed
+ended_within choice old mid new before after held left context now number size count sieve buffer _ r passed same next front reads = absurd reads
 
 -- the next block was read, and what it holds put
 pub next_put : (T E : Type 0) (choice : Choice) (old mid new : InputState) (before now after : Option (List ℕ)) (held more left : List ℕ)

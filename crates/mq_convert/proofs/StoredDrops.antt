@@ -1,12 +1,6 @@
 -- The packets that an interface dropped, in the context of a block.
-use Rattle.std.proofs.Common.{◌≡◌, ℕ, List, length, Option, None, Some, ◌∙◌, sym, subst}
-use Rattle.std.specs.Prelude.{slice_get, slice_set}
-use Rattle.std.specs.List.{refill}
-use Rattle.std.proofs.lemmas.List.{length-set, take_at}
-use Rattle.mq_count.specs.Streams.{counted_on}
-use Rattle.mq_convert.specs.declared.context.Interface.{Interface}
-use Rattle.mq_convert.specs.Contexts.{ContextState}
-use Rattle.mq_convert.specs.Dropped.{with_dropped}
+use Rattle.mq_convert.proofs.Common.{◌≡◌, ℕ, List, length, Option, None, Some, ◌∙◌, sym, subst, slice_get, slice_set, refill, length-set, take_at, counted_on}
+use Rattle.mq_convert.proofs.Common.{Interface, ContextState, with_dropped}
 
 set_back : (xs : List Interface) (id : ℕ) (x : Interface) → refill (length xs) xs (slice_set xs id x) ≡ slice_set xs id x
 set_back xs id x = take_at (slice_set xs id x) _ (length xs) (length-set xs id x)

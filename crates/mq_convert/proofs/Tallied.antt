@@ -1,16 +1,10 @@
 -- One packet more of a link type that isn't read.
-use Rattle.std.proofs.Common.{◌≡◌, ◌≤◌, ◌<◌, ◌+◌, ℕ, zero, suc, Bool, true, false, List, [], ◌∷◌, ◌++◌, length, refl, arith, sym, ◌∙◌, ap, add_assoc}
-use Rattle.std.proofs.Common.{length-append}
+use Rattle.mq_convert.proofs.Common.{◌≡◌, ◌≤◌, ◌<◌, ◌+◌, ℕ, zero, suc, Bool, true, false, List, [], ◌∷◌, ◌++◌, length, refl, arith, sym, ◌∙◌, ap, add_assoc}
+use Rattle.mq_convert.proofs.Common.{length-append, All, list_any, eq-eqb, eqb-true, lt-ltb, nat_tests, length-map, map-append, LinkCount, Unread, Tallies}
+use Rattle.mq_convert.proofs.Common.{counted, first_links, is_known, is_of, raised, times, with_link}
 use Rattle.std.specs.Prelude.{nat_lt, not, ◌||◌, ◌==◌, if◌then◌else◌, map}
-use Rattle.std.specs.List.{All, list_any}
-use Rattle.std.proofs.lemmas.Bool.{eq-eqb, eqb-true, lt-ltb}
-use Rattle.std.proofs.lemmas.Bool.Decides.{nat_tests}
-use Rattle.std.proofs.lemmas.List.{length-map, map-append}
 use Rattle.std.proofs.lemmas.List.Elements.{All-append, All-map}
 use Rattle.std.proofs.lemmas.List.Folds.{list_any-append}
-use Rattle.mq_convert.specs.declared.unread.LinkCount.{LinkCount}
-use Rattle.mq_convert.specs.declared.unread.Unread.{Unread}
-use Rattle.mq_convert.specs.Tallies.{Tallies, counted, first_links, is_known, is_of, raised, times, with_link}
 
 -- true exactly if a link type has a row
 abbrev seen_in : (link : ℕ) → List ℕ → Bool

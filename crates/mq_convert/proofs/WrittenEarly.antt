@@ -1,7 +1,5 @@
 -- Text that is written before a read that may wait.
-use Rattle.std.proofs.Common.{ℕ, List, [], ◌++◌, Option, Result, append-nil}
-use Rattle.mq_text.specs.Printing.{Passes, Puts}
-use Rattle.mq_text.proofs.Passing.{put_as, then_put}
+use Rattle.mq_convert.proofs.Common.{ℕ, List, [], ◌++◌, Option, Result, append-nil, Passes, Puts, put_as, then_put}
 
 -- a text passed, and then nothing more was put
 pub then_nothing : (T E : Type 0) (a b c : Option (List ℕ)) (held mid left text : List ℕ) (r : Result T E) → Passes a b held mid text →

@@ -10,33 +10,33 @@ use thiserror::Error;
 #[derive(Clone, Copy, Debug, PartialEq, Eq, Error)]
 pub enum BlockFault {
     /// The file ends within the block.
-    #[error("the file ends within it")]
+    #[error("the file ends within the block")]
     Cut,
     /// First bytes of a file that are neither a classic magic number nor a section header's type.
-    #[error("no capture")]
+    #[error("the file is no capture")]
     NoCapture,
     /// A version other than 2.4 in a classic capture, or a first number other than 1 in a section's version.
-    #[error("another version")]
+    #[error("the version of the file is not 2.4, or of a pcapng file not 1")]
     Version,
     /// A section whose byte-order number fits neither byte order.
-    #[error("a section of no byte order")]
+    #[error("the section is in no byte order")]
     Order,
     /// A length that the block can't have, or that contradicts the length at its end or its packet's length. It is also
     /// the fault if a packet ends after the seen part of its block, or if the description of an interface exceeds
     /// `MOST_SEEN` bytes.
-    #[error("an impossible length")]
+    #[error("the block has an impossible length")]
     Length,
     /// A packet of an interface that wasn't described before.
-    #[error("a packet of an interface that wasn't described")]
+    #[error("the packet is of an interface that the file did not describe before")]
     Interface,
     /// A section that describes more than `MOST_INTERFACES` interfaces.
-    #[error("too many interfaces")]
+    #[error("the section describes more than 1024 interfaces")]
     Interfaces,
     /// A packet's moment before 1970, or at least 2^32 seconds after the start of 1970.
-    #[error("a moment that has no place in a classic capture")]
+    #[error("the packet is from before 1970 or after 2106")]
     Moment,
     /// More than 4294967295 blocks before this one.
-    #[error("too many blocks")]
+    #[error("the file has more than 4294967295 blocks before it")]
     Endless,
 }
 
@@ -44,7 +44,7 @@ pub enum BlockFault {
 #[derive(Clone, Copy, Debug, PartialEq, Eq, Error)]
 pub enum ConvertFault {
     /// A read of the capture failed.
-    #[error("a read failed")]
+    #[error("a read of the capture failed")]
     Read,
     /// A write failed, or wrote nothing.
     #[error("write failed")]

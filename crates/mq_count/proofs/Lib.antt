@@ -1,2 +1,3 @@
+mod Common
 pub mod Spent
 pub mod TimedMoments

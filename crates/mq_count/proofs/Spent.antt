@@ -1,6 +1,5 @@
 -- Laws of `Spends`, for every function that counts.
-use Rattle.std.proofs.Common.{ℕ, ◌+◌, ◌-◌, ◌≤◌, max, arith}
-use Rattle.mq_count.specs.Spending.{Spends, SpendingIsANumber}
+use Rattle.mq_count.proofs.Common.{ℕ, ◌+◌, ◌-◌, ◌≤◌, max, arith, Spends, SpendingIsANumber}
 
 -- nothing counted
 pub Spends-none : (m : ℕ) → Spends 0 0 m m

@@ -1,11 +1,7 @@
 -- The moments of one item more.
-use Rattle.std.proofs.Common.{◌≡◌, ℕ, zero, suc, ◌+◌, ◌<◌, ◌≤◌, min, refl, List, [], ◌∷◌, ◌++◌, take, get_or, length, length-append, Option, None}
-use Rattle.std.proofs.Common.{Some, sym, ap, subst, ◌∙◌, append-nil, arith}
-use Rattle.std.specs.Option.{option_to_list}
-use Rattle.std.proofs.lemmas.List.{take_more}
+use Rattle.mq_count.proofs.Common.{◌≡◌, ℕ, zero, suc, ◌+◌, ◌<◌, ◌≤◌, min, refl, List, [], ◌∷◌, ◌++◌, take, get_or, length, length-append, Option, None, Some}
+use Rattle.mq_count.proofs.Common.{sym, ap, subst, ◌∙◌, append-nil, arith, option_to_list, take_more, Spends, compared, compared_at, least, moments_by}
 use Rattle.std.proofs.lemmas.List.Concat.{flat_map-append}
-use Rattle.mq_count.specs.Spending.{Spends}
-use Rattle.mq_count.specs.Timed.{compared, compared_at, least, moments_by}
 
 pub moments-more : {T : Type 0} (moment_of : T → Option ℕ) (items : List T) (i : ℕ) (x : T) → i < length items → x ≡ get_or items i x →
     moments_by moment_of (take (i + 1) items) ≡ moments_by moment_of (take i items) ++ option_to_list (moment_of x)

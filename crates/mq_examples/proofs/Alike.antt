@@ -1,12 +1,9 @@
 -- Lists of sources that all have one timer, for the worked examples of many sources: what is done to each is done to one.
-use Rattle.std.proofs.Common.{◌≡◌, ℕ, Bool, true, false, cond, ◌||◌, refl, List, [], ◌∷◌, ◌++◌, length, Option, None, Some, sym, ap, ◌∙◌, suc, arith}
-use Rattle.std.specs.{Prelude.filter, List.list_any, Ordering.nat_cmp, Ordering.eq_by_cmp, Option.option_and_then, Cmp.nat_cmp_total}
-use lib.Dec.{T}
-use Rattle.std.proofs.lemmas.{List.Folds.list_any-append, Bool.Decides.nat_tests}
-use Rattle.std.specs.FinMap.{find, is_sorted, nat_cmp-IsAntisymmetric, Entries.same_entries}
-use Rattle.mq_table.specs.{declared.timers.SourceTimer.SourceTimer, Maps.with_entry, Maps.entries_by}
-use Rattle.mq_examples.specs.ManySources.{each_as}
-use Rattle.mq_link.proofs.Known.{Entries, ordered, find-ordered, sorted-ordered, keys_of, kept_in}
+use Rattle.mq_examples.proofs.Common.{◌≡◌, ℕ, Bool, true, false, cond, ◌||◌, refl, List, [], ◌∷◌, ◌++◌, length, Option, None, Some, sym, ap, ◌∙◌, suc, arith}
+use Rattle.mq_examples.proofs.Common.{filter, list_any, nat_cmp, eq_by_cmp, option_and_then, nat_cmp_total, T, nat_tests, find, is_sorted}
+use Rattle.mq_examples.proofs.Common.{nat_cmp-IsAntisymmetric, same_entries, SourceTimer, with_entry, entries_by, each_as, Entries, ordered, find-ordered}
+use Rattle.mq_examples.proofs.Common.{sorted-ordered, keys_of, kept_in}
+use Rattle.std.proofs.lemmas.List.Folds.{list_any-append}
 use Rattle.mq_examples.proofs.KnownGroups.{named_in, ascending}
 
 -- These sources ascend. It is no `abbrev`, so that no list of hundreds is computed with where it is named.

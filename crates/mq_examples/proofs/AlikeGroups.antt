@@ -1,15 +1,9 @@
 -- Groups whose sources all have one timer, after a record, a round and the end of timers.
-use Rattle.std.proofs.Common.{◌≡◌, ℕ, ◌+◌, ◌-◌, Bool, true, false, cond, not, ◌&&◌, refl, List, [], ◌∷◌, ◌++◌, length, Option, None, Some, ap, ◌∙◌}
-use Rattle.std.proofs.Common.{ltb, leb, eqb, suc, arith}
-use Rattle.std.specs.{Prelude.filter, Ordering.nat_cmp, List.list_any, FinMap.find}
-use Rattle.std.proofs.lemmas.Bool.Decides.{nat_tests}
-use Rattle.mq_table.specs.declared.kind.Kind.TheVariants.{Allow, Block}
-use Rattle.mq_table.specs.declared.timers.{FilterMode.TheVariants.Include, SourceTimer.SourceTimer, SourceTimer.TheVariants.Running}
-use Rattle.mq_table.specs.{Examples.default_timing, Expiry.source_expired, Sets.Set, Lowering.lowered_to}
-use Rattle.mq_table.specs.{Group.is_running, Group.is_ahead, Group.deadline_of, Group.sendings_of, Sendings.source_asked, Sendings.source_counted}
-use Rattle.mq_sched.specs.{Schedule.no_schedule, Sending.sources_queries}
-use Rattle.mq_examples.specs.ManySources.{each_as}
-use Rattle.mq_link.proofs.Known.{Entries, kept_in}
+use Rattle.mq_examples.proofs.Common.{◌≡◌, ℕ, ◌+◌, ◌-◌, Bool, true, false, cond, not, ◌&&◌, refl, List, [], ◌∷◌, ◌++◌, length, Option, None, Some, ap, ◌∙◌, ltb}
+use Rattle.mq_examples.proofs.Common.{leb, eqb, suc, arith, filter, nat_cmp, list_any, find, nat_tests, Allow, Block, Include, SourceTimer, Running}
+use Rattle.mq_examples.proofs.Common.{default_timing, Set, lowered_to, is_running, is_ahead, deadline_of, sendings_of, source_asked, source_counted}
+use Rattle.mq_examples.proofs.Common.{no_schedule, sources_queries, each_as, Entries, kept_in}
+use Rattle.mq_table.specs.Expiry.{source_expired}
 use Rattle.mq_examples.proofs.KnownGroups.{Known, nothing_known, timer_in, ascending, any_sending, settled_in, is_empty, expired_in, named_in}
 use Rattle.mq_examples.proofs.KnownGroups.{rule_of, change_in}
 use Rattle.mq_examples.proofs.KnownSendings.{asked_in, changed_in, sent_in, round_in}

@@ -1,19 +1,14 @@
 -- Links with one group whose sources all have one timer: what a Report and a tick do to it.
-use Rattle.std.proofs.Common.{◌≡◌, ℕ, ◌+◌, Bool, true, false, cond, ◌&&◌, refl, List, [], ◌∷◌, ◌++◌, length, Option, None, Some, Ok, ap, ◌∙◌, ltb}
-use Rattle.std.proofs.Common.{leb, eqb, arith}
-use Rattle.std.specs.{Prelude.max, List.sum_by, Ordering.nat_cmp, Option.option_and_then, Option.unwrap_or, Option.is_some}
-use Rattle.std.proofs.lemmas.{List.append-nil, List.Sums.sum_by-cons, Bool.Decides.nat_tests}
-use Rattle.std.specs.{declared.cmp.Ordering.TheVariants.Equal, FinMap.find, FinMap.Entries.by_order}
-use Rattle.mq_wire.specs.{Family.Family, declared.message.Message.TheVariants.Report as ReportMessage, declared.records.RecordView.RecordView}
-use Rattle.mq_table.specs.{declared.kind.Kind.TheVariants.Allow, declared.kind.Kind.TheVariants.Block, Maps.with_entry, Examples.default_timing}
-use Rattle.mq_table.specs.declared.timers.SourceTimer.{SourceTimer, TheVariants.Running}
-use Rattle.mq_sched.specs.{Sending.SentQuery, Sending.sources_queries, Election.ElectionState, Election.ticked, Election.general_messages}
-use Rattle.mq_link.specs.declared.{configuration.Limits.Limits, answers.Refusal.TheVariants.Repeated, answers.Received.TheVariants.Taken}
-use Rattle.mq_link.specs.{Family.per_query, Family.v1_mutes_leave, Configuration.Configuration, Receive.Envelope, Receive.count_read, Receive.drop_reason}
-use Rattle.mq_link.specs.Counters.{Counters, Applied, Refused, count_verdicts}
-use Rattle.mq_link.specs.Record.{limit_passed_by, Setting, GoesOn, entrance}
-use Rattle.mq_examples.specs.Links.{querier, saying}
-use Rattle.mq_link.proofs.Known.{ordered, kept_in, without}
+use Rattle.mq_examples.proofs.Common.{◌≡◌, ℕ, ◌+◌, Bool, true, false, cond, ◌&&◌, refl, List, [], ◌∷◌, ◌++◌, length, Option, None, Some, Ok, ap, ◌∙◌, ltb, leb}
+use Rattle.mq_examples.proofs.Common.{eqb, arith, max, sum_by, nat_cmp, option_and_then, unwrap_or, is_some, nat_tests, find, by_order, Family, ReportMessage}
+use Rattle.mq_examples.proofs.Common.{RecordView, Allow, Block, with_entry, default_timing, SourceTimer, Running, SentQuery, sources_queries, ElectionState}
+use Rattle.mq_examples.proofs.Common.{ticked, general_messages, Limits, Taken, per_query, v1_mutes_leave, Configuration, Envelope, count_read, drop_reason}
+use Rattle.mq_examples.proofs.Common.{Counters, Applied, Refused, count_verdicts, limit_passed_by, Setting, GoesOn, entrance, querier, saying, ordered, kept_in}
+use Rattle.mq_examples.proofs.Common.{without}
+use Rattle.std.proofs.{lemmas.List.append-nil, lemmas.List.Sums.sum_by-cons}
+use Rattle.std.specs.declared.cmp.Ordering.TheVariants.{Equal}
+use Rattle.mq_link.specs.declared.answers.Refusal.TheVariants.{Repeated}
+use Rattle.mq_link.specs.Configured.{configured}
 use Rattle.mq_examples.proofs.KnownGroups.{Known, KnownChange, nothing_known, is_empty, expired_in, change_in}
 use Rattle.mq_examples.proofs.{KnownSendings.changed_in, KnownSendings.sent_in, KnownSendings.round_in, Alike.Ascend, Alike.tied_to_itself, Alike.count-each}
 use Rattle.mq_examples.proofs.KnownLinks.{KnownGroups, KnownLink, KnownStep, sent_from, tick_in}
@@ -42,7 +37,7 @@ with-one group k left held =
 
 -- a configuration with the default timing and without the source-specific range
 abbrev pub plain : Family → Limits → (own : ℕ) → Configuration
-plain family limits own = record { family = family; timing = default_timing; limits = limits; own = own; source_specific = false }
+plain family limits own = configured family default_timing limits own false
 
 -- a link with one group, before its second general query
 abbrev pub link_of : (last : ℕ) → Counters → KnownGroups → KnownLink

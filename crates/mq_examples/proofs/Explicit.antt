@@ -1,17 +1,12 @@
 -- Groups whose sources are known one by one, for the worked examples.
-use Rattle.std.proofs.Common.{◌≡◌, ℕ, ◌+◌, Bool, true, false, cond, ◌&&◌, not, refl, List, [], ◌∷◌, ◌++◌, Option, None, Some, sym, subst, ap, ◌∙◌, arith}
-use Rattle.std.specs.Prelude.{map as list_map, filter, nat_lt, nat_eq}
-use lib.Dec.{T}
-use Rattle.std.specs.{List.list_any, Ordering.nat_cmp, Cmp.nat_cmp_total, FinMap.find, FinMap.is_sorted}
-use Rattle.mq_table.specs.declared.{timing.Timing.Timing, timers.FilterMode.FilterMode, timers.SourceTimer.SourceTimer}
-use Rattle.mq_table.specs.{Sets.Set, Table.GroupChange, Lowering.lowered_to, Lowering.mode_lowered, Timing.last_member_count, Examples.default_timing}
-use Rattle.mq_table.specs.Group.{GroupState, is_include, is_ahead, group_deadline, deadline_of, sendings_of}
-use Rattle.mq_examples.specs.{Groups.naming, Schedules.Sends, Schedules.per_query}
-use Rattle.mq_table.proofs.Maps.{keys-from_entries, kept-from_entries}
-use Rattle.mq_table.specs.Sendings.{source_asked, source_counted, sendings_counted}
-use Rattle.mq_sched.specs.{declared.queries.QuerySchedule.QuerySchedule, Examples.the_group, Schedule.ScheduleState, Schedule.ScheduledGroup, Schedule.settled}
-use Rattle.mq_sched.specs.Sending.{SentQuery, GroupQuery, sources_asked, group_asked, after_change, is_due, group_due, sources_queries, messages_due}
-use Rattle.mq_sched.specs.Sending.{group_counted, sources_due_next, after_round}
+use Rattle.mq_examples.proofs.Common.{◌≡◌, ℕ, ◌+◌, Bool, true, false, cond, ◌&&◌, not, refl, List, [], ◌∷◌, ◌++◌, Option, None, Some, sym, subst, ap, ◌∙◌}
+use Rattle.mq_examples.proofs.Common.{arith, list_map, filter, nat_lt, nat_eq, T, list_any, nat_cmp, nat_cmp_total, find, is_sorted, Timing, FilterMode}
+use Rattle.mq_examples.proofs.Common.{SourceTimer, Set, GroupChange, lowered_to, mode_lowered, last_member_count, default_timing, GroupState, is_include}
+use Rattle.mq_examples.proofs.Common.{is_ahead, group_deadline, deadline_of, sendings_of, naming, Sends, keys-from_entries, kept-from_entries, source_asked}
+use Rattle.mq_examples.proofs.Common.{source_counted, sendings_counted, the_group, ScheduleState, ScheduledGroup, settled, SentQuery, GroupQuery, sources_asked}
+use Rattle.mq_examples.proofs.Common.{group_asked, after_change, is_due, group_due, sources_queries, messages_due, group_counted, sources_due_next, after_round}
+use Rattle.mq_examples.specs.Schedules.{per_query}
+use Rattle.mq_sched.specs.declared.queries.QuerySchedule.{QuerySchedule}
 use Rattle.std.specs.FinMap as map
 use Rattle.std.specs.FinSet as set
 

@@ -1,14 +1,13 @@
 -- The changed groups, if those before and after are known, for the worked examples.
-use Rattle.std.proofs.Common.{◌≡◌, ℕ, Bool, true, false, not, ◌||◌, refl, List, [], ◌∷◌, None, Result, Ok, sym, ap, ◌∙◌}
-use Rattle.std.specs.{Prelude.filter, Ordering.nat_cmp, Bool.beq, FinMap.find, Cmp.nat_cmp_total}
-use Rattle.mq_wire.specs.declared.message.{Message.Message, Message.TheVariants.Report as ReportMessage, WireFault.WireFault}
-use Rattle.mq_wire.specs.declared.records.RecordView.{RecordView}
-use Rattle.mq_table.specs.{Group.is_include, Filter.Filter, Filter.names, Filter.filter_of, Filter.changes_filter}
+use Rattle.mq_examples.proofs.Common.{◌≡◌, ℕ, Bool, true, false, not, ◌||◌, refl, List, [], ◌∷◌, None, Result, Ok, sym, ap, ◌∙◌, filter, nat_cmp, find}
+use Rattle.mq_examples.proofs.Common.{nat_cmp_total, ReportMessage, RecordView, is_include, Configuration, LinkState, Envelope, read_of, pseudo_of, drop_reason}
+use Rattle.mq_examples.proofs.Common.{setting_of, ordered, keys_of, keys-known}
+use Rattle.std.specs.Bool.{beq}
+use Rattle.mq_wire.specs.{declared.message.Message.Message, declared.message.WireFault.WireFault}
+use Rattle.mq_table.specs.Filter.{Filter, names, filter_of, changes_filter}
 use Rattle.mq_table.proofs.Filters.{changes-at}
-use Rattle.mq_link.specs.{Configuration.Configuration, Run.Tick, Run.Datagram, State.LinkState}
-use Rattle.mq_link.specs.Forwarding.{changes, changed_by_tick, changed_by_read}
-use Rattle.mq_link.specs.Receive.{Envelope, read_of, pseudo_of, drop_reason, setting_of}
-use Rattle.mq_link.proofs.{Known.ordered, Known.keys_of, Known.keys-known, KeptFilters.alike_after, KeptFilters.unchanged}
+use Rattle.mq_link.specs.{Run.Tick, Run.Datagram, Forwarding.changes, Forwarding.changed_by_tick, Forwarding.changed_by_read}
+use Rattle.mq_link.proofs.KeptFilters.{alike_after, unchanged}
 use Rattle.mq_examples.specs.Named.{Names}
 use Rattle.mq_examples.proofs.{KnownGroups.Known, KnownGroups.as_held, KnownReceipts.setting_in}
 use Rattle.mq_examples.proofs.KnownLinks.{KnownGroups, as_groups, KnownLink, as_link, tick_in, tick-known}

@@ -1,18 +1,13 @@
 -- Groups whose sources are known one by one, for the worked examples. The definitions are computed from
 -- the list of their sources.
-use Rattle.std.proofs.Common.{◌≡◌, ℕ, ◌+◌, Bool, true, false, cond, ◌&&◌, ◌||◌, refl, List, [], ◌++◌, length, Option, None, Some, ap, ◌∙◌, ltb, eqb, arith}
-use Rattle.std.specs.{List.list_any, FinMap.find, Cmp.nat_cmp_total, Option.option_map, Option.option_and_then, Ordering.nat_cmp, Ordering.eq_by_cmp}
-use Rattle.mq_table.specs.declared.{kind.Kind.Kind, timing.Timing.Timing, older_hosts.Hosts.Hosts}
-use Rattle.mq_table.specs.declared.kind.Kind.TheVariants.{IsIn, IsEx, ToIn, ToEx, Allow, Block}
-use Rattle.mq_table.specs.{Sets.Set, Timing.membership_interval, Maps.entries_by, Maps.by_rule}
-use Rattle.mq_table.specs.declared.timers.{FilterMode.FilterMode, FilterMode.TheVariants.Include, SourceTimer.SourceTimer}
-use Rattle.mq_table.specs.Group.{GroupState, is_include, is_running, is_stopped, sendings_of, vacant, is_vacant}
-use Rattle.mq_table.specs.Table.{TableRow, table_row, timer_by, GroupChange, change_of}
-use Rattle.mq_table.specs.OlderHosts.{hosts_of, translated, translated_change}
-use Rattle.mq_table.specs.Expiry.{ahead, mode_expired, source_expired, held_or_vacant}
-use Rattle.mq_sched.specs.Schedule.{ScheduleState, no_schedule, settled}
-use Rattle.mq_link.specs.Tick.{group_expired, if_held}
-use Rattle.mq_link.proofs.Known.{Entries, ordered, keys_of, keys-known, len-known, kept_in, kept-known, by_rule-known}
+use Rattle.mq_examples.proofs.Common.{◌≡◌, ℕ, ◌+◌, Bool, true, false, cond, ◌&&◌, ◌||◌, refl, List, [], ◌++◌, length, Option, None, Some, ap, ◌∙◌, ltb, eqb}
+use Rattle.mq_examples.proofs.Common.{arith, list_any, find, nat_cmp_total, option_map, option_and_then, nat_cmp, eq_by_cmp, Timing, IsIn, IsEx, ToIn, ToEx}
+use Rattle.mq_examples.proofs.Common.{Allow, Block, Set, membership_interval, entries_by, by_rule, FilterMode, Include, SourceTimer, GroupState, is_include}
+use Rattle.mq_examples.proofs.Common.{is_running, is_stopped, sendings_of, vacant, is_vacant, TableRow, table_row, timer_by, GroupChange, change_of}
+use Rattle.mq_examples.proofs.Common.{ScheduleState, no_schedule, settled, group_expired, if_held, Entries, ordered, keys_of, keys-known, len-known, kept_in}
+use Rattle.mq_examples.proofs.Common.{kept-known, by_rule-known}
+use Rattle.mq_table.specs.{declared.kind.Kind.Kind, declared.older_hosts.Hosts.Hosts, OlderHosts.hosts_of, OlderHosts.translated, OlderHosts.translated_change}
+use Rattle.mq_table.specs.{Expiry.ahead, Expiry.mode_expired, Expiry.source_expired, Expiry.held_or_vacant}
 use Rattle.std.specs.FinMap as map
 use Rattle.std.specs.FinSet as set
 pub use Rattle.mq_examples.specs.Links.{ListedGroup as Known, as_held, group_listed as group_of}

@@ -1,12 +1,8 @@
 -- The effect of ticks and datagrams on links whose groups are known one by one, for the worked examples.
-use Rattle.std.proofs.Common.{◌≡◌, ℕ, refl, List, [], ◌∷◌, ◌++◌, Some, ap, ◌∙◌}
-use Rattle.std.specs.{Prelude.max, List.flat_map}
-use Rattle.mq_wire.specs.Family.{Family}
-use Rattle.mq_table.specs.declared.timing.Timing.{Timing}
-use Rattle.mq_sched.specs.{Schedule.ScheduledGroup, Sending.SentQuery, Sending.messages_due, Election.ElectionState, Election.ticked, Election.general_messages}
-use Rattle.mq_link.specs.{Family.per_query, State.Groups, Configuration.Configuration}
-use Rattle.mq_link.specs.Tick.{groups_expired, queries_due, groups_after_round, Step, group_expired, if_held, tick_of}
-use Rattle.mq_link.proofs.Known.{ordered, entries-known, kept_in, kept_as, with_values, ordered-with_values}
+use Rattle.mq_examples.proofs.Common.{◌≡◌, ℕ, refl, List, [], ◌∷◌, ◌++◌, Some, ap, ◌∙◌, max, flat_map, Family, Timing, ScheduledGroup, SentQuery, messages_due}
+use Rattle.mq_examples.proofs.Common.{ElectionState, ticked, general_messages, per_query, Groups, Configuration, Step, group_expired, if_held, tick_of, ordered}
+use Rattle.mq_examples.proofs.Common.{entries-known, kept_in, kept_as, with_values, ordered-with_values}
+use Rattle.mq_link.specs.Tick.{groups_expired, queries_due, groups_after_round}
 use Rattle.mq_examples.proofs.KnownGroups.{Known, as_held, expired_in, expired-known}
 use Rattle.mq_examples.proofs.KnownSendings.{sent_in, sent-known, round_in, round-known}
 pub use Rattle.mq_examples.specs.Links.{ListedGroups as KnownGroups, as_groups, ListedLink as KnownLink, as_link}

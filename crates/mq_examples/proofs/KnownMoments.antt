@@ -1,11 +1,8 @@
 -- The next moment of a link whose groups are known, and what it forwards, for the worked examples.
-use Rattle.std.proofs.Common.{◌≡◌, ℕ, Bool, refl, List, [], ◌∷◌, ◌++◌, Some, ap, ◌∙◌}
-use Rattle.std.specs.{Prelude.map as list_map, Option.option_to_list, List.flat_map, FinMap.find, Ordering.nat_cmp, Cmp.nat_cmp_total}
-use Rattle.mq_table.specs.{declared.timers.SourceTimer.SourceTimer, Group.group_deadline, Group.deadline_of, Group.wants, Group.forwards_in}
-use Rattle.mq_sched.specs.{Schedule.ScheduledGroup, Sending.group_due, Election.next_moment}
-use Rattle.mq_link.specs.{State.forwards, Tick.those_of, Tick.moments_of, Tick.moments_in, Tick.least, Tick.next_of}
-use Rattle.mq_examples.specs.Links.{NextIs, Forwards}
-use Rattle.mq_link.proofs.Known.{Entries, ordered, entries-known, with_values, ordered-with_values}
+use Rattle.mq_examples.proofs.Common.{◌≡◌, ℕ, Bool, refl, List, [], ◌∷◌, ◌++◌, Some, ap, ◌∙◌, list_map, option_to_list, flat_map, find, nat_cmp, nat_cmp_total}
+use Rattle.mq_examples.proofs.Common.{SourceTimer, group_deadline, deadline_of, wants, forwards_in, ScheduledGroup, group_due, next_moment, forwards, those_of}
+use Rattle.mq_examples.proofs.Common.{moments_of, moments_in, least, next_of, NextIs, Forwards, Entries, ordered, entries-known, with_values}
+use Rattle.mq_examples.proofs.Common.{ordered-with_values}
 use Rattle.mq_examples.proofs.{KnownGroups.Known, KnownGroups.as_held, KnownRecords.group_in, KnownRecords.group-known}
 use Rattle.mq_examples.proofs.KnownLinks.{KnownGroups, as_groups, KnownLink, as_link}
 use Rattle.std.specs.FinMap as map

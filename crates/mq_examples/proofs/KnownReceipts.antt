@@ -1,11 +1,9 @@
 -- The receipt of a datagram at a link whose groups are known one by one, for the worked examples.
-use Rattle.std.proofs.Common.{◌≡◌, ℕ, refl, [], ◌∷◌, ◌++◌, Option, None, Some, Result, Ok, Err, ap, ◌∙◌}
-use Rattle.mq_wire.specs.declared.message.{Message.Message, WireFault.WireFault}
-use Rattle.mq_wire.specs.declared.message.Message.TheVariants.{Query as QueryMessage, OldReport, Leave as LeaveMessage, Report as ReportMessage}
-use Rattle.mq_link.specs.declared.answers.{DropReason.DropReason, Received.Received, Received.TheVariants.Dropped}
-use Rattle.mq_link.specs.{Configuration.Configuration, Tick.tick_of, Record.Setting, Record.alone, Counters.count_dropped, Counters.count_verdicts}
-use Rattle.mq_link.specs.Receive.{Envelope, Receipt, taken, with_outcomes, with_state, taken_in, count_read, reason_of_fault, taken_or_dropped}
-use Rattle.mq_link.specs.Receive.{drop_reason, receipt_after}
+use Rattle.mq_examples.proofs.Common.{◌≡◌, ℕ, refl, [], ◌∷◌, ◌++◌, Option, None, Some, Result, Ok, Err, ap, ◌∙◌, QueryMessage, OldReport, LeaveMessage}
+use Rattle.mq_examples.proofs.Common.{ReportMessage, Dropped, Configuration, tick_of, Setting, alone, count_dropped, count_verdicts, Envelope, Receipt, taken}
+use Rattle.mq_examples.proofs.Common.{with_outcomes, with_state, count_read, reason_of_fault, taken_or_dropped, drop_reason, receipt_after}
+use Rattle.mq_wire.specs.{declared.message.Message.Message, declared.message.WireFault.WireFault}
+use Rattle.mq_link.specs.{declared.answers.DropReason.DropReason, declared.answers.Received.Received, Receive.taken_in}
 use Rattle.mq_examples.proofs.KnownLinks.{KnownLink, as_link, KnownStep, as_step, tick_in, tick-known}
 use Rattle.mq_examples.proofs.KnownRecords.{Join, Leave, KnownOutcome, stated_known, stated-known, KnownOutcomes, all_judged_known, all_judged-known}
 use Rattle.mq_examples.proofs.KnownRecords.{heard_in, heard-known}

@@ -1,25 +1,22 @@
 -- The effect of records and queries on links whose groups are known one by one, for the worked examples.
-use Rattle.std.proofs.Common.{◌≡◌, ℕ, ◌+◌, Bool, true, false, cond, not, ◌&&◌, refl, List, [], ◌∷◌, ◌++◌, length, Option, None, Some, sym, ap, ◌∙◌}
-use Rattle.std.proofs.Common.{leb, eqb, suc, arith}
-use Rattle.std.specs.{Prelude.map as list_map, Cmp.nat_cmp_total, Option.option_map, Option.unwrap_or, Option.is_some}
-use Rattle.std.specs.{List.sum_by, FinMap.find, Ordering.nat_cmp, Ordering.eq_by_cmp}
+use Rattle.mq_examples.proofs.Common.{◌≡◌, ℕ, ◌+◌, Bool, true, false, cond, not, ◌&&◌, refl, List, [], ◌∷◌, ◌++◌, length, Option, None, Some, sym, ap, ◌∙◌, leb}
+use Rattle.mq_examples.proofs.Common.{eqb, suc, arith, list_map, nat_cmp_total, option_map, unwrap_or, is_some, sum_by, find, nat_cmp, eq_by_cmp, RecordView}
+use Rattle.mq_examples.proofs.Common.{IsEx, ToIn, Timing, Set, ∅, lowered_by_query, older_host_present, ScheduledGroup, SentQuery, after_change, ElectionState}
+use Rattle.mq_examples.proofs.Common.{is_querier, loses_role, Limits, v1_mutes_leave, per_query, Configuration, Verdict, Applied, Ignored, Refused, Groups}
+use Rattle.mq_examples.proofs.Common.{LinkState, unheld, group_at, with_group, sources_of, schedules_of, one_if, Statement, RecordOf, OlderJoin, OlderLeave}
+use Rattle.mq_examples.proofs.Common.{change_stated, limit_passed_by, limit_passed, Outcome, Setting, leaving, unless_passed, sent_at_once, after_sending}
+use Rattle.mq_examples.proofs.Common.{changed_or_refused, is_muted, asking_nothing, Seen, met, Entrance, Stops, GoesOn, entrance, seen_by, judged_from}
+use Rattle.mq_examples.proofs.Common.{Outcomes, and_then, all_judged, Entries, ordered, ordered-known, entries-known, len-known, kept_in, kept_as, without}
+use Rattle.mq_examples.proofs.Common.{remove-known, with_values, find-with_values, ordered-with_values}
 use Rattle.std.proofs.lemmas.List.Sums.{sum_by-cons}
-use Rattle.mq_count.specs.declared.versions.OlderVersion.{OlderVersion, TheVariants.V1, TheVariants.V2}
-use Rattle.mq_wire.specs.declared.records.RecordView.{RecordView}
-use Rattle.mq_wire.specs.declared.query.{Query.Query, QueryVersion.QueryVersion, QueryVersion.TheVariants.Older, QueryVersion.TheVariants.Current}
-use Rattle.mq_table.specs.declared.{kind.Kind.Kind, kind.Kind.TheVariants.IsEx, kind.Kind.TheVariants.ToIn, timing.Timing.Timing}
-use Rattle.mq_table.specs.{Sets.Set, Sets.∅, OlderHosts.older_host, Lowering.lowered_by_query, Timing.older_host_present}
-use Rattle.mq_sched.specs.{Schedule.ScheduledGroup, Sending.SentQuery, Sending.after_change, Election.ElectionState, Election.is_querier, Election.loses_role}
-use Rattle.mq_link.specs.declared.{configuration.Limits.Limits, answers.Refusal.Refusal, answers.Refusal.TheVariants.Repeated}
-use Rattle.mq_link.specs.{Family.v1_mutes_leave, Family.per_query, Configuration.Configuration}
-use Rattle.mq_link.specs.Counters.{Verdict, Applied, Ignored, Refused}
-use Rattle.mq_link.specs.State.{Groups, LinkState, unheld, group_at, with_group, sources_of, schedules_of, one_if}
-use Rattle.mq_link.specs.Record.{Statement, RecordOf, OlderJoin, OlderLeave, change_stated, limit_passed_by, limit_passed, Outcome, Setting, leaving}
-use Rattle.mq_link.specs.Record.{unless_passed, sent_at_once, after_sending, changed_or_refused, is_muted, asking_nothing, stated, Seen, met}
-use Rattle.mq_link.specs.Record.{Entrance, Stops, GoesOn, entrance, seen_by, judged_from, judged, Outcomes, and_then, all_judged}
-use Rattle.mq_link.specs.Heard.{election_after, suppresses, some_named, asked_by, groups_cleared, group_lowered, groups_lowered, query_heard}
-use Rattle.mq_link.proofs.Known.{Entries, ordered, ordered-known, entries-known, len-known, kept_in, kept_as, without, remove-known, with_values}
-use Rattle.mq_link.proofs.Known.{find-with_values, ordered-with_values}
+use Rattle.mq_count.specs.declared.versions.OlderVersion.{OlderVersion}
+use Rattle.mq_count.specs.declared.versions.OlderVersion.TheVariants.{V1, V2}
+use Rattle.mq_wire.specs.{declared.query.Query.Query, declared.query.QueryVersion.QueryVersion, declared.query.QueryVersion.TheVariants.Older}
+use Rattle.mq_wire.specs.{declared.query.QueryVersion.TheVariants.Current}
+use Rattle.mq_table.specs.{declared.kind.Kind.Kind, OlderHosts.older_host}
+use Rattle.mq_link.specs.{declared.answers.Refusal.Refusal, declared.answers.Refusal.TheVariants.Repeated, Record.stated, Record.judged, Heard.election_after}
+use Rattle.mq_link.specs.{Heard.suppresses, Heard.some_named, Heard.asked_by, Heard.groups_cleared, Heard.group_lowered, Heard.groups_lowered}
+use Rattle.mq_link.specs.{Heard.query_heard}
 use Rattle.mq_examples.proofs.KnownGroups.{Known, KnownChange, as_held, as_change, group_of, nothing_known, is_empty, is_empty-known, named_in}
 use Rattle.mq_examples.proofs.KnownGroups.{change_in as table_in, change-known, translated_change_in, translated-known}
 use Rattle.mq_examples.proofs.KnownSendings.{changed_in, changed-known, sent_in, sent-known, round_in, round-known, cleared_in, cleared-known}

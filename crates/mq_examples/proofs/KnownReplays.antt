@@ -1,28 +1,24 @@
 -- The text of a replay, if the groups of its link are known one by one, for the worked examples.
-use Rattle.std.proofs.Common.{◌≡◌, ℕ, ◌+◌, true, false, refl, List, [], ◌∷◌, ◌++◌, length, Option, None, Some, Ok}
-use Rattle.std.proofs.Common.{append-nil, ap, ◌∙◌}
-use Rattle.std.specs.{Prelude.map as list_map, List.flat_map, Option.option_to_list}
-use Rattle.mq_pcap.specs.declared.{fault.PcapFault.PcapFault, form.Form.Form, link_type.LinkType.LinkType}
-use Rattle.mq_pcap.specs.{Capture.Captured, Frame.Carried, Frame.carried_in}
-use Rattle.mq_wire.specs.Family.{Family}
-use Rattle.mq_table.specs.{declared.timers.SourceTimer.SourceTimer, Group.group_deadline, Group.deadline_of}
-use Rattle.mq_sched.specs.{Schedule.ScheduledGroup, Sending.group_due, Election.next_moment, Election.is_querier, Election.election_at}
+use Rattle.mq_examples.proofs.Common.{◌≡◌, ℕ, ◌+◌, true, false, refl, List, [], ◌∷◌, ◌++◌, length, Option, None, Some, Ok, ap, ◌∙◌, list_map, flat_map}
+use Rattle.mq_examples.proofs.Common.{option_to_list, Captured, Family, SourceTimer, group_deadline, deadline_of, ScheduledGroup, group_due, next_moment}
+use Rattle.mq_examples.proofs.Common.{is_querier, election_at, Configuration, LinkState, next_of, tick_of, Counters, count_answers, no_counts, read_of}
+use Rattle.mq_examples.proofs.Common.{pseudo_of, ListedGroup, ListedGroups, ListedLink, as_groups, as_held, as_link, up_to, Entries, ordered, entries-known}
+use Rattle.mq_examples.proofs.Common.{with_values, ordered-with_values}
+use Rattle.std.proofs.Common.{append-nil}
+use Rattle.mq_pcap.specs.{declared.fault.PcapFault.PcapFault, declared.form.Form.Form, declared.link_type.LinkType.LinkType, Frame.Carried, Frame.carried_in}
 use Rattle.mq_held.specs.Moments.{those_of, moments_of, moments_in, least}
-use Rattle.mq_link.specs.{Configuration.Configuration, Sent.outgoing, State.LinkState, Forwarding.changed_by_tick, Tick.next_of, Tick.tick_of}
-use Rattle.mq_link.specs.{Counters.Counters, Counters.count_answers, Counters.no_counts, Receive.read_of, Receive.pseudo_of}
-use Rattle.mq_examples.specs.{Links.ListedGroup, Links.ListedGroups, Links.ListedLink, Links.as_groups, Links.as_held, Links.as_link, Replays.up_to}
-use Rattle.mq_link.proofs.Known.{Entries, ordered, entries-known, with_values, ordered-with_values}
-use Rattle.mq_examples.proofs.{KnownLinks.KnownStep, KnownLinks.tick_in, KnownLinks.tick-known, KnownReceipts.receipt_known, KnownReceipts.receipt-known}
+use Rattle.mq_link.specs.{Sent.outgoing, Forwarding.changed_by_tick}
 use Rattle.mq_lines.specs.Text.{line_of}
-use Rattle.mq_replay.specs.declared.capture_fault.CaptureFault.{CaptureFault, TheVariants.Gap}
-use Rattle.mq_replay.specs.Courses.{Course, Report, Work, broken_off, last_moment, report_of, reported, with_packets}
-use Rattle.mq_replay.specs.PlacedPackets.{Place, at_first, is_gap, place_behind, placed}
-use Rattle.mq_replay.specs.ReplayLines.{query_lines, receipt_line, skip_line, end_line, counts_line, timer_text, group_start, older_hosts_text}
-use Rattle.mq_replay.specs.ReplayLines.{group_line, group_lines, end_lines}
-use Rattle.mq_replay.specs.Report.{Replayed, all_sent, after_step, changed_at, those_among, with_changes, ticked_at, Datagram}
-use Rattle.mq_replay.specs.Report.{datagram_of, received_at, replay_of, taken_or_skipped, with_packet, ended_at}
-use Rattle.mq_replay.specs.Ticks.{ticked_within}
+use Rattle.mq_replay.specs.{declared.capture_fault.CaptureFault.CaptureFault, declared.capture_fault.CaptureFault.TheVariants.Gap, Courses.Course}
+use Rattle.mq_replay.specs.{Courses.Report, Courses.Work, Courses.broken_off, Courses.last_moment, Courses.report_of, Courses.reported, Courses.with_packets}
+use Rattle.mq_replay.specs.{PlacedPackets.Place, PlacedPackets.at_first, PlacedPackets.is_gap, PlacedPackets.place_behind, PlacedPackets.placed}
+use Rattle.mq_replay.specs.{Events.end_events, Events.group_events, Events.query_events, ReplayLines.receipt_line, ReplayLines.skip_line}
+use Rattle.mq_replay.specs.{ReplayLines.end_line, ReplayLines.counts_line, ReplayLines.timer_text, ReplayLines.group_start, ReplayLines.older_hosts_text}
+use Rattle.mq_replay.specs.{ReplayLines.group_line, Report.Replayed, Report.all_sent, Report.after_step, Report.changed_at, Report.those_among}
+use Rattle.mq_replay.specs.{Report.with_changes, Report.ticked_at, Report.Datagram, Report.datagram_of, Report.received_at, Report.replay_of}
+use Rattle.mq_replay.specs.{Report.taken_or_skipped, Report.with_packet, Report.ended_at, Ticks.ticked_within}
 use Rattle.mq_replay.proofs.Ticking.{through_within}
+use Rattle.mq_examples.proofs.{KnownLinks.KnownStep, KnownLinks.tick_in, KnownLinks.tick-known, KnownReceipts.receipt_known, KnownReceipts.receipt-known}
 use Rattle.std.specs.FinMap as map
 
 -- the next moment
@@ -56,36 +52,39 @@ next_in l = least (next_moment l.election.role) (all_moments_known l.groups)
 next-known : (l : ListedLink) → next_of (as_link l) ≡ next_in l
 next-known l = ap (least (next_moment l.election.role)) (moments_in-known l.groups)
 
--- a replay under way, without lines for changed groups
+-- a replay under way as text, without changed groups
 pub record KnownReplayed : Type 0 where
   pub link : ListedLink
   pub text : List ℕ
+  pub until : Option ℕ
 
 abbrev pub as_replayed : KnownReplayed → Replayed
-as_replayed k = record { link = as_link k.link; text = k.text; changes = false }
+as_replayed k = record { link = as_link k.link; text = k.text; asked = up_to k.until }
 
-abbrev pub after_known : Configuration → (moment : ℕ) → KnownStep → (text : List ℕ) → KnownReplayed
-after_known config moment s text =
+abbrev pub after_known : Configuration → (moment : ℕ) → KnownStep → KnownReplayed → KnownReplayed
+after_known config moment s k =
     let messages = list_map (outgoing config s.timing) s.queries in
     let l = s.link in
     record {
       link = record l { counters = count_answers (all_sent messages) l.counters };
-      text = text ++ query_lines config.family moment messages;
+      text = k.text ++ query_events false config.family moment messages;
+      until = k.until;
     }
 
 -- so none are added
-none_added : (config : Configuration) (moment : ℕ) (changed : List ℕ) (link : LinkState) (text : List ℕ)
-    → with_changes config.family moment changed (record { link = link; text = text; changes = false }) ≡ record { link = link; text = text; changes = false }
-none_added config moment changed link text = λ i. record { link = link; text = append-nil text i; changes = false }
+none_added : (config : Configuration) (moment : ℕ) (changed : List ℕ) (link : LinkState) (text : List ℕ) (until : Option ℕ)
+    → with_changes config.family moment changed (record { link = link; text = text; asked = up_to until })
+    ≡ record { link = link; text = text; asked = up_to until }
+none_added config moment changed link text until = λ i. record { link = link; text = append-nil text i; asked = up_to until }
 
 abbrev pub ticked_known : Configuration → (moment : ℕ) → KnownReplayed → KnownReplayed
-ticked_known config moment k = after_known config moment (tick_in config moment k.link) k.text
+ticked_known config moment k = after_known config moment (tick_in config moment k.link) k
 
 ticked-known : (config : Configuration) (moment : ℕ) (k : KnownReplayed) → ticked_at config moment (as_replayed k) ≡ as_replayed (ticked_known config moment k)
 unfolding ticked_at
 ticked-known config moment k =
     none_added config moment (those_among (changed_by_tick config moment (as_link k.link)) (map.keys (as_groups k.link.groups)))
-    (after_step config moment (tick_of config moment (as_link k.link)) (as_replayed k)).link _
+    (after_step config moment (tick_of config moment (as_link k.link)) (as_replayed k)).link _ k.until
     ∙ ap (λ s. after_step config moment s (as_replayed k)) (tick-known config moment k.link)
 
 abbrev pub within_known : (most : ℕ) → Configuration → (limit : ℕ) → KnownReplayed → KnownReplayed
@@ -105,24 +104,25 @@ abbrev pub received_known : Configuration → (moment number : ℕ) → Datagram
 received_known config moment number datagram k =
     let read = read_of config.family (pseudo_of config.family datagram.envelope datagram.body) datagram.body in
     let receipt = receipt_known config datagram.envelope read moment k.link in
-    let after = after_known config moment receipt.step k.text in
+    let after = after_known config moment receipt.step k in
     record {
       link = after.link;
       text = after.text ++ receipt_line config.family moment number datagram.envelope.source receipt.answer;
+      until = k.until;
     }
 
 received-known : (config : Configuration) (moment number : ℕ) (datagram : Datagram) (k : KnownReplayed) →
     received_at config moment number datagram (as_replayed k) ≡ as_replayed (received_known config moment number datagram k)
 unfolding received_at
 received-known config moment number datagram k =
-    none_added config moment (changed_at config moment datagram (as_link k.link)) _ _
+    none_added config moment (changed_at config moment datagram (as_link k.link)) _ _ k.until
     ∙ ap (λ receipt. let after = after_step config moment receipt.step (as_replayed k) in
     record after { text = after.text ++ receipt_line config.family moment number datagram.envelope.source receipt.answer })
     (receipt-known config datagram.envelope (read_of config.family (pseudo_of config.family datagram.envelope datagram.body) datagram.body) moment k.link)
 
 abbrev pub taken_known : Configuration → (moment number : ℕ) → Carried → Option Datagram → KnownReplayed → KnownReplayed
 taken_known config moment number carried (Some datagram) k = received_known config moment number datagram k
-taken_known config moment number carried None k = record { link = k.link; text = k.text ++ skip_line moment number carried }
+taken_known config moment number carried None k = record { link = k.link; text = k.text ++ skip_line moment number carried; until = k.until }
 
 taken-known : (config : Configuration) (moment number : ℕ) (carried : Carried) (datagram : Option Datagram) (k : KnownReplayed) →
     taken_or_skipped config moment number carried datagram (as_replayed k) ≡ as_replayed (taken_known config moment number carried datagram k)
@@ -155,8 +155,8 @@ group_line-known family group k =
 abbrev pub group_lines_known : Family → ListedGroups → List ℕ
 group_lines_known family gs = flat_map (λ (e : ℕ × ListedGroup). group_line_known family e.0 e.1) (ordered gs)
 
-group_lines-known : (family : Family) (gs : ListedGroups) → group_lines family (as_groups gs) ≡ group_lines_known family gs
-group_lines-known family gs =
+group_lines-known : (family : Family) (moment : ℕ) (gs : ListedGroups) → group_events false family moment (as_groups gs) ≡ group_lines_known family gs
+group_lines-known family moment gs =
     ap (flat_map (λ (e : ℕ × ScheduledGroup). group_line family e.0 e.1.group)) (entries-known (with_values as_held gs) ∙ ordered-with_values as_held gs)
     ∙ each (ordered gs)
   where
@@ -179,24 +179,27 @@ ended-known : (config : Configuration) (moment : ℕ) (k : KnownReplayed) → en
 unfolding ended_at
 ended-known config moment k =
     ap (λ (done : Replayed). record {
-      text = done.text ++ end_lines config.family moment (is_querier done.link.election.role) done.link.groups done.link.counters;
+      text = done.text ++ end_events done.asked.json config.family moment (is_querier done.link.election.role) done.link.groups done.link.counters;
       answer = Ok done.link.counters;
     }) (within-known (moment + 1) config (moment + 1) k)
     ∙ (let done = within_known (moment + 1) config (moment + 1) k in
     ap (λ (lines : List ℕ). record {
       text = done.text ++ (end_line moment (is_querier done.link.election.role) ++ (lines ++ counts_line done.link.counters));
       answer = Ok done.link.counters;
-    }) (group_lines-known config.family done.link.groups))
+    }) (group_lines-known config.family moment done.link.groups))
 
 -- the link at its start
-abbrev pub start_known : Configuration → KnownReplayed
-start_known config =
-    record { link = record { groups = []; election = election_at config.timing 0; last = 0; counters = no_counts }; text = [] }
+abbrev pub start_known : Configuration → (until : Option ℕ) → KnownReplayed
+start_known config until = record {
+  link = record { groups = []; election = election_at config.timing 0; last = 0; counters = no_counts };
+  text = [];
+  until = until;
+}
 
 -- this replay of a capture, as work over its packets
 abbrev pub known : Configuration → (until : Option ℕ) → Work KnownReplayed Counters
 known config until = record {
-  start = start_known config;
+  start = start_known config until;
   step = λ packet k. packet_known config packet.moment packet.number (carried_in packet.link packet.frame) k;
   is_full = λ k. false;
   text = λ k. k.text;
@@ -246,6 +249,6 @@ reported-known config until number None None k =
 pub report-known : (config : Configuration) (until : Option ℕ) (form : Form) (packets : List Captured) (end : Option PcapFault) →
     report_of (replay_of config (up_to until)) (Ok form) packets end ≡ report_of (known config until) (Ok form) packets end
 report-known config until form packets end =
-    let k = with_packets (known config until) form.link at_first packets (start_known config) in
+    let k = with_packets (known config until) form.link at_first packets (start_known config until) in
     ap (λ (course : Course Replayed). reported (replay_of config (up_to until)) (length packets + 1) end course.fault course)
-    (packets-known config until form.link at_first packets (start_known config)) ∙ reported-known config until (length packets + 1) end k.fault k
+    (packets-known config until form.link at_first packets (start_known config until)) ∙ reported-known config until (length packets + 1) end k.fault k

@@ -1,15 +1,11 @@
 -- The schedules and queries of known groups, for the worked examples.
-use Rattle.std.proofs.Common.{◌≡◌, ℕ, ◌+◌, Bool, true, false, cond, not, ◌&&◌, refl, List, [], ◌∷◌, ◌++◌, Option, None, Some, ap, ◌∙◌, ltb}
-use Rattle.std.specs.{Prelude.filter, Ordering.nat_cmp, List.list_any, FinMap.FinMap, Cmp.nat_cmp_total}
-use Rattle.mq_table.specs.declared.{timing.Timing.Timing, timers.FilterMode.FilterMode, timers.SourceTimer.SourceTimer}
-use Rattle.mq_table.specs.{Sets.Set, Timing.last_member_count, Group.is_include, Group.is_ahead, Group.deadline_of, Group.sendings_of, Group.group_deadline}
-use Rattle.mq_table.specs.Lowering.{lowered_to, mode_lowered, source_lowered, lowered_by_query}
-use Rattle.mq_table.specs.Sendings.{source_cleared, source_asked, source_counted, sendings_counted}
+use Rattle.mq_examples.proofs.Common.{◌≡◌, ℕ, ◌+◌, Bool, true, false, cond, not, ◌&&◌, refl, List, [], ◌∷◌, ◌++◌, Option, None, Some, ap, ◌∙◌, ltb, filter}
+use Rattle.mq_examples.proofs.Common.{nat_cmp, list_any, FinMap, nat_cmp_total, Timing, FilterMode, SourceTimer, Set, last_member_count, is_include, is_ahead}
+use Rattle.mq_examples.proofs.Common.{deadline_of, sendings_of, group_deadline, lowered_to, mode_lowered, source_lowered, lowered_by_query, source_cleared}
+use Rattle.mq_examples.proofs.Common.{source_asked, source_counted, sendings_counted, ScheduleState, ScheduledGroup, no_schedule, cleared, SentQuery}
+use Rattle.mq_examples.proofs.Common.{GroupQuery, sources_asked, acted, after_change, is_due, group_due, sources_queries, messages_due, group_counted}
+use Rattle.mq_examples.proofs.Common.{sources_due_next, after_round, Entries, keys-known, kept_in, kept-known}
 use Rattle.mq_sched.specs.declared.queries.QuerySchedule.{QuerySchedule}
-use Rattle.mq_sched.specs.Schedule.{ScheduleState, ScheduledGroup, no_schedule, cleared}
-use Rattle.mq_sched.specs.Sending.{SentQuery, GroupQuery, sources_asked, acted, after_change, is_due, group_due, sources_queries, messages_due}
-use Rattle.mq_sched.specs.Sending.{group_counted, sources_due_next, after_round}
-use Rattle.mq_link.proofs.Known.{Entries, keys-known, kept_in, kept-known}
 use Rattle.mq_examples.proofs.KnownGroups.{Known, KnownChange, as_held, as_change, group_of, timer_in, ascending, any_sending, settled_in, settled-known}
 use Rattle.std.specs.FinMap as map
 

@@ -1,9 +1,5 @@
 -- Conditions under which a change leaves a group: its sources one by one, and the sources that it asks for.
-use Rattle.std.proofs.Common.{◌≡◌, ℕ, Bool, List, Option, refl}
-use Rattle.std.specs.{Ordering.nat_cmp, FinMap.FinMap}
-use Rattle.mq_table.specs.{declared.timers.FilterMode.FilterMode, declared.timers.SourceTimer.SourceTimer, Sets.Set}
-use Rattle.mq_table.proofs.Groups.{same_group}
-use Rattle.mq_examples.specs.Groups.{Leaves, naming}
+use Rattle.mq_examples.proofs.Common.{◌≡◌, ℕ, Bool, List, Option, refl, nat_cmp, FinMap, FilterMode, SourceTimer, Set, same_group, Leaves, naming}
 use Rattle.std.specs.FinMap as map
 use Rattle.std.specs.FinSet as set
 

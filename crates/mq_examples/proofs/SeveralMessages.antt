@@ -1,17 +1,11 @@
 -- A sending in several messages, for any sources: what the worked examples of it are made of.
-use Rattle.std.proofs.Common.{◌≡◌, ◌<◌, ℕ, zero, suc, ◌+◌, true, false, refl, List, [], ◌∷◌, length, None, Some, Ok, sym, ap, ◌∙◌, subst, arith}
-use Rattle.std.specs.{Prelude.replicate, Prelude.map as list_map, FinMap.is_sorted, FinMap.Entries.below_all, List.count_by, Ordering.nat_cmp, Ordering.is_lt}
-use lib.Dec.{T}
-use Rattle.std.proofs.lemmas.Bool.Decides.{nat_tests}
+use Rattle.mq_examples.proofs.Common.{◌≡◌, ◌<◌, ℕ, zero, suc, ◌+◌, true, false, refl, List, [], ◌∷◌, length, None, Some, Ok, ap, ◌∙◌, arith, replicate}
+use Rattle.mq_examples.proofs.Common.{list_map, is_sorted, below_all, count_by, nat_cmp, is_lt, T, Family, ReportMessage, Include, SourceTimer, Running}
+use Rattle.mq_examples.proofs.Common.{default_timing, until, SentQuery, GeneralQuery, sources_queries, Limits, Taken, per_query, Envelope, Configuration, Step}
+use Rattle.mq_examples.proofs.Common.{ListedLink, listed, listed_due, early, after, querier, saying, sources_from, each_as, having_sent, HandsAll, TicksSending}
+use Rattle.mq_examples.proofs.Common.{Reports}
 use Rattle.mq_count.specs.Streams.{counted_on}
-use Rattle.mq_wire.specs.{Family.Family, declared.message.Message.TheVariants.Report as ReportMessage}
-use Rattle.mq_table.specs.declared.timers.{FilterMode.TheVariants.Include, SourceTimer.SourceTimer, SourceTimer.TheVariants.Running}
-use Rattle.mq_table.specs.Examples.{default_timing, until}
-use Rattle.mq_sched.specs.Sending.{SentQuery, GeneralQuery, sources_queries}
-use Rattle.mq_link.specs.declared.{configuration.Limits.Limits, answers.Received.TheVariants.Taken}
-use Rattle.mq_link.specs.{Family.per_query, Receive.Envelope, Configuration.Configuration, Tick.Step, Sent.outgoing}
-use Rattle.mq_examples.specs.Links.{ListedLink, listed, listed_due, early, after, querier, saying, as_groups}
-use Rattle.mq_examples.specs.ManySources.{sources_from, each_as, having_sent, lengths_of, sent_then, HandsAll, TicksSending, Reports}
+use Rattle.mq_link.specs.Sent.{outgoing}
 use Rattle.mq_held.proofs.Sorted.{both}
 use Rattle.mq_examples.proofs.KnownLinks.{KnownStep, as_step, tick-known}
 use Rattle.mq_examples.proofs.{KnownReceipts.as_receipt, KnownReceipts.receipt-known, Alike.Ascend}

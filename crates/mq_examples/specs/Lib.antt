@@ -1,3 +1,4 @@
+pub mod Checks
 pub mod Groups
 pub mod Schedules
 pub mod Links

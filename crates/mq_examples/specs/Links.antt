@@ -21,6 +21,7 @@ use Rattle.mq_link.specs.declared.answers.DropReason.{DropReason}
 use Rattle.mq_link.specs.declared.answers.MessageKind.{MessageKind}
 use Rattle.mq_link.specs.declared.answers.Refusal.{Refusal}
 use Rattle.mq_link.specs.Configuration.{Configuration}
+use Rattle.mq_link.specs.Configured.{configured}
 use Rattle.mq_link.specs.Counters.{Counters, Verdict, no_counts}
 use Rattle.mq_link.specs.State.{Groups, LinkState, forwards}
 use Rattle.mq_link.specs.Tick.{Step, tick_of, next_of}
@@ -44,22 +45,18 @@ default_limits = record { groups = 1024; group_sources = 366; sources = 16384; s
 
 -- the defaults, for the routers 10.0.0.9 and fe80::1
 abbrev pub igmp : Configuration
-igmp = record { family = Igmp; timing = default_timing; limits = default_limits; own = host 9; source_specific = false }
+igmp = configured Igmp default_timing default_limits (host 9) false
 
 abbrev pub mld : Configuration
-mld = record {
-  family = Mld;
-  timing = default_timing;
-  limits = record { groups = 1024; group_sources = 89; sources = 16384; scheduled = 256 };
-  own = 0xfe80 * 2 ^ 112 + 1;
-  source_specific = false;
-}
+mld =
+    configured Mld default_timing (record { groups = 1024; group_sources = 89; sources = 16384; scheduled = 256 })
+    (0xfe80 * 2 ^ 112 + 1) false
 
 -- the defaults of IGMP with other limits, and with the source-specific range kept
 abbrev pub limited : (groups group_sources sources scheduled : ℕ) → Configuration
-limited groups group_sources sources scheduled = record igmp {
-  limits = record { groups = groups; group_sources = group_sources; sources = sources; scheduled = scheduled };
-}
+limited groups group_sources sources scheduled =
+    configured Igmp default_timing (record { groups = groups; group_sources = group_sources; sources = sources; scheduled = scheduled })
+    (host 9) false
 
 abbrev pub source_specific_igmp : Configuration
 source_specific_igmp = record igmp { source_specific = true }
@@ -80,9 +77,9 @@ owned own = record igmp { own = own }
 
 -- the defaults of MLD with more sources a group, with another address, and with the source-specific range kept
 abbrev pub mld_limited : (group_sources : ℕ) → Configuration
-mld_limited group_sources = record mld {
-  limits = record { groups = 1024; group_sources = group_sources; sources = 16384; scheduled = 256 };
-}
+mld_limited group_sources =
+    configured Mld default_timing (record { groups = 1024; group_sources = group_sources; sources = 16384; scheduled = 256 })
+    (0xfe80 * 2 ^ 112 + 1) false
 
 abbrev pub mld_owned : ℕ → Configuration
 mld_owned own = record mld { own = own }

@@ -54,9 +54,9 @@ totals_of (Ok c) = Ok (record {
 })
 totals_of (Err fault) = Err fault
 
--- a replay up to a moment, without the lines of changed groups
+-- a replay up to a moment as text, without changed groups
 abbrev pub up_to : (until : Option ℕ) → Asked
-up_to until = record { until = until; changes = false }
+up_to until = record { until = until; changes = false; json = false }
 
 -- the bytes are a capture, and its report has this text and this result
 pub record Reports (config : Configuration) (until : Option ℕ) (bytes text : List ℕ) (answer : Result Totals CaptureFault)

@@ -1,7 +1,8 @@
-//! Worked examples of the definitions, each computed by the check: of groups and schedules, of a link, and of the text of a
-//! replay. The functions have no effect at run time: each contract is an example.
+//! Worked examples of the definitions, each computed by the check: of groups and schedules, of a link, of the text of a replay,
+//! and of checks. The functions have no effect at run time: each contract is an example.
 #![tactic(auto)]
 
+pub mod checks;
 pub mod groups;
 pub mod links;
 pub mod replays;

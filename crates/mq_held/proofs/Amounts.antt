@@ -1,25 +1,10 @@
 -- The amounts of all groups, once one of them has changed, is held, or is no longer held.
-use Rattle.std.proofs.Common.{◌≡◌, ℕ, ◌+◌, ◌-◌, ◌<◌, ◌≤◌, Bool, true, false, cond, not, ◌==◌, ◌&&◌, if◌then◌else◌, refl, List, [], ◌∷◌, Option, None}
-use Rattle.std.proofs.Common.{Some, is_some, sym, ap, ◌∙◌, subst, arith, ⊎_elim}
-use Rattle.std.specs.Prelude.{map as list_map}
-use lib.Dec.{T}
-use Rattle.std.specs.List.{sum_by}
-use Rattle.std.specs.Option.{unwrap_or}
-use Rattle.std.specs.Ordering.{nat_cmp, eq_by_cmp, is_eq, is_lt}
-use Rattle.std.specs.Cmp.{nat_cmp_total}
-use Rattle.std.specs.declared.cmp.Ordering.{Ordering}
-use Rattle.std.specs.declared.cmp.Ordering.TheVariants.{Less, Equal, Greater}
-use Rattle.std.proofs.lemmas.Bool.{cases_lt, eqb-true, true≢false}
-use Rattle.std.proofs.lemmas.List.Sums.{sum_by-cons}
+use Rattle.mq_held.proofs.Common.{◌≡◌, ℕ, ◌+◌, ◌-◌, ◌<◌, ◌≤◌, Bool, true, false, cond, not, ◌==◌, ◌&&◌, if◌then◌else◌, refl, List, [], ◌∷◌, Option, None, Some}
+use Rattle.mq_held.proofs.Common.{is_some, sym, ap, ◌∙◌, subst, arith, ⊎_elim, list_map, T, sum_by, unwrap_or, nat_cmp, eq_by_cmp, is_eq, is_lt, nat_cmp_total}
+use Rattle.mq_held.proofs.Common.{Ordering, Less, Equal, Greater, cases_lt, eqb-true, true≢false, sum_by-cons, find, is_sorted, below_all, by_order, put}
+use Rattle.mq_held.proofs.Common.{FilterMode, Include, Exclude, SourceTimer, is_vacant, is_include, ScheduledGroup, Groups, unheld, group_at, with_group}
+use Rattle.mq_held.proofs.Common.{sources_of, sources_in, one_if, schedules_of, schedules_in}
 use Rattle.std.specs.FinMap as map
-use Rattle.std.specs.FinMap.{find, is_sorted}
-use Rattle.std.specs.FinMap.Entries.{below_all, by_order, put}
-use Rattle.mq_table.specs.declared.timers.FilterMode.{FilterMode}
-use Rattle.mq_table.specs.declared.timers.FilterMode.TheVariants.{Include, Exclude}
-use Rattle.mq_table.specs.declared.timers.SourceTimer.{SourceTimer}
-use Rattle.mq_table.specs.Group.{is_vacant, is_include}
-use Rattle.mq_sched.specs.Schedule.{ScheduledGroup}
-use Rattle.mq_held.specs.Groups.{Groups, unheld, group_at, with_group, sources_of, sources_in, one_if, schedules_of, schedules_in}
 use Rattle.mq_held.proofs.Sorted.{all-below, below-all, find_below, first, is_below, second, tied, ties}
 
 -- A sum over all groups, of any number that a group has at its address, and none where it isn't held.

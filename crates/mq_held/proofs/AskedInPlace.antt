@@ -1,44 +1,19 @@
 -- A group, by its row, with one source asked for.
-use Rattle.std.proofs.Common.{◌≡◌, ℕ, ◌+◌, ◌≤◌, Bool, true, false, cond, ◌&&◌, refl, List, [], ◌∷◌, ◌++◌, Option, None, Some, length, ltb, get_or, set}
-use Rattle.std.proofs.Common.{sym, ap, ◌∙◌, subst, arith}
-use Rattle.std.specs.Prelude.{map as list_map}
-use Rattle.std.specs.List.{count_by, list_any}
+use Rattle.mq_held.proofs.Common.{◌≡◌, ℕ, ◌+◌, ◌≤◌, Bool, true, false, cond, ◌&&◌, refl, List, [], ◌∷◌, ◌++◌, Option, None, Some, length, ltb, get_or, set, sym}
+use Rattle.mq_held.proofs.Common.{ap, ◌∙◌, subst, arith, list_map, count_by, list_any, le-leb, length-map, set-set, IsAscending, set_of, PoolState}
+use Rattle.mq_held.proofs.Common.{IsAscending-map, Source, is_asked_above, source_if_asked, GroupState, IsWellFormed, deadline_of, group_deadline, is_ahead}
+use Rattle.mq_held.proofs.Common.{is_vacant, sendings_of, lowered_to, item_counted, item_has_sendings, above, has_sendings, sendings_counted, some_source}
+use Rattle.mq_held.proofs.Common.{source_asked, source_counted, number_in, state_of, timers_in, last_member_count, stays, asked_absent, asked_found}
+use Rattle.mq_held.proofs.Common.{ScheduleState, ScheduledGroup, GroupQuery, SentQuery, after_round, is_due, messages_due, waiting_messages, Sends, Inside}
+use Rattle.mq_held.proofs.Common.{ScheduledHead, HasNumber, HeldState, group_at, group_of, groups_by, no_head}
 use Rattle.std.specs.FinMap as map
-use Rattle.std.proofs.lemmas.Bool.{le-leb}
-use Rattle.std.proofs.lemmas.List.{length-map, set-set}
-use Rattle.mq_sets.specs.Ascending.{IsAscending, set_of}
-use Rattle.mq_sets.specs.Pools.{PoolState}
-use Rattle.mq_sets.proofs.Ascents.{IsAscending-map}
-use Rattle.mq_table.specs.declared.sources.Source.{Source}
-use Rattle.mq_table.specs.declared.timing.Timing.{Timing}
-use Rattle.mq_table.specs.AskedSources.{is_asked_above, source_if_asked}
-use Rattle.mq_table.specs.Group.{GroupState, IsWellFormed, deadline_of, group_deadline, is_ahead, is_vacant, sendings_of}
-use Rattle.mq_table.specs.Lowering.{lowered_to}
-use Rattle.mq_table.specs.MadeSources.{item_counted}
-use Rattle.mq_table.specs.SendingPlaces.{item_has_sendings}
-use Rattle.mq_table.specs.Sendings.{above, has_sendings, sendings_counted, some_source, source_asked, source_counted}
-use Rattle.mq_table.specs.Sets.{◌∩◌}
-use Rattle.mq_table.specs.Stored.{number_in, state_of, timers_in}
-use Rattle.mq_table.specs.Timing.{last_member_count}
-use Rattle.mq_table.proofs.Asking.{stays}
-use Rattle.mq_table.proofs.AskingOne.{asked_absent, asked_found}
+use Rattle.mq_table.specs.{declared.timing.Timing.Timing, Sets.◌∩◌}
 use Rattle.mq_table.proofs.Rows.{any_in_row, timers_in-replaced}
 use Rattle.mq_sched.specs.Rounds.{IsQuietAt}
-use Rattle.mq_sched.specs.Schedule.{ScheduleState, ScheduledGroup}
-use Rattle.mq_sched.specs.Sending.{GroupQuery, SentQuery, after_round, is_due, messages_due, waiting_messages}
-use Rattle.mq_sched.specs.Sink.{Sends}
-use Rattle.mq_sched.proofs.Rounds.{group_not_due, quiet_is_silent, same_count, same_round}
-use Rattle.mq_sched.proofs.StayHeld.{held_acted, held_after_round}
-use Rattle.mq_held.specs.declared.held_groups.HeldGroups.TheInside.{Inside}
-use Rattle.mq_held.specs.declared.scheduled_head.ScheduledHead.{ScheduledHead}
+use Rattle.mq_sched.proofs.{Rounds.group_not_due, Rounds.quiet_is_silent, Rounds.same_count, Rounds.same_round, StayHeld.held_acted, StayHeld.held_after_round}
 use Rattle.mq_held.specs.Asked.{one_asked}
-use Rattle.mq_held.specs.Held.{HasNumber, HeldState}
-use Rattle.mq_held.specs.Groups.{group_at}
-use Rattle.mq_held.specs.Stored.{group_of, groups_by, no_head}
-use Rattle.mq_held.proofs.CountedRows.{asked-has, count-made}
-use Rattle.mq_held.proofs.Inside.{address-of, ahead_is, contained, group_found, state-set}
-use Rattle.mq_held.proofs.Located.{Located, Placed, group_in, row-read, row_of}
-use Rattle.mq_held.proofs.RestartedTimers.{insert-same}
+use Rattle.mq_held.proofs.{CountedRows.asked-has, CountedRows.count-made, Inside.address-of, Inside.ahead_is, Inside.contained, Inside.group_found}
+use Rattle.mq_held.proofs.{Inside.state-set, Located.Located, Located.Placed, Located.group_in, Located.row-read, Located.row_of, RestartedTimers.insert-same}
 
 module _ {K : Type 0} (number : K → ℕ) (timing : Timing) (now : ℕ) (source : K) where
   abbrev pub asked_set : ℕ → Bool

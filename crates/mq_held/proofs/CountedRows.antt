@@ -1,18 +1,8 @@
 -- The count of a row's sources.
-use Rattle.std.proofs.Common.{ℕ, ◌+◌, ◌<◌, ◌≤◌, ◌≡◌, ◌||◌, ◌&&◌, Bool, true, false, cond, ltb, min, refl, arith, List, [], ◌∷◌, take, drop, get_or}
-use Rattle.std.proofs.Common.{Some, sym, ap, ◌∙◌, ⊎_elim}
-use Rattle.std.specs.Prelude.{map as list_map}
-use Rattle.std.specs.List.{count_by, list_any}
-use Rattle.std.proofs.lemmas.Bool.{cases_lt, cond-false, cond-true, le-ltb, lt-ltb, true≢false}
-use Rattle.std.proofs.lemmas.List.{get_or-drop, take-append-drop}
-use Rattle.std.proofs.lemmas.List.Sums.{sum_by-append, sum_by-cons}
-use Rattle.mq_table.specs.AskedSources.{is_asked_above, source_if_asked}
-use Rattle.mq_table.specs.Group.{deadline_of, is_ahead}
-use Rattle.mq_table.specs.SendingPlaces.{item_has_sendings}
-use Rattle.mq_table.specs.Sendings.{source_asked}
-use Rattle.mq_table.specs.declared.sources.Source.{Source}
-use Rattle.mq_table.specs.declared.timers.SourceTimer.{SourceTimer}
-use Rattle.mq_table.specs.declared.timers.SourceTimer.TheVariants.{Stopped, Running}
+use Rattle.mq_held.proofs.Common.{ℕ, ◌+◌, ◌<◌, ◌≤◌, ◌≡◌, ◌||◌, ◌&&◌, Bool, true, false, cond, ltb, min, refl, arith, List, [], ◌∷◌, take, drop, get_or, Some}
+use Rattle.mq_held.proofs.Common.{sym, ap, ◌∙◌, ⊎_elim, list_map, count_by, list_any, cases_lt, cond-false, cond-true, le-ltb, lt-ltb, true≢false, get_or-drop}
+use Rattle.mq_held.proofs.Common.{take-append-drop, sum_by-append, sum_by-cons, is_asked_above, source_if_asked, deadline_of, is_ahead, item_has_sendings}
+use Rattle.mq_held.proofs.Common.{source_asked, Source, SourceTimer, Stopped, Running}
 
 -- 1 for an item that passes a test
 abbrev one_for : {X : Type 0} → (X → Bool) → X → ℕ

@@ -1,46 +1,18 @@
 -- The due groups by their numbers: put in order, or left of all numbers.
-use Rattle.std.proofs.Common.{ℕ, ◌+◌, ◌-◌, ◌*◌, ◌<◌, ◌≤◌, ◌≡◌, min, Bool, true, false, not, cond, refl, List, [], ◌∷◌, length, get_or, take, Some}
-use Rattle.std.proofs.Common.{sym, ap, ◌∙◌, subst, arith, ⊎_elim}
+use Rattle.mq_held.proofs.Common.{ℕ, ◌+◌, ◌-◌, ◌*◌, ◌<◌, ◌≤◌, ◌≡◌, min, Bool, true, false, not, cond, refl, List, [], ◌∷◌, length, get_or, take, Some, sym, ap}
+use Rattle.mq_held.proofs.Common.{◌∙◌, subst, arith, ⊎_elim, All, unwrap_or, nat_cmp, mul-le-mul_left, cases_eq, cases_lt, get_or-map, length-map}
+use Rattle.mq_held.proofs.Common.{length-take-le, All-filter, AllPairs-filter, sum_by-cons, length-filter, count_by-le-length, slice_get-get_or, FinMap, Spends}
+use Rattle.mq_held.proofs.Common.{Spends-join_within, Spends-within, IsAscending, set_of, NumberedKeysState, key_in, bitlen, times, IsAscending-head}
+use Rattle.mq_held.proofs.Common.{IsAscending-tail, bitlen-le, is_cell, is_cell-same, is_cell-other, at_counted, length-counted, Source, is_number_due}
+use Rattle.mq_held.proofs.Common.{ScheduledGroup, is_vacant, ScheduledHead, Groups, unheld, group_at, running_in, HeldState, IsNumber, addresses_due, due_in}
+use Rattle.mq_held.proofs.Common.{has_due, groups_by, IsStored}
 use Rattle.std.specs.Prelude.{map as list_map, filter, slice_get, if◌then◌else◌}
-use Rattle.std.specs.List.{All}
-use Rattle.std.specs.Option.{unwrap_or}
-use Rattle.std.specs.Ordering.{nat_cmp}
-use Rattle.std.proofs.Math.Nat.{mul-le-mul_left}
-use Rattle.std.proofs.lemmas.Bool.{cases_eq, cases_lt}
-use Rattle.std.proofs.lemmas.List.{get_or-map, length-map, length-take-le}
-use Rattle.std.proofs.lemmas.List.Elements.{All-filter}
-use Rattle.std.proofs.lemmas.List.Kept.{AllPairs-filter}
-use Rattle.std.proofs.lemmas.List.Sums.{sum_by-cons, length-filter, count_by-le-length}
-use Rattle.std.proofs.lemmas.Option.{slice_get-get_or}
 use Rattle.std.specs.FinMap as map
-use Rattle.std.specs.FinMap.{FinMap}
-use Rattle.mq_count.specs.Spending.{Spends}
-use Rattle.mq_count.proofs.Spent.{Spends-join_within, Spends-within}
-use Rattle.mq_sets.specs.Ascending.{IsAscending, set_of}
-use Rattle.mq_sets.specs.NumberedKeys.{NumberedKeysState, key_in}
-use Rattle.mq_sets.specs.Search.{bitlen}
-use Rattle.mq_sets.specs.Slots.{times}
-use Rattle.mq_sets.proofs.Ascents.{IsAscending-head, IsAscending-tail}
-use Rattle.mq_sets.proofs.Bitlen.{bitlen-le}
-use Rattle.mq_sets.proofs.Cells.{is_cell, is_cell-same, is_cell-other}
-use Rattle.mq_sets.proofs.Counted.{at_counted, length-counted}
-use Rattle.mq_table.specs.declared.sources.Source.{Source}
-use Rattle.mq_sched.specs.Deadlines.{is_number_due}
-use Rattle.mq_sched.specs.Schedule.{ScheduledGroup}
-use Rattle.mq_table.specs.Group.{is_vacant}
-use Rattle.mq_held.specs.declared.scheduled_head.ScheduledHead.{ScheduledHead}
-use Rattle.mq_held.specs.Groups.{Groups, unheld, group_at, running_in}
-use Rattle.mq_held.specs.Held.{HeldState, IsNumber}
-use Rattle.mq_held.specs.Places.{addresses_due, due_in, has_due}
-use Rattle.mq_held.specs.Stored.{groups_by, IsStored}
-use Rattle.mq_held.proofs.DueNumbers.{due-number, due-unused}
-use Rattle.mq_held.proofs.Entries.{get-place}
-use Rattle.mq_held.proofs.GroupsInOrder.{IsOrdered, IsOrdered-stored, all-numbers, all-addresses}
-use Rattle.mq_held.proofs.Inside.{items_are, running-held}
-use Rattle.mq_held.proofs.KeysByNumber.{numbers_in, numbers-ascend, map-filter, filter-agree}
-use Rattle.mq_held.proofs.OrderedAmounts.{sum_by-map, times-filter}
-use Rattle.mq_held.proofs.OrderedItems.{number_of, has-number, times-in, absent-times}
-use Rattle.mq_held.proofs.StoredMoments.{one_at_most}
+use Rattle.mq_held.proofs.{DueNumbers.due-number, DueNumbers.due-unused, Entries.get-place, GroupsInOrder.IsOrdered, GroupsInOrder.IsOrdered-stored}
+use Rattle.mq_held.proofs.{GroupsInOrder.all-numbers, GroupsInOrder.all-addresses, Inside.items_are, Inside.running-held, KeysByNumber.numbers_in}
+use Rattle.mq_held.proofs.{KeysByNumber.numbers-ascend, KeysByNumber.map-filter, KeysByNumber.filter-agree, OrderedAmounts.sum_by-map}
+use Rattle.mq_held.proofs.{OrderedAmounts.times-filter, OrderedItems.number_of, OrderedItems.has-number, OrderedItems.times-in, OrderedItems.absent-times}
+use Rattle.mq_held.proofs.{StoredMoments.one_at_most}
 
 -- lists that ascend and have each number as often are the same
 pub same-ordered : (f : ℕ → ℕ) (xs ys : List ℕ) → IsAscending f xs → IsAscending f ys → ((n : ℕ) → times n xs ≡ times n ys) → xs ≡ ys

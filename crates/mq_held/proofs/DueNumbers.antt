@@ -1,28 +1,12 @@
 -- The due numbers, by the stored moments.
-use Rattle.std.proofs.Common.{ℕ, ◌+◌, ◌<◌, ◌≡◌, Bool, false, cond, not, refl, arith, List, [], ◌∷◌, length, take, get_or, None, sym, ap, ◌∙◌}
+use Rattle.mq_held.proofs.Common.{ℕ, ◌+◌, ◌<◌, ◌≡◌, Bool, false, cond, not, refl, arith, List, [], ◌∷◌, length, take, get_or, None, sym, ap, ◌∙◌, count_by}
+use Rattle.mq_held.proofs.Common.{list_any, sum_by_more, Spends, Spends-join_within, nat_cmp, FinMap, set_of, NumberedKeysState, key_in, Source, has_come}
+use Rattle.mq_held.proofs.Common.{is_number_due, ScheduledHead, group_at, HeldState, IsNumber, is_vacant_at, is_vacant, least, moments_of, has_due, earliest_of}
+use Rattle.mq_held.proofs.Common.{group_by, groups_by, IsStored}
 use Rattle.std.specs.Prelude.{nat_le, if◌then◌else◌}
-use Rattle.std.specs.List.{count_by, list_any}
-use Rattle.std.proofs.lemmas.List.Sums.{sum_by_more}
 use Rattle.std.specs.FinMap as map
-use Rattle.mq_count.specs.Spending.{Spends}
-use Rattle.mq_count.proofs.Spent.{Spends-join_within}
-use Rattle.std.specs.Ordering.{nat_cmp}
-use Rattle.std.specs.FinMap.{FinMap}
-use Rattle.mq_sets.specs.Ascending.{set_of}
-use Rattle.mq_sets.specs.NumberedKeys.{NumberedKeysState, key_in}
-use Rattle.mq_table.specs.declared.sources.Source.{Source}
-use Rattle.mq_sched.specs.Deadlines.{has_come, is_number_due}
-use Rattle.mq_held.specs.declared.scheduled_head.ScheduledHead.{ScheduledHead}
-use Rattle.mq_held.specs.Groups.{group_at}
-use Rattle.mq_held.specs.Held.{HeldState, IsNumber, is_vacant_at}
-use Rattle.mq_table.specs.Group.{is_vacant}
-use Rattle.mq_held.specs.Moments.{least, moments_of}
-use Rattle.mq_held.specs.Places.{has_due}
-use Rattle.mq_held.specs.Stored.{earliest_of, group_by, groups_by, IsStored}
-use Rattle.mq_held.proofs.LeastMoments.{due-earliest}
-use Rattle.mq_held.proofs.OrderedItems.{number_of}
-use Rattle.mq_held.proofs.Inside.{group-of, known-key, moment-there, numbered}
-use Rattle.mq_held.proofs.LeftNumbers.{number-has}
+use Rattle.mq_held.proofs.{LeastMoments.due-earliest, OrderedItems.number_of, Inside.group-of, Inside.known-key, Inside.moment-there, Inside.numbered}
+use Rattle.mq_held.proofs.{LeftNumbers.number-has}
 
 -- the earliest of some moments has come where some moment has
 pub come-earliest : (now : ℕ) (ms : List ℕ) → has_come now (earliest_of ms) ≡ list_any (λ t. nat_le t now) ms

@@ -1,30 +1,13 @@
 -- The earliest of all moments of the groups, by the moments of their numbers.
 use Rattle.std.proofs.Common.{◌≡◌, ℕ, zero, suc, ◌<◌, ◌≤◌, Bool, true, false, true≢false, if◌then◌else◌, refl, List, [], ◌∷◌, ◌++◌, length, map}
-use Rattle.std.proofs.Common.{get_or, Option, None, Some, is_some, sym, ap, ◌∙◌, subst, arith, ⊎_elim}
-use Rattle.std.specs.Prelude.{nat_lt, MatchOption}
-use Rattle.std.specs.List.{All, Contains, flat_map}
-use Rattle.std.specs.Option.{option_to_list}
-use Rattle.std.specs.Ordering.{nat_cmp}
+use Rattle.mq_held.proofs.Common.{get_or, Option, None, Some, is_some, sym, ap, ◌∙◌, subst, arith, ⊎_elim, nat_lt, MatchOption, All, Contains, flat_map}
+use Rattle.mq_held.proofs.Common.{option_to_list, nat_cmp, FinMap, cases_lt, lt-ltb, le-ltb, All-nil, All-cons, Contains-append_left, Contains-append_right}
+use Rattle.mq_held.proofs.Common.{flat_map-cons, set_of, NumberedKey, NumberedKeysState, Source, IsEarliestMoment, ScheduledHead, running_in, HeldState}
+use Rattle.mq_held.proofs.Common.{moments_of, moments_in, least, min_or, group_by, groups_by, earliest_of, IsStored}
 use Rattle.std.specs.FinMap as map
-use Rattle.std.specs.FinMap.{FinMap}
-use Rattle.std.proofs.lemmas.Bool.{cases_lt, lt-ltb, le-ltb}
-use Rattle.std.proofs.lemmas.List.Elements.{All-nil, All-cons, Contains-append_left, Contains-append_right}
-use Rattle.std.proofs.lemmas.List.Concat.{flat_map-cons}
-use Rattle.mq_sets.specs.Ascending.{set_of}
-use Rattle.mq_sets.specs.NumberedKeys.{NumberedKey, NumberedKeysState}
-use Rattle.mq_table.specs.declared.sources.Source.{Source}
-use Rattle.mq_sched.specs.Deadlines.{IsEarliestMoment}
-use Rattle.mq_held.specs.declared.scheduled_head.ScheduledHead.{ScheduledHead}
-use Rattle.mq_held.specs.Groups.{running_in}
-use Rattle.mq_held.specs.Held.{HeldState}
-use Rattle.mq_held.specs.Moments.{moments_of, moments_in, least}
-use Rattle.mq_held.specs.Places.{min_or}
-use Rattle.mq_held.specs.Stored.{group_by, groups_by, earliest_of, IsStored}
-use Rattle.mq_held.proofs.LeastMoments.{least-append, least-earliest, least-bounds}
-use Rattle.mq_held.proofs.OrderedItems.{item, number_of, has-number, number-in}
-use Rattle.mq_held.proofs.OrderedGroups.{values-groups}
-use Rattle.mq_held.proofs.OrderedAmounts.{empty-contains}
-use Rattle.mq_held.proofs.Inside.{groups_are, running-held}
+use Rattle.mq_held.proofs.{LeastMoments.least-append, LeastMoments.least-earliest, LeastMoments.least-bounds, OrderedItems.item, OrderedItems.number_of}
+use Rattle.mq_held.proofs.{OrderedItems.has-number, OrderedItems.number-in, OrderedGroups.values-groups, OrderedAmounts.empty-contains, Inside.groups_are}
+use Rattle.mq_held.proofs.{Inside.running-held}
 
 -- each list by its earliest: the earliest of all are the earliest of these
 least-options : {X : Type 0} (f : X → List ℕ) (n : ℕ) (xs : List X) → least n (flat_map f xs) ≡ least n (flat_map (λ x. option_to_list (earliest_of (f x))) xs)

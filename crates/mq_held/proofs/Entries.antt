@@ -1,19 +1,9 @@
 -- The entries of a map, and an entry made at its place.
-use Rattle.std.proofs.Common.{◌≡◌, ℕ, zero, suc, ◌<◌, ◌≤◌, Bool, true, false, cond, refl, List, [], ◌∷◌, length, get_or, Option, None, Some, is_some}
-use Rattle.std.proofs.Common.{sym, ap, ◌∙◌, subst, arith}
-use Rattle.std.specs.Prelude.{map as list_map, slice_get}
-use lib.Dec.{T}
-use Rattle.std.specs.List.{insert, remove}
-use Rattle.std.specs.Ordering.{nat_cmp, eq_by_cmp}
-use Rattle.std.specs.Cmp.{nat_cmp_total}
-use Rattle.std.proofs.lemmas.Bool.{true≢false}
-use Rattle.std.proofs.lemmas.List.{get_or-map, length-map}
-use Rattle.std.proofs.lemmas.Option.{slice_get-map, slice_get_within, get_or_from_slice_get}
+use Rattle.mq_held.proofs.Common.{◌≡◌, ℕ, zero, suc, ◌<◌, ◌≤◌, Bool, true, false, cond, refl, List, [], ◌∷◌, length, get_or, Option, None, Some, is_some, sym}
+use Rattle.mq_held.proofs.Common.{ap, ◌∙◌, subst, arith, list_map, slice_get, T, insert, nat_cmp, eq_by_cmp, nat_cmp_total, true≢false, get_or-map, length-map}
+use Rattle.mq_held.proofs.Common.{slice_get-map, slice_get_within, get_or_from_slice_get, FinMap, find, is_sorted, nat_cmp-IsAntisymmetric, below_all}
+use Rattle.mq_held.proofs.Common.{same_entries, IsPlaceFor, IsAscending-insert}
 use Rattle.std.specs.FinMap as map
-use Rattle.std.specs.FinMap.{FinMap, find, is_sorted, nat_cmp-IsAntisymmetric}
-use Rattle.std.specs.FinMap.Entries.{below_all, same_entries}
-use Rattle.mq_sets.specs.Search.{IsPlaceFor}
-use Rattle.mq_sets.proofs.Placing.{IsAscending-insert}
 use Rattle.mq_held.proofs.Sorted.{first, second, below-all, tied, untied, ties, key_of, ascending-sorted, sorted-ascending}
 
 none_some : {A : Type 0} (x : A) → ◌≡◌ {A = Option A} None (Some x) → ⊥

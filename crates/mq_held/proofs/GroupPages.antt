@@ -1,18 +1,10 @@
 -- The groups by the pages of their order: the rank of what stands at a place of a page, and the entries from there on.
-use Rattle.std.proofs.Common.{ℕ, ◌+◌, ◌<◌, ◌≤◌, ◌≡◌, List, ◌∷◌, length, get_or, take, drop, sum, sym, ap, ◌∙◌, arith}
-use Rattle.std.proofs.lemmas.List.{get_or-take, get_or-drop, take_all}
-use Rattle.std.proofs.lemmas.List.Sums.{sum_by_more, sum_by_more_le}
+use Rattle.mq_held.proofs.Common.{ℕ, ◌+◌, ◌<◌, ◌≤◌, ◌≡◌, List, ◌∷◌, length, get_or, take, drop, sum, sym, ap, ◌∙◌, arith, get_or-take, get_or-drop, take_all}
+use Rattle.mq_held.proofs.Common.{sum_by_more, sum_by_more_le, AreFilled, timers_in, ScheduledGroup, group_at, HeldState, HasNumber, IsNumber, entry_in}
+use Rattle.mq_held.proofs.Common.{entries_from, rank_at}
 use Rattle.std.specs.FinMap as map
-use Rattle.mq_sets.specs.NumberedKeys.{AreFilled}
-use Rattle.mq_table.specs.Stored.{timers_in}
-use Rattle.mq_sched.specs.Schedule.{ScheduledGroup}
 use Rattle.mq_held.specs.declared.held_group.HeldGroup.{HeldGroup}
-use Rattle.mq_held.specs.Groups.{group_at}
-use Rattle.mq_held.specs.Held.{HeldState, HasNumber, IsNumber}
-use Rattle.mq_held.specs.Listed.{entry_in, entries_from, rank_at}
-use Rattle.mq_held.proofs.HeldInOrder.{entry_next}
-use Rattle.mq_held.proofs.KeysByNumber.{numbers_in}
-use Rattle.mq_held.proofs.GroupsInOrder.{IsOrdered, rank-is, number-at_rank}
+use Rattle.mq_held.proofs.{HeldInOrder.entry_next, KeysByNumber.numbers_in, GroupsInOrder.IsOrdered, GroupsInOrder.rank-is, GroupsInOrder.number-at_rank}
 
 -- the first place of the next page follows the last place of a page
 rank-more : (pages : List ℕ) (page : ℕ) → page < length pages → rank_at pages (page + 1) 0 ≡ rank_at pages page (get_or pages page 0)

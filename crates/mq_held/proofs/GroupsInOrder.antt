@@ -1,24 +1,10 @@
 -- The order of the groups as a contract sees it: the rank of each number and of its address.
-use Rattle.std.proofs.Common.{ℕ, ◌<◌, ◌≤◌, ◌≡◌, List, length, get_or, Some, sym, ap, ◌∙◌, subst, arith}
-use Rattle.std.specs.Prelude.{map as list_map, slice_get}
-use Rattle.std.specs.List.{All}
-use Rattle.std.specs.Ordering.{nat_cmp}
-use Rattle.std.proofs.lemmas.List.{get_or-map, get_or_default, length-map}
-use Rattle.std.proofs.lemmas.Option.{slice_get-get_or}
+use Rattle.mq_held.proofs.Common.{ℕ, ◌<◌, ◌≤◌, ◌≡◌, List, length, get_or, Some, sym, ap, ◌∙◌, subst, arith, list_map, slice_get, All, nat_cmp, get_or-map}
+use Rattle.mq_held.proofs.Common.{get_or_default, length-map, slice_get-get_or, FinMap, IsAscending, NumberedKey, NumberedKeysState, key_in, times, Source}
+use Rattle.mq_held.proofs.Common.{ScheduledGroup, ScheduledHead, HeldState, HasNumber, IsNumber, HasPlace, groups_by, IsStored}
 use Rattle.std.specs.FinMap as map
-use Rattle.std.specs.FinMap.{FinMap}
-use Rattle.mq_sets.specs.Ascending.{IsAscending}
-use Rattle.mq_sets.specs.NumberedKeys.{NumberedKey, NumberedKeysState, key_in}
-use Rattle.mq_sets.specs.Slots.{times}
-use Rattle.mq_table.specs.declared.sources.Source.{Source}
-use Rattle.mq_sched.specs.Schedule.{ScheduledGroup}
-use Rattle.mq_held.specs.declared.scheduled_head.ScheduledHead.{ScheduledHead}
-use Rattle.mq_held.specs.Held.{HeldState, HasNumber, IsNumber}
-use Rattle.mq_held.specs.Places.{HasPlace}
-use Rattle.mq_held.specs.Stored.{groups_by, IsStored}
-use Rattle.mq_held.proofs.OrderedGroups.{keys-groups}
-use Rattle.mq_held.proofs.Places.{same-address}
-use Rattle.mq_held.proofs.KeysByNumber.{numbers_in, keys_in, key-of_item, key-contained, keys-by_number, number-is}
+use Rattle.mq_held.proofs.{OrderedGroups.keys-groups, Places.same-address, KeysByNumber.numbers_in, KeysByNumber.keys_in, KeysByNumber.key-of_item}
+use Rattle.mq_held.proofs.{KeysByNumber.key-contained, KeysByNumber.keys-by_number, KeysByNumber.number-is}
 
 -- the facts about the order of a storage's groups
 pub record IsOrdered (s : HeldState) : Type 0 where

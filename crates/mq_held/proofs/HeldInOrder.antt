@@ -1,14 +1,9 @@
 -- The entries of a map of groups from a place on: the first of them, and the rest.
-use Rattle.std.proofs.Common.{◌≡◌, ℕ, suc, ◌+◌, ◌<◌, List, ◌∷◌, drop, get_or, length, sym, ap, ◌∙◌, arith}
+use Rattle.mq_held.proofs.Common.{◌≡◌, ℕ, suc, ◌+◌, ◌<◌, List, ◌∷◌, drop, get_or, length, sym, ap, ◌∙◌, arith, get_or-map, ScheduledGroup, Groups, unheld}
+use Rattle.mq_held.proofs.Common.{group_at, HasPlace, entries_from}
 use Rattle.std.proofs.Math.Seq.{drop-cons}
-use Rattle.std.proofs.lemmas.List.{get_or-map}
 use Rattle.std.specs.FinMap as map
-use Rattle.mq_sched.specs.Schedule.{ScheduledGroup}
-use Rattle.mq_held.specs.Groups.{Groups, unheld, group_at}
-use Rattle.mq_held.specs.Places.{HasPlace}
-use Rattle.mq_held.specs.Listed.{entries_from}
-use Rattle.mq_held.proofs.Entries.{place_within, key_at}
-use Rattle.mq_held.proofs.Places.{place-group}
+use Rattle.mq_held.proofs.{Entries.place_within, Entries.key_at, Places.place-group}
 
 pair_is : (x : ℕ × ScheduledGroup) (address : ℕ) (e : ScheduledGroup) → x.0 ≡ address → x.1 ≡ e → x ≡ (address, e)
 pair_is x address e first second = λ i. (first i, second i)

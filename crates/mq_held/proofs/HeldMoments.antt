@@ -1,29 +1,11 @@
 -- The moments of a group, by the row of its sources.
-use Rattle.std.proofs.Common.{◌≡◌, ℕ, Bool, true, false, cond, refl, List, [], ◌∷◌, ◌++◌, Option, Some, is_some, sym, ap, ◌∙◌, append_assoc, append-nil}
-use Rattle.std.specs.Prelude.{map as list_map}
-use lib.Dec.{T}
-use Rattle.std.specs.Option.{option_to_list}
-use Rattle.std.specs.List.{flat_map}
-use Rattle.std.specs.Ordering.{nat_cmp, eq_by_cmp}
-use Rattle.std.specs.Cmp.{nat_cmp_total}
-use Rattle.std.proofs.lemmas.Bool.{true≢false}
+use Rattle.mq_held.proofs.Common.{◌≡◌, ℕ, Bool, true, false, cond, refl, List, [], ◌∷◌, ◌++◌, Option, Some, is_some, sym, ap, ◌∙◌, append_assoc, append-nil}
+use Rattle.mq_held.proofs.Common.{list_map, T, option_to_list, flat_map, nat_cmp, eq_by_cmp, nat_cmp_total, true≢false, FinMap, find, is_sorted, IsAscending}
+use Rattle.mq_held.proofs.Common.{IsAscending-map, Source, FilterMode, Include, Exclude, SourceTimer, Stopped, Running, GroupState, is_running, deadline_of}
+use Rattle.mq_held.proofs.Common.{group_deadline, IsWellFormed, number_in, timers_in, ScheduleState, group_due, those_of, moments_of, earliest_of}
+use Rattle.mq_held.proofs.Common.{timer_moments}
 use Rattle.std.specs.FinMap as map
-use Rattle.std.specs.FinMap.{FinMap, find, is_sorted}
-use Rattle.mq_sets.specs.Ascending.{IsAscending}
-use Rattle.mq_sets.proofs.Ascents.{IsAscending-map}
-use Rattle.mq_table.specs.declared.sources.Source.{Source}
-use Rattle.mq_table.specs.declared.timers.FilterMode.{FilterMode}
-use Rattle.mq_table.specs.declared.timers.FilterMode.TheVariants.{Include, Exclude}
-use Rattle.mq_table.specs.declared.timers.SourceTimer.{SourceTimer}
-use Rattle.mq_table.specs.declared.timers.SourceTimer.TheVariants.{Stopped, Running}
-use Rattle.mq_table.specs.Group.{GroupState, is_running, deadline_of, group_deadline, IsWellFormed}
-use Rattle.mq_table.specs.Stored.{number_in, timers_in}
-use Rattle.mq_sched.specs.Schedule.{ScheduleState}
-use Rattle.mq_sched.specs.Sending.{group_due}
-use Rattle.mq_held.specs.Moments.{those_of, moments_of}
-use Rattle.mq_held.specs.Stored.{earliest_of, timer_moments}
-use Rattle.mq_held.proofs.Sorted.{key_of, sorted-ascending}
-use Rattle.mq_held.proofs.LeastMoments.{earliest-join, earliest-join_right}
+use Rattle.mq_held.proofs.{Sorted.key_of, Sorted.sorted-ascending, LeastMoments.earliest-join, LeastMoments.earliest-join_right}
 
 -- the entries of the map of a list whose keys rise are the list
 pub entries-from_entries : {X : Type 0} (es : List (ℕ × X)) → T (is_sorted nat_cmp es) → map.entries (map.from_entries {R = nat_cmp} es) ≡ es

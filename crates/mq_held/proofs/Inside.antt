@@ -1,25 +1,10 @@
 -- The groups that a contract sees, by what is stored.
 use Rattle.std.proofs.Common.{◌≡◌, ◌==◌, ◌&&◌, Bool, not, ℕ, ◌<◌, true, true≢false, refl, List, [], length, get_or, set, Option, None, Some, is_some}
-use Rattle.std.proofs.Common.{sym, ap, ◌∙◌, subst, arith}
-use Rattle.std.specs.List.{Contains}
-use Rattle.std.specs.Option.{unwrap_or}
-use Rattle.std.specs.Ordering.{nat_cmp}
+use Rattle.mq_held.proofs.Common.{sym, ap, ◌∙◌, subst, arith, Contains, unwrap_or, nat_cmp, FinMap, le-leb, get_or_read, IsAscending, set_of, NumberedKeysState}
+use Rattle.mq_held.proofs.Common.{key_in, cells_in, Source, is_include, is_vacant, number_in, len-timers_in, ScheduledGroup, ScheduledHead, Groups, group_at}
+use Rattle.mq_held.proofs.Common.{sources_of, sources_in, schedules_in, running_in, unheld, HeldState, HasNumber, IsNumber, ahead_with, group_of, group_by}
+use Rattle.mq_held.proofs.Common.{no_head, groups_by, IsStored}
 use Rattle.std.specs.FinMap as map
-use Rattle.std.specs.FinMap.{FinMap}
-use Rattle.std.proofs.lemmas.Bool.{le-leb}
-use Rattle.std.proofs.lemmas.List.{get_or_read}
-use Rattle.mq_sets.specs.Ascending.{IsAscending, set_of}
-use Rattle.mq_sets.specs.NumberedKeys.{NumberedKeysState, key_in}
-use Rattle.mq_sets.specs.Pools.{cells_in}
-use Rattle.mq_table.specs.declared.sources.Source.{Source}
-use Rattle.mq_table.specs.Group.{is_include, is_vacant}
-use Rattle.mq_table.specs.Stored.{number_in}
-use Rattle.mq_table.proofs.SourceLists.{len-timers_in}
-use Rattle.mq_sched.specs.Schedule.{ScheduledGroup}
-use Rattle.mq_held.specs.declared.scheduled_head.ScheduledHead.{ScheduledHead}
-use Rattle.mq_held.specs.Groups.{Groups, group_at, sources_of, sources_in, schedules_in, running_in, unheld}
-use Rattle.mq_held.specs.Held.{HeldState, HasNumber, IsNumber, ahead_with}
-use Rattle.mq_held.specs.Stored.{group_of, group_by, no_head, groups_by, IsStored}
 use Rattle.mq_held.proofs.OrderedItems.{item, number_of, key_of, one-key, one-number, has-key, has-number, key-in, number-in, number-within, key-of_number}
 use Rattle.mq_held.proofs.OrderedAmounts.{sources-groups, schedules-groups, running-groups, has-moment}
 use Rattle.mq_held.proofs.OrderedGroups.{len-groups, get-groups, group-here, groups-changed, contains-groups}

@@ -1,17 +1,7 @@
 -- The keys of numbers, among the items of an ordered set in which no number stands twice.
-use Rattle.std.proofs.Common.{ℕ, suc, ◌<◌, ◌≤◌, ◌≡◌, ◌==◌, Bool, true, false, cond, refl, List, [], ◌∷◌, length, get_or, sym, ap, ◌∙◌, subst, arith, ⊎_elim}
-use Rattle.std.specs.Prelude.{map as list_map, filter}
-use Rattle.std.specs.List.{All, Contains}
-use Rattle.std.proofs.lemmas.Bool.{eq-eqb, true≢false}
-use Rattle.std.proofs.lemmas.Bool.Decides.{eqb_tells}
-use Rattle.std.proofs.lemmas.List.{get_or-map, length-map}
-use Rattle.std.proofs.lemmas.List.Elements.{All-head, All-tail, All-cons}
-use Rattle.std.proofs.lemmas.List.Folds.{list_any_at}
-use Rattle.std.proofs.lemmas.List.Sums.{sum_by-cons}
-use Rattle.mq_sets.specs.Ascending.{IsAscending, set_of}
-use Rattle.mq_sets.specs.NumberedKeys.{NumberedKey, key_in}
-use Rattle.mq_sets.specs.Slots.{times}
-use Rattle.mq_sets.proofs.Cells.{is_cell, is_cell-same, times-some}
+use Rattle.mq_held.proofs.Common.{ℕ, suc, ◌<◌, ◌≤◌, ◌≡◌, ◌==◌, Bool, true, false, cond, refl, List, [], ◌∷◌, length, get_or, sym, ap, ◌∙◌, subst, arith, ⊎_elim}
+use Rattle.mq_held.proofs.Common.{list_map, filter, All, Contains, eq-eqb, true≢false, eqb_tells, get_or-map, length-map, All-head, All-tail, All-cons}
+use Rattle.mq_held.proofs.Common.{list_any_at, sum_by-cons, IsAscending, set_of, NumberedKey, key_in, times, is_cell, is_cell-same, times-some}
 
 -- the numbers of some items, and their keys
 abbrev pub numbers_in : List NumberedKey → List ℕ

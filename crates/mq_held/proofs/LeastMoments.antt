@@ -1,14 +1,6 @@
 -- The earliest of some moments.
-use Rattle.std.proofs.Common.{◌≡◌, ℕ, zero, suc, ◌<◌, length, get_or, ◌≤◌, min, Bool, true, false, ◌||◌, refl, List, [], ◌∷◌, ◌++◌, Some, sym, ap, ◌∙◌, arith}
-use Rattle.std.specs.Prelude.{nat_le}
-use Rattle.std.specs.Option.{option_to_list}
-use Rattle.std.specs.List.{All, list_any}
-use Rattle.std.proofs.Math.Bool.{or-false}
-use Rattle.std.proofs.lemmas.List.Elements.{All-head, All-tail}
-use Rattle.std.proofs.lemmas.Bool.Decides.{nat_tests}
-use Rattle.mq_held.specs.Moments.{least}
-use Rattle.mq_held.specs.Stored.{earliest_of}
-use Rattle.mq_held.specs.Places.{min_or}
+use Rattle.mq_held.proofs.Common.{◌≡◌, ℕ, zero, suc, ◌<◌, length, get_or, ◌≤◌, min, Bool, true, ◌||◌, refl, List, [], ◌∷◌, ◌++◌, Some, sym, ap, ◌∙◌, arith}
+use Rattle.mq_held.proofs.Common.{nat_le, option_to_list, All, list_any, or-false, All-head, All-tail, nat_tests, least, earliest_of, min_or}
 
 pub least-append : (n : ℕ) (xs ys : List ℕ) → least n (xs ++ ys) ≡ least (least n ys) xs
 least-append n [] ys = refl
@@ -70,8 +62,7 @@ due-earliest now (x ∷ xs) d is =
       where
         or_turned : (a b c : Bool) → (a || (b || c)) ≡ (b || (a || c))
         or_turned true true c = refl
-        or_turned true false c = refl
-        or_turned false b c = refl
+        or_turned _ _ c = refl
 
 below-all : (d n : ℕ) (ds : List ℕ) → All (λ deadline. d ≤ deadline) ds → min d (least n ds) ≡ min d n
 below-all d n [] below = refl

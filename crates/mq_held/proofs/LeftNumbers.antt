@@ -1,12 +1,6 @@
 -- Numbers that are left of a list by a test: a list that is filtered in place, and one whose numbers go to another.
-use Rattle.std.proofs.Common.{ℕ, ◌+◌, ◌<◌, ◌≡◌, Bool, true, false, cond, List, [], ◌∷◌, ◌++◌, length, get_or, set, take, sym, ap, ◌∙◌, subst, arith, append-nil}
-use Rattle.std.specs.Prelude.{filter}
-use Rattle.std.specs.List.{All}
-use Rattle.std.proofs.lemmas.List.{get_or-drop, take_more_set}
-use Rattle.std.proofs.lemmas.List.Elements.{filter_more}
-use Rattle.std.proofs.lemmas.List.Filters.{FiltersInPlace}
-use Rattle.mq_sets.specs.NumberedKeys.{key_in}
-use Rattle.mq_held.specs.Held.{HeldState, HasNumber, IsNumber}
+use Rattle.mq_held.proofs.Common.{ℕ, ◌+◌, ◌<◌, ◌≡◌, Bool, true, false, cond, List, [], ◌∷◌, ◌++◌, length, get_or, set, take, sym, ap, ◌∙◌, subst, arith}
+use Rattle.mq_held.proofs.Common.{append-nil, filter, All, get_or-drop, take_more_set, filter_more, FiltersInPlace, key_in, HeldState, HasNumber, IsNumber}
 use Rattle.mq_held.proofs.KeysByNumber.{first-item}
 
 -- the next item to read has not been written yet

@@ -1,31 +1,32 @@
-pub mod Sorted
-pub mod Entries
-pub mod LeastMoments
-pub mod HeldMoments
-pub mod Places
 pub mod Amounts
-pub mod OrderedItems
-pub mod OrderedGroups
-pub mod OrderedAmounts
-pub mod StoredEdits
-pub mod Inside
-pub mod KeysByNumber
-pub mod GroupsInOrder
-pub mod LeftNumbers
+pub mod AskedInPlace
+mod Common
+pub mod CountedRows
+pub mod DueInOrder
 pub mod DueNumbers
 mod EarliestHeld
-mod StoredMoments
-mod MadeGroup
+pub mod Entries
 pub mod GroupPages
-pub mod DueInOrder
-pub mod TakenItems
-pub mod TakenGroups
+pub mod GroupsInOrder
 mod HeldInOrder
+pub mod HeldMoments
+pub mod Inside
+pub mod KeysByNumber
+pub mod LeastMoments
+pub mod LeftNumbers
 pub mod Located
-pub mod RestartedTimers
+mod MadeGroup
+pub mod MomentCounts
+mod NamedWalks
+pub mod OrderedAmounts
+pub mod OrderedGroups
+pub mod OrderedItems
+pub mod Places
 pub mod RestartedEach
 mod RestartedRows
-mod NamedWalks
-pub mod AskedInPlace
-pub mod MomentCounts
-pub mod CountedRows
+pub mod RestartedTimers
+pub mod Sorted
+pub mod StoredEdits
+mod StoredMoments
+pub mod TakenGroups
+pub mod TakenItems

@@ -1,27 +1,13 @@
 -- The group of a number, where it is stored.
 use Rattle.std.proofs.Common.{◌≡◌, ℕ, ◌+◌, ◌-◌, ◌^◌, ◌<◌, ◌≤◌, Bool, true, false, not, if◌then◌else◌, refl, List, [], length, length-set, get_or, set, None}
-use Rattle.std.proofs.Common.{Some, is_some, sym, ap, ◌∙◌, subst, arith}
+use Rattle.mq_held.proofs.Common.{Some, is_some, sym, ap, ◌∙◌, subst, arith, get_or-set_same, get_or_read, IsAscending, set_of, PoolState, bitlen, set-same}
+use Rattle.mq_held.proofs.Common.{Source, IsWellFormed, is_vacant, number_in, DeadlinesState, ScheduledGroup, Inside, ScheduledHead, group_at, one_if}
+use Rattle.mq_held.proofs.Common.{running_in, schedules_of, sources_of, HasNumber, HeldState, IsNumber, moments_of, IsStored, earliest_of, group_by, group_of}
+use Rattle.mq_held.proofs.Common.{groups_by, no_head}
 use Rattle.std.specs.FinMap as map
-use Rattle.std.proofs.lemmas.List.{get_or-set_same, get_or_read}
-use Rattle.mq_sets.specs.Ascending.{IsAscending, set_of}
-use Rattle.mq_sets.specs.Pools.{PoolState}
-use Rattle.mq_sets.specs.Search.{bitlen}
-use Rattle.mq_sets.proofs.OneCell.{set-same}
-use Rattle.mq_table.specs.declared.sources.Source.{Source}
-use Rattle.mq_table.specs.Group.{IsWellFormed, is_vacant}
-use Rattle.mq_table.specs.Stored.{number_in}
-use Rattle.mq_sched.specs.Deadlines.{DeadlinesState}
-use Rattle.mq_sched.specs.Schedule.{ScheduledGroup}
-use Rattle.mq_held.specs.declared.held_groups.HeldGroups.TheInside.{Inside}
-use Rattle.mq_held.specs.declared.scheduled_head.ScheduledHead.{ScheduledHead}
-use Rattle.mq_held.specs.Groups.{group_at, one_if, running_in, schedules_of, sources_of}
-use Rattle.mq_held.specs.Held.{HasNumber, HeldState, IsNumber}
-use Rattle.mq_held.specs.Moments.{moments_of}
-use Rattle.mq_held.specs.Stored.{IsStored, earliest_of, group_by, group_of, groups_by, no_head}
-use Rattle.mq_held.proofs.Inside.{ahead_is, group-of, numbered, running-held, size-of, state-set, within-rows}
-use Rattle.mq_held.proofs.OrderedAmounts.{has-moment}
-use Rattle.mq_held.proofs.OrderedItems.{number_of}
-use Rattle.mq_held.proofs.StoredEdits.{IsStored-written, row-none, schedules-read, schedules_part}
+use Rattle.mq_held.proofs.{Inside.ahead_is, Inside.group-of, Inside.numbered, Inside.running-held, Inside.size-of, Inside.state-set, Inside.within-rows}
+use Rattle.mq_held.proofs.{OrderedAmounts.has-moment, OrderedItems.number_of, StoredEdits.IsStored-written, StoredEdits.row-none, StoredEdits.schedules-read}
+use Rattle.mq_held.proofs.{StoredEdits.schedules_part}
 
 -- the row of a number, and its group
 abbrev pub row_of : {K A : Type 0} → Inside K A → ℕ → List (Source K)

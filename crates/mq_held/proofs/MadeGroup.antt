@@ -1,37 +1,16 @@
 -- The storage once an address has a number, before its group is written.
-use Rattle.std.proofs.Common.{◌≡◌, ◌||◌, ℕ, ◌+◌, ◌-◌, ◌<◌, ◌≤◌, Bool, true, false, cond, if◌then◌else◌, refl, List, length, map, Option, Some, sym}
-use Rattle.std.proofs.Common.{ap, ◌∙◌, subst, arith, ◌⊎◌, inl, inr, ⊎_elim}
-use Rattle.std.specs.Prelude.{nat_le}
-use Rattle.std.specs.List.{All, Contains, insert, sum_by}
-use Rattle.std.specs.Ordering.{nat_cmp, eq_by_cmp}
-use Rattle.std.specs.Cmp.{nat_cmp_total}
+use Rattle.mq_held.proofs.Common.{◌≡◌, ◌||◌, ℕ, ◌+◌, ◌-◌, ◌<◌, ◌≤◌, Bool, true, false, cond, if◌then◌else◌, refl, List, length, map, Option, Some, sym, ap, ◌∙◌}
+use Rattle.mq_held.proofs.Common.{subst, arith, ◌⊎◌, inl, inr, ⊎_elim, nat_le, All, Contains, insert, sum_by, nat_cmp, eq_by_cmp, nat_cmp_total, or-false}
+use Rattle.mq_held.proofs.Common.{cases_lt, eqb_tells, sum_by-insert, IsAscending, set_of, NumberedKey, NumberedKeysState, IsSpotFor, rank_of, cells_reserved}
+use Rattle.mq_held.proofs.Common.{IsPlaceFor, times, set_of-insert, map-insert, is_vacant, ScheduledGroup, Groups, group_at, running_in, sources_in, sources_of}
+use Rattle.mq_held.proofs.Common.{unheld, HeldState, HasNumber, ahead_with, moved_by_row, moved_by_new_row, entry_of, entries_of, groups_by, Inside}
 use Rattle.std.specs.FinMap as map
-use Rattle.std.proofs.Math.Bool.{or-false}
-use Rattle.std.proofs.lemmas.Bool.{cases_lt}
-use Rattle.std.proofs.lemmas.Bool.Decides.{eqb_tells}
 use Rattle.std.proofs.lemmas.List.Edits.{length-insert, get_or-insert_below, get_or-insert_above, get_or-insert_at}
-use Rattle.std.proofs.lemmas.List.Sums.{sum_by-insert}
-use Rattle.mq_sets.specs.Ascending.{IsAscending, set_of}
-use Rattle.mq_sets.specs.NumberedKeys.{NumberedKey, NumberedKeysState, IsSpotFor, rank_of}
 use Rattle.mq_sets.specs.declared.spots.Spot.{Spot}
-use Rattle.mq_sets.specs.Pools.{cells_reserved}
-use Rattle.mq_sets.specs.Search.{IsPlaceFor}
-use Rattle.mq_sets.specs.Slots.{times}
-use Rattle.mq_sets.proofs.Placing.{set_of-insert}
-use Rattle.mq_sets.proofs.Stored.{map-insert}
-use Rattle.mq_table.specs.Group.{is_vacant}
-use Rattle.mq_sched.specs.Schedule.{ScheduledGroup}
-use Rattle.mq_held.specs.Groups.{Groups, group_at, running_in, sources_in, sources_of, unheld}
-use Rattle.mq_held.specs.Held.{HeldState, HasNumber, ahead_with, moved_by_row, moved_by_new_row}
-use Rattle.mq_held.specs.Stored.{entry_of, entries_of, groups_by}
-use Rattle.mq_held.proofs.Amounts.{no_sources}
-use Rattle.mq_held.proofs.OrderedItems.{item, number_of, key_of}
-use Rattle.mq_held.proofs.OrderedGroups.{group-here, groups-made}
-use Rattle.mq_held.proofs.OrderedAmounts.{running-groups, sources-groups}
-use Rattle.mq_held.proofs.StoredEdits.{IsStored-order, group-unused, schedules_at, unheld-vacant}
-use Rattle.mq_held.proofs.Located.{IsStorage, group_in, seen}
-use Rattle.mq_held.specs.declared.held_groups.HeldGroups.TheInside.{Inside}
-use Rattle.mq_held.proofs.Inside.{ahead_is, groups_are, room_is, running-held, source_room_is, sources-held}
+use Rattle.mq_held.proofs.{Amounts.no_sources, OrderedItems.item, OrderedItems.number_of, OrderedItems.key_of, OrderedGroups.group-here}
+use Rattle.mq_held.proofs.{OrderedGroups.groups-made, OrderedAmounts.running-groups, OrderedAmounts.sources-groups, StoredEdits.IsStored-order}
+use Rattle.mq_held.proofs.{StoredEdits.group-unused, StoredEdits.schedules_at, StoredEdits.unheld-vacant, Located.IsStorage, Located.group_in, Located.seen}
+use Rattle.mq_held.proofs.{Inside.ahead_is, Inside.groups_are, Inside.room_is, Inside.running-held, Inside.source_room_is, Inside.sources-held}
 
 -- the items of a list after an insert
 pub made-there : {X : Type 0} (xs : List X) (p : ℕ) (x : X) → p ≤ length xs → Contains (insert xs p x) x

@@ -1,9 +1,6 @@
 -- The number of moments that are compared for the earliest one.
-use Rattle.std.proofs.Common.{ℕ, ◌+◌, ◌-◌, ◌≡◌, min, refl, arith, List, [], ◌∷◌, ◌++◌, length, Option, length-append}
-use Rattle.std.specs.Option.{option_to_list}
-use Rattle.mq_count.specs.Spending.{Spends}
-use Rattle.mq_held.specs.Moments.{those_of}
-use Rattle.mq_held.specs.Stored.{earliest_of}
+use Rattle.mq_held.proofs.Common.{ℕ, ◌+◌, ◌-◌, ◌≡◌, min, refl, arith, List, [], ◌∷◌, ◌++◌, length, Option, length-append, option_to_list, Spends, those_of}
+use Rattle.mq_held.proofs.Common.{earliest_of}
 
 -- one moment is the earliest, where there is one
 pub one-earliest : (xs : List ℕ) → length (option_to_list (earliest_of xs)) ≡ min 1 (length xs)

@@ -1,14 +1,7 @@
 -- One walk over ascending items and ascending names, which tells whether each name is that of an item.
-use Rattle.std.proofs.Common.{◌≡◌, ℕ, zero, suc, ◌+◌, ◌<◌, ◌≤◌, ◌==◌, ◌&&◌, ◌||◌, false, refl, List, [], ◌∷◌, length, get_or, drop, sym, ap, ◌∙◌}
-use Rattle.std.proofs.Common.{subst, arith, add-one}
-use Rattle.std.specs.Prelude.{map as list_map}
-use Rattle.std.specs.List.{All, list_all}
-use Rattle.std.proofs.lemmas.Bool.{eq-eqb}
-use Rattle.std.proofs.lemmas.List.{drop_all, drop_more, get_or_default, length-drop}
-use Rattle.std.proofs.lemmas.List.Elements.{All-head, All-tail, All-weaker}
-use Rattle.std.proofs.lemmas.List.Folds.{list_any_none}
-use Rattle.mq_sets.specs.Ascending.{IsAscending, set_of}
-use Rattle.mq_sets.proofs.Ascents.{above-eqb, below-eqb, IsAscending-head}
+use Rattle.mq_held.proofs.Common.{◌≡◌, ℕ, zero, suc, ◌+◌, ◌<◌, ◌≤◌, ◌==◌, ◌&&◌, ◌||◌, false, refl, List, [], ◌∷◌, length, get_or, drop, sym, ap, ◌∙◌, subst}
+use Rattle.mq_held.proofs.Common.{arith, add-one, list_map, All, list_all, eq-eqb, drop_all, drop_more, get_or_default, length-drop, All-head, All-tail}
+use Rattle.mq_held.proofs.Common.{All-weaker, list_any_none, IsAscending, set_of, above-eqb, below-eqb, IsAscending-head}
 use Rattle.mq_table.proofs.Runs.{IsAscending-drop}
 
 -- how far the walk has come: what is left of both tells what all tells

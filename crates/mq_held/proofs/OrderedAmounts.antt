@@ -1,37 +1,16 @@
 -- The sources, schedules and moments of all groups, by the items of the order.
 use Rattle.std.proofs.Common.{◌≡◌, ℕ, zero, suc, ◌+◌, ◌-◌, ◌<◌, ◌≤◌, Bool, true, false, true≢false, cond, not, if◌then◌else◌, refl, List, [], ◌∷◌}
-use Rattle.std.proofs.Common.{length, map, get_or, Option, None, Some, is_some, sym, ap, ◌∙◌, arith, ⊎_elim}
+use Rattle.mq_held.proofs.Common.{length, map, get_or, Option, None, Some, is_some, sym, ap, ◌∙◌, arith, ⊎_elim, option_to_list, nat_cmp, nat_cmp_total, FinMap}
+use Rattle.mq_held.proofs.Common.{cases_lt, cases_eq, length-map, nil_from_length, All-map, sum_by-cons, length-filter, set_of, NumberedKey, cells_in, times}
+use Rattle.mq_held.proofs.Common.{is_cell, is_cell-same, is_cell-other, Source, deadline_of, is_vacant, SourceTimer, len-timers_in, ScheduledGroup}
+use Rattle.mq_held.proofs.Common.{ScheduledHead, unheld, sources_of, sources_in, schedules_of, schedules_in, running_in, moments_of, group_by, groups_by}
+use Rattle.mq_held.proofs.Common.{earliest_of, IsStored}
 use Rattle.std.specs.List.{All, sum_by, count_by, filter, flat_map}
-use Rattle.std.specs.Option.{option_to_list}
-use Rattle.std.specs.Ordering.{nat_cmp}
-use Rattle.std.specs.Cmp.{nat_cmp_total}
 use Rattle.std.specs.FinMap as map
-use Rattle.std.specs.FinMap.{FinMap}
-use Rattle.std.proofs.lemmas.Bool.{cases_lt, cases_eq}
-use Rattle.std.proofs.lemmas.List.{length-map, nil_from_length}
-use Rattle.std.proofs.lemmas.List.Elements.{All-map}
-use Rattle.std.proofs.lemmas.List.Sums.{sum_by-cons, length-filter}
-use Rattle.mq_sets.specs.Ascending.{set_of}
-use Rattle.mq_sets.specs.NumberedKeys.{NumberedKey}
-use Rattle.mq_sets.specs.Pools.{cells_in}
-use Rattle.mq_sets.specs.Slots.{times}
 use Rattle.mq_sets.specs.declared.extents.Extent.{Extent}
-use Rattle.mq_sets.proofs.Cells.{is_cell, is_cell-same, is_cell-other}
 use Rattle.mq_sets.proofs.PackedRows.{size_of, named-sum}
-use Rattle.mq_table.specs.declared.sources.Source.{Source}
-use Rattle.mq_table.specs.Group.{deadline_of, is_vacant}
-use Rattle.mq_table.specs.declared.timers.SourceTimer.{SourceTimer}
-use Rattle.mq_table.proofs.SourceLists.{len-timers_in}
-use Rattle.mq_sched.specs.Schedule.{ScheduledGroup}
-use Rattle.mq_held.specs.declared.scheduled_head.ScheduledHead.{ScheduledHead}
-use Rattle.mq_held.specs.Groups.{unheld, sources_of, sources_in, schedules_of, schedules_in, running_in}
-use Rattle.mq_held.specs.Moments.{moments_of}
-use Rattle.mq_held.specs.Stored.{group_by, groups_by, earliest_of, IsStored}
-use Rattle.mq_held.proofs.Sorted.{ties, untied}
-use Rattle.mq_held.proofs.Amounts.{of_group, total-entries}
-use Rattle.mq_held.proofs.HeldMoments.{held-moment}
-use Rattle.mq_held.proofs.OrderedItems.{number_of, has-number, times-in, absent-times}
-use Rattle.mq_held.proofs.OrderedGroups.{entries-groups, values-groups}
+use Rattle.mq_held.proofs.{Sorted.ties, Sorted.untied, Amounts.of_group, Amounts.total-entries, HeldMoments.held-moment, OrderedItems.number_of}
+use Rattle.mq_held.proofs.{OrderedItems.has-number, OrderedItems.times-in, OrderedItems.absent-times, OrderedGroups.entries-groups, OrderedGroups.values-groups}
 
 -- a sum over a map of a list
 pub sum_by-map : {X Y : Type 0} (w : Y → ℕ) (f : X → Y) (xs : List X) → sum_by w (map f xs) ≡ sum_by (λ x. w (f x)) xs

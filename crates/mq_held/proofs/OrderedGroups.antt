@@ -1,30 +1,13 @@
 -- The map of the groups that are kept by number, by the items of the order: what it has at an address, and its edits.
-use Rattle.std.proofs.Common.{◌≡◌, ℕ, ◌<◌, ◌≤◌, Bool, true, false, cond, refl, List, [], ◌∷◌, length, map, Option, None, Some, is_some, sym, ap, ◌∙◌}
-use Rattle.std.proofs.Common.{subst, arith, ⊎_elim}
-use Rattle.std.specs.List.{Contains, insert}
-use Rattle.std.specs.Option.{option_map, unwrap_or}
-use Rattle.std.specs.Ordering.{nat_cmp, eq_by_cmp}
-use Rattle.std.specs.Cmp.{nat_cmp_total}
+use Rattle.mq_held.proofs.Common.{◌≡◌, ℕ, ◌<◌, ◌≤◌, Bool, true, false, cond, refl, List, [], ◌∷◌, length, map, Option, None, Some, is_some, sym, ap, ◌∙◌, subst}
+use Rattle.mq_held.proofs.Common.{arith, ⊎_elim, Contains, insert, option_map, unwrap_or, nat_cmp, eq_by_cmp, nat_cmp_total, cases_eq, length-map, get_or-map}
+use Rattle.mq_held.proofs.Common.{IsAscending, set_of, item_with, NumberedKey, IsPlaceFor, times, IsAscending-map, found_where_member, maps_each_number}
+use Rattle.mq_held.proofs.Common.{IsAscending-insert, map-insert, Source, ScheduledGroup, ScheduledHead, unheld, group_at, group_by, entry_of, entries_of}
+use Rattle.mq_held.proofs.Common.{groups_by}
 use Rattle.std.specs.FinMap as map
-use Rattle.std.proofs.lemmas.Bool.{cases_eq}
-use Rattle.std.proofs.lemmas.List.{length-map, get_or-map}
-use Rattle.mq_sets.specs.Ascending.{IsAscending, set_of, item_with}
-use Rattle.mq_sets.specs.NumberedKeys.{NumberedKey}
-use Rattle.mq_sets.specs.Search.{IsPlaceFor}
-use Rattle.mq_sets.specs.Slots.{times}
-use Rattle.mq_sets.proofs.Ascents.{IsAscending-map}
-use Rattle.mq_sets.proofs.Found.{found_where_member, maps_each_number}
-use Rattle.mq_sets.proofs.Placing.{IsAscending-insert}
-use Rattle.mq_sets.proofs.Stored.{map-insert}
-use Rattle.mq_table.specs.declared.sources.Source.{Source}
-use Rattle.mq_sched.specs.Schedule.{ScheduledGroup}
-use Rattle.mq_held.specs.declared.scheduled_head.ScheduledHead.{ScheduledHead}
-use Rattle.mq_held.specs.Groups.{unheld, group_at}
-use Rattle.mq_held.specs.Stored.{group_by, entry_of, entries_of, groups_by}
-use Rattle.mq_held.proofs.Sorted.{sorted-ascending, ties, untied}
+use Rattle.mq_held.proofs.{Sorted.sorted-ascending, Sorted.ties, Sorted.untied, Entries.entries-made, OrderedItems.item, OrderedItems.number_of}
+use Rattle.mq_held.proofs.{OrderedItems.key_of, OrderedItems.one-key, OrderedItems.has-key, OrderedItems.item-of_key, OrderedItems.no-item}
 use Rattle.mq_held.proofs.Sorted as sorted
-use Rattle.mq_held.proofs.Entries.{entries-made}
-use Rattle.mq_held.proofs.OrderedItems.{item, number_of, key_of, one-key, has-key, item-of_key, no-item}
 
 module _ {K : Type 0} (number : K → ℕ) (items : List NumberedKey) (heads : List ScheduledHead) (rows : List (List (Source K)))
     (up : IsAscending key_of items) where

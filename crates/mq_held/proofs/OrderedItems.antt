@@ -1,20 +1,9 @@
 -- The items of the order: the one of a number, and the one of an address.
 use Rattle.std.proofs.Common.{◌≡◌, ◌==◌, ℕ, zero, suc, ◌<◌, ◌≤◌, true, false, true≢false, refl, List, [], ◌∷◌, length, map, get_or, Option, None}
-use Rattle.std.proofs.Common.{Some, is_some, sym, ap, ◌∙◌, arith, ⊎_elim}
-use Rattle.std.specs.List.{All, Contains}
-use Rattle.std.specs.Option.{option_map_or}
-use Rattle.std.proofs.lemmas.Bool.{cases_lt, eqb-true, eq-eqb}
-use Rattle.std.proofs.lemmas.Bool.Decides.{eqb_tells}
-use Rattle.std.proofs.lemmas.List.{get_or-map, get_or_default, length-map}
-use Rattle.std.proofs.lemmas.List.Folds.{Any-from_list_any}
-use Rattle.std.proofs.lemmas.List.Sums.{sum_by-cons}
-use Rattle.mq_sets.specs.Ascending.{IsAscending, set_of, item_with}
-use Rattle.mq_sets.specs.NumberedKeys.{NumberedKey, key_in}
-use Rattle.mq_sets.specs.Slots.{times}
-use Rattle.mq_sets.proofs.Ascents.{IsAscending-head, IsAscending-tail, below-eqb}
-use Rattle.mq_sets.proofs.Cells.{is_cell, is_cell-same, is_cell-other, times-some}
-use Rattle.mq_sets.proofs.Found.{found_where_member}
-use Rattle.mq_sets.proofs.Placing.{set_of-found}
+use Rattle.mq_held.proofs.Common.{Some, is_some, sym, ap, ◌∙◌, arith, ⊎_elim, All, Contains, option_map_or, cases_lt, eqb-true, eq-eqb, eqb_tells, get_or-map}
+use Rattle.mq_held.proofs.Common.{get_or_default, length-map, Any-from_list_any, sum_by-cons, IsAscending, set_of, item_with, NumberedKey, key_in, times}
+use Rattle.mq_held.proofs.Common.{IsAscending-head, IsAscending-tail, below-eqb, is_cell, is_cell-same, is_cell-other, times-some, found_where_member}
+use Rattle.mq_held.proofs.Common.{set_of-found}
 
 -- an item, from its number and its key
 abbrev pub item : (number key : ℕ) → NumberedKey

@@ -1,11 +1,6 @@
 -- The places of a map's groups.
-use Rattle.std.proofs.Common.{◌≡◌, ℕ, Option, Some, sym, ap, ◌∙◌}
-use Rattle.std.specs.Option.{unwrap_or}
-use Rattle.std.proofs.lemmas.List.{get_or-map}
+use Rattle.mq_held.proofs.Common.{◌≡◌, ℕ, Option, Some, sym, ap, ◌∙◌, unwrap_or, get_or-map, ScheduledGroup, Groups, unheld, group_at, HasPlace, group_in}
 use Rattle.std.specs.FinMap as map
-use Rattle.mq_sched.specs.Schedule.{ScheduledGroup}
-use Rattle.mq_held.specs.Groups.{Groups, unheld, group_at}
-use Rattle.mq_held.specs.Places.{HasPlace, group_in}
 use Rattle.mq_held.proofs.Entries.{place_within, key_at, get-place}
 
 module _ (groups : Groups) (a p : ℕ) (has : HasPlace groups a p) where

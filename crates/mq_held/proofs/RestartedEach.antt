@@ -1,25 +1,10 @@
 -- Groups with several sources heard of again.
-use Rattle.std.proofs.Common.{◌≡◌, ℕ, Bool, true, false, cond, ◌||◌, refl, List, [], ◌∷◌, ◌++◌, Option, None, Some, is_some, sym, ap, ◌∙◌}
-use Rattle.std.specs.List.{list_all, list_any}
-use Rattle.std.specs.Option.{option_map}
-use Rattle.std.specs.Ordering.{nat_cmp, eq_by_cmp}
-use Rattle.std.specs.Cmp.{nat_cmp_total}
+use Rattle.mq_held.proofs.Common.{◌≡◌, ℕ, Bool, true, false, cond, ◌||◌, refl, List, [], ◌∷◌, ◌++◌, Option, None, Some, is_some, sym, ap, ◌∙◌, list_all}
+use Rattle.mq_held.proofs.Common.{list_any, option_map, nat_cmp, eq_by_cmp, nat_cmp_total, and_parts, and_from, or_left, or_right, true≢false, item_with}
+use Rattle.mq_held.proofs.Common.{set_of, found_where_member, Source, SourceTimer, Running, IsWellFormed, sendings_of, timer_at, number_in, timers_in}
+use Rattle.mq_held.proofs.Common.{get-timers_in, ScheduledGroup, ScheduledHead, has_each, restarted, restarted_each, group_of}
 use Rattle.std.specs.FinMap as map
-use Rattle.std.proofs.lemmas.Bool.{and_parts, and_from, or_left, or_right, true≢false}
-use Rattle.mq_sets.specs.Ascending.{item_with, set_of}
-use Rattle.mq_sets.proofs.Found.{found_where_member}
-use Rattle.mq_table.specs.declared.sources.Source.{Source}
-use Rattle.mq_table.specs.declared.timers.SourceTimer.{SourceTimer}
-use Rattle.mq_table.specs.declared.timers.SourceTimer.TheVariants.{Running}
-use Rattle.mq_table.specs.Group.{IsWellFormed, sendings_of, timer_at}
-use Rattle.mq_table.specs.Stored.{number_in, timers_in}
-use Rattle.mq_table.proofs.SourceLists.{get-timers_in}
-use Rattle.mq_sched.specs.Schedule.{ScheduledGroup}
-use Rattle.mq_held.specs.declared.scheduled_head.ScheduledHead.{ScheduledHead}
-use Rattle.mq_held.specs.Restarted.{has_each, restarted, restarted_each}
-use Rattle.mq_held.specs.Stored.{group_of}
-use Rattle.mq_held.proofs.RestartedTimers.{IsWellFormed-restarted}
-use Rattle.mq_held.proofs.Sorted.{tied}
+use Rattle.mq_held.proofs.{RestartedTimers.IsWellFormed-restarted, Sorted.tied}
 
 -- a test of all numbers in a list holds for each; a test that holds for one holds for some
 pub each_passes : (test : ℕ → Bool) (ks : List ℕ) (s : ℕ) → list_all test ks ≡ true → list_any (eq_by_cmp nat_cmp s) ks ≡ true → test s ≡ true

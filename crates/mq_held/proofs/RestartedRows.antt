@@ -1,26 +1,11 @@
 -- A row whose timers of several sources are set, one after another.
-use Rattle.std.proofs.Common.{◌≡◌, ℕ, ◌+◌, ◌-◌, ◌<◌, ◌≤◌, ◌==◌, min, Bool, true, false, if◌then◌else◌, ltb, ◌&&◌, ◌||◌, refl, List, [], ◌∷◌, ◌++◌, length}
-use Rattle.std.proofs.Common.{get_or, set, take, drop, Option, None, Some, IfSome, sym, ap, ◌∙◌, subst, arith, ⊎_elim}
-use Rattle.std.specs.Prelude.{map as list_map}
-use Rattle.std.specs.List.{list_all, list_any}
+use Rattle.mq_held.proofs.Common.{◌≡◌, ℕ, ◌+◌, ◌-◌, ◌<◌, ◌≤◌, ◌==◌, min, Bool, true, false, if◌then◌else◌, ltb, ◌&&◌, ◌||◌, refl, List, [], ◌∷◌, ◌++◌, length}
+use Rattle.mq_held.proofs.Common.{get_or, set, take, drop, Option, None, Some, IfSome, sym, ap, ◌∙◌, subst, arith, ⊎_elim, list_map, list_all, list_any}
+use Rattle.mq_held.proofs.Common.{or-false, and_parts, cases_lt, eqb-true, lt-ltb, true≢false, drop-drop, drop-set-lt, get_or-drop, get_or_read, length-map}
+use Rattle.mq_held.proofs.Common.{length-set, map-append, take_more, Any-from_list_any, list_all-map, list_any-append, AllPass-from_list_all, IsAscending}
+use Rattle.mq_held.proofs.Common.{set_of, Source, IsWellFormed, deadline_of, is_stopped, number_in, timers_in, get-found, ScheduledGroup, Inside, ScheduledHead}
+use Rattle.mq_held.proofs.Common.{HeldState, moments_of, StandsFrom, has_each, restarted, restarted_each, earliest_of, group_of, no_head}
 use Rattle.std.specs.FinMap as map
-use Rattle.std.proofs.Math.Bool.{or-false}
-use Rattle.std.proofs.lemmas.Bool.{and_parts, cases_lt, eqb-true, lt-ltb, true≢false}
-use Rattle.std.proofs.lemmas.List.{drop-drop, drop-set-lt, get_or-drop, get_or_read, length-map, length-set, map-append, take_more}
-use Rattle.std.proofs.lemmas.List.Folds.{Any-from_list_any, list_all-map, list_any-append}
-use Rattle.std.proofs.lemmas.List.Sums.{AllPass-from_list_all}
-use Rattle.mq_sets.specs.Ascending.{IsAscending, set_of}
-use Rattle.mq_table.specs.declared.sources.Source.{Source}
-use Rattle.mq_table.specs.Group.{IsWellFormed, deadline_of, is_stopped}
-use Rattle.mq_table.specs.Stored.{number_in, timers_in}
-use Rattle.mq_table.proofs.SourceLists.{get-found}
-use Rattle.mq_sched.specs.Schedule.{ScheduledGroup}
-use Rattle.mq_held.specs.declared.held_groups.HeldGroups.TheInside.{Inside}
-use Rattle.mq_held.specs.declared.scheduled_head.ScheduledHead.{ScheduledHead}
-use Rattle.mq_held.specs.Held.{HeldState}
-use Rattle.mq_held.specs.Moments.{moments_of}
-use Rattle.mq_held.specs.Restarted.{StandsFrom, has_each, restarted, restarted_each}
-use Rattle.mq_held.specs.Stored.{earliest_of, group_of, no_head}
 use Rattle.mq_held.proofs.Located.{Located, group_in, row_of}
 use Rattle.mq_held.proofs.RestartedEach.{IsWellFormed-restarted_each, has_each-row, restarted_each-more}
 use Rattle.mq_held.proofs.RestartedTimers.{SourceRestarted, earliest-restarted, group-restarted, up-restarted}

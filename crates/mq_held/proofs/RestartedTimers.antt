@@ -1,34 +1,12 @@
 -- A group, by its row, with one source heard of again.
-use Rattle.std.proofs.Common.{◌≡◌, ℕ, zero, suc, ◌<◌, min, cond, refl, List, [], ◌∷◌, ◌++◌, append_assoc, length, get_or, set, Option, None, Some, IfSome, sym}
-use Rattle.std.proofs.Common.{ap, ◌∙◌, subst, arith, ⊎_elim}
-use Rattle.std.specs.Option.{option_to_list}
-use Rattle.std.specs.List.{flat_map}
-use Rattle.std.specs.Ordering.{eq_by_cmp, nat_cmp}
-use Rattle.std.specs.Cmp.{nat_cmp_total}
+use Rattle.mq_held.proofs.Common.{◌≡◌, ℕ, zero, suc, ◌<◌, min, cond, refl, List, [], ◌∷◌, ◌++◌, append_assoc, length, get_or, set, Option, None, Some, IfSome}
+use Rattle.mq_held.proofs.Common.{sym, ap, ◌∙◌, subst, arith, ⊎_elim, option_to_list, flat_map, eq_by_cmp, nat_cmp, nat_cmp_total, FinMap, cases_eq, length-set}
+use Rattle.mq_held.proofs.Common.{get_or-set_same, get_or-set_other, IsAscending, PoolState, Source, SourceTimer, Running, IsWellFormed, deadline_of}
+use Rattle.mq_held.proofs.Common.{group_deadline, is_running, is_stopped, sendings_of, timer_at, number_in, state_of, timers_in, get-found, ScheduledGroup}
+use Rattle.mq_held.proofs.Common.{group_due, Inside, HeldState, ScheduledHead, those_of, moments_of, restarted, earliest_of, group_of, timer_moments}
 use Rattle.std.specs.FinMap as map
-use Rattle.std.specs.FinMap.{FinMap}
-use Rattle.std.proofs.lemmas.Bool.{cases_eq}
-use Rattle.std.proofs.lemmas.List.{length-set, get_or-set_same, get_or-set_other}
-use Rattle.mq_sets.specs.Ascending.{IsAscending}
-use Rattle.mq_sets.specs.Pools.{PoolState}
-use Rattle.mq_table.specs.declared.sources.Source.{Source}
-use Rattle.mq_table.specs.declared.timers.SourceTimer.{SourceTimer}
-use Rattle.mq_table.specs.declared.timers.SourceTimer.TheVariants.{Running}
-use Rattle.mq_table.specs.Group.{IsWellFormed, deadline_of, group_deadline, is_running, is_stopped, sendings_of, timer_at}
-use Rattle.mq_table.specs.Stored.{number_in, state_of, timers_in}
-use Rattle.mq_table.proofs.SourceLists.{get-found}
-use Rattle.mq_sched.specs.Schedule.{ScheduledGroup}
-use Rattle.mq_sched.specs.Sending.{group_due}
-use Rattle.mq_held.specs.declared.held_groups.HeldGroups.TheInside.{Inside}
-use Rattle.mq_held.specs.Held.{HeldState}
-use Rattle.mq_held.specs.declared.scheduled_head.ScheduledHead.{ScheduledHead}
-use Rattle.mq_held.specs.Moments.{those_of, moments_of}
-use Rattle.mq_held.specs.Restarted.{restarted}
-use Rattle.mq_held.specs.Stored.{earliest_of, group_of, timer_moments}
-use Rattle.mq_held.proofs.HeldMoments.{deadlines-row}
-use Rattle.mq_held.proofs.Located.{Located, Placed, first-held, group_in, row_of}
-use Rattle.mq_held.proofs.LeastMoments.{earliest-join, earliest-join_right}
-use Rattle.mq_held.proofs.Sorted.{ties, untied}
+use Rattle.mq_held.proofs.{HeldMoments.deadlines-row, Located.Located, Located.Placed, Located.first-held, Located.group_in, Located.row_of}
+use Rattle.mq_held.proofs.{LeastMoments.earliest-join, LeastMoments.earliest-join_right, Sorted.ties, Sorted.untied}
 
 -- the value put at a number, and those at other numbers, which stay
 module _ {X : Type 0} (m : FinMap nat_cmp X) {k : ℕ} (v : X) {q : ℕ} where

@@ -1,17 +1,7 @@
 -- Lists of entries in the order of their keys.
-use Rattle.std.proofs.Common.{◌≡◌, ℕ, ◌<◌, Bool, true, false, cond, ◌&&◌, refl, List, [], ◌∷◌, None, Some, ap, ◌∙◌, arith}
-use lib.Dec.{T}
-use Rattle.std.specs.List.{All}
-use Rattle.std.specs.Ordering.{nat_cmp, eq_by_cmp, is_lt, is_eq}
-use Rattle.std.specs.declared.cmp.Ordering.{Ordering}
-use Rattle.std.specs.declared.cmp.Ordering.TheVariants.{Less, Equal, Greater}
-use Rattle.std.proofs.lemmas.Bool.{lt-ltb}
-use Rattle.std.proofs.lemmas.Bool.Decides.{nat_tests}
-use Rattle.std.proofs.lemmas.List.Elements.{All-head, All-tail, All-nil, All-cons}
-use Rattle.std.specs.FinMap.{find, is_sorted}
-use Rattle.std.specs.FinMap.Entries.{below_all}
-use Rattle.mq_sets.specs.Ascending.{IsAscending}
-use Rattle.mq_sets.proofs.Ascents.{IsAscending-head, IsAscending-tail, IsAscending-cons}
+use Rattle.mq_held.proofs.Common.{◌≡◌, ℕ, ◌<◌, Bool, true, false, cond, ◌&&◌, refl, List, [], ◌∷◌, None, Some, ap, ◌∙◌, arith, T, All, nat_cmp, eq_by_cmp}
+use Rattle.mq_held.proofs.Common.{is_lt, is_eq, Ordering, Less, Equal, Greater, lt-ltb, nat_tests, All-head, All-tail, All-nil, All-cons, find, is_sorted}
+use Rattle.mq_held.proofs.Common.{below_all, IsAscending, IsAscending-head, IsAscending-tail, IsAscending-cons}
 
 pub both : (a b : Bool) → T a → T b → T (a && b)
 both true b p q = q

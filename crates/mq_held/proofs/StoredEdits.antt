@@ -1,36 +1,16 @@
 -- The storage once the group of a number has changed, or once another order has the same groups without vacant ones.
 use Rattle.std.proofs.Common.{◌≡◌, ℕ, ◌+◌, ◌-◌, ◌*◌, ◌<◌, ◌≤◌, Bool, true, false, true≢false, cond, if◌then◌else◌, ◌&&◌, ◌==◌, refl, List, [], ◌∷◌}
-use Rattle.std.proofs.Common.{length, map, get_or, set, None, Some, is_some, sym, ap, ◌∙◌, subst, arith, ◌⊎◌, inl, inr, ⊎_elim}
-use Rattle.std.specs.Prelude.{replicate}
-use Rattle.std.specs.List.{All, Contains, sum_by}
-use Rattle.std.specs.Ordering.{nat_cmp, eq_by_cmp}
-use Rattle.std.specs.Cmp.{nat_cmp_total}
+use Rattle.mq_held.proofs.Common.{length, map, get_or, set, None, Some, is_some, sym, ap, ◌∙◌, subst, arith, ◌⊎◌, inl, inr, ⊎_elim, replicate, All, Contains}
+use Rattle.mq_held.proofs.Common.{sum_by, nat_cmp, eq_by_cmp, nat_cmp_total, FinMap, cases_lt, cases_eq, eqb-true, eq-eqb, length-map, length-set, get_or-map}
+use Rattle.mq_held.proofs.Common.{get_or-set_same, get_or-set_other, get_or_past, get_or_read, get_or-replicate, length-replicate, same_lists, nil_from_length}
+use Rattle.mq_held.proofs.Common.{All-set, All-replicate, sum_by-cons, sum_by-set, get_or-le-sum_by, IsAscending, set_of, NumberedKey, times, Source}
+use Rattle.mq_held.proofs.Common.{FilterMode, Include, Exclude, SourceTimer, GroupState, IsWellFormed, is_vacant, is_include, is_running, number_in, timers_in}
+use Rattle.mq_held.proofs.Common.{state_of, len-timers_in, ScheduledGroup, ScheduleState, ScheduledHead, unheld, one_if, schedules_of, moments_of, group_of}
+use Rattle.mq_held.proofs.Common.{group_by, no_head, entry_of, entries_of, groups_by, earliest_of, IsStored}
 use Rattle.std.specs.FinMap as map
-use Rattle.std.specs.FinMap.{FinMap}
-use Rattle.std.proofs.lemmas.Bool.{cases_lt, cases_eq, eqb-true, eq-eqb}
-use Rattle.std.proofs.lemmas.List.{length-map, length-set, get_or-map, get_or-set_same, get_or-set_other, get_or_past, get_or_read, get_or-replicate}
-use Rattle.std.proofs.lemmas.List.{length-replicate, same_lists, nil_from_length}
-use Rattle.std.proofs.lemmas.List.Elements.{All-set, All-replicate}
-use Rattle.std.proofs.lemmas.List.Sums.{sum_by-cons, sum_by-set, get_or-le-sum_by}
-use Rattle.mq_sets.specs.Ascending.{IsAscending, set_of}
-use Rattle.mq_sets.specs.NumberedKeys.{NumberedKey}
-use Rattle.mq_sets.specs.Slots.{times}
-use Rattle.mq_table.specs.declared.sources.Source.{Source}
-use Rattle.mq_table.specs.declared.timers.FilterMode.{FilterMode}
-use Rattle.mq_table.specs.declared.timers.FilterMode.TheVariants.{Include, Exclude}
-use Rattle.mq_table.specs.declared.timers.SourceTimer.{SourceTimer}
-use Rattle.mq_table.specs.Group.{GroupState, IsWellFormed, is_vacant, is_include, is_running}
-use Rattle.mq_table.specs.Stored.{number_in, timers_in, state_of}
 use Rattle.mq_table.specs.declared.heads.Head.{Head}
-use Rattle.mq_table.proofs.SourceLists.{len-timers_in}
-use Rattle.mq_sched.specs.Schedule.{ScheduledGroup, ScheduleState}
-use Rattle.mq_held.specs.declared.scheduled_head.ScheduledHead.{ScheduledHead}
-use Rattle.mq_held.specs.Groups.{unheld, one_if, schedules_of}
-use Rattle.mq_held.specs.Moments.{moments_of}
-use Rattle.mq_held.specs.Stored.{group_of, group_by, no_head, entry_of, entries_of, groups_by, earliest_of, IsStored}
-use Rattle.mq_held.proofs.Sorted.{ties, untied}
-use Rattle.mq_held.proofs.OrderedItems.{item, number_of, key_of, one-place, has-number}
-use Rattle.mq_held.proofs.OrderedAmounts.{no-moments}
+use Rattle.mq_held.proofs.{Sorted.ties, Sorted.untied, OrderedItems.item, OrderedItems.number_of, OrderedItems.key_of, OrderedItems.one-place}
+use Rattle.mq_held.proofs.{OrderedItems.has-number, OrderedAmounts.no-moments}
 
 abbrev pub schedules_at : ℕ × ScheduledGroup → ℕ
 schedules_at e = schedules_of e.1

@@ -1,34 +1,15 @@
 -- The moments of the numbers, once one is set or removed, and the rows that they name.
-use Rattle.std.proofs.Common.{◌≡◌, ℕ, zero, suc, ◌+◌, ◌-◌, ◌<◌, ◌≤◌, Bool, true, false, not, cond, if◌then◌else◌, refl, List, [], ◌∷◌, length, map}
-use Rattle.std.proofs.Common.{get_or, set, None, Some, is_some, sym, ap, ◌∙◌, arith, ⊎_elim}
-use Rattle.std.specs.Prelude.{nat_le}
-use Rattle.std.specs.List.{All, count_by}
-use Rattle.std.specs.Ordering.{nat_cmp}
-use Rattle.std.specs.Cmp.{nat_cmp_total}
+use Rattle.mq_held.proofs.Common.{◌≡◌, ℕ, zero, suc, ◌+◌, ◌-◌, ◌<◌, ◌≤◌, Bool, true, false, not, cond, if◌then◌else◌, refl, List, [], ◌∷◌, length, map, get_or}
+use Rattle.mq_held.proofs.Common.{set, None, Some, is_some, sym, ap, ◌∙◌, arith, ⊎_elim, nat_le, All, count_by, nat_cmp, nat_cmp_total, FinMap, cases_eq}
+use Rattle.mq_held.proofs.Common.{length-map, get_or-map, length-filter_both, count_by-le-length, length-filter, get_or-le-sum_by, sum_by-set, set_of}
+use Rattle.mq_held.proofs.Common.{NumberedKey, NumberedKeysState, NamesRows, ahead_after, cells_reserved, moved_for, cells_in, times, Source, is_vacant}
+use Rattle.mq_held.proofs.Common.{ScheduledGroup, ScheduledHead, group_at, one_if, running_in, sources_in, sources_of, HeldState, HasNumber, IsNumber}
+use Rattle.mq_held.proofs.Common.{ahead_with, moved_by_row, group_by, no_head, groups_by, IsStored}
 use Rattle.std.specs.FinMap as map
-use Rattle.std.specs.FinMap.{FinMap}
-use Rattle.std.proofs.lemmas.Bool.{cases_eq}
-use Rattle.std.proofs.lemmas.List.{length-map, get_or-map}
-use Rattle.std.proofs.lemmas.List.Filters.{length-filter_both}
-use Rattle.std.proofs.lemmas.List.Sums.{count_by-le-length, length-filter, get_or-le-sum_by, sum_by-set}
-use Rattle.mq_sets.specs.Ascending.{set_of}
-use Rattle.mq_sets.specs.NumberedKeys.{NumberedKey, NumberedKeysState}
-use Rattle.mq_sets.specs.Pools.{NamesRows, ahead_after, cells_reserved, moved_for, cells_in}
-use Rattle.mq_sets.specs.Slots.{times}
-use Rattle.mq_table.specs.declared.sources.Source.{Source}
-use Rattle.mq_table.specs.Group.{is_vacant}
-use Rattle.mq_sched.specs.Schedule.{ScheduledGroup}
-use Rattle.mq_held.specs.declared.scheduled_head.ScheduledHead.{ScheduledHead}
-use Rattle.mq_held.specs.Groups.{group_at, one_if, running_in, sources_in, sources_of}
-use Rattle.mq_held.specs.Held.{HeldState, HasNumber, IsNumber, ahead_with, moved_by_row}
-use Rattle.mq_held.specs.Stored.{group_by, no_head, groups_by, IsStored}
-use Rattle.mq_held.proofs.Sorted.{ties, untied}
-use Rattle.mq_held.proofs.OrderedItems.{item, number_of, has-number}
-use Rattle.mq_held.proofs.OrderedGroups.{values-groups}
-use Rattle.mq_held.proofs.OrderedAmounts.{absent-get, has-moment, len-counted, running-groups}
-use Rattle.mq_held.proofs.StoredEdits.{row-none}
-use Rattle.mq_held.proofs.Inside.{address-of, ahead_is, group-of, is-number, len-held, numbered, room_is, running-held, size-of, source_room_is}
-use Rattle.mq_held.proofs.Inside.{sources-held, within-rows}
+use Rattle.mq_held.proofs.{Sorted.ties, Sorted.untied, OrderedItems.item, OrderedItems.number_of, OrderedItems.has-number, OrderedGroups.values-groups}
+use Rattle.mq_held.proofs.{OrderedAmounts.absent-get, OrderedAmounts.has-moment, OrderedAmounts.len-counted, OrderedAmounts.running-groups}
+use Rattle.mq_held.proofs.{StoredEdits.row-none, Inside.address-of, Inside.ahead_is, Inside.group-of, Inside.is-number, Inside.len-held, Inside.numbered}
+use Rattle.mq_held.proofs.{Inside.room_is, Inside.running-held, Inside.size-of, Inside.source_room_is, Inside.sources-held, Inside.within-rows}
 
 module _ {X : Type 0} where
   -- nothing is removed where nothing is

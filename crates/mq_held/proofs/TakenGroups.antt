@@ -1,49 +1,22 @@
 -- The map without the vacant groups, and the storage then.
 use Rattle.std.proofs.Common.{ℕ, ◌+◌, ◌*◌, ◌/◌, ◌^◌, ◌<◌, ◌≤◌, ◌≡◌, ◌==◌, min, Bool, true, false, true≢false, not, cond, ◌&&◌, refl, List, [], ◌∷◌}
-use Rattle.std.proofs.Common.{length, get_or, Option, None, Some, sym, ap, ◌∙◌, subst, arith, ⊎_elim, ◌⊎◌, inl, inr}
-use Rattle.std.specs.Prelude.{map as list_map, filter}
-use lib.Dec.{T}
-use Rattle.std.specs.List.{All, Contains, count_by, sum_by}
-use Rattle.std.specs.Option.{option_and_then}
-use Rattle.std.specs.Ordering.{nat_cmp, eq_by_cmp}
-use Rattle.std.specs.Cmp.{nat_cmp_total}
-use Rattle.std.proofs.Math.Nat.{mul-le-mul_left}
-use Rattle.std.proofs.lemmas.Bool.{eqb-true, cases_lt}
-use Rattle.std.proofs.lemmas.List.{length-map}
-use Rattle.std.proofs.lemmas.List.Elements.{All-filter}
-use Rattle.std.proofs.lemmas.List.Kept.{AllPairs-filter}
-use Rattle.std.proofs.lemmas.List.Sums.{length-filter, count_by-le-length}
-use Rattle.std.proofs.lemmas.Map.Views.{any-filter_same}
+use Rattle.mq_held.proofs.Common.{length, get_or, Option, None, Some, sym, ap, ◌∙◌, subst, arith, ⊎_elim, ◌⊎◌, inl, inr, list_map, filter, T, All, Contains}
+use Rattle.mq_held.proofs.Common.{count_by, sum_by, option_and_then, nat_cmp, eq_by_cmp, nat_cmp_total, mul-le-mul_left, eqb-true, cases_lt, length-map}
+use Rattle.mq_held.proofs.Common.{All-filter, AllPairs-filter, length-filter, count_by-le-length, any-filter_same, FinMap, find, is_sorted}
+use Rattle.mq_held.proofs.Common.{nat_cmp-IsAntisymmetric, below_all, same_entries, IsAscending, set_of, NumberedKey, NumberedKeysState, key_in, items_by}
+use Rattle.mq_held.proofs.Common.{bitlen, times, bitlen-le, at_counted, length-counted, Source, is_vacant, ScheduledGroup, ScheduledHead, Groups, unheld}
+use Rattle.mq_held.proofs.Common.{group_at, if_running, schedules_of, vacant_in, without_vacant, HeldState, HasNumber, IsNumber, is_vacant_at, entry_of}
+use Rattle.mq_held.proofs.Common.{entries_of, group_by, groups_by, IsStored, Inside}
 use Rattle.std.specs.FinMap as map
-use Rattle.std.specs.FinMap.{FinMap, find, is_sorted, nat_cmp-IsAntisymmetric}
-use Rattle.std.specs.FinMap.Entries.{below_all, same_entries}
-use Rattle.mq_sets.specs.Ascending.{IsAscending, set_of}
-use Rattle.mq_sets.specs.NumberedKeys.{NumberedKey, NumberedKeysState, key_in, items_by}
-use Rattle.mq_sets.specs.Search.{bitlen}
-use Rattle.mq_sets.specs.Slots.{times}
-use Rattle.mq_sets.proofs.Bitlen.{bitlen-le}
-use Rattle.mq_sets.proofs.Counted.{at_counted, length-counted}
-use Rattle.mq_table.specs.declared.sources.Source.{Source}
-use Rattle.mq_table.specs.Group.{is_vacant}
 use Rattle.mq_table.proofs.Maps.{get-kept}
-use Rattle.mq_sched.specs.Schedule.{ScheduledGroup}
-use Rattle.mq_held.specs.declared.scheduled_head.ScheduledHead.{ScheduledHead}
-use Rattle.mq_held.specs.Groups.{Groups, unheld, group_at, if_running, schedules_of, vacant_in, without_vacant}
-use Rattle.mq_held.specs.Held.{HeldState, HasNumber, IsNumber, is_vacant_at}
-use Rattle.mq_held.specs.Stored.{entry_of, entries_of, group_by, groups_by, IsStored}
-use Rattle.mq_held.proofs.Sorted.{first, second, tied, find_below, below-all, all-below, key_of, ascending-sorted, sorted-ascending}
-use Rattle.mq_held.proofs.DueInOrder.{entry-group}
-use Rattle.mq_held.proofs.GroupsInOrder.{IsOrdered, IsOrdered-stored, all-addresses}
-use Rattle.mq_held.proofs.Inside.{groups_are, items_are, has, numbered, group-of}
-use Rattle.mq_held.proofs.KeysByNumber.{numbers_in, numbers-ascend, map-filter, filter-agree, key-of_item, number-is}
-use Rattle.mq_held.proofs.LeftNumbers.{number-has}
-use Rattle.mq_held.specs.declared.held_groups.HeldGroups.TheInside.{Inside}
-use Rattle.mq_held.proofs.Located.{IsStorage, seen}
-use Rattle.mq_held.proofs.OrderedAmounts.{sum_by-map, times-filter}
-use Rattle.mq_held.proofs.OrderedGroups.{entries-groups}
-use Rattle.mq_held.proofs.OrderedItems.{number_of, has-number, times-in, absent-times}
-use Rattle.mq_held.proofs.StoredEdits.{IsStored-order}
-use Rattle.mq_held.proofs.TakenItems.{is_among, among-none, among-some, contains-filter, fewer-once, items-left, length-left, sum-left}
+use Rattle.mq_held.proofs.{Sorted.first, Sorted.second, Sorted.tied, Sorted.find_below, Sorted.below-all, Sorted.all-below, Sorted.key_of}
+use Rattle.mq_held.proofs.{Sorted.ascending-sorted, Sorted.sorted-ascending, DueInOrder.entry-group, GroupsInOrder.IsOrdered, GroupsInOrder.IsOrdered-stored}
+use Rattle.mq_held.proofs.{GroupsInOrder.all-addresses, Inside.groups_are, Inside.items_are, Inside.has, Inside.numbered, Inside.group-of}
+use Rattle.mq_held.proofs.{KeysByNumber.numbers_in, KeysByNumber.numbers-ascend, KeysByNumber.map-filter, KeysByNumber.filter-agree, KeysByNumber.key-of_item}
+use Rattle.mq_held.proofs.{KeysByNumber.number-is, LeftNumbers.number-has, Located.IsStorage, Located.seen, OrderedAmounts.sum_by-map}
+use Rattle.mq_held.proofs.{OrderedAmounts.times-filter, OrderedGroups.entries-groups, OrderedItems.number_of, OrderedItems.has-number, OrderedItems.times-in}
+use Rattle.mq_held.proofs.{OrderedItems.absent-times, StoredEdits.IsStored-order, TakenItems.is_among, TakenItems.among-none, TakenItems.among-some}
+use Rattle.mq_held.proofs.{TakenItems.contains-filter, TakenItems.fewer-once, TakenItems.items-left, TakenItems.length-left, TakenItems.sum-left}
 
 -- the entry found among those that pass
 find-filter : {X : Type 0} (a : ℕ) (p : ℕ × X → Bool) (es : List (ℕ × X)) → T (is_sorted nat_cmp es) →

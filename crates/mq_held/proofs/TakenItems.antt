@@ -1,23 +1,10 @@
 -- Items of numbers that are taken out of an order: what is left of the items.
-use Rattle.std.proofs.Common.{ℕ, zero, suc, ◌+◌, ◌<◌, ◌≤◌, ◌≡◌, ◌==◌, Bool, true, false, not, cond, ◌&&◌, ◌||◌, refl, List, [], ◌∷◌, ◌++◌, length}
-use Rattle.std.proofs.Common.{get_or, take, sym, ap, ◌∙◌, subst, arith, ⊎_elim}
-use Rattle.std.specs.Prelude.{filter}
-use Rattle.std.specs.List.{All, Contains, remove, sum_by}
-use Rattle.std.proofs.lemmas.Bool.{eq-eqb, eqb-true}
-use Rattle.std.proofs.lemmas.Bool.Decides.{eqb_tells}
-use Rattle.std.proofs.lemmas.List.{get_or_default, take_more}
-use Rattle.std.proofs.lemmas.List.Elements.{All-head, All-tail, All-filter}
-use Rattle.std.proofs.lemmas.List.Folds.{list_any-append, list_any_none, list_any_at}
-use Rattle.std.proofs.lemmas.List.Sums.{sum_by-cons, sum_by_more_le, length-filter, count_by-le-length}
-use Rattle.std.proofs.lemmas.Map.Views.{any-filter_same}
-use Rattle.mq_sets.specs.Ascending.{set_of}
-use Rattle.mq_sets.specs.NumberedKeys.{NumberedKey, IsWithout, items_by}
-use Rattle.mq_sets.specs.Slots.{times}
-use Rattle.mq_sets.proofs.Ascents.{filter-all}
-use Rattle.mq_sets.proofs.Cells.{is_cell, is_cell-same, times-some}
-use Rattle.mq_sets.proofs.Counted.{stands}
-use Rattle.mq_held.proofs.KeysByNumber.{numbers_in, filter-agree, times-item}
-use Rattle.mq_held.proofs.OrderedAmounts.{times-filter}
+use Rattle.mq_held.proofs.Common.{ℕ, zero, suc, ◌+◌, ◌<◌, ◌≤◌, ◌≡◌, ◌==◌, Bool, true, false, not, cond, ◌&&◌, ◌||◌, refl, List, [], ◌∷◌, ◌++◌, length, get_or}
+use Rattle.mq_held.proofs.Common.{take, sym, ap, ◌∙◌, subst, arith, ⊎_elim, filter, All, Contains, remove, sum_by, eq-eqb, eqb-true, eqb_tells, get_or_default}
+use Rattle.mq_held.proofs.Common.{take_more, All-head, All-tail, All-filter, list_any-append, list_any_none, list_any_at, sum_by-cons, sum_by_more_le}
+use Rattle.mq_held.proofs.Common.{length-filter, count_by-le-length, any-filter_same, set_of, NumberedKey, IsWithout, items_by, times, filter-all, is_cell}
+use Rattle.mq_held.proofs.Common.{is_cell-same, times-some, stands}
+use Rattle.mq_held.proofs.{KeysByNumber.numbers_in, KeysByNumber.filter-agree, KeysByNumber.times-item, OrderedAmounts.times-filter}
 
 -- true exactly if a number stands in a list
 abbrev pub is_among : List ℕ → ℕ → Bool

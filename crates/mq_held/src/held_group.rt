@@ -12,7 +12,7 @@ use mq_sched::Schedule;
 use mq_table::{FilterMode, Source, timer_among};
 
 /// A held group, as it is stored.
-#[derive_where(Clone, Copy)]
+#[derive(Drop)]
 pub struct HeldGroup<'a, K: Key> {
     /// The group's address.
     pub address: K,

@@ -1,15 +1,17 @@
 -- After the end of a capture whose queries pair up, nothing more is found.
-use Rattle.std.proofs.Common.{◌≡◌, ℕ, ◌+◌, ◌≤◌, Bool, true, false, ◌&&◌, ◌||◌, List, [], ◌∷◌, ◌++◌, refl, ap, sym, ◌∙◌, arith, append-nil}
+use Rattle.std.proofs.Common.{◌≡◌, ℕ, ◌+◌, ◌≤◌, Bool, true, false, ◌&&◌, List, [], ◌∷◌, ◌++◌, refl, ap, sym, ◌∙◌, arith, append-nil}
 use Rattle.std.specs.Prelude.{Option, None, Some, ◌⊎◌, fold, flat_map, map as list_map, nat_le}
 use mathlib.Core.Logic.{inl, inr}
 use Rattle.std.specs.List.{AllByRecursion}
-use Rattle.std.proofs.lemmas.Bool.{le-leb, ltb-true, or_right}
+use Rattle.std.proofs.lemmas.Bool.{le-leb, ltb-true}
 use Rattle.mq_table.specs.declared.timing.Timing.{Timing}
 use Rattle.mq_check.specs.declared.asked.Asked.{Asked}
 use Rattle.mq_check.specs.declared.entry.Entry.{Entry}
+use Rattle.mq_check.specs.declared.entry.Need.{Need}
+use Rattle.mq_check.specs.declared.entry.Need.TheVariants.{Required, Optional}
+use Rattle.mq_check.specs.declared.entry.Need.TheVariants as need
 use Rattle.mq_check.specs.declared.entry.Entry.TheVariants.{Wanted, Seen, Interval, Silence, Packet}
 use Rattle.mq_check.specs.declared.entry.Unpaired.{Unpaired}
-use Rattle.mq_check.specs.declared.finding.Finding.TheVariants.{Differs}
 use Rattle.mq_check.specs.declared.terms.Terms.{Terms}
 use Rattle.mq_check.specs.Checking.{CheckingValue, found_of_last, near, role_returned, settled, subject_wanted}
 use Rattle.mq_check.specs.Entries.{excused_if, findings_of, first_joined, is_free_seen, is_over, terms_differ}
@@ -17,19 +19,37 @@ use Rattle.mq_check.specs.Queries.{is_same}
 use Rattle.mq_check.specs.Schedules.{terms_wanted}
 use Rattle.mq_check.specs.Waiting.{WaitingValue, all_excused, excused_at, may_still_come}
 use Rattle.mq_laws.specs.Pairing.{Ask, Expected, Sent, LeftOut, PairUp, missing_of, seen_about, wanted_about}
-use Rattle.mq_laws.specs.Events.{CheckEvent, Comes, Wants, Sees, SeesGeneral, LosesRole, HasRoleAgain, SeesFault, Blocks, check_by_all, told_by_all}
+use Rattle.mq_laws.specs.Events.{CheckEvent, Comes, Wants, Sees, SeesGeneral, LosesRole, HasRoleAgain, SeesFault, Changes, check_by_all, told_by_all}
 use Rattle.mq_laws.specs.OnTime.{AreInOrder, IsOfTick}
 use Rattle.mq_laws.proofs.Same.{is_same-self}
 use Rattle.mq_laws.proofs.Held.{Holds, free_seen, passed_joined, seen_here, wanted_here}
 use Rattle.mq_laws.proofs.Partners.{SameFrom, same_behind, same_none}
 use Rattle.mq_laws.proofs.Steps.{to_pairs}
-use Rattle.mq_laws.proofs.Comings.{told_of, left_of, over_told, over_left, ahead_told, ahead_left}
-use Rattle.mq_laws.proofs.Rooms.{told_now, settled_free, wanted_part, returned_part}
+use Rattle.mq_laws.proofs.Comings.{told_of, left_of, over_told, over_left, ahead_told, ahead_left, pair_alike}
+use Rattle.mq_laws.proofs.Rooms.{IsFresh, fresh_settled, told_now, settled_free, wanted_part, returned_part}
 use Rattle.mq_laws.proofs.Courses.{all_free, wants_free}
+
+-- a wanted query that has a partner, or may be left out
+abbrev pub is_settled : Need → (is_found : Bool) → Bool
+is_settled Required is_found = is_found
+is_settled need.Possible is_found = is_found
+is_settled Optional is_found = true
+
+settled_found : (within : ℕ) (changed : Option ℕ) (m : ℕ) (a : Asked ℕ) (t : Terms ℕ) (o : Need) (f : Bool) → is_settled o f ≡ true →
+    findings_of within changed (Wanted m a t o f) ≡ []
+settled_found within changed m a t o true is = refl
+settled_found within changed m a t Required false is = cc
+settled_found within changed m a t need.Possible false is = cc
+settled_found within changed m a t Optional false is = refl
+
+settled_by : (o : Need) → is_settled o true ≡ true
+settled_by Required = refl
+settled_by need.Possible = refl
+settled_by Optional = refl
 
 -- nothing is found of an entry that expires up to a limit
 abbrev pub IsQuiet : (within limit : ℕ) → Entry ℕ → Type 0
-IsQuiet within limit (Wanted moment asked terms is_optional is_found) = ((is_optional || is_found) ≡ true) ⊎ (limit ≤ moment + within)
+IsQuiet within limit (Wanted moment asked terms need is_found) = (is_settled need is_found ≡ true) ⊎ (limit ≤ moment + within)
 IsQuiet within limit (Seen moment asked terms None alone) = ⊥
 IsQuiet within limit (Seen moment asked terms (Some wanted) alone) = terms_differ terms wanted ≡ []
 IsQuiet within limit (Interval moment packet after wanted) = ⊥
@@ -42,11 +62,11 @@ AreQuiet within limit es = AllByRecursion (IsQuiet within limit) es
 quiet_found : (keep within limit moment : ℕ) (changed : Option ℕ) (e : Entry ℕ) → within ≤ keep → IsQuiet within limit e → moment ≤ limit →
     is_over keep moment e ≡ true → findings_of within changed e ≡ []
 quiet_found keep within limit moment changed (Wanted m a t o f) long is before over = elim is [
-  | inl left ↦ rw left refl
+  | inl left ↦ settled_found within changed m a t o f left
   | inr far ↦ absurd (let late = ltb-true (m + keep) moment over in omega (arith, late, far, before, long))
 ]
 quiet_found keep within limit moment changed (Seen m a t None alone) long is before over = absurd is
-quiet_found keep within limit moment changed (Seen m a t (Some w) alone) long is before over = ap (list_map (Differs m t.packet a)) is
+quiet_found keep within limit moment changed (Seen m a t (Some w) alone) long is before over = pair_alike m a t w alone is
 quiet_found keep within limit moment changed (Interval m p a w) long is before over = absurd is
 quiet_found keep within limit moment changed (Silence m a w) long is before over = absurd is
 quiet_found keep within limit moment changed (Packet m n f) long is before over = absurd is
@@ -104,19 +124,20 @@ quiet_put within limit (d ∷ es) e are is = (are.0, quiet_put within limit es e
 record QuietWants (within limit : ℕ) (c after : CheckingValue) : Type 0 where
   quiet : AreQuiet within limit after.waiting.entries
   repeats : after.schedules.repeats ≡ c.schedules.repeats
+  fresh : IsFresh after.schedules
 
-quiet_wants : (within limit now : ℕ) (is_again : Bool) (terms : Terms ℕ) (asked : List (Asked ℕ)) (c : CheckingValue) → limit ≤ now + within →
-    AreQuiet within limit c.waiting.entries
+quiet_wants : (within limit now : ℕ) (is_again : Bool) (terms : Terms ℕ) (asked : List (Asked ℕ)) (c : CheckingValue) → IsFresh c.schedules →
+    limit ≤ now + within → AreQuiet within limit c.waiting.entries
     → (fold (subject_wanted now is_again terms) c asked).waiting.is_full ≡ false → QuietWants within limit c (fold (subject_wanted now is_again terms) c asked)
-quiet_wants within limit now is_again terms [] c far are room = record { quiet = are; repeats = refl }
-quiet_wants within limit now is_again terms (a ∷ more) c far are room =
+quiet_wants within limit now is_again terms [] c fresh far are room = record { quiet = are; repeats = refl; fresh = fresh }
+quiet_wants within limit now is_again terms (a ∷ more) c fresh far are room =
     let t = terms_wanted is_again terms a c.schedules in
     let next = subject_wanted now is_again terms c a in
-    let part = wanted_part now t c a (wants_free now is_again terms more next room) in
-    let rest = quiet_wants within limit now is_again terms more next far
-    (rw (part.entries (none_same within limit a (near now c) c.waiting.entries are), none_joined within limit a t c.waiting.entries are)
+    let part = wanted_part now is_again t c a (wants_free now is_again terms more next room) in
+    let rest = quiet_wants within limit now is_again terms more next (part.fresh fresh) far
+    (rw (part.entries fresh (none_same within limit a (near now c) c.waiting.entries are), none_joined within limit a t c.waiting.entries are)
     (quiet_put within limit c.waiting.entries _ are (inr far))) room in
-    record { quiet = rest.quiet; repeats = rest.repeats ∙ part.repeats }
+    record { quiet = rest.quiet; repeats = rest.repeats ∙ part.repeats; fresh = rest.fresh }
 
 -- nothing is found by the events of ticks
 pub record FindsNothing (within limit : ℕ) (timing : Timing) (now : ℕ) (es : List CheckEvent) (c : CheckingValue) : Type 0 where
@@ -132,56 +153,57 @@ in_time now (SeesGeneral terms wanted ∷ es) end order = in_time now es end ord
 in_time now (LosesRole ∷ es) end order = in_time now es end order
 in_time now (HasRoleAgain ∷ es) end order = in_time now es end order
 in_time now (SeesFault number fault ∷ es) end order = in_time now es end order
-in_time now (Blocks asked ∷ es) end order = in_time now es end order
+in_time now (Changes terms asked ∷ es) end order = in_time now es end order
 
-pub ticks_find_nothing : (within limit : ℕ) (timing : Timing) (now : ℕ) (es : List CheckEvent) (c : CheckingValue) → within ≤ c.schedules.repeats.keep
-    → limit ≤ now + within → AreInOrder now es limit → AllByRecursion IsOfTick es
+pub ticks_find_nothing : (within limit : ℕ) (timing : Timing) (now : ℕ) (es : List CheckEvent) (c : CheckingValue) → IsFresh c.schedules →
+    within ≤ c.schedules.repeats.keep → limit ≤ now + within → AreInOrder now es limit → AllByRecursion IsOfTick es
     → AreQuiet within limit c.waiting.entries → (check_by_all within timing now es c).waiting.is_full ≡ false → FindsNothing within limit timing now es c
-ticks_find_nothing within limit timing now [] c long far order ticks are room = record { told = refl; quiet = are }
-ticks_find_nothing within limit timing now (Comes moment ∷ es) c long far order ticks are room =
+ticks_find_nothing within limit timing now [] c fresh long far order ticks are room = record { told = refl; quiet = are }
+ticks_find_nothing within limit timing now (Comes moment ∷ es) c fresh long far order ticks are room =
     let keep = c.schedules.repeats.keep in
     let free = all_free within timing now (Comes moment ∷ es) c room in
     let before = in_time moment es limit order.1 in
     let left : AreQuiet within limit (settled moment c).waiting.entries = rw (settled_free keep moment c.waiting free)
     (quiet_left keep within limit moment c.waiting.entries are) in
-    let more = ticks_find_nothing within limit timing moment es (settled moment c) long (omega (arith, far, order.0)) order.1 ticks.1 left room in
+    let more = ticks_find_nothing within limit timing moment es (settled moment c) (fresh_settled moment c fresh) long
+    (omega (arith, far, order.0)) order.1 ticks.1 left room in
     record {
-      told = (λ i. (told_now within moment c free ∙ quiet_told keep within limit moment c.changed c.waiting.entries long are before) i ++ more.told i);
+      told = (λ i. (told_now within moment c free fresh ∙ quiet_told keep within limit moment c.changed c.waiting.entries long are before) i ++ more.told i);
       quiet = more.quiet;
     }
-ticks_find_nothing within limit timing now (Wants is_again terms asked ∷ es) c long far order ticks are room =
+ticks_find_nothing within limit timing now (Wants is_again terms asked ∷ es) c fresh long far order ticks are room =
     let next = fold (subject_wanted now is_again terms) c asked in
-    let wants = quiet_wants within limit now is_again terms asked c far are (all_free within timing now es next room) in
-    let more = ticks_find_nothing within limit timing now es next (rw wants.repeats long) far order ticks.1 wants.quiet room in
+    let wants = quiet_wants within limit now is_again terms asked c fresh far are (all_free within timing now es next room) in
+    let more = ticks_find_nothing within limit timing now es next wants.fresh (rw wants.repeats long) far order ticks.1 wants.quiet room in
     record { told = more.told; quiet = more.quiet }
-ticks_find_nothing within limit timing now (HasRoleAgain ∷ es) c long far order ticks are room =
+ticks_find_nothing within limit timing now (HasRoleAgain ∷ es) c fresh long far order ticks are room =
     let next = role_returned within now c in
     let part = returned_part within now c in
     let same = ap (λ (w : WaitingValue). w.entries) part.waiting in
-    let more = ticks_find_nothing within limit timing now es next (rw part.repeats long) far order ticks.1 (rw same are) room in
+    let more = ticks_find_nothing within limit timing now es next (rw part.schedules fresh) (rw part.schedules long) far order ticks.1 (rw same are) room in
     record { told = more.told; quiet = more.quiet }
-ticks_find_nothing within limit timing now (Sees terms standing asked ∷ es) c long far order ticks are room = absurd ticks.0
-ticks_find_nothing within limit timing now (SeesGeneral terms wanted ∷ es) c long far order ticks are room = absurd ticks.0
-ticks_find_nothing within limit timing now (LosesRole ∷ es) c long far order ticks are room = absurd ticks.0
-ticks_find_nothing within limit timing now (SeesFault number fault ∷ es) c long far order ticks are room = absurd ticks.0
-ticks_find_nothing within limit timing now (Blocks asked ∷ es) c long far order ticks are room = absurd ticks.0
+ticks_find_nothing within limit timing now (Sees terms standing asked ∷ es) c fresh long far order ticks are room = absurd ticks.0
+ticks_find_nothing within limit timing now (SeesGeneral terms wanted ∷ es) c fresh long far order ticks are room = absurd ticks.0
+ticks_find_nothing within limit timing now (LosesRole ∷ es) c fresh long far order ticks are room = absurd ticks.0
+ticks_find_nothing within limit timing now (SeesFault number fault ∷ es) c fresh long far order ticks are room = absurd ticks.0
+ticks_find_nothing within limit timing now (Changes terms asked ∷ es) c fresh long far order ticks are room = absurd ticks.0
 
 -- a wanted query that may be left out, and a pair
-none_found : (within end m : ℕ) (a : Asked ℕ) (t : Terms ℕ) (o f : Bool) (changed : Option ℕ) → IsQuiet within (end + within) (Wanted m a t o f) →
+none_found : (within end m : ℕ) (a : Asked ℕ) (t : Terms ℕ) (o : Need) (f : Bool) (changed : Option ℕ) → IsQuiet within (end + within) (Wanted m a t o f) →
     found_of_last within end changed (Wanted m a t o f) ≡ []
 none_found within end m a t o f changed (inl left) = by_end (nat_le end (m + within))
   where
     by_end : (b : Bool) → findings_of within changed (excused_if b (Wanted m a t o f)) ≡ []
-    by_end true = refl
-    by_end false = rw left refl
+    by_end true = settled_found within changed m a t Optional f refl
+    by_end false = settled_found within changed m a t o f left
 none_found within end m a t o f changed (inr far) =
     let late : nat_le end (m + within) ≡ true = le-leb end (m + within) (omega (arith, far)) in
-    ap (λ (b : Bool). findings_of within changed (excused_if b (Wanted m a t o f))) late
+    ap (λ (b : Bool). findings_of within changed (excused_if b (Wanted m a t o f))) late ∙ settled_found within changed m a t Optional f refl
 
 pair_found : (within : ℕ) (changed : Option ℕ) (b : Bool) (m : ℕ) (a : Asked ℕ) (t w : Terms ℕ) (alone : Unpaired ℕ) → terms_differ t w ≡ [] →
     findings_of within changed (excused_if b (Seen m a t (Some w) alone)) ≡ []
-pair_found within changed true m a t w alone alike = ap (list_map (Differs m t.packet a)) alike
-pair_found within changed false m a t w alone alike = ap (list_map (Differs m t.packet a)) alike
+pair_found within changed true m a t w alone alike = pair_alike m a t w alone alike
+pair_found within changed false m a t w alone alike = pair_alike m a t w alone alike
 
 -- and of what still waits then, nothing is found either
 pub none_last : (within end : ℕ) (changed : Option ℕ) (es : List (Entry ℕ)) → AreQuiet within (end + within) es →
@@ -217,9 +239,9 @@ none_wanted within keep (Sent w ∷ xs) pairs none =
     absurd (to_pairs within keep _ _ _ _ here refl (pairs w.asked))
 none_wanted within keep (LeftOut w ∷ xs) pairs none = cc
 
-still_quiet : (within limit m : ℕ) (a : Asked ℕ) (t : Terms ℕ) (o b : Bool) → IsQuiet within limit (excused_if b (Wanted m a t o true))
+still_quiet : (within limit m : ℕ) (a : Asked ℕ) (t : Terms ℕ) (o : Need) (b : Bool) → IsQuiet within limit (excused_if b (Wanted m a t o true))
 still_quiet within limit m a t o true = inl refl
-still_quiet within limit m a t o false = inl (or_right o true refl)
+still_quiet within limit m a t o false = inl (settled_by o)
 
 pub held_quiet : (within limit end : ℕ) (sent : WaitingValue) (es : List (Entry ℕ)) → Holds es [] → free_seen es ≡ [] →
     AreQuiet within limit (list_map (excused_at within end sent) es)

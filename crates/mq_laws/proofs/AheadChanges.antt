@@ -1,18 +1,15 @@
 -- No timer that a record sets runs out at its own moment.
-use Rattle.std.proofs.Common.{ℕ, ◌+◌, ◌<◌, Bool, true, false, cond, Option, None, Some, IfSome, arith}
-use Rattle.std.specs.Option.{option_map}
-use Rattle.mq_count.specs.declared.versions.OlderVersion.{OlderVersion, TheVariants.V1, TheVariants.V2}
-use Rattle.mq_table.proofs.{Lower.timer_at-sources_lowered, TableRows.timer_then, TableRows.at_source_of}
-use Rattle.mq_table.specs.{Expiry.AllAhead, Group.GroupState, Group.timer_at, Group.deadline_of, Group.group_deadline, Group.running, Group.stopped}
-use Rattle.mq_table.specs.Lowering.{lowered_to, mode_lowered, source_lowered, lowered_by_query}
-use Rattle.mq_table.specs.{OlderHosts.hosts_of, OlderHosts.translated, OlderHosts.older_report, Sendings.source_asked, Sets.Set, Table.NamedSources}
-use Rattle.mq_table.specs.{Table.GroupChange, Table.table_row, Table.change_of, Timing.membership_interval, Timing.older_host_present, Timing.last_member_count}
-use Rattle.mq_table.specs.declared.kind.Kind.{Kind, TheVariants.IsEx, TheVariants.ToIn}
-use Rattle.mq_table.specs.declared.{timers.FilterMode.FilterMode, timers.SourceTimer.SourceTimer, timers.SourceTimer.TheVariants.Running, timing.Timing.Timing}
+use Rattle.mq_laws.proofs.Common.{ℕ, ◌+◌, ◌<◌, Bool, true, false, cond, Option, None, Some, IfSome, arith, option_map, timer_at-sources_lowered, AllAhead}
+use Rattle.mq_laws.proofs.Common.{GroupState, timer_at, deadline_of, group_deadline, running, stopped, lowered_to, mode_lowered, source_lowered}
+use Rattle.mq_laws.proofs.Common.{lowered_by_query, source_asked, Set, NamedSources, GroupChange, table_row, change_of, membership_interval, older_host_present}
+use Rattle.mq_laws.proofs.Common.{last_member_count, Kind, IsEx, ToIn, FilterMode, SourceTimer, Timing, ScheduleState, ScheduledGroup, group_asked}
+use Rattle.mq_laws.proofs.Common.{sources_asked, acted, after_change, Statement, RecordOf, OlderJoin, OlderLeave, change_stated}
+use Rattle.mq_count.specs.declared.versions.OlderVersion.{OlderVersion}
+use Rattle.mq_count.specs.declared.versions.OlderVersion.TheVariants.{V1, V2}
+use Rattle.mq_table.proofs.TableRows.{timer_then, at_source_of}
+use Rattle.mq_table.specs.OlderHosts.{hosts_of, translated, older_report}
 use Rattle.mq_sched.proofs.Asked.{timer_at-sources_asked}
-use Rattle.mq_sched.specs.Schedule.{ScheduleState, ScheduledGroup, settled}
-use Rattle.mq_sched.specs.Sending.{group_asked, sources_asked, acted, after_change}
-use Rattle.mq_link.specs.Record.{Statement, RecordOf, OlderJoin, OlderLeave, change_stated}
+use Rattle.mq_sched.specs.Schedule.{settled}
 use Rattle.std.specs.FinSet as set
 
 -- a source's timer

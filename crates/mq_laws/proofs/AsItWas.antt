@@ -1,25 +1,13 @@
 -- A classic capture of Ethernet without tags, in nanoseconds, and its conversion, which has the same bytes.
-use Rattle.std.proofs.Common.{◌≡◌, ◌<◌, ◌≤◌, ◌+◌, ℕ, true, List, [], ◌∷◌, ◌++◌, length, take, drop, Option, None, Some, Ok, refl, arith, sym, ◌∙◌, ap}
-use Rattle.std.proofs.Common.{subst, append-nil}
-use Rattle.std.specs.List.{All, flat_map}
-use Rattle.std.proofs.lemmas.List.{take-append-drop}
-use Rattle.std.proofs.lemmas.List.Elements.{All-drop}
-use Rattle.mq_pcap.specs.declared.form.Endian.TheVariants.{Little}
-use Rattle.mq_pcap.specs.Capture as pcap
-use Rattle.mq_pcap.specs.Capture.{field}
-use Rattle.mq_pcap.proofs.FileHeader.{field-append}
-use Rattle.mq_convert.specs.declared.fault.BlockFault.{BlockFault}
-use Rattle.mq_convert.specs.Blocks.{Captured, block_in}
-use Rattle.mq_convert.specs.Files.{AreBlocks, Captures, endless}
+use Rattle.mq_laws.proofs.Common.{◌≡◌, ◌<◌, ◌≤◌, ◌+◌, ℕ, true, List, [], ◌∷◌, ◌++◌, length, take, drop, Option, None, Some, Ok, refl, arith, sym, ◌∙◌, ap}
+use Rattle.mq_laws.proofs.Common.{subst, append-nil, All, flat_map, take-append-drop, All-drop, Little, field, field-append, BlockFault, Captured, block_in}
+use Rattle.mq_laws.proofs.Common.{AreBlocks, Captures, endless, file_header, packets_of, record_of, written_of, IsWhole, ArePlain, everything, is_untagged}
+use Rattle.mq_laws.proofs.Common.{looked_at, plain}
 use Rattle.mq_convert.specs.Moments.{second}
-use Rattle.mq_convert.specs.Records.{file_header, packets_of, record_of, written_of}
-use Rattle.mq_convert.specs.Sizes.{IsWhole}
-use Rattle.mq_laws.specs.PlainCaptures.{ArePlain, everything, is_untagged, looked_at, plain}
-use Rattle.mq_laws.proofs.KeptBytes.{AreBytes, front_bytes, rest_bytes}
-use Rattle.mq_laws.proofs.KeptHeader.{header_read, header_whole, looked_is, plain_header}
-use Rattle.mq_laws.proofs.KeptRecords.{behind_header, packet_of, record_kept, record_read, whole_record}
-use Rattle.mq_laws.proofs.OneFile.{one_file_lem}
-use Rattle.mq_laws.proofs.Sifted.{all_go_out}
+use Rattle.mq_pcap.specs.Capture as pcap
+use Rattle.mq_laws.proofs.{KeptBytes.AreBytes, KeptBytes.front_bytes, KeptBytes.rest_bytes, KeptHeader.header_read, KeptHeader.header_whole}
+use Rattle.mq_laws.proofs.{KeptHeader.looked_is, KeptHeader.plain_header, KeptRecords.behind_header, KeptRecords.packet_of, KeptRecords.record_kept}
+use Rattle.mq_laws.proofs.{KeptRecords.record_read, KeptRecords.whole_record, OneFile.one_file_lem, Sifted.all_go_out}
 
 -- the records from this number on are blocks whose packets are written unchanged
 record IsKeptFrom (number : ℕ) (bytes : List ℕ) : Type 0 where

@@ -1,14 +1,13 @@
 -- The sources of a query ascend.
-use Rattle.std.proofs.Common.{ℕ, zero, suc, ◌+◌, ◌<◌, Bool, true, false, cond, ◌&&◌, List, [], ◌∷◌, ◌++◌, length, drop, arith, add-one, ◌≡◌, take, length-drop}
-use Rattle.std.proofs.lemmas.{Bool.Decides.nat_tests, List.length-take, List.get_or-take, List.get_or-drop, List.Kept.IsStrictlyIncreasing-filter}
-use Rattle.std.specs.{FinMap.FinMap, FinMap.is_sorted, List.Sorted.IsStrictlyIncreasing, Ordering.nat_cmp, Ordering.is_lt, Prelude.map as list_map}
+use Rattle.mq_laws.proofs.Common.{ℕ, zero, suc, ◌+◌, ◌<◌, Bool, true, false, cond, ◌&&◌, List, [], ◌∷◌, ◌++◌, length, drop, arith, add-one, ◌≡◌, take}
+use Rattle.mq_laws.proofs.Common.{length-drop, nat_tests, length-take, get_or-take, get_or-drop, FinMap, is_sorted, nat_cmp, is_lt, list_map, GroupState}
+use Rattle.mq_laws.proofs.Common.{group_deadline, is_ahead, lowered_to, has_sendings, above, Set, ◌∩◌, ◌∖◌, Timing, ScheduledGroup, SentQuery, GeneralQuery}
+use Rattle.mq_laws.proofs.Common.{GroupQuery, SourcesQuery, is_due, group_due, sources_where, sources_queries, source_messages, group_messages, messages_due}
+use Rattle.mq_laws.proofs.Common.{AscendIn}
+use Rattle.std.proofs.lemmas.List.Kept.{IsStrictlyIncreasing-filter}
+use Rattle.std.specs.List.Sorted.{IsStrictlyIncreasing}
 use lib.Dec.{T}
-use Rattle.mq_table.specs.{Group.GroupState, Group.group_deadline, Group.is_ahead, Lowering.lowered_to, Sendings.has_sendings, Sendings.above}
-use Rattle.mq_table.specs.Sets.{Set, ◌∩◌, ◌∖◌}
-use Rattle.mq_table.specs.declared.timing.Timing.{Timing}
-use Rattle.mq_sched.specs.{Portions.portions_within, Schedule.ScheduledGroup, Sending.SentQuery, Sending.GeneralQuery}
-use Rattle.mq_sched.specs.Sending.{GroupQuery, SourcesQuery, is_due, group_due, sources_where, sources_queries, source_messages, group_messages, messages_due}
-use Rattle.mq_laws.specs.Schedules.{AscendIn}
+use Rattle.mq_sched.specs.Portions.{portions_within}
 use Rattle.std.specs.FinMap as map
 
 -- a part of an ascending list ascends

@@ -1,11 +1,7 @@
 -- Asking for a group or for sources makes no timer end later.
-use Rattle.std.proofs.Common.{ℕ, Bool, true, false, cond, Option, sym, subst, arith}
-use Rattle.std.specs.Option.{option_map}
-use Rattle.mq_table.specs.{Group.timer_at, Group.deadline_of, Group.group_deadline, Lowering.lowered_to, Sendings.source_asked, Sets.Set}
-use Rattle.mq_table.specs.{Timing.last_member_count, declared.timers.SourceTimer.SourceTimer, declared.timing.Timing.Timing}
+use Rattle.mq_laws.proofs.Common.{ℕ, Bool, true, false, cond, Option, sym, subst, arith, option_map, timer_at, deadline_of, group_deadline, lowered_to}
+use Rattle.mq_laws.proofs.Common.{source_asked, Set, last_member_count, SourceTimer, Timing, ScheduledGroup, group_asked, sources_asked, acted, IsNoLater}
 use Rattle.mq_sched.proofs.Asked.{timer_at-sources_asked}
-use Rattle.mq_sched.specs.{Schedule.ScheduledGroup, Sending.group_asked, Sending.sources_asked, Sending.acted}
-use Rattle.mq_laws.specs.Groups.{IsNoLater}
 
 no_later_refl : (d : Option ℕ) → IsNoLater d d
 no_later_refl d = grind arith

@@ -1,14 +1,11 @@
 -- The timer of one source after a record, by the row of the tables that it meets.
-use Rattle.std.proofs.Common.{◌≡◌, ℕ, ◌+◌, Bool, true, false, not, ◌||◌, ◌⊎◌, inl, inr, Option, None, Some, IsSome, IsTrue, refl, sym, ap, ◌∙◌, subst, cond}
-use Rattle.std.proofs.Common.{arith}
-use Rattle.std.proofs.lemmas.Bool.{false≢true}
+use Rattle.mq_laws.proofs.Common.{◌≡◌, ℕ, ◌+◌, Bool, true, false, not, ◌||◌, inl, inr, Option, None, Some, IsSome, IsTrue, refl, sym, ap, ◌∙◌, subst, cond}
+use Rattle.mq_laws.proofs.Common.{arith, false≢true, GroupState, is_running, running, timer_at, deadline_of, group_deadline, sendings_of, wants, forwards_in}
+use Rattle.mq_laws.proofs.Common.{NamedSources, table_row_met, change_of, membership_interval, Kind, IsIn, IsEx, ToIn, ToEx, Allow, Block, FilterMode}
+use Rattle.mq_laws.proofs.Common.{SourceTimer, Timing, ForwardsAfter, group_after}
+use Rattle.std.proofs.Common.{◌⊎◌}
 use Rattle.mq_table.proofs.TableRows.{table_row_at, timer_then, timer_at-change_of, at_source_of}
-use Rattle.mq_table.specs.Group.{GroupState, is_running, running, timer_at, deadline_of, group_deadline, sendings_of, wants, forwards_in}
-use Rattle.mq_table.specs.{Table.NamedSources, Table.table_row_met, Table.change_of, Timing.membership_interval, declared.kind.Kind.Kind}
-use Rattle.mq_table.specs.declared.kind.Kind.TheVariants.{IsIn, IsEx, ToIn, ToEx, Allow, Block}
-use Rattle.mq_table.specs.declared.timers.{FilterMode.FilterMode, SourceTimer.SourceTimer, SourceTimer.TheVariants.Stopped, SourceTimer.TheVariants.Running}
-use Rattle.mq_table.specs.declared.timing.Timing.{Timing}
-use Rattle.mq_laws.specs.Groups.{ForwardsAfter, group_after}
+use Rattle.mq_table.specs.declared.timers.SourceTimer.TheVariants.{Stopped, Running}
 use Rattle.std.specs.FinSet as set
 
 -- the forwarding of a source after a record, by whether it is named and was forwarded before

@@ -1,18 +1,24 @@
 -- A moment comes in a check whose queries pair up: what is over no longer waits, and of it only those are found that were
 -- left out.
 use Rattle.std.proofs.Common.{◌≡◌, ℕ, suc, ◌+◌, ◌<◌, ◌≤◌, Bool, true, false, List, [], ◌∷◌, ◌++◌, refl, ap, sym, ◌∙◌, arith, append_assoc, drop}
-use Rattle.std.specs.Prelude.{Option, None, Some, ◌⊎◌, flat_map, nat_lt, take_while, map as list_map}
+use Rattle.std.specs.Prelude.{Option, None, Some, ◌⊎◌, ◌&&◌, ◌==◌, flat_map, nat_lt, not, take_while, map as list_map}
 use mathlib.Core.Logic.{inl, inr}
 use Rattle.std.specs.List.{AllByRecursion, prefix_len}
-use Rattle.std.proofs.lemmas.Bool.{lt-ltb, ltb-true, ltb-false, or_right}
+use Rattle.std.proofs.lemmas.Bool.{lt-ltb, ltb-true, ltb-false}
 use Rattle.mq_check.specs.declared.asked.Asked.{Asked}
 use Rattle.mq_check.specs.declared.entry.Entry.{Entry}
+use Rattle.mq_check.specs.declared.entry.Need.{Need}
+use Rattle.mq_check.specs.declared.entry.Need.TheVariants.{Required}
 use Rattle.mq_check.specs.declared.entry.Entry.TheVariants.{Wanted, Seen, Interval, Silence, Packet}
 use Rattle.mq_check.specs.declared.entry.Unpaired.{Unpaired}
+use Rattle.mq_check.specs.declared.finding.Difference.{Difference}
+use Rattle.mq_check.specs.declared.finding.Difference.TheVariants as field
 use Rattle.mq_check.specs.declared.finding.Finding.{Finding}
 use Rattle.mq_check.specs.declared.finding.Finding.TheVariants.{Missing, Differs}
 use Rattle.mq_check.specs.declared.terms.Terms.{Terms}
-use Rattle.mq_check.specs.Entries.{moment_of, is_over, findings_of, terms_differ}
+use Rattle.mq_check.specs.declared.terms.QuerierTerms.{QuerierTerms}
+use Rattle.mq_check.specs.Entries.{moment_of, difference_if, findings_of, findings_of_pair, has_other_s, is_over, is_possible, is_unlike, queriers_differ}
+use Rattle.mq_check.specs.Entries.{responses_differ, terms_differ}
 use Rattle.mq_check.specs.Queries.{is_same}
 use Rattle.mq_laws.specs.Pairing.{Ask, Expected, Sent, LeftOut, PairUp, ask_of, seen_about, wanted_about, missing_of}
 use Rattle.mq_laws.specs.WantedAndSeen.{still_due}
@@ -151,10 +157,10 @@ plain_out within keep low moment e es free wanted seen holds same w = record {
 }
 
 -- one that was left out is taken out
-missed_out : (within keep low moment : ℕ) (m : ℕ) (asked : Asked ℕ) (terms : Terms ℕ) (is_optional : Bool) (es : List (Entry ℕ)) (x : Ask)
+missed_out : (within keep low moment : ℕ) (m : ℕ) (asked : Asked ℕ) (terms : Terms ℕ) (need : Need) (es : List (Entry ℕ)) (x : Ask)
     (free wanted : List Expected) (seen : List Ask)
-    → Waits within keep low moment (Wanted m asked terms is_optional false ∷ es) (LeftOut x ∷ free) wanted seen → Waits within keep m moment es free wanted seen
-missed_out within keep low moment m asked terms is_optional es x free wanted seen w =
+    → Waits within keep low moment (Wanted m asked terms need false ∷ es) (LeftOut x ∷ free) wanted seen → Waits within keep m moment es free wanted seen
+missed_out within keep low moment m asked terms need es x free wanted seen w =
     let near : is_same asked x.asked ≡ true = ap (λ (a : Ask). is_same asked a.asked) w.holds.0.0 ∙ is_same-self asked in
     let here = wanted_here asked (LeftOut x) free near in
     record {
@@ -176,11 +182,11 @@ missed_out within keep low moment m asked terms is_optional es x free wanted see
     }
 
 -- one that was sent isn't over
-no_sent : (within keep low moment : ℕ) (m : ℕ) (asked : Asked ℕ) (terms : Terms ℕ) (is_optional : Bool) (es : List (Entry ℕ)) (x : Ask)
+no_sent : (within keep low moment : ℕ) (m : ℕ) (asked : Asked ℕ) (terms : Terms ℕ) (need : Need) (es : List (Entry ℕ)) (x : Ask)
     (free wanted : List Expected) (seen : List Ask)
-    → within ≤ keep → SeenFrom moment seen → m + keep < moment → Waits within keep low moment (Wanted m asked terms is_optional false ∷ es)
+    → within ≤ keep → SeenFrom moment seen → m + keep < moment → Waits within keep low moment (Wanted m asked terms need false ∷ es)
     (Sent x ∷ free) wanted seen → ⊥
-no_sent within keep low moment m asked terms is_optional es x free wanted seen long from over w =
+no_sent within keep low moment m asked terms need es x free wanted seen long from over w =
     let near : is_same asked x.asked ≡ true = ap (λ (a : Ask). is_same asked a.asked) w.holds.0 ∙ is_same-self asked in
     let here = wanted_here asked (Sent x) free near in
     let none : seen_about asked (free_seen es) ≡ [] = elim (w.one_side asked) [
@@ -210,18 +216,51 @@ no_seen_over within keep low moment m asked terms alone es free wanted seen long
     (w.pairs asked)) (wanted_from-about moment asked wanted from) over
 
 -- what is found of those that are over
+-- nothing differs in either part if nothing differs in both
+none_before : (xs ys : List (Difference ℕ)) → xs ++ ys ≡ [] → xs ≡ []
+none_before [] ys none = refl
+none_before (x ∷ xs) ys none = absurd (cc)
+
+none_after : (xs ys : List (Difference ℕ)) → xs ++ ys ≡ [] → ys ≡ []
+none_after [] ys none = none
+none_after (x ∷ xs) ys none = absurd (cc)
+
+same_flag : (b : Bool) (difference : Difference ℕ) → difference_if b difference ≡ [] → b ≡ false
+same_flag true difference none = absurd (cc)
+same_flag false difference none = refl
+
+-- queries whose fields are alike have the same S, so nothing is found of them
+same_s : (seen wanted : Option QuerierTerms) → queriers_differ seen wanted ≡ [] → has_other_s seen wanted ≡ false
+same_s None wanted alike = refl
+same_s (Some seen) None alike = refl
+same_s (Some seen) (Some wanted) alike = same_flag (is_unlike seen.suppress wanted.suppress) (field.Suppress seen.suppress wanted.suppress)
+    (none_before (difference_if (is_unlike seen.suppress wanted.suppress) (field.Suppress seen.suppress wanted.suppress)) _ (none_before _ _ alike))
+
+never_both : (a b : Bool) → b ≡ false → (a && b) ≡ false
+never_both true b fails = fails
+never_both false b fails = refl
+
+pub pair_alike : (m : ℕ) (asked : Asked ℕ) (terms wanted : Terms ℕ) (alone : Unpaired ℕ) → terms_differ terms wanted ≡ [] →
+    findings_of_pair m asked terms wanted alone ≡ []
+pair_alike m asked terms wanted alone alike =
+    let version = difference_if (not (terms.version == wanted.version)) (field.Version terms.version wanted.version) in
+    let response = responses_differ terms.response wanted.response in
+    let queriers = queriers_differ terms.querier wanted.querier in
+    let same = same_s terms.querier wanted.querier (none_after (version ++ response) queriers (none_before ((version ++ response) ++ queriers) _ alike)) in
+    rw (never_both (is_possible alone) (has_other_s terms.querier wanted.querier) same) (ap (list_map (Differs m terms.packet asked)) alike)
+
 found_of_pair : (within : ℕ) (changed : Option ℕ) (m : ℕ) (asked : Asked ℕ) (terms wanted : Terms ℕ) (alone : Unpaired ℕ) →
     terms_differ terms wanted ≡ [] → findings_of within changed (Seen m asked terms (Some wanted) alone) ≡ []
-found_of_pair within changed m asked terms wanted alone alike = ap (list_map (Differs m terms.packet asked)) alike
+found_of_pair within changed m asked terms wanted alone alike = pair_alike m asked terms wanted alone alike
 
-found_of_found : (within : ℕ) (changed : Option ℕ) (m : ℕ) (asked : Asked ℕ) (terms : Terms ℕ) (is_optional : Bool) →
-    findings_of within changed (Wanted m asked terms is_optional true) ≡ []
-found_of_found within changed m asked terms is_optional = rw (or_right is_optional true refl) refl
+found_of_found : (within : ℕ) (changed : Option ℕ) (m : ℕ) (asked : Asked ℕ) (terms : Terms ℕ) (need : Need) →
+    findings_of within changed (Wanted m asked terms need true) ≡ []
+found_of_found within changed m asked terms need = refl
 
-found_of_missed : (within : ℕ) (changed : Option ℕ) (m : ℕ) (asked : Asked ℕ) (terms : Terms ℕ) (is_optional : Bool) (x : Ask) →
-    x ≡ ask m asked terms → is_optional ≡ false
-    → findings_of within changed (Wanted m asked terms is_optional false) ≡ Missing x.moment x.terms.packet x.asked ∷ []
-found_of_missed within changed m asked terms is_optional x is must = rw (must, is) refl
+found_of_missed : (within : ℕ) (changed : Option ℕ) (m : ℕ) (asked : Asked ℕ) (terms : Terms ℕ) (need : Need) (x : Ask) →
+    x ≡ ask m asked terms → need ≡ Required
+    → findings_of within changed (Wanted m asked terms need false) ≡ Missing x.moment x.terms.packet x.asked ∷ []
+found_of_missed within changed m asked terms need x is must = rw (must, is) refl
 
 -- one that is over is no longer due
 missed_due : (within keep moment m : ℕ) (asked : Asked ℕ) (terms : Terms ℕ) (x : Ask) (free : List Expected) (b : Asked ℕ) → within ≤ keep →
@@ -258,24 +297,24 @@ comes within keep low moment changed [] free wanted seen long later_wanted later
   missing = refl;
   returns = λ b. refl;
 }
-comes within keep low moment changed (Wanted m asked terms is_optional true ∷ es) free wanted seen long later_wanted later_seen w =
-    let e = Wanted m asked terms is_optional true in
+comes within keep low moment changed (Wanted m asked terms need true ∷ es) free wanted seen long later_wanted later_seen w =
+    let e = Wanted m asked terms need true in
     either_comes within keep low moment changed e es free wanted seen w (λ over.
-    one_comes within keep moment changed e es free free wanted seen [] over (found_of_found within changed m asked terms is_optional) refl (λ b. refl) refl
+    one_comes within keep moment changed e es free free wanted seen [] over (found_of_found within changed m asked terms need) refl (λ b. refl) refl
     (comes within keep m moment changed es free wanted seen long later_wanted later_seen
     (plain_out within keep low moment e es free wanted seen w.holds refl w)))
-comes within keep low moment changed (Wanted m asked terms is_optional false ∷ es) [] wanted seen long later_wanted later_seen w = absurd w.holds
-comes within keep low moment changed (Wanted m asked terms is_optional false ∷ es) (Sent x ∷ free) wanted seen long later_wanted later_seen w =
-    either_comes within keep low moment changed (Wanted m asked terms is_optional false) es (Sent x ∷ free) wanted seen w (λ over.
-    absurd (no_sent within keep low moment m asked terms is_optional es x free wanted seen long later_seen (ltb-true (m + keep) moment over) w))
-comes within keep low moment changed (Wanted m asked terms is_optional false ∷ es) (LeftOut x ∷ free) wanted seen long later_wanted later_seen w =
-    let e = Wanted m asked terms is_optional false in
+comes within keep low moment changed (Wanted m asked terms need false ∷ es) [] wanted seen long later_wanted later_seen w = absurd w.holds
+comes within keep low moment changed (Wanted m asked terms need false ∷ es) (Sent x ∷ free) wanted seen long later_wanted later_seen w =
+    either_comes within keep low moment changed (Wanted m asked terms need false) es (Sent x ∷ free) wanted seen w (λ over.
+    absurd (no_sent within keep low moment m asked terms need es x free wanted seen long later_seen (ltb-true (m + keep) moment over) w))
+comes within keep low moment changed (Wanted m asked terms need false ∷ es) (LeftOut x ∷ free) wanted seen long later_wanted later_seen w =
+    let e = Wanted m asked terms need false in
     either_comes within keep low moment changed e es (LeftOut x ∷ free) wanted seen w (λ over.
     one_comes within keep moment changed e es (LeftOut x ∷ free) free wanted seen (Missing x.moment x.terms.packet x.asked ∷ []) over
-    (found_of_missed within changed m asked terms is_optional x w.holds.0.0 w.holds.0.1) refl
+    (found_of_missed within changed m asked terms need x w.holds.0.0 w.holds.0.1) refl
     (λ b. missed_due within keep moment m asked terms x free b long w.holds.0.0 over) refl
     (comes within keep m moment changed es free wanted seen long later_wanted later_seen
-    (missed_out within keep low moment m asked terms is_optional es x free wanted seen w)))
+    (missed_out within keep low moment m asked terms need es x free wanted seen w)))
 comes within keep low moment changed (Seen m asked terms None alone ∷ es) free wanted seen long later_wanted later_seen w =
     either_comes within keep low moment changed (Seen m asked terms None alone) es free wanted seen w (λ over.
     absurd (no_seen_over within keep low moment m asked terms alone es free wanted seen long later_wanted (ltb-true (m + keep) moment over) w))

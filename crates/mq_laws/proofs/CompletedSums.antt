@@ -1,7 +1,6 @@
 -- A message with its checksum in its field has a right sum.
-use Rattle.std.proofs.Common.{◌≡◌, ◌≤◌, ℕ, ◌+◌, ◌-◌, ◌*◌, ◌/◌, ◌%◌, ◌<◌, inl, inr, List, [], ◌∷◌, ◌++◌, length, ap, ◌∙◌, arith, refl}
-use Rattle.std.proofs.Math.Nat.{div-add-mod, mul-mod_right}
-use Rattle.std.proofs.lemmas.Bool.Decides.{nat_tests, eqb_tells}
+use Rattle.mq_laws.proofs.Common.{◌≡◌, ◌≤◌, ℕ, ◌+◌, ◌-◌, ◌*◌, ◌/◌, ◌%◌, ◌<◌, inl, inr, List, [], ◌∷◌, ◌++◌, length, ap, ◌∙◌, arith, refl, div-add-mod}
+use Rattle.mq_laws.proofs.Common.{mul-mod_right, nat_tests, eqb_tells}
 use Rattle.mq_wire.specs.Checksum.{sum_of_words, ones_complement, with_field, checksum_of, checksum_behind, IsRight}
 use Rattle.mq_wire.proofs.Sums.{sum_of_both}
 

@@ -1,17 +1,13 @@
 -- The counters that a datagram raises, and the outlet's answers, which change nothing else.
-use Rattle.std.proofs.Common.{◌≡◌, ℕ, ◌+◌, Bool, true, false, cond, not, refl, List, [], ◌∷◌, length, suc, Option, None, Some, Result, Ok, Err, ap, ◌∙◌}
-use Rattle.std.proofs.{Common.arith, lemmas.List.Sums.sum_by-cons}
-use Rattle.std.specs.List.{count_by}
+use Rattle.mq_laws.proofs.Common.{◌≡◌, ℕ, ◌+◌, Bool, true, false, cond, not, refl, List, [], ◌∷◌, length, suc, Option, None, Some, Result, Ok, Err, ap, ◌∙◌}
+use Rattle.mq_laws.proofs.Common.{arith, count_by, Message, QueryMessage, OldReport, LeaveMessage, ReportMessage, WireFault, RecordView, Configuration}
+use Rattle.mq_laws.proofs.Common.{Counters, counted_at, kind_number, Verdict, Applied, Ignored, Refused, count_dropped, count_verdict, count_verdicts}
+use Rattle.mq_laws.proofs.Common.{is_applied, is_ignored, is_refused, kind_of, Envelope, Receipt, with_outcomes, setting_of, count_read, counting_read}
+use Rattle.mq_laws.proofs.Common.{taken_or_dropped, reason_of_fault, Setting, OlderJoin, OlderLeave, Outcomes, stated, seen_after, judged, all_judged, alone}
+use Rattle.mq_laws.proofs.Common.{Groups, Step, DropReason, CountsDropped, CountsTaken, CountsAnswer, records_in, CountsRecords}
+use Rattle.std.proofs.lemmas.List.Sums.{sum_by-cons}
 use Rattle.mq_count.specs.Streams.{counted_on}
-use Rattle.mq_wire.specs.declared.message.Message.{Message, TheVariants.Query as QueryMessage, TheVariants.OldReport, TheVariants.Leave as LeaveMessage}
-use Rattle.mq_wire.specs.declared.{message.Message.TheVariants.Report as ReportMessage, message.WireFault.WireFault, records.RecordView.RecordView}
-use Rattle.mq_link.specs.{Configuration.Configuration, Counters.Counters, Counters.counted_at, Counters.kind_number}
-use Rattle.mq_link.specs.Counters.{Verdict, Applied, Ignored, Refused, count_dropped, count_verdict, count_verdicts, is_applied, is_ignored, is_refused}
-use Rattle.mq_link.specs.Receive.{kind_of, Envelope, Receipt, with_outcomes, setting_of, count_read, counting_read, taken_in, taken_or_dropped, reason_of_fault}
-use Rattle.mq_link.specs.Record.{Setting, OlderJoin, OlderLeave, Outcomes, stated, Seen, seen_after, judged, all_judged, alone}
-use Rattle.mq_link.specs.{State.Groups, Tick.Step}
-use Rattle.mq_link.specs.declared.answers.{DropReason.DropReason, Received.Received, Received.TheVariants.Dropped}
-use Rattle.mq_laws.specs.Laws.{CountsDropped, CountsTaken, CountsAnswer, records_in, CountsRecords}
+use Rattle.mq_link.specs.{Receive.taken_in, Record.Seen, declared.answers.Received.Received, declared.answers.Received.TheVariants.Dropped}
 use Rattle.std.specs.FinMap as map
 
 -- counts of verdicts; they leave the other counters

@@ -4,6 +4,7 @@ use Rattle.std.specs.Prelude.{Option, None, Some, fold, nat_le, if◌then◌else
 use Rattle.mq_table.specs.declared.timing.Timing.{Timing}
 use Rattle.mq_check.specs.declared.asked.Asked.{Asked}
 use Rattle.mq_check.specs.declared.asked.Asked.TheVariants.{AllGroups}
+use Rattle.mq_check.specs.declared.check_terms.CheckFlags.{CheckFlags}
 use Rattle.mq_check.specs.declared.entry.Entry.{Entry}
 use Rattle.mq_check.specs.declared.finding.Finding.{Finding}
 use Rattle.mq_check.specs.declared.phase.Phase.{Phase}
@@ -11,16 +12,16 @@ use Rattle.mq_check.specs.declared.phase.Phase.TheVariants.{Starting, Heard, Ret
 use Rattle.mq_check.specs.declared.schedules.Repeats.{Repeats}
 use Rattle.mq_check.specs.declared.standing.Standing.{Standing}
 use Rattle.mq_check.specs.declared.terms.Terms.{Terms}
-use Rattle.mq_check.specs.Checking.{CheckingValue, all_blocked, alone_in, is_querier_in, near, subject_wanted, with_seen, one_seen, with_general}
+use Rattle.mq_check.specs.Checking.{CheckingValue, all_changed, alone_in, is_querier_in, near, subject_wanted, with_seen, one_seen, with_general}
 use Rattle.mq_check.specs.Checking.{general_compared, general_seen, specific_seen, role_lost, role_returned, settled, told, with_fault}
-use Rattle.mq_check.specs.Entries.{is_free_seen, is_free_wanted, may_be_left_out, terms_differ}
+use Rattle.mq_check.specs.Entries.{is_free_seen, is_free_wanted, terms_differ}
 use Rattle.mq_check.specs.General.{wrong_interval, phase_again, phase_behind, silence_up_to}
 use Rattle.mq_check.specs.Queries.{is_same}
-use Rattle.mq_check.specs.Schedules.{repeats_in, terms_wanted}
-use Rattle.mq_check.specs.Standing.{held}
+use Rattle.mq_check.specs.Schedules.{SchedulesValue, keep_in, more_in, repeats_in, terms_wanted}
+use Rattle.mq_check.specs.Standing.{plain}
 use Rattle.mq_check.specs.Waiting.{WaitingValue}
 use Rattle.mq_laws.specs.Pairing.{Ask, Expected, Sent, LeftOut, ask_of, asks_of, kept_for, missing_of, wanted_about}
-use Rattle.mq_laws.specs.Events.{CheckEvent, Comes, Wants, Sees, SeesGeneral, LosesRole, HasRoleAgain, SeesFault, Blocks, moment_behind, check_by}
+use Rattle.mq_laws.specs.Events.{CheckEvent, Comes, Wants, Sees, SeesGeneral, LosesRole, HasRoleAgain, SeesFault, Changes, moment_behind, check_by}
 use Rattle.mq_laws.specs.Events.{told_by, moment_behind_all, check_by_all, told_by_all}
 use Rattle.mq_laws.specs.WantedAndSeen.{asks_at, asks_wanted, wanted_in, seen_in, general_ask, general_returned, all_seen, all_wanted, return_seen}
 use Rattle.mq_laws.specs.WantedAndSeen.{return_wanted, still_due, Returns}
@@ -31,8 +32,9 @@ use Rattle.mq_laws.proofs.Same.{same_asked}
 use Rattle.mq_laws.proofs.Partners.{SameFrom}
 use Rattle.mq_laws.proofs.Steps.{Stands, Stepped, general_one, returns_of, see_one, seen_near, want_one, wanted_near}
 use Rattle.mq_laws.proofs.Comings.{WantedFrom, SeenFrom, Waits, comes, left_of, told_of}
-use Rattle.mq_laws.proofs.Rooms.{entered, wanted_part, seen_part, general_part, lost_part, required, told_now, settled_free, settled_full}
-use Rattle.mq_laws.proofs.Rooms.{compared_querier, compared_other, general_free, lost_free, returned_free, returned_part, blocked_free, blocked_part}
+use Rattle.mq_laws.proofs.Rooms.{IsFresh, fresh_as, fresh_settled, entered, wanted_part, seen_part, general_part, lost_part}
+use Rattle.mq_laws.proofs.Rooms.{need_now, required, told_now, settled_free, settled_full}
+use Rattle.mq_laws.proofs.Rooms.{compared_querier, compared_other, general_free, lost_free, returned_free, returned_part, changed_free, changed_part}
 
 -- What waits behind some steps, and the general queries among it.
 pub record StepsTo (within keep now : ℕ) (entries : List (Entry ℕ)) (before wanted : List Expected) (seen : List Ask) (returns : Returns) : Type 0 where
@@ -72,24 +74,27 @@ near_as : (within now : ℕ) (test : Entry ℕ → Bool) (c : CheckingValue) →
 near_as within now test c within_is same = subst (λ (w : ℕ). SameFrom test (now - w) c.waiting.entries) (sym within_is) same
 
 -- what is left to do behind some of what is wanted at a moment
-pub record WantedAll (within keep end now : ℕ) (c after : CheckingValue) (free before : List Expected) (seen : List Ask) (rest : List Ask)
+pub record WantedAll (strict : Bool) (within keep end now : ℕ) (c after : CheckingValue) (free before : List Expected) (seen : List Ask) (rest : List Ask)
     (returns : Returns) : Type 0 where
   pub wanted : List Expected
   pub step : StepsTo within keep now after.waiting.entries before wanted seen returns
   pub asks : asks_of wanted ≡ rest
-  pub missed : AreMissed keep end wanted
+  pub missed : AreMissed strict keep end wanted
   pub phase : after.phase ≡ c.phase
   pub last : after.last_general ≡ c.last_general
   pub repeats : after.schedules.repeats ≡ c.schedules.repeats
+  pub fresh : IsFresh after.schedules
 
-kept_of : (keep end now : ℕ) (a : Asked ℕ) (terms : Terms ℕ) (entries : List (Entry ℕ)) (x : Expected) (xs : List Expected)
-    → ask_of x ≡ ask now a terms → AreMissed keep end (x ∷ xs) → IsKept now a terms (may_be_left_out now a terms entries) x
-kept_of keep end now a terms entries (Sent w) xs is missed = is
-kept_of keep end now a terms entries (LeftOut w) xs is missed = (is, required now a terms entries (rw is at missed.0.has_to_be_sent))
+kept_of : (strict : Bool) (keep end now : ℕ) (a : Asked ℕ) (terms : Terms ℕ) (c : CheckingValue) (x : Expected) (xs : List Expected)
+    → (strict ≡ true → c.schedules.repeats.more ≡ 0) → ask_of x ≡ ask now a terms → AreMissed strict keep end (x ∷ xs) →
+    IsKept now a terms (need_now now a terms c) x
+kept_of strict keep end now a terms c (Sent w) xs none is missed = is
+kept_of strict keep end now a terms c (LeftOut w) xs none is missed =
+    (is, required now a terms c (none missed.0.is_strict) (rw is at missed.0.has_to_be_sent))
 
-missed_behind : (keep end : ℕ) (x : Expected) (xs : List Expected) → AreMissed keep end (x ∷ xs) → AreMissed keep end xs
-missed_behind keep end (Sent w) xs missed = missed
-missed_behind keep end (LeftOut w) xs missed = missed.1
+missed_behind : (strict : Bool) (keep end : ℕ) (x : Expected) (xs : List Expected) → AreMissed strict keep end (x ∷ xs) → AreMissed strict keep end xs
+missed_behind strict keep end (Sent w) xs missed = missed
+missed_behind strict keep end (LeftOut w) xs missed = missed.1
 
 -- the terms that a check gives a query of the link about a thing
 abbrev given : (is_again : Bool) → Terms ℕ → Asked ℕ → CheckingValue → Terms ℕ
@@ -99,16 +104,18 @@ pub wants_free : (now : ℕ) (is_again : Bool) (terms : Terms ℕ) (asked : List
     (fold (subject_wanted now is_again terms) c asked).waiting.is_full ≡ false → c.waiting.is_full ≡ false
 wants_free now is_again terms [] c free = free
 wants_free now is_again terms (a ∷ more) c free =
-    (wanted_part now (given is_again terms a c) c a (wants_free now is_again terms more (subject_wanted now is_again terms c a) free)).was
+    (wanted_part now is_again (given is_again terms a c) c a (wants_free now is_again terms more (subject_wanted now is_again terms c a) free)).was
 
-wants_all : (within keep end now : ℕ) (is_again : Bool) (terms : Terms ℕ) (asked : List (Asked ℕ)) (c : CheckingValue) (free expected : List Expected)
-    (seen : List Ask) (rest : List Ask)
-    → c.schedules.repeats.within ≡ within → asks_of expected ≡ asks_wanted now is_again terms asked c ++ rest → AreMissed keep end expected →
+wants_all : (strict : Bool) (within keep end now : ℕ) (is_again : Bool) (terms : Terms ℕ) (asked : List (Asked ℕ)) (c : CheckingValue)
+    (free expected : List Expected) (seen : List Ask) (rest : List Ask)
+    → IsFresh c.schedules → c.schedules.repeats.within ≡ within → (strict ≡ true → c.schedules.repeats.more ≡ 0) →
+    asks_of expected ≡ asks_wanted now is_again terms asked c ++ rest
+    → AreMissed strict keep end expected →
     (fold (subject_wanted now is_again terms) c asked).waiting.is_full ≡ false
     → Stands within keep now c.waiting.entries free expected seen
-    → WantedAll within keep end now c (fold (subject_wanted now is_again terms) c asked) free (free ++ expected) seen rest
+    → WantedAll strict within keep end now c (fold (subject_wanted now is_again terms) c asked) free (free ++ expected) seen rest
     (all_wanted now asked (general_returns within now free c.waiting.entries))
-wants_all within keep end now is_again terms [] c free expected seen rest within_is is missed room st =
+wants_all strict within keep end now is_again terms [] c free expected seen rest is_fresh within_is none is missed room st =
     record {
       wanted = expected;
       step = record { left = free; stands = st; missing = refl; returns_are = refl };
@@ -118,23 +125,25 @@ wants_all within keep end now is_again terms [] c free expected seen rest within
           refl;
       last = refl;
       repeats = refl;
+      fresh = is_fresh;
     }
-wants_all within keep end now is_again terms (a ∷ more) c free [] seen rest within_is is missed room st = absurd (cc)
-wants_all within keep end now is_again terms (a ∷ more) c free (x ∷ xs) seen rest within_is is missed room st =
+wants_all strict within keep end now is_again terms (a ∷ more) c free [] seen rest is_fresh within_is none is missed room st = absurd (cc)
+wants_all strict within keep end now is_again terms (a ∷ more) c free (x ∷ xs) seen rest is_fresh within_is none is missed room st =
     let t = given is_again terms a c in
     let next = subject_wanted now is_again terms c a in
     let first : ask_of x ≡ ask now a t = cc in
     let others : asks_of xs ≡ asks_wanted now is_again terms more next ++ rest = cc in
-    let part = wanted_part now t c a (wants_free now is_again terms more next room) in
+    let part = wanted_part now is_again t c a (wants_free now is_again terms more next room) in
     let r = general_returns within now free c.waiting.entries in
     let near_is : SameFrom (is_free_seen a) (near now c) c.waiting.entries =
     near_as within now (is_free_seen a) c within_is (seen_near within keep now a t x c.waiting.entries free xs seen first st) in
     let one : StepsTo within keep now next.waiting.entries (free ++ x ∷ xs) xs seen (if is_same AllGroups a then return_wanted now r.due r.early else r) =
-    rw (part.entries near_is) (stepped within keep now a (return_wanted now) _ _ free (free ++ x ∷ xs) xs seen
-    (want_one within keep now a t (may_be_left_out now a t c.waiting.entries) x c.waiting.entries free xs seen
-    (kept_of keep end now a t c.waiting.entries x xs first missed) st)) in
-    let all = wants_all within keep end now is_again terms more next one.left xs seen rest (ap (λ (r : Repeats). r.within) part.repeats ∙ within_is)
-    others (missed_behind keep end x xs missed) room one.stands in
+    rw (part.entries is_fresh near_is) (stepped within keep now a (return_wanted now) _ _ free (free ++ x ∷ xs) xs seen
+    (want_one within keep now a t (need_now now a t c) x c.waiting.entries free xs seen
+    (kept_of strict keep end now a t c x xs none first missed) st)) in
+    let all = wants_all strict within keep end now is_again terms more next one.left xs seen rest (part.fresh is_fresh)
+    (ap (λ (r : Repeats). r.within) part.repeats ∙ within_is) (λ is. ap (λ (r : Repeats). r.more) part.repeats ∙ none is)
+    others (missed_behind strict keep end x xs missed) room one.stands in
     record {
       wanted = all.wanted;
       step = record {
@@ -148,6 +157,7 @@ wants_all within keep end now is_again terms (a ∷ more) c free (x ∷ xs) seen
       phase = all.phase ∙ part.phase;
       last = all.last ∙ part.last;
       repeats = all.repeats ∙ part.repeats;
+      fresh = all.fresh;
     }
 
 -- all that a query asks about that was seen
@@ -156,22 +166,28 @@ pub record SeenAll (within keep now : ℕ) (c after : CheckingValue) (free befor
   pub phase : after.phase ≡ c.phase
   pub last : after.last_general ≡ c.last_general
   pub repeats : after.schedules.repeats ≡ c.schedules.repeats
+  pub fresh : IsFresh after.schedules
 
-sees_free : (now : ℕ) (terms : Terms ℕ) (standing : Asked ℕ → Standing ℕ) (asked : List (Asked ℕ)) (c : CheckingValue) →
+sees_free : (now : ℕ) (terms : Terms ℕ) (standing : Asked ℕ → Standing) (asked : List (Asked ℕ)) (c : CheckingValue) →
     (fold (one_seen now terms standing) c asked).waiting.is_full ≡ false → c.waiting.is_full ≡ false
 sees_free now terms standing [] c free = free
 sees_free now terms standing (a ∷ more) c free =
     (seen_part now terms (standing a) c a (sees_free now terms standing more (with_seen now terms (standing a) c a) free)).was
 
-sees_all : (within keep now : ℕ) (terms : Terms ℕ) (standing : Asked ℕ → Standing ℕ) (asked : List (Asked ℕ)) (c : CheckingValue)
+sees_all : (within keep now : ℕ) (terms : Terms ℕ) (standing : Asked ℕ → Standing) (asked : List (Asked ℕ)) (c : CheckingValue)
     (free wanted : List Expected) (rest : List Ask)
-    → c.schedules.repeats.within ≡ within → (fold (one_seen now terms standing) c asked).waiting.is_full ≡ false
+    → IsFresh c.schedules → c.schedules.repeats.within ≡ within → (fold (one_seen now terms standing) c asked).waiting.is_full ≡ false
     → Stands within keep now c.waiting.entries free wanted (asks_at now terms asked ++ rest)
     → SeenAll within keep now c (fold (one_seen now terms standing) c asked) free (free ++ wanted) wanted rest
     (all_seen now asked (general_returns within now free c.waiting.entries))
-sees_all within keep now terms standing [] c free wanted rest within_is room st =
-    record { step = record { left = free; stands = st; missing = refl; returns_are = refl }; phase = refl; last = refl; repeats = refl }
-sees_all within keep now terms standing (a ∷ more) c free wanted rest within_is room st =
+sees_all within keep now terms standing [] c free wanted rest is_fresh within_is room st = record {
+  step = record { left = free; stands = st; missing = refl; returns_are = refl };
+  phase = refl;
+  last = refl;
+  repeats = refl;
+  fresh = is_fresh;
+}
+sees_all within keep now terms standing (a ∷ more) c free wanted rest is_fresh within_is room st =
     let next = with_seen now terms (standing a) c a in
     let part = seen_part now terms (standing a) c a (sees_free now terms standing more next room) in
     let r = general_returns within now free c.waiting.entries in
@@ -179,9 +195,9 @@ sees_all within keep now terms standing (a ∷ more) c free wanted rest within_i
     near_as within now (is_free_wanted a) c within_is (wanted_near within keep now a terms c.waiting.entries free wanted (asks_at now terms more ++ rest) st) in
     let one : StepsTo within keep now next.waiting.entries (free ++ wanted) wanted (asks_at now terms more ++ rest)
     (if is_same AllGroups a then return_seen now r.due r.early else r) =
-    rw (part.entries near_is) (stepped within keep now a (return_seen now) _ _ free (free ++ wanted) wanted (asks_at now terms more ++ rest)
+    rw (part.entries is_fresh near_is) (stepped within keep now a (return_seen now) _ _ free (free ++ wanted) wanted (asks_at now terms more ++ rest)
     (see_one within keep now a terms (alone_in now terms (standing a) a c) c.waiting.entries free wanted (asks_at now terms more ++ rest) st)) in
-    let all = sees_all within keep now terms standing more next one.left wanted rest
+    let all = sees_all within keep now terms standing more next one.left wanted rest (part.fresh is_fresh)
     (ap (λ (r : Repeats). r.within) part.repeats ∙ within_is) room one.stands in
     record {
       step = record {
@@ -193,6 +209,7 @@ sees_all within keep now terms standing (a ∷ more) c free wanted rest within_i
       phase = all.phase ∙ part.phase;
       last = all.last ∙ part.last;
       repeats = all.repeats ∙ part.repeats;
+      fresh = all.fresh;
     }
 
 -- where there is room at the end, there was at the beginning
@@ -210,17 +227,19 @@ all_free within timing now (SeesGeneral terms wanted ∷ es) c free =
 all_free within timing now (LosesRole ∷ es) c free = lost_free within timing now c (all_free within timing now es (role_lost within timing now c) free)
 all_free within timing now (HasRoleAgain ∷ es) c free = returned_free within now c (all_free within timing now es (role_returned within now c) free)
 all_free within timing now (SeesFault number fault ∷ es) c free = (entered _ _ (all_free within timing now es (with_fault now number c fault) free)).was
-all_free within timing now (Blocks asked ∷ es) c free = blocked_free now asked c (all_free within timing now es (all_blocked now asked c) free)
+all_free within timing now (Changes terms asked ∷ es) c free =
+    changed_free now terms asked c (all_free within timing now es (all_changed now terms asked c) free)
 
 -- What waits at the end, and that no less is missing than was told and is missing still.
-pub record Ended (within : ℕ) (timing : Timing) (strict : Bool) (end now : ℕ) (events : List CheckEvent) (c : CheckingValue)
+pub record Ended (within : ℕ) (timing : Timing) (flags : CheckFlags) (end now : ℕ) (events : List CheckEvent) (c : CheckingValue)
     (missing : List (Finding ℕ)) : Type 0 where
   pub left : List Expected
-  pub stands : Stands within (kept_for within timing strict) (moment_behind_all now events) (check_by_all within timing now events c).waiting.entries left [] []
+  pub stands : Stands within (kept_for within timing flags) (moment_behind_all now events) (check_by_all within timing now events c).waiting.entries left [] []
   pub missing_is : missing ≡ told_by_all within timing now events c ++ missing_of (left ++ [])
   pub silence : silence_up_to within timing end (check_by_all within timing now events c).phase ≡ None
   pub in_time : moment_behind_all now events ≤ end
-  pub repeats : (check_by_all within timing now events c).schedules.repeats ≡ repeats_in within timing strict
+  pub repeats : (check_by_all within timing now events c).schedules.repeats ≡ repeats_in within timing flags
+  pub fresh : IsFresh (check_by_all within timing now events c).schedules
 
 -- what is still to come lies at a moment or later
 asks-from : (now : ℕ) (terms : Terms ℕ) (asked : List (Asked ℕ)) (rest : List Ask) → SeenFrom now rest → SeenFrom now (asks_at now terms asked ++ rest)
@@ -251,7 +270,7 @@ wanted-from within timing now (SeesGeneral terms wanted ∷ es) c end order =
 wanted-from within timing now (LosesRole ∷ es) c end order = wanted-from within timing now es (role_lost within timing now c) end order
 wanted-from within timing now (HasRoleAgain ∷ es) c end order = wanted-from within timing now es (role_returned within now c) end order
 wanted-from within timing now (SeesFault number fault ∷ es) c end order = wanted-from within timing now es (with_fault now number c fault) end order
-wanted-from within timing now (Blocks asked ∷ es) c end order = wanted-from within timing now es (all_blocked now asked c) end order
+wanted-from within timing now (Changes terms asked ∷ es) c end order = wanted-from within timing now es (all_changed now terms asked c) end order
 
 general-from : (is_querier : Bool) (due : List ℕ) (now : ℕ) (terms : Terms ℕ) (rest : List Ask) → SeenFrom now rest →
     SeenFrom now (general_ask is_querier due now terms ++ rest)
@@ -271,7 +290,7 @@ seen-from within q r now (SeesGeneral terms wanted ∷ es) end order =
 seen-from within q r now (LosesRole ∷ es) end order = seen-from within false r now es end order
 seen-from within q r now (HasRoleAgain ∷ es) end order = seen-from within true r now es end order
 seen-from within q r now (SeesFault number fault ∷ es) end order = seen-from within q r now es end order
-seen-from within q r now (Blocks asked ∷ es) end order = seen-from within q r now es end order
+seen-from within q r now (Changes terms asked ∷ es) end order = seen-from within q r now es end order
 
 expected-from : (now : ℕ) (expected : List Expected) (asks : List Ask) → asks_of expected ≡ asks → SeenFrom now asks → WantedFrom now expected
 expected-from now [] asks is from = tt
@@ -308,6 +327,7 @@ pub record GeneralAll (within keep : ℕ) (timing : Timing) (now : ℕ) (c after
   pub step : StepsTo within keep now after.waiting.entries before wanted rest returns
   pub phase : after.phase ≡ phase_behind within timing now c.phase
   pub repeats : after.schedules.repeats ≡ c.schedules.repeats
+  pub fresh : IsFresh after.schedules
 
 -- one step about all groups
 general_step : (within keep now : ℕ) (step : (due early : List ℕ) → Returns) (old entries : List (Entry ℕ)) (free before wanted : List Expected)
@@ -317,13 +337,14 @@ general_step : (within keep now : ℕ) (step : (due early : List ℕ) → Return
 general_step within keep now step old entries free before wanted seen s = record { left = s.left; stands = s.stands; missing = s.missing; returns_are = s.here }
 
 general_all : (within keep : ℕ) (timing : Timing) (now : ℕ) (terms partner : Terms ℕ) (c : CheckingValue) (free wanted : List Expected) (rest : List Ask)
-    → c.schedules.repeats.within ≡ within → wrong_interval within timing now c.phase ≡ None → IsAsWantedThen (is_querier_in c.phase) terms partner
+    → IsFresh c.schedules → c.schedules.repeats.within ≡ within → wrong_interval within timing now c.phase ≡ None
+    → IsAsWantedThen (is_querier_in c.phase) terms partner
     → (general_compared within timing now terms partner c).waiting.is_full ≡ false
     → (let r = general_returns within now free c.waiting.entries in
     Stands within keep now c.waiting.entries free wanted (general_ask (is_querier_in c.phase) r.due now terms ++ rest)
     → GeneralAll within keep timing now c (general_compared within timing now terms partner c) free (free ++ wanted) wanted rest
     (general_returned (is_querier_in c.phase) now r.due r.early))
-general_all within keep timing now terms partner c free wanted rest within_is in_time alike room st =
+general_all within keep timing now terms partner c free wanted rest is_fresh within_is in_time alike room st =
     let r = general_returns within now free c.waiting.entries in
     elim (is_querier_in c.phase) as
     (λ b. is_querier_in c.phase ≡ b → GeneralAll within keep timing now c (general_compared within timing now terms partner c) free
@@ -339,34 +360,45 @@ general_all within keep timing now terms partner c free wanted rest within_is in
           rw (part.entries, within_is)
           (general_step within keep now (general_returned true now) _ _ free (free ++ wanted) wanted rest
           (general_one within keep now terms partner c.waiting.entries free wanted rest fits before)) in
-          rw same (record { step = one; phase = part.phase; repeats = part.repeats })
+          rw same (record {
+            step = one;
+            phase = part.phase;
+            repeats = ap (λ (s : SchedulesValue). s.repeats) part.schedules;
+            fresh = rw part.schedules is_fresh;
+          })
       | false ↦ λ is.
           let same = compared_other within timing now terms partner c is in
-          let part = seen_part now terms held c AllGroups (ap (λ (d : CheckingValue). d.waiting.is_full) (sym same) ∙ room) in
+          let part = seen_part now terms plain c AllGroups (ap (λ (d : CheckingValue). d.waiting.is_full) (sym same) ∙ room) in
           let before : Stands within keep now c.waiting.entries free wanted (ask now AllGroups terms ∷ rest) =
           subst (λ (b : Bool). Stands within keep now c.waiting.entries free wanted (general_ask b r.due now terms ++ rest)) is st in
           let near_is : SameFrom (is_free_wanted AllGroups) (near now c) c.waiting.entries =
           near_as within now (is_free_wanted AllGroups) c within_is (wanted_near within keep now AllGroups terms c.waiting.entries free wanted rest before) in
-          let one : StepsTo within keep now (with_seen now terms held c AllGroups).waiting.entries (free ++ wanted) wanted rest
+          let one : StepsTo within keep now (with_seen now terms plain c AllGroups).waiting.entries (free ++ wanted) wanted rest
           (general_returned false now r.due r.early) =
-          rw (part.entries near_is)
+          rw (part.entries is_fresh near_is)
           (general_step within keep now (return_seen now) _ _ free (free ++ wanted) wanted rest
-          (see_one within keep now AllGroups terms (alone_in now terms held AllGroups c) c.waiting.entries free wanted rest before)) in
-          rw same (record { step = one; phase = part.phase ∙ sym (no_phase_behind within timing now c.phase is); repeats = part.repeats })
+          (see_one within keep now AllGroups terms (alone_in now terms plain AllGroups c) c.waiting.entries free wanted rest before)) in
+          rw same (record {
+            step = one;
+            phase = part.phase ∙ sym (no_phase_behind within timing now c.phase is);
+            repeats = part.repeats;
+            fresh = part.fresh is_fresh;
+          })
     ] refl
 
 -- one more event before others
-ended_behind : (within : ℕ) (timing : Timing) (strict : Bool) (end now : ℕ) (e : CheckEvent) (es : List CheckEvent) (c : CheckingValue)
+ended_behind : (within : ℕ) (timing : Timing) (flags : CheckFlags) (end now : ℕ) (e : CheckEvent) (es : List CheckEvent) (c : CheckingValue)
     (before after : List (Finding ℕ))
-    → before ≡ told_by within e c ++ after → Ended within timing strict end (moment_behind now e) es (check_by within timing now e c) after →
-    Ended within timing strict end now (e ∷ es) c before
-ended_behind within timing strict end now e es c before after told rest = record {
+    → before ≡ told_by within e c ++ after → Ended within timing flags end (moment_behind now e) es (check_by within timing now e c) after →
+    Ended within timing flags end now (e ∷ es) c before
+ended_behind within timing flags end now e es c before after told rest = record {
   left = rest.left;
   stands = rest.stands;
   missing_is = told ∙ ap (λ (l : List (Finding ℕ)). told_by within e c ++ l) rest.missing_is ∙ sym (append_assoc (told_by within e c) _ _);
   silence = rest.silence;
   in_time = rest.in_time;
   repeats = rest.repeats;
+  fresh = rest.fresh;
 }
 
 -- What waits, whatever is known of the queries to come by other names.
@@ -385,24 +417,27 @@ time_as within timing phase phase' last last' now events end same is time =
     (subst (λ (l : Option ℕ). AreOnTime within timing phase l now events end) (sym is) time)
 
 -- a query is kept for the tolerance at least
-pub kept-long : (within : ℕ) (timing : Timing) (strict : Bool) → within ≤ kept_for within timing strict
-kept-long within timing true = omega arith
-kept-long within timing false = omega arith
+pub kept-long : (within : ℕ) (timing : Timing) (flags : CheckFlags) → within ≤ kept_for within timing flags
+kept-long within timing flags = by_readings flags.strict
+  where
+    by_readings : (strict : Bool) → within ≤ keep_in within timing strict
+    by_readings true = omega arith
+    by_readings false = omega arith
 
 -- What is wanted and what was seen are told at the end, or are pairs.
-pub course : (within : ℕ) (timing : Timing) (strict : Bool) (end now : ℕ) (events : List CheckEvent) (c : CheckingValue) (free expected : List Expected)
-    → c.schedules.repeats ≡ repeats_in within timing strict → asks_of expected ≡ wanted_in within timing now events c →
-    AreMissed (kept_for within timing strict) end expected → AreInOrder now events end
+pub course : (within : ℕ) (timing : Timing) (flags : CheckFlags) (end now : ℕ) (events : List CheckEvent) (c : CheckingValue) (free expected : List Expected)
+    → IsFresh c.schedules → c.schedules.repeats ≡ repeats_in within timing flags → asks_of expected ≡ wanted_in within timing now events c →
+    AreMissed flags.strict (kept_for within timing flags) end expected → AreInOrder now events end
     → AreOnTime within timing c.phase c.last_general now events end → (check_by_all within timing now events c).waiting.is_full ≡ false
-    → Stands within (kept_for within timing strict) now c.waiting.entries free expected
+    → Stands within (kept_for within timing flags) now c.waiting.entries free expected
     (seen_in within (is_querier_in c.phase) (general_returns within now free c.waiting.entries) now events)
-    → Ended within timing strict end now events c (missing_of (free ++ expected))
-course within timing strict end now [] c free [] keeps asks missed order general room st =
-    record { left = free; stands = st; missing_is = refl; silence = general; in_time = order; repeats = keeps }
-course within timing strict end now [] c free (x ∷ xs) keeps asks missed order general room st = absurd (cc)
-course within timing strict end now (Comes moment ∷ es) c free expected keeps asks missed order general room st =
+    → Ended within timing flags end now events c (missing_of (free ++ expected))
+course within timing flags end now [] c free [] is_fresh keeps asks missed order general room st =
+    record { left = free; stands = st; missing_is = refl; silence = general; in_time = order; repeats = keeps; fresh = is_fresh }
+course within timing flags end now [] c free (x ∷ xs) is_fresh keeps asks missed order general room st = absurd (cc)
+course within timing flags end now (Comes moment ∷ es) c free expected is_fresh keeps asks missed order general room st =
     let next = settled moment c in
-    let keep = kept_for within timing strict in
+    let keep = kept_for within timing flags in
     let keep_is : c.schedules.repeats.keep ≡ keep = ap (λ (r : Repeats). r.keep) keeps in
     let before = all_free within timing now (Comes moment ∷ es) c room in
     let r = general_returns within now free c.waiting.entries in
@@ -415,7 +450,7 @@ course within timing strict end now (Comes moment ∷ es) c free expected keeps 
       pairs = st.pairs;
     } in
     let come = comes within keep 0 moment c.changed c.waiting.entries free expected (seen_in within q still moment es)
-    (kept-long within timing strict)
+    (kept-long within timing flags)
     (expected-from moment expected (wanted_in within timing moment es next) asks (wanted-from within timing moment es next end order.1))
     (seen-from within q still moment es end order.1) waits in
     let left_is : next.waiting.entries ≡ left_of keep moment c.waiting.entries =
@@ -425,76 +460,79 @@ course within timing strict end now (Comes moment ∷ es) c free expected keeps 
     let returns : general_returns within moment come.left next.waiting.entries ≡ still =
     ap (general_returns within moment come.left) left_is ∙ come.returns AllGroups
     ∙ (λ i. record { due = sym (still_later within now moment (moments_wanted (wanted_about AllGroups free)) order.0) i; early = r.early }) in
-    ended_behind within timing strict end now (Comes moment) es c (missing_of (free ++ expected)) (missing_of (come.left ++ expected))
+    ended_behind within timing flags end now (Comes moment) es c (missing_of (free ++ expected)) (missing_of (come.left ++ expected))
     (come.missing ∙ ap (λ (l : List (Finding ℕ)). l ++ missing_of (come.left ++ expected))
-    (sym (told_now within moment c before ∙ ap (λ (k : ℕ). told_of k within moment c.changed c.waiting.entries) keep_is)))
-    (course within timing strict end moment es next come.left expected keeps asks missed order.1 general room
+    (sym (told_now within moment c before is_fresh ∙ ap (λ (k : ℕ). told_of k within moment c.changed c.waiting.entries) keep_is)))
+    (course within timing flags end moment es next come.left expected (fresh_settled moment c is_fresh) keeps asks missed order.1 general room
     (seen_as within _ moment next.waiting.entries come.left expected q q still _ es refl returns stands))
-course within timing strict end now (Wants is_again terms asked ∷ es) c free expected keeps asks missed order general room st =
+course within timing flags end now (Wants is_again terms asked ∷ es) c free expected is_fresh keeps asks missed order general room st =
     let next = fold (subject_wanted now is_again terms) c asked in
     let r = general_returns within now free c.waiting.entries in
-    let all = wants_all within (kept_for within timing strict) end now is_again terms asked c free expected
+    let all = wants_all flags.strict within (kept_for within timing flags) end now is_again terms asked c free expected
     (seen_in within (is_querier_in c.phase) (all_wanted now asked r) now es) (wanted_in within timing now es next)
-    (ap (λ (r : Repeats). r.within) keeps) asks missed (all_free within timing now es next room) st in
-    ended_behind within timing strict end now (Wants is_again terms asked) es c (missing_of (free ++ expected))
+    is_fresh (ap (λ (r : Repeats). r.within) keeps) (λ is. ap (λ (r : Repeats). r.more) keeps ∙ ap (more_in timing) is) asks missed
+    (all_free within timing now es next room) st in
+    ended_behind within timing flags end now (Wants is_again terms asked) es c (missing_of (free ++ expected))
     (missing_of (all.step.left ++ all.wanted)) all.step.missing
-    (course within timing strict end now es next all.step.left all.wanted (all.repeats ∙ keeps) all.asks all.missed order
+    (course within timing flags end now es next all.step.left all.wanted all.fresh (all.repeats ∙ keeps) all.asks all.missed order
     (time_as within timing c.phase next.phase c.last_general next.last_general now es end all.phase all.last general) room
     (seen_as within _ now next.waiting.entries all.step.left all.wanted (is_querier_in c.phase) _ (all_wanted now asked r) _ es
     (ap is_querier_in all.phase) all.step.returns_are all.step.stands))
-course within timing strict end now (Sees terms standing asked ∷ es) c free expected keeps asks missed order general room st =
+course within timing flags end now (Sees terms standing asked ∷ es) c free expected is_fresh keeps asks missed order general room st =
     let next = specific_seen now terms standing asked c in
     let r = general_returns within now free c.waiting.entries in
-    let all = sees_all within (kept_for within timing strict) now terms standing asked c free expected
-    (seen_in within (is_querier_in c.phase) (all_seen now asked r) now es) (ap (λ (r : Repeats). r.within) keeps)
+    let all = sees_all within (kept_for within timing flags) now terms standing asked c free expected
+    (seen_in within (is_querier_in c.phase) (all_seen now asked r) now es) is_fresh (ap (λ (r : Repeats). r.within) keeps)
     (all_free within timing now es next room) st in
-    ended_behind within timing strict end now (Sees terms standing asked) es c (missing_of (free ++ expected))
+    ended_behind within timing flags end now (Sees terms standing asked) es c (missing_of (free ++ expected))
     (missing_of (all.step.left ++ expected)) all.step.missing
-    (course within timing strict end now es next all.step.left expected (all.repeats ∙ keeps) asks missed order
+    (course within timing flags end now es next all.step.left expected all.fresh (all.repeats ∙ keeps) asks missed order
     (time_as within timing c.phase next.phase c.last_general next.last_general now es end all.phase all.last general) room
     (seen_as within _ now next.waiting.entries all.step.left expected (is_querier_in c.phase) _ (all_seen now asked r) _ es
     (ap is_querier_in all.phase) all.step.returns_are all.step.stands))
-course within timing strict end now (SeesGeneral terms partner ∷ es) c free expected keeps asks missed order general room st =
+course within timing flags end now (SeesGeneral terms partner ∷ es) c free expected is_fresh keeps asks missed order general room st =
     let next = general_seen within timing now terms partner c in
     let r = general_returns within now free c.waiting.entries in
     let q = is_querier_in c.phase in
-    let all = general_all within (kept_for within timing strict) timing now terms partner c free expected
-    (seen_in within q (general_returned q now r.due r.early) now es) (ap (λ (r : Repeats). r.within) keeps) general.0 general.1
+    let all = general_all within (kept_for within timing flags) timing now terms partner c free expected
+    (seen_in within q (general_returned q now r.due r.early) now es) is_fresh (ap (λ (r : Repeats). r.within) keeps) general.0 general.1
     (all_free within timing now es next room) st in
-    ended_behind within timing strict end now (SeesGeneral terms partner) es c (missing_of (free ++ expected))
+    ended_behind within timing flags end now (SeesGeneral terms partner) es c (missing_of (free ++ expected))
     (missing_of (all.step.left ++ expected)) all.step.missing
-    (course within timing strict end now es next all.step.left expected (all.repeats ∙ keeps) asks missed order
+    (course within timing flags end now es next all.step.left expected all.fresh (all.repeats ∙ keeps) asks missed order
     (time_as within timing _ next.phase _ next.last_general now es end all.phase refl general.2) room
     (seen_as within _ now next.waiting.entries all.step.left expected q _ (general_returned q now r.due r.early) _ es
     (ap is_querier_in all.phase ∙ querier_behind within timing now c.phase) all.step.returns_are all.step.stands))
-course within timing strict end now (LosesRole ∷ es) c free expected keeps asks missed order general room st =
+course within timing flags end now (LosesRole ∷ es) c free expected is_fresh keeps asks missed order general room st =
     let next = role_lost within timing now c in
     let part = lost_part within timing now c general.0 in
     let r = general_returns within now free c.waiting.entries in
     let entries = ap (λ (w : WaitingValue). w.entries) part.waiting in
-    ended_behind within timing strict end now LosesRole es c (missing_of (free ++ expected)) (missing_of (free ++ expected)) refl
-    (course within timing strict end now es next free expected (part.repeats ∙ keeps) asks missed order
+    ended_behind within timing flags end now LosesRole es c (missing_of (free ++ expected)) (missing_of (free ++ expected)) refl
+    (course within timing flags end now es next free expected (part.fresh is_fresh) (part.repeats ∙ keeps) asks missed order
     (time_as within timing NotQuerier next.phase c.last_general next.last_general now es end part.phase part.last general.1) room
     (seen_as within _ now next.waiting.entries free expected false _ r _ es (ap is_querier_in part.phase)
     (ap (general_returns within now free) entries) (rw entries st)))
-course within timing strict end now (HasRoleAgain ∷ es) c free expected keeps asks missed order general room st =
+course within timing flags end now (HasRoleAgain ∷ es) c free expected is_fresh keeps asks missed order general room st =
     let next = role_returned within now c in
     let part = returned_part within now c in
     let r = general_returns within now free c.waiting.entries in
     let entries = ap (λ (w : WaitingValue). w.entries) part.waiting in
-    ended_behind within timing strict end now HasRoleAgain es c (missing_of (free ++ expected)) (missing_of (free ++ expected)) refl
-    (course within timing strict end now es next free expected (part.repeats ∙ keeps) asks missed order
+    ended_behind within timing flags end now HasRoleAgain es c (missing_of (free ++ expected)) (missing_of (free ++ expected)) refl
+    (course within timing flags end now es next free expected (rw part.schedules is_fresh)
+    (ap (λ (s : SchedulesValue). s.repeats) part.schedules ∙ keeps) asks missed order
     (time_as within timing (phase_again within now c.last_general) next.phase c.last_general next.last_general now es end part.phase part.last general) room
     (seen_as within _ now next.waiting.entries free expected true _ r _ es (ap is_querier_in part.phase ∙ querier_again within now c.last_general)
     (ap (general_returns within now free) entries) (rw entries st)))
-course within timing strict end now (SeesFault number fault ∷ es) c free expected keeps asks missed order general room st = absurd general
-course within timing strict end now (Blocks asked ∷ es) c free expected keeps asks missed order general room st =
-    let next = all_blocked now asked c in
-    let part = blocked_part now asked c in
+course within timing flags end now (SeesFault number fault ∷ es) c free expected is_fresh keeps asks missed order general room st = absurd general
+course within timing flags end now (Changes terms asked ∷ es) c free expected is_fresh keeps asks missed order general room st =
+    let next = all_changed now terms asked c in
+    let part = changed_part now terms asked c in
     let r = general_returns within now free c.waiting.entries in
     let entries = ap (λ (w : WaitingValue). w.entries) part.waiting in
-    ended_behind within timing strict end now (Blocks asked) es c (missing_of (free ++ expected)) (missing_of (free ++ expected)) refl
-    (course within timing strict end now es next free expected (part.repeats ∙ keeps) asks missed order
+    ended_behind within timing flags end now (Changes terms asked) es c (missing_of (free ++ expected)) (missing_of (free ++ expected)) refl
+    (course within timing flags end now es next free expected (fresh_as c.schedules next.schedules part.repeats part.next is_fresh)
+    (part.repeats ∙ keeps) asks missed order
     (time_as within timing c.phase next.phase c.last_general next.last_general now es end part.phase part.last general) room
     (seen_as within _ now next.waiting.entries free expected (is_querier_in c.phase) _ r _ es (ap is_querier_in part.phase)
     (ap (general_returns within now free) entries) (rw entries st)))

@@ -1,29 +1,19 @@
 -- No datagram makes something due at its own moment or before.
-use Rattle.std.proofs.Common.{◌≡◌, ℕ, ◌+◌, ◌*◌, ◌<◌, Bool, true, false, cond, refl, List, [], ◌∷◌, Option, None, Some, IfSome, Result, Ok, Err, sym, ap, ◌∙◌}
-use Rattle.std.proofs.{Common.arith, Common.subst, Math.Nat.mul-le-mul_right}
-use Rattle.std.specs.{Option.option_and_then, Option.unwrap_or, Ordering.nat_cmp}
-use Rattle.std.specs.Prelude.{nat_lt, ◌==◌, if◌then◌else◌}
-use Rattle.mq_wire.specs.declared.message.Message.{Message}
-use Rattle.mq_wire.specs.declared.message.Message.TheVariants.{Query as QueryMessage, OldReport, Leave as LeaveMessage, Report as ReportMessage}
-use Rattle.mq_wire.specs.declared.{message.WireFault.WireFault, query.Query.Query, records.RecordView.RecordView}
-use Rattle.mq_table.proofs.Maps.{get-kept}
-use Rattle.mq_table.specs.{Expiry.AllAhead, Group.GroupState, Group.group_deadline, Group.timer_at, Group.deadline_of, Sendings.source_cleared}
-use Rattle.mq_table.specs.{Sendings.sendings_counted, Table.GroupChange, Timing.membership_interval, Timing.older_host_present, Timing.other_querier_present}
-use Rattle.mq_table.specs.{Variables.AreInRange, declared.timers.SourceTimer.SourceTimer, declared.timing.Timing.Timing}
-use Rattle.mq_sched.proofs.Rounds.{quiet_after_round, deadlines_stay}
-use Rattle.mq_sched.specs.Election.{Role, Other, is_querier, loses_role, next_moment}
-use Rattle.mq_sched.specs.{Schedule.ScheduledGroup, Schedule.cleared, Sending.is_due, Sending.after_round}
+use Rattle.mq_laws.proofs.Common.{◌≡◌, ℕ, ◌+◌, ◌*◌, ◌<◌, Bool, true, false, cond, refl, List, [], ◌∷◌, Option, None, Some, IfSome, Result, Ok, Err, sym, ap}
+use Rattle.mq_laws.proofs.Common.{◌∙◌, arith, subst, mul-le-mul_right, option_and_then, unwrap_or, nat_cmp, nat_lt, ◌==◌, if◌then◌else◌, Message, QueryMessage}
+use Rattle.mq_laws.proofs.Common.{OldReport, LeaveMessage, ReportMessage, WireFault, Query, RecordView, get-kept, AllAhead, GroupState, group_deadline}
+use Rattle.mq_laws.proofs.Common.{timer_at, deadline_of, source_cleared, sendings_counted, GroupChange, membership_interval, older_host_present}
+use Rattle.mq_laws.proofs.Common.{other_querier_present, AreInRange, SourceTimer, Timing, quiet_after_round, deadlines_stay, Role, Other, is_querier}
+use Rattle.mq_laws.proofs.Common.{loses_role, next_moment, ScheduledGroup, cleared, is_due, after_round, timing_in_range, IsWellFormed-tick_at, Configuration}
+use Rattle.mq_laws.proofs.Common.{IsFaultless, Counters, group_lowered, election_after, suppresses, asked_by, query_heard, Envelope, read_of, pseudo_of}
+use Rattle.mq_laws.proofs.Common.{drop_reason, setting_of, counting_read, taken_or_dropped, receipt_of, Setting, Statement, RecordOf, OlderJoin, OlderLeave}
+use Rattle.mq_laws.proofs.Common.{change_in, changed_or_refused, changed_by, after_sending, sent_at_once, limit_passed, unless_passed, judged, all_judged}
+use Rattle.mq_laws.proofs.Common.{seen_after, is_muted, LinkState, IsWellFormed, Step, moment_of, moments_of, moments_in, next_of, tick_of, DropReason, Refusal}
 use Rattle.mq_held.specs.Groups.{Groups, group_at, unheld, with_group}
-use Rattle.mq_link.proofs.{Faultless.timing_in_range, HeldAs.All, HeldAs.all-kept, Later.later_after_tick, Quiet.AllAbove, Quiet.IsBeyond, Quiet.above_least}
-use Rattle.mq_link.proofs.{Quiet.least_above, Quiet.above_values, Quiet.values_above, Quiet.beyond, Quiet.above_beyond, Receipts.carried_where_read}
-use Rattle.mq_link.proofs.{Receipts.IsWellFormed-receipt_after, Recorded.all-with_group, Silent.each-entry, Silent.from-each, Ticked.IsWellFormed-tick_at}
-use Rattle.mq_link.specs.{Configuration.Configuration, Configuration.IsFaultless, Counters.Counters, Family.v1_mutes_leave}
-use Rattle.mq_link.specs.Heard.{groups_cleared, group_lowered, groups_lowered, election_after, suppresses, asked_by, query_heard}
-use Rattle.mq_link.specs.Receive.{Envelope, read_of, pseudo_of, drop_reason, setting_of, taken_in, counting_read, taken_or_dropped, receipt_of}
-use Rattle.mq_link.specs.Record.{Setting, Statement, RecordOf, OlderJoin, OlderLeave, Seen, stated, change_in, changed_or_refused}
-use Rattle.mq_link.specs.Record.{changed_by, after_sending, sent_at_once, limit_passed, unless_passed, judged, all_judged, seen_after}
-use Rattle.mq_link.specs.{Record.is_muted, State.LinkState, State.IsWellFormed, Tick.Step, Tick.moment_of, Tick.moments_of, Tick.moments_in}
-use Rattle.mq_link.specs.{Tick.next_of, Tick.tick_of, declared.answers.DropReason.DropReason, declared.answers.Refusal.Refusal}
+use Rattle.mq_link.proofs.{HeldAs.All, HeldAs.all-kept, Later.later_after_tick, Quiet.AllAbove, Quiet.IsBeyond, Quiet.above_least, Quiet.least_above}
+use Rattle.mq_link.proofs.{Quiet.above_values, Quiet.values_above, Quiet.beyond, Quiet.above_beyond, Receipts.carried_where_read}
+use Rattle.mq_link.proofs.{Receipts.IsWellFormed-receipt_after, Recorded.all-with_group, Silent.each-entry, Silent.from-each}
+use Rattle.mq_link.specs.{Family.v1_mutes_leave, Heard.groups_cleared, Heard.groups_lowered, Receive.taken_in, Record.Seen, Record.stated}
 use Rattle.mq_laws.proofs.{AheadChanges.ChangesAhead, AheadChanges.stated_ahead, AheadChanges.query_ahead, AheadChanges.after_change_ahead, Unchanged.judged_by}
 use Rattle.std.specs.FinMap as map
 use Rattle.std.specs.FinSet as set

@@ -1,18 +1,10 @@
 -- A fault of a file's first bytes, which is a fault of the whole file unless the bytes are cut.
-use Rattle.std.proofs.Common.{◌≡◌, ◌+◌, ℕ, Bool, true, false, List, ◌++◌, length, Option, None, Some, Result, Ok, Err, refl, arith, sym, ◌∙◌, ap, inl}
-use Rattle.std.proofs.Common.{inr, length-append, append_assoc}
-use Rattle.std.specs.Prelude.{nat_lt, not, ◌&&◌}
-use Rattle.std.proofs.lemmas.Bool.{le-ltb, ltb-false}
-use Rattle.std.proofs.lemmas.Bool.Decides.{nat_tests}
-use Rattle.std.proofs.lemmas.List.{take-append-le}
-use Rattle.mq_convert.specs.declared.context.Kind.{Kind}
-use Rattle.mq_convert.specs.declared.fault.BlockFault.{BlockFault}
+use Rattle.mq_laws.proofs.Common.{◌≡◌, ◌+◌, ℕ, Bool, true, false, List, ◌++◌, length, Option, None, Some, Result, Ok, Err, refl, arith, sym, ◌∙◌, ap, inl, inr}
+use Rattle.mq_laws.proofs.Common.{length-append, append_assoc, nat_lt, le-ltb, ltb-false, nat_tests, take-append-le, BlockFault, Captured, ContextState}
+use Rattle.mq_laws.proofs.Common.{Captures, EndsBy, endless, size_fault, head_size, is_start, size_in, size_of}
+use Rattle.std.specs.Prelude.{not, ◌&&◌}
+use Rattle.mq_convert.specs.{declared.context.Kind.Kind, Faults.is_cut, Files.outer_fault}
 use Rattle.mq_convert.specs.declared.fault.BlockFault.TheVariants as fault
-use Rattle.mq_convert.specs.Blocks.{Captured}
-use Rattle.mq_convert.specs.Contexts.{ContextState}
-use Rattle.mq_convert.specs.Faults.{is_cut}
-use Rattle.mq_convert.specs.Files.{Captures, EndsBy, endless, outer_fault, size_fault}
-use Rattle.mq_convert.specs.Sizes.{head_size, is_start, size_in, size_of}
 
 -- the facts that the tests of a fault by the size see: the bytes there are, or have to be, the number of blocks,
 -- the head, and its fault

@@ -1,15 +1,13 @@
 -- Forwarding, which doesn't depend on how often ticks come, since it doesn't read the sendings left.
-use Rattle.std.proofs.Common.{◌≡◌, ℕ, ◌≤◌, Bool, true, false, cond, ◌&&◌, refl, List, [], ◌∷◌, length, suc, Option, None, Some, sym, ap, ◌∙◌, eqb, arith}
-use Rattle.std.specs.{FinMap.FinMap, Option.option_and_then, Option.unwrap_or, Ordering.nat_cmp}
-use Rattle.mq_table.proofs.{Composed.expired-expired, Groups.same_sources, Maps.get-kept}
-use Rattle.mq_table.specs.Expiry.{ahead, mode_expired, source_expired, held_or_vacant, expired}
-use Rattle.mq_table.specs.Group.{GroupState, is_include, vacant, is_vacant, timer_at, wants, forwards_in}
-use Rattle.mq_table.specs.{Maps.kept, Sendings.source_cleared, Sendings.source_counted, Sendings.sendings_counted}
-use Rattle.mq_table.specs.declared.{timers.FilterMode.FilterMode, timers.FilterMode.TheVariants.Include, timers.SourceTimer.SourceTimer, timing.Timing.Timing}
-use Rattle.mq_sched.specs.{Election.ticked, Schedule.ScheduledGroup, Sending.is_due, Sending.after_round}
+use Rattle.mq_laws.proofs.Common.{◌≡◌, ℕ, ◌≤◌, Bool, true, false, cond, ◌&&◌, refl, List, [], ◌∷◌, length, suc, Option, None, Some, sym, ap, ◌∙◌, eqb, arith}
+use Rattle.mq_laws.proofs.Common.{FinMap, option_and_then, unwrap_or, nat_cmp, get-kept, ahead, mode_expired, source_expired, held_or_vacant, expired}
+use Rattle.mq_laws.proofs.Common.{GroupState, is_include, vacant, is_vacant, timer_at, wants, forwards_in, source_cleared, source_counted, sendings_counted}
+use Rattle.mq_laws.proofs.Common.{FilterMode, SourceTimer, Timing, ticked, ScheduledGroup, is_due, after_round, Configuration, Groups, LinkState, unheld}
+use Rattle.mq_laws.proofs.Common.{group_at, forwards, group_expired, if_held, tick_at}
+use Rattle.mq_table.proofs.{Composed.expired-expired, Groups.same_sources}
+use Rattle.mq_table.specs.{Maps.kept, declared.timers.FilterMode.TheVariants.Include}
 use Rattle.mq_link.proofs.{Entries.entries-kept, Entries.filtered, HeldAs.vacant_is}
-use Rattle.mq_link.specs.{Configuration.Configuration, State.Groups, State.LinkState, State.unheld, State.group_at, State.forwards}
-use Rattle.mq_link.specs.Tick.{group_expired, if_held, groups_expired, groups_after_round, tick_at}
+use Rattle.mq_link.specs.Tick.{groups_expired, groups_after_round}
 use Rattle.std.specs.FinMap as map
 
 -- a group without its sendings

@@ -1,41 +1,24 @@
 -- A check of a capture comes to what happens in it.
-use Rattle.std.proofs.Common.{◌≡◌, ℕ, zero, suc, ◌+◌, ◌<◌, ◌≤◌, Bool, true, false, not, ◌&&◌, List, [], ◌∷◌, ◌++◌, refl, ap, sym, ◌∙◌, subst}
-use Rattle.std.proofs.Common.{append_assoc, append-nil}
-use Rattle.std.specs.Prelude.{Option, None, Some, Result, Ok, Err, if◌then◌else◌, nat_lt}
-use Rattle.std.proofs.lemmas.Bool.{ltb-true, ltb-false, lt-ltb, le-ltb}
-use Rattle.mq_pcap.specs.declared.link_type.LinkType.{LinkType}
+use Rattle.mq_laws.proofs.Common.{◌≡◌, ℕ, zero, suc, ◌+◌, ◌<◌, ◌≤◌, Bool, true, false, not, ◌&&◌, List, [], ◌∷◌, ◌++◌, refl, ap, sym, ◌∙◌, subst, append_assoc}
+use Rattle.mq_laws.proofs.Common.{append-nil, if◌then◌else◌, nat_lt, ltb-true, ltb-false, lt-ltb, le-ltb, LinkType, Message, WireFault, Query, Family, Timing}
+use Rattle.mq_laws.proofs.Common.{Role, Querier, Other, is_querier, Configuration, receipt_of, Outgoing, outgoing_of, LinkState, tick_of, next_of, datagram_of}
+use Rattle.mq_laws.proofs.Common.{Finding, Checked, Outcome, behind, quiet, settled_at, ticked_through, seen_or_received, with_datagram, with_faults}
+use Rattle.mq_laws.proofs.Common.{destination_in, faults_in, noted, CheckingValue, all_changed, counted_up, told, settled, faults_seen, with_fault}
+use Rattle.mq_laws.proofs.Common.{with_messages, one_wanted, role_after_tick, role_changed, is_general, query_seen, specific_terms, Passage, nothing_happens}
+use Rattle.mq_laws.proofs.Common.{happening_behind, wanted_for, wanted_of, wanted_by, role_by_tick, role_by_datagram, tick_passage, ticks_through, event_of}
+use Rattle.mq_laws.proofs.Common.{fault_events, datagram_passage, frame_passage, packet_passage, CheckEvent, Comes, Changes, moment_behind, check_by, told_by}
+use Rattle.mq_laws.proofs.Common.{moment_behind_all, check_by_all, told_by_all}
+use Rattle.std.specs.Prelude.{Option, None, Some, Result, Ok, Err}
 use Rattle.mq_pcap.specs.Frame.{Carried, carried_in}
-use Rattle.mq_pcap.specs.Frame as carried
-use Rattle.mq_wire.specs.declared.message.Message.{Message}
-use Rattle.mq_wire.specs.declared.message.WireFault.{WireFault}
 use Rattle.mq_wire.specs.declared.message.WireFault.TheVariants.{Truncated, Checksum, UnknownType, QueryLength}
-use Rattle.mq_wire.specs.declared.query.Query.{Query}
-use Rattle.mq_wire.specs.Family.{Family}
-use Rattle.mq_table.specs.declared.timing.Timing.{Timing}
-use Rattle.mq_sched.specs.Election.{Role, Querier, Other, is_querier}
-use Rattle.mq_link.specs.Configuration.{Configuration}
-use Rattle.mq_link.specs.Receive.{receipt_of}
-use Rattle.mq_link.specs.Sent.{Outgoing, outgoing_of}
-use Rattle.mq_link.specs.State.{LinkState}
-use Rattle.mq_link.specs.Tick.{tick_of, next_of}
-use Rattle.mq_replay.specs.Report.{Datagram, datagram_of}
-use Rattle.mq_replay.specs.Ticks.{ticked_within}
+use Rattle.mq_replay.specs.{Report.Datagram, Ticks.ticked_within}
 use Rattle.mq_replay.proofs.Ticking.{none_within}
-use Rattle.mq_check.specs.declared.basis.Basis.{Basis}
-use Rattle.mq_check.specs.declared.finding.Finding.{Finding}
-use Rattle.mq_check.specs.declared.headers.HeaderFault.{HeaderFault}
-use Rattle.mq_check.specs.Basis as basis
-use Rattle.mq_check.specs.Blocked.{blocked_in}
-use Rattle.mq_check.specs.Check.{Checked, Outcome, behind, quiet, settled_at, ticked, ticked_through, received, seen_at}
-use Rattle.mq_check.specs.Check.{seen_or_received, with_datagram, with_faults, with_packet, destination_in, faults_in, noted}
-use Rattle.mq_check.specs.Checking.{CheckingValue, all_blocked, counted_up, told, settled, faults_seen, with_fault, with_messages}
-use Rattle.mq_check.specs.Checking.{one_wanted, role_after_tick, role_changed, query_came}
-use Rattle.mq_check.specs.Queries.{is_general, query_seen}
+use Rattle.mq_check.specs.{declared.basis.Basis.Basis, declared.headers.HeaderFault.HeaderFault, Causes.causes_in, Check.ticked, Check.received, Check.seen_at}
+use Rattle.mq_check.specs.{Check.with_packet, Checking.query_came}
 use Rattle.mq_check.proofs.TickedChecks.{next_in, one_ticked, rest_of, tick_in}
-use Rattle.mq_laws.specs.Captures.{Passage, nothing_happens, happening_behind, wanted_for, wanted_of, wanted_by, role_by_tick, role_by_datagram}
-use Rattle.mq_laws.specs.Captures.{tick_passage, ticks_passage, ticks_through, event_of, fault_events, datagram_passage, frame_passage}
-use Rattle.mq_laws.specs.Captures.{packet_passage}
-use Rattle.mq_laws.specs.Events.{CheckEvent, Comes, Blocks, moment_behind, check_by, told_by, moment_behind_all, check_by_all, told_by_all}
+use Rattle.mq_laws.specs.Captures.{ticks_passage}
+use Rattle.mq_pcap.specs.Frame as carried
+use Rattle.mq_check.specs.Basis as basis
 
 -- events one after the other
 check_by-append : (within : ℕ) (timing : Timing) (now : ℕ) (xs ys : List CheckEvent) (c : CheckingValue)
@@ -186,13 +169,13 @@ without_packets : (link : LinkType) (frame : List ℕ) (content : Carried) (b : 
 without_packets link frame carried.Cut b = refl
 without_packets link frame carried.Fragment b = refl
 without_packets link frame carried.Other b = unread_packets b (basis.is_wrapped (basis.type_in link frame))
-without_packets link frame (carried.Igmp source body) b = refl
+without_packets link frame (carried.Igmp source destination ttl alert body) b = refl
 without_packets link frame (carried.Mld source destination hop_limit alert body) b = refl
 
-frame_packets : (family : Family) (link : LinkType) (frame : List ℕ) (content : Carried) (datagram : Option Datagram) (b : Basis)
-    → (basis.with_frame family link frame content datagram b).packets ≡ b.packets
-frame_packets family link frame content (Some datagram) b = read_packets _ b
-frame_packets family link frame content None b = without_packets link frame content b
+frame_packets : (config : Configuration) (link : LinkType) (frame : List ℕ) (content : Carried) (datagram : Option Datagram) (b : Basis)
+    → (basis.with_frame config link frame content datagram b).packets ≡ b.packets
+frame_packets config link frame content (Some datagram) b = read_packets _ b
+frame_packets config link frame content None b = without_packets link frame content b
 
 -- a tick
 follows-tick : (config : Configuration) (within moment : ℕ) (r : Checked)
@@ -288,16 +271,17 @@ follows-datagram config within moment number to datagram None faults r =
     let was = is_querier r.link.election.role in
     let begun = settled moment r.checking in
     let c = faults_seen moment number faults begun in
-    let blocked = blocked_in config.family datagram in
-    let noted = all_blocked moment blocked c in
+    let terms = specific_terms config r.link.election.timing r.basis.packets in
+    let changes = causes_in config.family datagram in
+    let noted = all_changed moment terms changes c in
     let wanted = with_messages config.family moment r.basis.packets false (not was) (outgoing_of config step) noted in
     let rest = wanted_by config r.basis.packets false r.link step ++ role_by_datagram was (is_querier step.state.election.role) in
-    follows-still within config.timing moment _ _ (fault_events number faults ++ Blocks blocked ∷ rest) r
+    follows-still within config.timing moment _ _ (fault_events number faults ++ Changes terms changes ∷ rest) r
     (received config within moment datagram (with_faults moment number faults (settled_at moment r))) refl
     (other_packets config.family step.state.election.role _ ∙ role_packets moment was (is_querier step.state.election.role) r.basis)
-    (still-append within config.timing moment (fault_events number faults) (Blocks blocked ∷ rest) begun c _
+    (still-append within config.timing moment (fault_events number faults) (Changes terms changes ∷ rest) begun c _
     (still-faults within config.timing moment number faults begun)
-    (still-append within config.timing moment (Blocks blocked ∷ []) rest c noted _ (record { check = refl; told = refl; moment = refl })
+    (still-append within config.timing moment (Changes terms changes ∷ []) rest c noted _ (record { check = refl; told = refl; moment = refl })
     (still-append within config.timing moment (wanted_by config r.basis.packets false r.link step)
     (role_by_datagram was (is_querier step.state.election.role)) noted wanted _
     (still-messages within config moment r.basis.packets false (not was) (outgoing_of config step) noted)
@@ -322,7 +306,7 @@ follows-packet config link within moment number back frame r =
     let counted = noted config link back frame datagram before.checked in
     let frame_in = follows-frame config link within moment number frame datagram counted in
     let counts : counted.basis.packets ≡ counted_up (ticks_through config moment r.basis.packets r.link).packets =
-    frame_packets config.family link frame (carried_in link frame) datagram (basis.with_packet back before.checked.basis) ∙ ap counted_up ticks.packets in
+    frame_packets config link frame (carried_in link frame) datagram (basis.with_packet back before.checked.basis) ∙ ap counted_up ticks.packets in
     follows-behind within config.timing (ticks_through config moment r.basis.packets r.link) _ r before _ ticks
     (subst (λ (n : ℕ). Follows within config.timing
     (frame_passage config link moment number frame datagram n (ticks_through config moment r.basis.packets r.link).link) before.checked

@@ -1,21 +1,15 @@
 -- A table that takes over the filters of the named groups. It is that of the state,
 -- since a group that an event doesn't name keeps its filter.
-use Rattle.std.proofs.Common.{◌≡◌, ℕ, Bool, true, false, cond, not, List, [], ◌∷◌, Option, None, Some, Result, Ok, Err, refl, sym, ap, ◌∙◌}
-use Rattle.std.proofs.lemmas.Bool.{true≢false, or_parts}
-use Rattle.std.specs.{Option.unwrap_or, Ordering.nat_cmp}
-use Rattle.mq_wire.specs.declared.message.Message.{Message, TheVariants.Query as QueryMessage, TheVariants.OldReport, TheVariants.Leave as LeaveMessage}
-use Rattle.mq_wire.specs.declared.{message.Message.TheVariants.Report as ReportMessage, message.WireFault.WireFault, records.RecordView.RecordView}
-use Rattle.mq_table.proofs.Filters.{are_same-equal, forwards_by-filter_of}
-use Rattle.mq_table.specs.{Filter.Filter, Filter.filter_of, Filter.nothing, Filter.forwards_by, Filter.are_same, Filter.changes_filter, Group.GroupState}
-use Rattle.mq_link.proofs.KeptFilters.{filter_of_unheld}
-use Rattle.mq_link.specs.Configuration.{Configuration}
-use Rattle.mq_link.specs.Forwarding.{changes, changed_by_tick, changed_by_all, changed_by_message, changed_by_read, changed_by_event}
-use Rattle.mq_link.specs.Receive.{Envelope, read_of, pseudo_of, drop_reason, setting_of, counting_read, taken_in, taken_or_dropped}
-use Rattle.mq_link.specs.Record.{Setting, Seen, judged, seen_after, all_judged}
-use Rattle.mq_link.specs.{Run.Event, Run.Tick, Run.Datagram, Run.Happening, Run.step_of, Run.answered, Run.RunFrom, State.Groups, State.LinkState, State.unheld}
-use Rattle.mq_link.specs.{State.group_at, State.forwards, State.link_at, Tick.Step, Tick.tick_of, declared.answers.DropReason.DropReason}
+use Rattle.mq_laws.proofs.Common.{◌≡◌, ℕ, Bool, true, false, cond, not, List, [], ◌∷◌, Option, None, Some, Result, Ok, Err, refl, sym, ap, ◌∙◌, true≢false}
+use Rattle.mq_laws.proofs.Common.{or_parts, unwrap_or, nat_cmp, Message, QueryMessage, OldReport, LeaveMessage, ReportMessage, WireFault, RecordView}
+use Rattle.mq_laws.proofs.Common.{are_same-equal, forwards_by-filter_of, Filter, filter_of, nothing, forwards_by, are_same, GroupState, filter_of_unheld}
+use Rattle.mq_laws.proofs.Common.{Configuration, Envelope, read_of, pseudo_of, drop_reason, setting_of, counting_read, taken_or_dropped, Setting, judged}
+use Rattle.mq_laws.proofs.Common.{seen_after, all_judged, Event, Tick, Datagram, Happening, step_of, answered, RunFrom, Groups, LinkState, unheld, group_at}
+use Rattle.mq_laws.proofs.Common.{forwards, link_at, Step, tick_of, DropReason, filter_at, FilterTable, taken_over, IsTableOf, AllFollowed}
+use Rattle.mq_table.specs.Filter.{changes_filter}
+use Rattle.mq_link.specs.{Forwarding.changes, Forwarding.changed_by_tick, Forwarding.changed_by_all, Forwarding.changed_by_message, Forwarding.changed_by_read}
+use Rattle.mq_link.specs.{Forwarding.changed_by_event, Receive.taken_in, Record.Seen}
 use Rattle.mq_laws.proofs.HeardFilters.{heard_keeps_filters}
-use Rattle.mq_laws.specs.Following.{filter_at, FilterTable, taken_over, IsTableOf, AllFollowed}
 use Rattle.std.specs.FinMap as map
 
 -- the filter of a group

@@ -1,43 +1,34 @@
 -- All that is found of a check whose queries pair up: those that were left out are missing.
-use Rattle.std.proofs.Common.{◌≡◌, ℕ, Bool, ◌+◌, ◌<◌, true, false, List, [], ◌∷◌, ◌++◌, refl, ap, sym, ◌∙◌, arith, append_assoc, append-nil}
-use Rattle.std.specs.Prelude.{None, Some, ⊤}
-use Rattle.std.specs.List.{AllByRecursion}
+use Rattle.mq_laws.proofs.Common.{◌≡◌, ℕ, ◌+◌, ◌<◌, true, false, List, [], ◌∷◌, ◌++◌, refl, ap, sym, subst, ◌∙◌, arith, append_assoc, append-nil, ⊤, list_map}
+use Rattle.mq_laws.proofs.Common.{AllByRecursion, Timing, Asked, CheckFlags, Entry, Wanted, Seen, Interval, Silence, Packet, Finding, Missing, Differs, Repeats}
+use Rattle.mq_laws.proofs.Common.{CheckingValue, checking_at_start, settled, silence_found, silence_up_to, first_until, held_until, recent, repeats_in, emptied}
+use Rattle.mq_laws.proofs.Common.{excused_at, Ask, Expected, Sent, LeftOut, PairUp, kept_for, missing_of, seen_about, wanted_about, CheckEvent, told_by_all}
+use Rattle.mq_laws.proofs.Common.{at_the_end, checked_ahead, checked_by, found_by, found_from, HasRoom, AreAhead, AreInOrder, AreMissed, IsAsWanted}
+use Rattle.std.specs.Prelude.{Bool, None, Some}
 use mathlib.Core.Logic.{inl}
-use Rattle.mq_table.specs.declared.timing.Timing.{Timing}
-use Rattle.mq_check.specs.declared.asked.Asked.{Asked}
-use Rattle.mq_check.specs.declared.entry.Entry.{Entry}
-use Rattle.mq_check.specs.declared.entry.Entry.TheVariants.{Wanted, Seen, Interval, Silence, Packet}
-use Rattle.mq_check.specs.declared.finding.Finding.{Finding}
-use Rattle.mq_check.specs.declared.finding.Finding.TheVariants.{Missing, Differs}
+use Rattle.mq_check.specs.Waiting.{all_excused}
 use Rattle.mq_check.specs.declared.finding.Finding.TheVariants as finding
-use Rattle.mq_check.specs.declared.schedules.Repeats.{Repeats}
-use Rattle.mq_check.specs.Checking.{CheckingValue, checking_at_start, settled, silence_found}
-use Rattle.mq_check.specs.General.{silence_up_to}
-use Rattle.mq_check.specs.Schedules.{recent, repeats_in}
-use Rattle.mq_laws.specs.Pairing.{Ask, Expected, Sent, LeftOut, PairUp, kept_for, missing_of, seen_about, wanted_about}
-use Rattle.mq_laws.specs.Events.{CheckEvent, told_by_all, at_the_end, checked_ahead, checked_by, found_by, found_from, HasRoom}
-use Rattle.mq_laws.specs.OnTime.{AreAhead, AreInOrder}
-use Rattle.mq_laws.specs.AsWanted.{AreMissed, IsAsWanted}
-use Rattle.mq_laws.proofs.Held.{Holds, NoneOver, ascending-to, free_seen}
-use Rattle.mq_laws.proofs.Comings.{Come, comes, told_of, left_of}
-use Rattle.mq_laws.proofs.Rooms.{recent_repeats, told_now, settled_free, settled_full}
-use Rattle.mq_laws.proofs.Steps.{to_pairs}
-use Rattle.mq_laws.proofs.AfterTheEnd.{AreQuiet, excused_entries, excused_full, held_quiet, none_free, none_last, none_wanted, ticks_find_nothing}
-use Rattle.mq_laws.proofs.Courses.{Ended, all_free, course, kept-long}
+use Rattle.mq_laws.proofs.{Held.Holds, Held.NoneOver, Held.ascending-to, Held.free_seen, Comings.Come, Comings.comes, Comings.told_of, Comings.left_of}
+use Rattle.mq_laws.proofs.{Rooms.IsFresh, Rooms.fresh_recent, Rooms.fresh_settled, Rooms.recent_repeats, Rooms.told_now, Rooms.settled_free, Rooms.settled_full}
+use Rattle.mq_laws.proofs.{Steps.to_pairs, AfterTheEnd.AreQuiet, AfterTheEnd.excused_entries, AfterTheEnd.excused_full, AfterTheEnd.held_quiet}
+use Rattle.mq_laws.proofs.{AfterTheEnd.none_free, AfterTheEnd.none_last, AfterTheEnd.none_wanted, AfterTheEnd.ticks_find_nothing, Courses.Ended}
+use Rattle.mq_laws.proofs.{Courses.all_free, Courses.course, Courses.kept-long}
 
 -- a finding of what was over before a moment
 abbrev IsBefore : (kept end : ℕ) → Finding ℕ → Type 0
 IsBefore kept end (Missing moment packet asked) = moment + kept < end
 IsBefore kept end (finding.Extra moment packet asked reason) = ⊤
+IsBefore kept end (finding.PossiblyMissing moment packet asked) = ⊤
+IsBefore kept end (finding.PossiblyExtra moment packet asked) = ⊤
 IsBefore kept end (finding.Differs moment packet asked difference) = ⊤
 IsBefore kept end (finding.Interval moment packet after wanted) = ⊤
 IsBefore kept end (finding.Silence moment after wanted) = ⊤
 IsBefore kept end (finding.Packet moment number fault) = ⊤
 
-all_before : (kept end : ℕ) (xs : List Expected) → AreMissed kept end xs → AllByRecursion (IsBefore kept end) (missing_of xs)
-all_before kept end [] missed = tt
-all_before kept end (Sent w ∷ xs) missed = all_before kept end xs missed
-all_before kept end (LeftOut w ∷ xs) missed = (missed.0.over, all_before kept end xs missed.1)
+all_before : (strict : Bool) (kept end : ℕ) (xs : List Expected) → AreMissed strict kept end xs → AllByRecursion (IsBefore kept end) (missing_of xs)
+all_before strict kept end [] missed = tt
+all_before strict kept end (Sent w ∷ xs) missed = all_before strict kept end xs missed
+all_before strict kept end (LeftOut w ∷ xs) missed = (missed.0.over, all_before strict kept end xs missed.1)
 
 before_behind : (kept end : ℕ) (xs ys : List (Finding ℕ)) → AllByRecursion (IsBefore kept end) (xs ++ ys) → AllByRecursion (IsBefore kept end) ys
 before_behind kept end [] ys all = all
@@ -63,18 +54,26 @@ none_left kept end (Packet m number fault ∷ es) xs holds ahead all = absurd ho
 -- there was room before the end
 room_before : (within : ℕ) (timing : Timing) (end : ℕ) (ahead : List CheckEvent) (c : CheckingValue) →
     (checked_ahead within timing end ahead c).waiting.is_full ≡ false → c.waiting.is_full ≡ false
+unfolding all_excused
 room_before within timing end ahead c room =
-    sym (settled_full c.schedules.repeats.keep end c.waiting) ∙ sym (excused_full within end (recent end c.schedules).sent (settled end c).waiting) ∙
+    sym (settled_full c.schedules.repeats.keep end c.waiting)
+    ∙ sym (excused_full within end (recent end (settled end c).schedules).sent (settled end c).waiting) ∙
     all_free within timing end ahead (at_the_end within end c) room
 
+-- nothing is known of schedules from before the capture at its end
+fresh_at_end : (within end : ℕ) (c : CheckingValue) → IsFresh c.schedules → IsFresh (at_the_end within end c).schedules
+fresh_at_end within end c fresh =
+    let there = fresh_recent end (settled end c).schedules (fresh_settled end c fresh) in
+    record { held = there.held; first = there.first; next = ap emptied there.next }
+
 -- what is found from the end on
-from_end : (within : ℕ) (timing : Timing) (strict : Bool) (end : ℕ) (ahead : List CheckEvent) (c : CheckingValue) (free : List Expected) →
-    AreAhead within end ahead → (checked_ahead within timing end ahead c).waiting.is_full ≡ false
-    → c.schedules.repeats ≡ repeats_in within timing strict → silence_up_to within timing end c.phase ≡ None
-    → (come : Come within (kept_for within timing strict) end c.changed c.waiting.entries free [] []) → missing_of come.left ≡ []
-    → found_from within timing end ahead c ≡ told_of (kept_for within timing strict) within end c.changed c.waiting.entries
-from_end within timing strict end ahead c free after room keeps silence come none =
-    let keep = kept_for within timing strict in
+from_end : (within : ℕ) (timing : Timing) (flags : CheckFlags) (end : ℕ) (ahead : List CheckEvent) (c : CheckingValue) (free : List Expected) →
+    IsFresh c.schedules → AreAhead within end ahead → (checked_ahead within timing end ahead c).waiting.is_full ≡ false
+    → c.schedules.repeats ≡ repeats_in within timing flags → silence_up_to within timing end c.phase ≡ None
+    → (come : Come within (kept_for within timing flags) end c.changed c.waiting.entries free [] []) → missing_of come.left ≡ []
+    → found_from within timing end ahead c ≡ told_of (kept_for within timing flags) within end c.changed c.waiting.entries
+from_end within timing flags end ahead c free fresh after room keeps silence come none =
+    let keep = kept_for within timing flags in
     let keep_is : c.schedules.repeats.keep ≡ keep = ap (λ (r : Repeats). r.keep) keeps in
     let free_room = room_before within timing end ahead c room in
     let entries = left_of keep end c.waiting.entries in
@@ -83,31 +82,40 @@ from_end within timing strict end ahead c free after room keeps silence come non
     λ asked. to_pairs within keep _ _ _ _ refl (ap (λ (l : List Ask). seen_about asked (l ++ [])) alone) (come.stands.pairs asked) in
     let gone : come.left ≡ [] = none_wanted within keep come.left pairs none in
     let holds : Holds entries [] = rw gone at come.stands.holds in
-    let sent = (recent end c.schedules).sent in
+    let sent = (recent end (settled end c).schedules).sent in
     let entries_are : (settled end c).waiting.entries ≡ entries = settled_free c.schedules.repeats.keep end c.waiting free_room ∙
     ap (λ (k : ℕ). left_of k end c.waiting.entries) keep_is in
     let quiet : AreQuiet within (end + within) (at_the_end within end c).waiting.entries =
-    rw (excused_entries within end sent (settled end c).waiting, entries_are) (held_quiet within (end + within) end sent entries holds alone) in
-    let keeps_then : (at_the_end within end c).schedules.repeats.keep ≡ keep = ap (λ (r : Repeats). r.keep) (recent_repeats end c.schedules ∙ keeps) in
-    let nothing = ticks_find_nothing within (end + within) timing end ahead (at_the_end within end c) (rw keeps_then (kept-long within timing strict))
+    subst (λ (es : List (Entry ℕ)). AreQuiet within (end + within) es)
+    (sym (excused_entries within end sent (settled end c).waiting ∙ ap (list_map (excused_at within end sent)) entries_are))
+    (held_quiet within (end + within) end sent entries holds alone) in
+    let keeps_then : (at_the_end within end c).schedules.repeats.keep ≡ keep =
+    ap (λ (r : Repeats). r.keep) (recent_repeats end (settled end c).schedules ∙ keeps) in
+    let nothing = ticks_find_nothing within (end + within) timing end ahead (at_the_end within end c) (fresh_at_end within end c fresh)
+    (rw keeps_then (kept-long within timing flags))
     (omega arith) after.order after.of_ticks quiet room in
     let left = checked_ahead within timing end ahead c in
     let told : told_of c.schedules.repeats.keep within end c.changed c.waiting.entries ≡ told_of keep within end c.changed c.waiting.entries =
     ap (λ (k : ℕ). told_of k within end c.changed c.waiting.entries) keep_is in
-    (λ i. (told_now within end c free_room ∙ told) i ++ nothing.told i ++
+    (λ i. (told_now within end c free_room fresh ∙ told) i ++ nothing.told i ++
     (none_last within end left.changed left.waiting.entries nothing.quiet i ++ silence_found timing end (silence i)))
     ∙ append-nil (told_of keep within end c.changed c.waiting.entries ++ []) ∙ append-nil (told_of keep within end c.changed c.waiting.entries)
 
-pub found_is : (within : ℕ) (timing : Timing) (strict : Bool) (end : ℕ) (expected : List Expected) (events ahead : List CheckEvent)
-    → AreInOrder 0 events end → AreAhead within end ahead → IsAsWanted within timing strict end expected events →
-    HasRoom within timing strict end events ahead → found_by within timing strict end events ahead ≡ missing_of expected
-found_is within timing strict end expected events ahead order after is room =
-    let keep = kept_for within timing strict in
-    let start = checking_at_start within timing strict in
-    let c = checked_by within timing strict events in
+pub found_is : (within : ℕ) (timing : Timing) (flags : CheckFlags) (end : ℕ) (expected : List Expected) (events ahead : List CheckEvent)
+    → flags.began ≡ true → AreInOrder 0 events end → AreAhead within end ahead → IsAsWanted within timing flags end expected events →
+    HasRoom within timing flags end events ahead → found_by within timing flags end events ahead ≡ missing_of expected
+found_is within timing flags end expected events ahead began order after is room =
+    let keep = kept_for within timing flags in
+    let start = checking_at_start within timing flags in
+    let fresh : IsFresh start.schedules = record {
+      held = ap (held_until within timing) began;
+      first = ap (first_until within timing) began;
+      next = refl;
+    } in
+    let c = checked_by within timing flags events in
     let with_room : c.waiting.is_full ≡ false = room_before within timing end ahead c room in
-    let ended : Ended within timing strict end 0 events start (missing_of expected) =
-    course within timing strict end 0 events start [] expected refl is.wanted is.missed order is.on_time with_room (record {
+    let ended : Ended within timing flags end 0 events start (missing_of expected) =
+    course within timing flags end 0 events start [] expected fresh refl is.wanted is.missed order is.on_time with_room (record {
       holds = tt;
       ascending = omega arith;
       none_over = tt;
@@ -115,7 +123,7 @@ found_is within timing strict end expected events ahead order after is room =
       pairs = is.pairs;
     }) in
     let come : Come within keep end c.changed c.waiting.entries ended.left [] [] =
-    comes within keep 0 end c.changed c.waiting.entries ended.left [] [] (kept-long within timing strict) tt tt (record {
+    comes within keep 0 end c.changed c.waiting.entries ended.left [] [] (kept-long within timing flags) tt tt (record {
       holds = ended.stands.holds;
       ascending = ascending-to 0 c.waiting.entries _ end ended.in_time ended.stands.ascending;
       one_side = ended.stands.one_side;
@@ -127,8 +135,8 @@ found_is within timing strict end expected events ahead order after is room =
     ended.missing_is ∙ ap (λ (l : List (Finding ℕ)). told_before ++ l) come.missing ∙ sym (append_assoc told_before told_last (missing_of (come.left ++ []))) in
     let none_there : missing_of come.left ≡ [] = none_left keep end (left_of keep end c.waiting.entries) come.left come.stands.holds come.stands.none_over
     (rw (append-nil come.left) at
-    (before_behind keep end (told_before ++ told_last) (missing_of (come.left ++ [])) (rw all at (all_before keep end expected is.missed)))) in
+    (before_behind keep end (told_before ++ told_last) (missing_of (come.left ++ [])) (rw all at (all_before flags.strict keep end expected is.missed)))) in
     let none : missing_of (come.left ++ []) ≡ [] = ap missing_of (append-nil come.left) ∙ none_there in
     ap (λ (l : List (Finding ℕ)). told_before ++ l)
-    (from_end within timing strict end ahead c ended.left after room ended.repeats ended.silence come none_there)
+    (from_end within timing flags end ahead c ended.left ended.fresh after room ended.repeats ended.silence come none_there)
     ∙ sym (all ∙ ap (λ (l : List (Finding ℕ)). (told_before ++ told_last) ++ l) none ∙ append-nil (told_before ++ told_last))

@@ -1,16 +1,12 @@
 -- A query that is heard changes no filter: timers are lowered, so those that run do still, and what is dropped with the role
 -- is what was to go.
-use Rattle.std.proofs.Common.{◌≡◌, ℕ, Bool, true, false, cond, Option, None, Some, refl, ap, ◌∙◌, eqb, arith}
-use Rattle.std.specs.Option.{option_and_then, option_map, unwrap_or}
-use Rattle.mq_wire.specs.declared.query.Query.{Query}
-use Rattle.mq_table.proofs.{Filters.same_filter, Filters.named_alike, Lower.timer_at-sources_lowered, Maps.get-kept}
-use Rattle.mq_table.specs.{Filter.names, Filter.filter_of, Group.GroupState, Group.is_include, Group.timer_at}
-use Rattle.mq_table.specs.Lowering.{lowered_to, mode_lowered, source_lowered, group_lowered, sources_lowered, lowered_by_query}
-use Rattle.mq_table.specs.{Sendings.source_cleared, Sendings.sendings_cleared, Sets.Set}
-use Rattle.mq_table.specs.declared.{timers.FilterMode.FilterMode, timers.SourceTimer.SourceTimer, timing.Timing.Timing}
-use Rattle.mq_sched.specs.{Election.loses_role, Schedule.ScheduledGroup, Schedule.cleared}
-use Rattle.mq_link.specs.{Configuration.Configuration, Heard.suppresses, Heard.asked_by, Heard.election_after, Heard.groups_cleared, Heard.groups_lowered}
-use Rattle.mq_link.specs.{Heard.query_heard, Heard.group_lowered as heard_by, State.Groups, State.LinkState, State.unheld, State.group_at}
+use Rattle.mq_laws.proofs.Common.{◌≡◌, ℕ, Bool, true, false, cond, Option, None, Some, refl, ap, ◌∙◌, eqb, arith, option_and_then, option_map, unwrap_or, Query}
+use Rattle.mq_laws.proofs.Common.{same_filter, named_alike, timer_at-sources_lowered, get-kept, names, filter_of, GroupState, is_include, timer_at, lowered_to}
+use Rattle.mq_laws.proofs.Common.{mode_lowered, source_lowered, sources_lowered, lowered_by_query, source_cleared, sendings_cleared, Set, FilterMode}
+use Rattle.mq_laws.proofs.Common.{SourceTimer, Timing, loses_role, ScheduledGroup, cleared, Configuration, suppresses, asked_by, election_after, query_heard}
+use Rattle.mq_laws.proofs.Common.{heard_by, Groups, LinkState, unheld, group_at}
+use Rattle.mq_table.specs.Lowering.{group_lowered}
+use Rattle.mq_link.specs.Heard.{groups_cleared, groups_lowered}
 use Rattle.std.specs.FinMap as map
 
 -- a source is named as before

@@ -1,32 +1,25 @@
 -- What waits in the midst of a check whose queries pair up.
-use Rattle.std.proofs.Common.{◌≡◌, ℕ, ◌+◌, ◌≤◌, Bool, true, false, List, [], ◌∷◌, ◌++◌, refl, ap, sym, ◌∙◌, arith}
-use Rattle.std.specs.Prelude.{None, Some, ⊤, nat_lt}
-use Rattle.std.specs.List.{AllByRecursion}
-use Rattle.std.proofs.lemmas.Bool.{le-ltb, lt-ltb, ltb-true}
-use Rattle.mq_check.specs.declared.asked.Asked.{Asked}
-use Rattle.mq_check.specs.declared.entry.Entry.{Entry}
-use Rattle.mq_check.specs.declared.entry.Entry.TheVariants.{Wanted, Seen, Interval, Silence, Packet}
-use Rattle.mq_check.specs.declared.terms.Terms.{Terms}
-use Rattle.mq_check.specs.Entries.{moment_of, terms_in, joined, first_terms, first_joined, terms_differ}
-use Rattle.mq_check.specs.Queries.{is_same}
-use Rattle.mq_laws.specs.Pairing.{Ask, Expected, Sent, LeftOut, ask_of, seen_about, wanted_about}
-use Rattle.mq_laws.specs.WantedAndSeen.{still_due}
+use Rattle.mq_laws.proofs.Common.{◌≡◌, ℕ, ◌+◌, ◌≤◌, Bool, true, false, List, [], ◌∷◌, ◌++◌, refl, ap, sym, ◌∙◌, arith, ⊤, nat_lt, AllByRecursion, le-ltb}
+use Rattle.mq_laws.proofs.Common.{lt-ltb, ltb-true, Asked, Entry, Need, Required, Wanted, Seen, Interval, Silence, Packet, Terms, terms_in, joined, first_terms}
+use Rattle.mq_laws.proofs.Common.{first_joined, terms_differ, is_same, Ask, Expected, Sent, LeftOut, ask_of, seen_about, wanted_about, still_due}
+use Rattle.std.specs.Prelude.{None, Some}
+use Rattle.mq_check.specs.Entries.{moment_of}
 
 abbrev pub ask : (moment : ℕ) → Asked ℕ → Terms ℕ → Ask
 ask moment asked terms = record { moment = moment; asked = asked; terms = terms }
 
 -- an entry without a partner is this one, and where that was left out it has to be sent
-abbrev pub IsKept : (moment : ℕ) → Asked ℕ → Terms ℕ → (is_optional : Bool) → Expected → Type 0
-IsKept moment asked terms is_optional (Sent w) = w ≡ ask moment asked terms
-IsKept moment asked terms is_optional (LeftOut w) = (w ≡ ask moment asked terms) × (is_optional ≡ false)
+abbrev pub IsKept : (moment : ℕ) → Asked ℕ → Terms ℕ → (need : Need) → Expected → Type 0
+IsKept moment asked terms need (Sent w) = w ≡ ask moment asked terms
+IsKept moment asked terms need (LeftOut w) = (w ≡ ask moment asked terms) × (need ≡ Required)
 
 -- Entries whose wanted queries without a partner are these, in their order. Nothing is found of pairs.
 abbrev pub Holds : List (Entry ℕ) → List Expected → Type 0
 Holds [] [] = ⊤
 Holds [] (x ∷ xs) = ⊥
-Holds (Wanted moment asked terms is_optional true ∷ es) xs = Holds es xs
-Holds (Wanted moment asked terms is_optional false ∷ es) [] = ⊥
-Holds (Wanted moment asked terms is_optional false ∷ es) (x ∷ xs) = IsKept moment asked terms is_optional x × Holds es xs
+Holds (Wanted moment asked terms need true ∷ es) xs = Holds es xs
+Holds (Wanted moment asked terms need false ∷ es) [] = ⊥
+Holds (Wanted moment asked terms need false ∷ es) (x ∷ xs) = IsKept moment asked terms need x × Holds es xs
 Holds (Seen moment asked terms None is_querier ∷ es) xs = Holds es xs
 Holds (Seen moment asked terms (Some wanted) is_querier ∷ es) xs = (terms_differ terms wanted ≡ []) × Holds es xs
 Holds (Interval moment packet after wanted ∷ es) xs = ⊥
@@ -36,7 +29,7 @@ Holds (Packet moment number fault ∷ es) xs = ⊥
 -- the queries among entries that were seen and have no partner
 abbrev pub free_seen : List (Entry ℕ) → List Ask
 free_seen [] = []
-free_seen (Wanted moment asked terms is_optional is_found ∷ es) = free_seen es
+free_seen (Wanted moment asked terms need is_found ∷ es) = free_seen es
 free_seen (Seen moment asked terms None is_querier ∷ es) = ask moment asked terms ∷ free_seen es
 free_seen (Seen moment asked terms (Some wanted) is_querier ∷ es) = free_seen es
 free_seen (Interval moment packet after wanted ∷ es) = free_seen es
@@ -52,10 +45,10 @@ IsAscending low (e ∷ es) now = (low ≤ moment_of e) × IsAscending (moment_of
 abbrev pub NoneOver : (within now : ℕ) → List (Entry ℕ) → Type 0
 NoneOver within now es = AllByRecursion (λ (e : Entry ℕ). now ≤ moment_of e + within) es
 
-pub kept_ask : (moment : ℕ) (asked : Asked ℕ) (terms : Terms ℕ) (is_optional : Bool) (x : Expected) → IsKept moment asked terms is_optional x →
+pub kept_ask : (moment : ℕ) (asked : Asked ℕ) (terms : Terms ℕ) (need : Need) (x : Expected) → IsKept moment asked terms need x →
     ask_of x ≡ ask moment asked terms
-kept_ask moment asked terms is_optional (Sent w) is = is
-kept_ask moment asked terms is_optional (LeftOut w) is = is.0
+kept_ask moment asked terms need (Sent w) is = is
+kept_ask moment asked terms need (LeftOut w) is = is.0
 
 -- those about one thing, one by one
 pub wanted_here : (asked : Asked ℕ) (x : Expected) (xs : List Expected) → is_same asked (ask_of x).asked ≡ true →
@@ -114,7 +107,7 @@ ascending-put low [] now e at is = (omega arith, omega arith)
 ascending-put low (d ∷ es) now e at is = (is.0, ascending-put (moment_of d) es now e at is.1)
 
 joined_moment : (other : Terms ℕ) (e : Entry ℕ) → moment_of (joined other e) ≡ moment_of e
-joined_moment other (Wanted moment asked terms is_optional is_found) = refl
+joined_moment other (Wanted moment asked terms need is_found) = refl
 joined_moment other (Seen moment asked terms partner is_querier) = refl
 joined_moment other (Interval moment packet after wanted) = refl
 joined_moment other (Silence moment after wanted) = refl

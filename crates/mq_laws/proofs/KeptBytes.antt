@@ -1,18 +1,9 @@
 -- Numbers that are read of bytes and written again are these bytes.
-use Rattle.std.proofs.Common.{◌≡◌, ◌≤◌, ◌<◌, ◌+◌, ℕ, Bool, true, false, List, [], ◌∷◌, ◌++◌, length, length-drop, take, drop, get_or, refl, sym, ap}
-use Rattle.std.proofs.Common.{subst, ◌∙◌, arith}
-use Rattle.std.specs.Prelude.{nat_lt, slice_range}
-use Rattle.std.specs.List.{All}
-use Rattle.std.proofs.lemmas.Bool.{ltb-false, ltb-true}
-use Rattle.std.proofs.lemmas.List.{get_or_past, length-take-le, take_all, take-append-drop}
-use Rattle.std.proofs.Math.Seq.{drop-append_seam, take-add, take-append_seam}
-use Rattle.mq_pcap.proofs.FileHeader.{field-append}
+use Rattle.mq_laws.proofs.Common.{◌≡◌, ◌≤◌, ◌<◌, ◌+◌, ℕ, Bool, true, false, List, [], ◌∷◌, ◌++◌, length, length-drop, take, drop, get_or, refl, sym, ap, subst}
+use Rattle.mq_laws.proofs.Common.{◌∙◌, arith, nat_lt, slice_range, All, ltb-false, ltb-true, get_or_past, length-take-le, take_all, take-append-drop}
+use Rattle.mq_laws.proofs.Common.{drop-append_seam, take-add, take-append_seam, field-append, All-drop, All-take, le_bytes_2, le_bytes_4, be_bytes_2, Big}
+use Rattle.mq_laws.proofs.Common.{Little, field, big_bytes, big_number, little_bytes, little_number}
 use Rattle.mq_pcap.specs.declared.form.Endian.{Endian}
-use Rattle.std.proofs.lemmas.List.Elements.{All-drop, All-take}
-use Rattle.std.proofs.lemmas.Nat.{le_bytes_2, le_bytes_4, be_bytes_2}
-use Rattle.mq_pcap.specs.declared.form.Endian.TheVariants.{Big, Little}
-use Rattle.mq_pcap.specs.Capture.{field}
-use Rattle.byteorder.specs.Endian.{big_bytes, big_number, little_bytes, little_number}
 
 -- these are bytes
 abbrev pub AreBytes : List ℕ → Type 0

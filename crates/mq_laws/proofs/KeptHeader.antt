@@ -1,25 +1,12 @@
 -- The header of a classic capture of Ethernet in nanoseconds, as a block of a file that is converted.
-use Rattle.std.proofs.Common.{◌≡◌, ◌≤◌, ◌<◌, ◌%◌, ℕ, Bool, true, false, List, ◌++◌, length, take, drop, None, Some, Result, Ok, refl, arith, sym, ◌∙◌, ap}
-use Rattle.std.specs.Prelude.{nat_lt, ◌&&◌, ◌==◌}
-use Rattle.std.proofs.lemmas.Bool.{eqb-true, ltb-false, ne_eqb}
-use Rattle.std.proofs.lemmas.List.{length-take-le}
-use Rattle.std.proofs.lemmas.List.Elements.{All-drop}
-use Rattle.std.proofs.Math.Seq.{take-add}
-use Rattle.byteorder.specs.Endian.{little_bytes}
-use Rattle.mq_pcap.specs.declared.fault.PcapFault.{PcapFault}
-use Rattle.mq_pcap.specs.declared.form.Endian.{Endian}
-use Rattle.mq_pcap.specs.declared.form.Endian.TheVariants.{Big, Little}
-use Rattle.mq_pcap.specs.declared.form.Form.{Form}
-use Rattle.mq_pcap.specs.declared.form.Fraction.{Fraction}
-use Rattle.mq_pcap.specs.declared.form.Fraction.TheVariants.{Microseconds, Nanoseconds}
-use Rattle.mq_pcap.specs.declared.link_type.LinkType.TheVariants.{Ethernet, RawIp}
-use Rattle.mq_pcap.specs.Capture.{field, header_in, header_of, magic_of}
-use Rattle.mq_convert.specs.declared.context.Kind.TheVariants.{Start}
-use Rattle.mq_convert.specs.Blocks.{block_in, classic_in, first_in, seen_in}
-use Rattle.mq_convert.specs.Contexts.{at_start}
-use Rattle.mq_convert.specs.Records.{file_header}
-use Rattle.mq_convert.specs.Sizes.{IsWhole, first_size, form_in, section_type}
-use Rattle.mq_laws.specs.PlainCaptures.{looked_at, plain}
+use Rattle.mq_laws.proofs.Common.{◌≡◌, ◌≤◌, ◌<◌, ◌%◌, ℕ, Bool, true, false, List, ◌++◌, length, take, drop, None, Some, Result, Ok, refl, arith, sym, ◌∙◌, ap}
+use Rattle.mq_laws.proofs.Common.{nat_lt, ◌==◌, eqb-true, ltb-false, ne_eqb, length-take-le, All-drop, take-add, little_bytes, PcapFault, Big, Little, Form}
+use Rattle.mq_laws.proofs.Common.{field, magic_of, block_in, seen_in, at_start, file_header, IsWhole, section_type, looked_at, plain}
+use Rattle.std.specs.Prelude.{◌&&◌}
+use Rattle.mq_pcap.specs.{declared.form.Endian.Endian, declared.form.Fraction.Fraction, declared.form.Fraction.TheVariants.Microseconds}
+use Rattle.mq_pcap.specs.{declared.form.Fraction.TheVariants.Nanoseconds, declared.link_type.LinkType.TheVariants.Ethernet}
+use Rattle.mq_pcap.specs.{declared.link_type.LinkType.TheVariants.RawIp, Capture.header_in, Capture.header_of}
+use Rattle.mq_convert.specs.{declared.context.Kind.TheVariants.Start, Blocks.classic_in, Blocks.first_in, Sizes.first_size, Sizes.form_in}
 use Rattle.mq_laws.proofs.KeptBytes.{AreBytes, each_byte, field-take, four_at, low_two_at}
 use Rattle.mq_laws.proofs.KeptRecords.{behind_header, whole_seen}
 

@@ -1,28 +1,15 @@
 -- A record of Ethernet without tags, in nanoseconds, and its conversion, which has the same bytes.
-use Rattle.std.proofs.Common.{◌≡◌, ◌≤◌, ◌<◌, ◌+◌, ◌-◌, ◌*◌, ◌^◌, min, ℕ, Bool, true, false, List, [], ◌∷◌, ◌++◌, length, take, drop, Some, Ok, refl}
-use Rattle.std.proofs.Common.{arith, ◌∙◌, ap, subst, length-append, length-drop}
-use Rattle.std.specs.Prelude.{nat_lt, not, slice_range}
-use Rattle.std.proofs.lemmas.Bool.{le-ltb, lt-ltb, ltb-false, ltb-true}
-use Rattle.std.proofs.lemmas.List.{take_all, take_at}
-use Rattle.std.proofs.lemmas.List.Elements.{All-drop}
-use Rattle.std.proofs.lemmas.Nat.{div-mul-add, mod-mul-add}
-use Rattle.std.proofs.Math.Seq.{drop-append_seam}
-use Rattle.byteorder.specs.Endian.{little_bytes}
-use Rattle.byteorder.specs.Numbers.{little_from-lt}
-use Rattle.mq_pcap.specs.declared.form.Endian.TheVariants.{Big, Little}
+use Rattle.mq_laws.proofs.Common.{◌≡◌, ◌≤◌, ◌<◌, ◌+◌, ◌-◌, ◌*◌, ◌^◌, min, ℕ, Bool, true, false, List, [], ◌∷◌, ◌++◌, length, take, drop, Some, Ok, refl, arith}
+use Rattle.mq_laws.proofs.Common.{◌∙◌, ap, subst, length-append, length-drop, nat_lt, slice_range, le-ltb, lt-ltb, ltb-false, ltb-true, take_all, take_at}
+use Rattle.mq_laws.proofs.Common.{All-drop, div-mul-add, mod-mul-add, drop-append_seam, little_bytes, little_from-lt, Big, Little, field, most_bytes}
+use Rattle.mq_laws.proofs.Common.{field-append, Captured, block_in, seen_in, ContextState, original_of, IsWhole, most_seen, everything, is_untagged}
+use Rattle.std.specs.Prelude.{not}
 use Rattle.mq_pcap.specs.declared.form.Fraction.TheVariants.{Nanoseconds}
-use Rattle.mq_pcap.specs.Capture.{field, most_bytes}
-use Rattle.mq_pcap.proofs.FileHeader.{field-append}
-use Rattle.mq_convert.specs.declared.context.Kind.TheVariants.{Classic}
-use Rattle.mq_convert.specs.Blocks.{Captured, block_in, record_in, seen_in}
-use Rattle.mq_convert.specs.Contexts.{ContextState}
-use Rattle.mq_convert.specs.Frames.{Framed, Whole, before_type, behind_tags, carried_of, frame_bytes, frame_length, frame_of, frame_size, is_tag}
-use Rattle.mq_convert.specs.Frames.{of_ethernet, untagged}
-use Rattle.mq_convert.specs.Moments.{classic_moment, placed, second}
-use Rattle.mq_convert.specs.Records.{original_of, record_header, record_of}
-use Rattle.mq_convert.specs.Sizes.{IsWhole, most_seen, record_size}
+use Rattle.mq_convert.specs.{declared.context.Kind.TheVariants.Classic, Blocks.record_in, Frames.Framed, Frames.Whole, Frames.before_type, Frames.behind_tags}
+use Rattle.mq_convert.specs.{Frames.carried_of, Frames.frame_bytes, Frames.frame_length, Frames.frame_of, Frames.frame_size, Frames.is_tag, Frames.of_ethernet}
+use Rattle.mq_convert.specs.{Frames.untagged, Moments.classic_moment, Moments.placed, Moments.second, Records.record_header, Records.record_of}
+use Rattle.mq_convert.specs.{Sizes.record_size}
 use Rattle.mq_convert.proofs.Seen.{all_seen}
-use Rattle.mq_laws.specs.PlainCaptures.{everything, is_untagged}
 use Rattle.mq_laws.proofs.KeptBytes.{AreBytes, each_byte, four_at, four_numbers, three_parts, two_at}
 
 -- a block that is seen whole comes to what its bytes come to

@@ -1,4 +1,5 @@
 pub mod ChangedSources
+mod Common
 pub mod Lowered
 pub mod AskedLater
 pub mod Ascending
@@ -12,6 +13,7 @@ pub mod AheadChanges
 pub mod DatagramsAhead
 pub mod HeardFilters
 pub mod Following
+pub mod Forms
 pub mod TurnedSources
 pub mod SpokenGroups
 pub mod Same

@@ -1,14 +1,8 @@
 -- The packets left out, whose frames are written soon.
-use Rattle.std.proofs.Common.{◌≡◌, ℕ, ◌-◌, true, false, Bool, List, [], ◌∷◌, ◌++◌, length, take, drop, refl, sym, subst, ap, ◌∙◌, zero, suc, arith}
-use Rattle.std.proofs.Common.{append_assoc}
+use Rattle.mq_laws.proofs.Common.{◌≡◌, ℕ, ◌-◌, true, false, Bool, List, [], ◌∷◌, ◌++◌, length, take, drop, refl, sym, subst, ap, ◌∙◌, zero, suc, arith}
+use Rattle.mq_laws.proofs.Common.{append_assoc, All, list_any, take-append-drop, All-append, Choice, Captured}
 use Rattle.std.specs.Prelude.{not, ◌&&◌, ◌||◌}
-use Rattle.std.specs.List.{All, list_any}
-use Rattle.std.proofs.Math.Bool.{or-true}
-use Rattle.std.proofs.lemmas.List.{take-append-drop}
-use Rattle.std.proofs.lemmas.List.Elements.{All-append}
-use Rattle.std.proofs.lemmas.List.Folds.{list_any-append}
-use Rattle.mq_convert.specs.declared.choice.Choice.{Choice}
-use Rattle.mq_convert.specs.Blocks.{Captured}
+use Rattle.std.proofs.{Math.Bool.or-true, lemmas.List.Folds.list_any-append}
 use Rattle.mq_convert.specs.Choices.{is_chosen_packet}
 use Rattle.mq_convert.specs.Repeats.{Gone, comes_again, frame_out, gone_after, going_out, is_again, is_compared, latest, left_out, most_gone}
 use Rattle.mq_laws.specs.Conversions.{as_gone, is_written_soon}

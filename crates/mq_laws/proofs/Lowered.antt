@@ -1,11 +1,6 @@
 -- A deadline once it is lowered, and once it is lowered twice.
-use Rattle.std.proofs.Common.{ℕ, Bool, cond, Option, sym, subst, arith}
-use Rattle.std.specs.Option.{option_map}
-use Rattle.mq_table.proofs.Lower.{timer_at-sources_lowered}
-use Rattle.mq_table.specs.Group.{GroupState, timer_at, deadline_of, group_deadline}
-use Rattle.mq_table.specs.Lowering.{lowered_to, mode_lowered, source_lowered, sources_lowered}
-use Rattle.mq_table.specs.{Sets.Set, declared.timers.FilterMode.FilterMode, declared.timers.SourceTimer.SourceTimer, declared.timing.Timing.Timing}
-use Rattle.mq_laws.specs.Groups.{IsNoLater}
+use Rattle.mq_laws.proofs.Common.{ℕ, Bool, cond, Option, sym, subst, arith, option_map, timer_at-sources_lowered, GroupState, timer_at, deadline_of}
+use Rattle.mq_laws.proofs.Common.{group_deadline, lowered_to, mode_lowered, source_lowered, sources_lowered, Set, FilterMode, SourceTimer, Timing, IsNoLater}
 
 pub group_no_later : (limit : ℕ) (mode : FilterMode) → IsNoLater (group_deadline mode) (group_deadline (mode_lowered limit mode))
 group_no_later limit mode = grind arith

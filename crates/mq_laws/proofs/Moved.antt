@@ -1,20 +1,12 @@
 -- Queries pair up that were seen at their moments, or no more than the tolerance from them, and where one was left out.
-use Rattle.std.proofs.Common.{◌≡◌, ℕ, ◌+◌, Bool, true, false, not, List, [], ◌∷◌, ◌++◌, refl, ap, sym, ◌∙◌, arith, subst, append_assoc}
-use Rattle.std.specs.Prelude.{Option, None, Some, ◌==◌, map as list_map}
-use Rattle.std.specs.List.{AllByRecursion}
-use Rattle.std.proofs.lemmas.Bool.{eq-eqb}
-use Rattle.mq_check.specs.declared.asked.Asked.{Asked}
-use Rattle.mq_check.specs.declared.finding.Difference.{Difference}
+use Rattle.mq_laws.proofs.Common.{◌≡◌, ℕ, ◌+◌, Bool, true, false, not, List, [], ◌∷◌, ◌++◌, refl, ap, sym, ◌∙◌, arith, subst, append_assoc, ◌==◌, list_map}
+use Rattle.mq_laws.proofs.Common.{AllByRecursion, eq-eqb, Asked, Finding, Missing, Terms, terms_differ, difference_if, is_unlike, responses_differ}
+use Rattle.mq_laws.proofs.Common.{fields_differ, queriers_differ, is_same, Ask, Expected, Sent, LeftOut, Answers, IsMoved, AreMoved, AllLater, PairUp, ask_of}
+use Rattle.mq_laws.proofs.Common.{asks_of, all_sent, all_left_out, sent_but, seen_about, unnumbered, unnumbered_terms, wanted_about, missing_of, AreMissed}
+use Rattle.mq_laws.proofs.Common.{TakesOut, all_missing}
+use Rattle.std.specs.Prelude.{Option, None, Some}
+use Rattle.mq_check.specs.{declared.finding.Difference.Difference, declared.terms.QuerierTerms.QuerierTerms}
 use Rattle.mq_check.specs.declared.finding.Difference.TheVariants as field
-use Rattle.mq_check.specs.declared.finding.Finding.{Finding}
-use Rattle.mq_check.specs.declared.finding.Finding.TheVariants.{Missing}
-use Rattle.mq_check.specs.declared.terms.Terms.{Terms}
-use Rattle.mq_check.specs.declared.terms.QuerierTerms.{QuerierTerms}
-use Rattle.mq_check.specs.Entries.{terms_differ, difference_if, is_unlike, responses_differ, fields_differ, queriers_differ}
-use Rattle.mq_check.specs.Queries.{is_same}
-use Rattle.mq_laws.specs.Pairing.{Ask, Expected, Sent, LeftOut, Answers, IsMoved, AreMoved, AllLater, PairUp, ask_of, asks_of, all_sent, all_left_out}
-use Rattle.mq_laws.specs.Pairing.{sent_but, seen_about, unnumbered, unnumbered_terms, wanted_about, missing_of}
-use Rattle.mq_laws.specs.AsWanted.{AreMissed, TakesOut, all_missing}
 use Rattle.mq_laws.proofs.Same.{same_asked}
 use Rattle.mq_laws.proofs.Held.{wanted_here, wanted_other, wanted_about-append, seen_here, seen_other, seen_about-append}
 
@@ -154,10 +146,10 @@ sent_but_about asked before taken behind =
     ∙ append_assoc (all_sent (seen_about asked before)) (all_left_out (seen_about asked taken)) (all_sent (seen_about asked behind))
 
 -- of those about one thing each is taken out longer before the next than it is kept
-later_about : (kept end : ℕ) (asked : Asked ℕ) (taken behind : List Ask) → TakesOut kept end taken behind → AllLaterThan kept (seen_about asked taken)
-    (seen_about asked behind)
-later_about kept end asked [] behind out = tt
-later_about kept end asked (ask ∷ taken) behind out = one (later_about kept end asked taken behind out.2) (is_same asked ask.asked) refl
+later_about : (strict : Bool) (kept end : ℕ) (asked : Asked ℕ) (taken behind : List Ask) → TakesOut strict kept end taken behind →
+    AllLaterThan kept (seen_about asked taken) (seen_about asked behind)
+later_about strict kept end asked [] behind out = tt
+later_about strict kept end asked (ask ∷ taken) behind out = one (later_about strict kept end asked taken behind out.2) (is_same asked ask.asked) refl
   where
     one : AllLaterThan kept (seen_about asked taken) (seen_about asked behind) → (b : Bool) → is_same asked ask.asked ≡ b →
         AllLaterThan kept (seen_about asked (ask ∷ taken)) (seen_about asked behind)
@@ -165,15 +157,15 @@ later_about kept end asked (ask ∷ taken) behind out = one (later_about kept en
         (subst (λ (a : Asked ℕ). AllLater (ask.moment + kept) (seen_about a behind)) (sym (same_asked asked ask.asked is)) out.1, rest)
     one rest false is = rw (seen_other asked ask taken is) rest
 
-pub all_but_some_pair_up : (within kept end : ℕ) (before taken behind seen : List Ask)
+pub all_but_some_pair_up : (within : ℕ) (strict : Bool) (kept end : ℕ) (before taken behind seen : List Ask)
     → ((asked : Asked ℕ) → list_map unnumbered (seen_about asked seen) ≡ list_map unnumbered (seen_about asked (before ++ behind))) →
-    TakesOut kept end taken behind
+    TakesOut strict kept end taken behind
     → (asked : Asked ℕ) → PairUp within kept (wanted_about asked (sent_but before taken behind)) (seen_about asked seen)
-all_but_some_pair_up within kept end before taken behind seen are out asked =
+all_but_some_pair_up within strict kept end before taken behind seen are out asked =
     rw (sent_but_about asked before taken behind)
     (pairs_as within kept _ (seen_about asked before ++ seen_about asked behind) (seen_about asked seen)
     (are asked ∙ ap (list_map unnumbered) (seen_about-append asked before behind))
-    (pairs_but within kept (seen_about asked before) (seen_about asked taken) (seen_about asked behind) (later_about kept end asked taken behind out)))
+    (pairs_but within kept (seen_about asked before) (seen_about asked taken) (seen_about asked behind) (later_about strict kept end asked taken behind out)))
 
 -- what is wanted of those that were sent and those that weren't
 pub asks_of-sent : (asks : List Ask) → asks_of (all_sent asks) ≡ asks
@@ -213,19 +205,22 @@ missing_of-sent_but before taken behind =
     missing_of-behind before (all_left_out taken ++ all_sent behind) ∙ missing_of-left_out taken behind
 
 -- nothing is missed of what was sent, and of the rest what is taken out
-pub missed-sent : (kept end : ℕ) (asks : List Ask) → AreMissed kept end (all_sent asks)
-missed-sent kept end [] = tt
-missed-sent kept end (a ∷ asks) = missed-sent kept end asks
+pub missed-sent : (strict : Bool) (kept end : ℕ) (asks : List Ask) → AreMissed strict kept end (all_sent asks)
+missed-sent strict kept end [] = tt
+missed-sent strict kept end (a ∷ asks) = missed-sent strict kept end asks
 
-missed-left_out : (kept end : ℕ) (taken behind : List Ask) → TakesOut kept end taken behind → AreMissed kept end (all_left_out taken ++ all_sent behind)
-missed-left_out kept end [] behind out = missed-sent kept end behind
-missed-left_out kept end (a ∷ taken) behind out = (out.0, missed-left_out kept end taken behind out.2)
+missed-left_out : (strict : Bool) (kept end : ℕ) (taken behind : List Ask) → TakesOut strict kept end taken behind →
+    AreMissed strict kept end (all_left_out taken ++ all_sent behind)
+missed-left_out strict kept end [] behind out = missed-sent strict kept end behind
+missed-left_out strict kept end (a ∷ taken) behind out = (out.0, missed-left_out strict kept end taken behind out.2)
 
-missed-behind : (kept end : ℕ) (before : List Ask) (xs : List Expected) → AreMissed kept end xs → AreMissed kept end (all_sent before ++ xs)
-missed-behind kept end [] xs missed = missed
-missed-behind kept end (a ∷ before) xs missed = missed-behind kept end before xs missed
+missed-behind : (strict : Bool) (kept end : ℕ) (before : List Ask) (xs : List Expected) → AreMissed strict kept end xs →
+    AreMissed strict kept end (all_sent before ++ xs)
+missed-behind strict kept end [] xs missed = missed
+missed-behind strict kept end (a ∷ before) xs missed = missed-behind strict kept end before xs missed
 
-pub missed-sent_but : (kept end : ℕ) (before taken behind : List Ask) → TakesOut kept end taken behind → AreMissed kept end (sent_but before taken behind)
-missed-sent_but kept end before taken behind out =
-    subst (AreMissed kept end) (sym (append_assoc (all_sent before) (all_left_out taken) (all_sent behind)))
-    (missed-behind kept end before (all_left_out taken ++ all_sent behind) (missed-left_out kept end taken behind out))
+pub missed-sent_but : (strict : Bool) (kept end : ℕ) (before taken behind : List Ask) → TakesOut strict kept end taken behind →
+    AreMissed strict kept end (sent_but before taken behind)
+missed-sent_but strict kept end before taken behind out =
+    subst (AreMissed strict kept end) (sym (append_assoc (all_sent before) (all_left_out taken) (all_sent behind)))
+    (missed-behind strict kept end before (all_left_out taken ++ all_sent behind) (missed-left_out strict kept end taken behind out))

@@ -1,16 +1,10 @@
 -- Exactly where each name of a refusal is given.
-use Rattle.std.proofs.Common.{◌≡◌, ◌↔◌, ℕ, ◌≤◌, Bool, true, false, cond, ◌||◌, refl, List, [], ◌∷◌, Option, None, Some, sym, ap, ◌∙◌, arith, ltb, not, length}
-use Rattle.std.proofs.lemmas.Bool.Decides.{nat_tests}
-use Rattle.mq_wire.specs.declared.records.RecordView.{RecordView}
-use Rattle.mq_table.specs.{Table.GroupChange, declared.kind.Kind.Kind}
-use Rattle.mq_sched.specs.{Schedule.ScheduledGroup, Sending.SentQuery}
-use Rattle.mq_link.specs.{Configuration.Configuration, Counters.Ignored, Counters.Refused, Family.is_admitted}
-use Rattle.mq_link.specs.Record.{Statement, RecordOf, limit_passed, Setting, leaving, unless_passed, sent_at_once, changed_by, changed_or_refused, change_in}
-use Rattle.mq_link.specs.Record.{stated, Seen, Entrance, Stops, GoesOn, entrance, is_repeated, judged_from, judged, entrance_as, kind_named}
-use Rattle.mq_link.specs.{State.Groups, State.sources_of, State.sources_in, State.schedules_in, Tests.first_named, declared.answers.Refusal.Refusal}
-use Rattle.mq_link.specs.declared.answers.Refusal.TheVariants.{Long, Repeated, Groups as TooManyGroups, GroupSources, Sources, Scheduled, Memory}
-use Rattle.mq_link.specs.declared.configuration.Limits.{Limits}
-use Rattle.mq_laws.specs.Laws.{IsGivenWhere, would_be, would_leave}
+use Rattle.mq_laws.proofs.Common.{◌≡◌, ◌↔◌, ℕ, ◌≤◌, Bool, true, false, cond, ◌||◌, refl, List, [], ◌∷◌, Option, None, Some, sym, ap, ◌∙◌, arith, ltb, not}
+use Rattle.mq_laws.proofs.Common.{length, nat_tests, RecordView, GroupChange, Kind, ScheduledGroup, SentQuery, Configuration, Ignored, Refused, Statement}
+use Rattle.mq_laws.proofs.Common.{RecordOf, limit_passed, Setting, leaving, unless_passed, sent_at_once, changed_by, changed_or_refused, change_in, Entrance}
+use Rattle.mq_laws.proofs.Common.{Stops, GoesOn, entrance, is_repeated, judged_from, entrance_as, kind_named, Groups, sources_of, sources_in, schedules_in}
+use Rattle.mq_laws.proofs.Common.{Refusal, Long, Repeated, TooManyGroups, GroupSources, Sources, Scheduled, Memory, IsGivenWhere, would_be, would_leave}
+use Rattle.mq_link.specs.{Family.is_admitted, Record.stated, Record.Seen, Record.judged, Tests.first_named, declared.configuration.Limits.Limits}
 use Rattle.std.specs.FinMap as map
 use Rattle.std.specs.FinSet as set
 

@@ -1,10 +1,8 @@
 -- The address as the number of its groups of digits.
-use Rattle.std.proofs.Common.{◌≡◌, ℕ, zero, suc, get_or, ◌+◌, ◌*◌, ◌/◌, ◌%◌, ◌^◌, ◌<◌, List, [], ◌∷◌, refl, ap, ◌∙◌, arith}
-use Rattle.std.proofs.Math.Nat.{div-div-eq-div-mul}
-use Rattle.std.specs.Int.{w128, to_be_bytes, from_be_bytes, byte_at}
+use Rattle.mq_laws.proofs.Common.{◌≡◌, ℕ, zero, suc, get_or, ◌+◌, ◌*◌, ◌/◌, ◌%◌, ◌^◌, ◌<◌, List, [], ◌∷◌, refl, ap, ◌∙◌, arith, div-div-eq-div-mul, w128}
+use Rattle.mq_laws.proofs.Common.{to_be_bytes, from_be_bytes, byte_at}
 use Rattle.std.specs.Net.Addr.{octets_of}
-use Rattle.mq_text.specs.AddressV6.{groups_in, groups_of}
-use Rattle.mq_text.specs.Reading.{number_of}
+use Rattle.mq_text.specs.{AddressV6.groups_in, AddressV6.groups_of, Reading.number_of}
 
 -- pairs of octets
 abbrev pub ArePairs : List ℕ → Type 0

@@ -1,8 +1,6 @@
 -- The one address of a text.
-use Rattle.std.proofs.Common.{ap, ◌≡◌, ℕ, List, sym, ◌∙◌}
-use Rattle.std.specs.Int.{w32, from_be_bytes}
+use Rattle.mq_laws.proofs.Common.{ap, ◌≡◌, ℕ, List, sym, ◌∙◌, w32, from_be_bytes, from_be_bytes-to_be_bytes_4}
 use Rattle.std.specs.Net.Addr.{ipv4_octets, ipv6_segments}
-use Rattle.std.proofs.lemmas.Nat.{from_be_bytes-to_be_bytes_4}
 use Rattle.std.proofs.NetLemmas.Theorems.{IsIpv4Text_unique, IsIpv6Text_unique}
 use Rattle.mq_text.specs.Reading.{SpellsV4, SpellsV6, number_of}
 use Rattle.mq_text.proofs.Spelled.{spelled_as_std, v4_as_std}

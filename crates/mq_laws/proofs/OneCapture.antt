@@ -1,17 +1,11 @@
 -- The one capture of a file, and faults of its first bytes that are faults of the whole.
-use Rattle.std.proofs.Common.{◌≡◌, ◌≤◌, ◌<◌, ◌+◌, ℕ, List, [], ◌∷◌, ◌++◌, length, take, drop, Option, None, Some, Result, Ok, Err, refl, arith, sym}
-use Rattle.std.proofs.Common.{◌∙◌, ap, length-append, append_assoc, subst}
-use Rattle.std.proofs.lemmas.Bool.{le-ltb, lt-ltb}
-use Rattle.std.proofs.lemmas.List.{take_at}
-use Rattle.std.proofs.Math.Seq.{drop-append_seam}
-use Rattle.mq_pcap.specs.declared.form.Form.{Form}
-use Rattle.mq_pcap.specs.declared.fault.PcapFault.{PcapFault}
-use Rattle.mq_pcap.specs.declared.fault.PcapFault.TheVariants as fault
-use Rattle.mq_pcap.specs.Capture.{Captured, IsRecord, AreRecords, Captures, captured_length, stamp_of, most_bytes, endless, record_fault}
-use Rattle.std.specs.Prelude.{nat_lt, not}
-use Rattle.std.proofs.lemmas.Bool.Decides.{nat_tests}
-use Rattle.mq_pcap.specs.Tests.{first_that_holds}
+use Rattle.mq_laws.proofs.Common.{◌≡◌, ◌≤◌, ◌<◌, ◌+◌, ℕ, List, [], ◌∷◌, ◌++◌, length, take, drop, Option, None, Some, Result, Ok, Err, refl, arith, sym, ◌∙◌}
+use Rattle.mq_laws.proofs.Common.{ap, length-append, append_assoc, subst, le-ltb, lt-ltb, take_at, drop-append_seam, Form, PcapFault, IsRecord, AreRecords}
+use Rattle.mq_laws.proofs.Common.{captured_length, stamp_of, most_bytes, record_fault, nat_lt, nat_tests}
+use Rattle.mq_pcap.specs.{Capture.Captured, Capture.Captures, Capture.endless, Tests.first_that_holds}
+use Rattle.std.specs.Prelude.{not}
 use Rattle.mq_pcap.proofs.Records.{length_of_header, captured_length-append}
+use Rattle.mq_pcap.specs.declared.fault.PcapFault.TheVariants as fault
 
 -- the bytes of a record, by its header's length field
 size_of : Form → List ℕ → ℕ

@@ -1,10 +1,7 @@
 -- The values of codes, which all differ.
-use Rattle.std.proofs.Common.{◌≡◌, ℕ, ◌+◌, ◌-◌, ◌*◌, ◌/◌, ◌%◌, ◌^◌, ◌<◌, ◌≤◌, inl, inr, nat_lt, true, false, ap, sym, ◌∙◌, arith}
-use Rattle.std.proofs.Math.Nat.{mul-le-mul_left, mul-le-mul_right, mod-lt}
-use Rattle.std.proofs.lemmas.Nat.{pow-add, pow_pos, div-add-mod'}
-use Rattle.std.proofs.lemmas.Bool.{cases_order}
-use Rattle.std.proofs.lemmas.Bool.Decides.{nat_tests, leb_tells}
-use Rattle.mq_wire.specs.Codes.{value_of}
+use Rattle.mq_laws.proofs.Common.{◌≡◌, ℕ, ◌+◌, ◌-◌, ◌*◌, ◌/◌, ◌%◌, ◌^◌, ◌<◌, ◌≤◌, inl, inr, true, false, ap, sym, ◌∙◌, arith, mul-le-mul_left, mul-le-mul_right}
+use Rattle.mq_laws.proofs.Common.{mod-lt, pow-add, pow_pos, div-add-mod', cases_order, nat_tests, leb_tells, value_of}
+use Rattle.std.proofs.Common.{nat_lt}
 use Rattle.mq_wire.proofs.CodeValues.{half_of, least_composed}
 use Rattle.mq_laws.specs.Messages.{CodesComeBack}
 

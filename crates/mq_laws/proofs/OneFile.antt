@@ -1,15 +1,9 @@
 -- The one capture of a file, and faults of its first bytes that are faults of the whole.
-use Rattle.std.proofs.Common.{◌≡◌, ◌≤◌, ◌<◌, ◌+◌, ℕ, false, List, [], ◌∷◌, ◌++◌, length, take, drop, Option, None, Some, Result, Ok, Err, refl, arith}
-use Rattle.std.proofs.Common.{sym, ◌∙◌, ap, inl, inr, length-append, append_assoc, subst}
-use Rattle.std.proofs.lemmas.Bool.{le-ltb, lt-ltb}
-use Rattle.std.proofs.lemmas.List.{take_at, take-append-le}
-use Rattle.std.proofs.Math.Seq.{drop-append_seam}
-use Rattle.mq_convert.specs.declared.context.Kind.{Kind}
-use Rattle.mq_convert.specs.declared.fault.BlockFault.{BlockFault}
-use Rattle.mq_convert.specs.Blocks.{Captured, block_in}
-use Rattle.mq_convert.specs.Contexts.{ContextState, at_start}
-use Rattle.mq_convert.specs.Files.{AreBlocks, Captures, EndsBy, endless, outer_fault}
-use Rattle.mq_convert.specs.Sizes.{IsWhole, head_size, is_start, size_in, size_of}
+use Rattle.mq_laws.proofs.Common.{◌≡◌, ◌≤◌, ◌<◌, ◌+◌, ℕ, false, List, [], ◌∷◌, ◌++◌, length, take, drop, Option, None, Some, Result, Ok, Err, refl, arith, sym}
+use Rattle.mq_laws.proofs.Common.{◌∙◌, ap, inl, inr, length-append, append_assoc, subst, le-ltb, lt-ltb, take_at, take-append-le, drop-append_seam, BlockFault}
+use Rattle.mq_laws.proofs.Common.{Captured, block_in, ContextState, at_start, AreBlocks, Captures, EndsBy, endless, IsWhole, head_size, is_start, size_in}
+use Rattle.mq_laws.proofs.Common.{size_of}
+use Rattle.mq_convert.specs.{declared.context.Kind.Kind, Files.outer_fault}
 use Rattle.mq_convert.proofs.NextBlocks.{some_head}
 
 -- two beginnings of the same bytes that are as long are the same, and so is what follows

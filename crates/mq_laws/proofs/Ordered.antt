@@ -1,33 +1,17 @@
 -- What happens in the check of a capture comes in the order of moments.
-use Rattle.std.proofs.Common.{◌≡◌, ℕ, zero, suc, ◌+◌, ◌<◌, ◌≤◌, Bool, true, false, not, ◌&&◌, cond, List, [], ◌∷◌, ◌++◌, refl, arith}
-use Rattle.std.specs.Prelude.{◌^◌, Option, None, Some, min, nat_le, nat_lt, unwrap_or}
-use Rattle.std.specs.List.{AllByRecursion}
-use Rattle.std.proofs.lemmas.Bool.{leb-true, leb-false, ltb-true, ltb-false}
-use Rattle.mq_pcap.specs.declared.form.Form.{Form}
-use Rattle.mq_pcap.specs.declared.link_type.LinkType.{LinkType}
-use Rattle.mq_pcap.specs.Capture.{Captured}
-use Rattle.mq_pcap.specs.Frame.{carried_in}
-use Rattle.mq_wire.specs.declared.query.Query.{Query}
-use Rattle.mq_wire.specs.Family.{Family}
-use Rattle.mq_sched.specs.Election.{is_querier}
-use Rattle.mq_link.specs.Configuration.{Configuration, IsFaultless}
-use Rattle.mq_link.specs.Receive.{Envelope, receipt_of}
-use Rattle.mq_link.specs.Run.{answered}
-use Rattle.mq_link.specs.Sent.{Outgoing, outgoing_of}
-use Rattle.mq_link.specs.State.{LinkState, IsWellFormed, link_at}
-use Rattle.mq_link.specs.Tick.{Step, tick_of, next_of}
+use Rattle.mq_laws.proofs.Common.{◌≡◌, ℕ, zero, suc, ◌+◌, ◌<◌, ◌≤◌, Bool, true, false, not, ◌&&◌, cond, List, [], ◌∷◌, ◌++◌, refl, arith, nat_le, nat_lt}
+use Rattle.mq_laws.proofs.Common.{AllByRecursion, leb-true, leb-false, ltb-true, ltb-false, Form, LinkType, Query, Family, is_querier, Configuration}
+use Rattle.mq_laws.proofs.Common.{IsFaultless, Envelope, receipt_of, answered, Outgoing, outgoing_of, LinkState, IsWellFormed, link_at, Step, tick_of, next_of}
+use Rattle.mq_laws.proofs.Common.{datagram_of, destination_in, faults_in, asked_in, is_general, terms_of, query_seen, Passage, happening_behind, wanted_for}
+use Rattle.mq_laws.proofs.Common.{wanted_of, wanted_by, role_by_tick, role_by_datagram, tick_passage, ticks_through, event_of, fault_events, datagram_passage}
+use Rattle.mq_laws.proofs.Common.{frame_passage, packet_passage, last_of, end_of, events_ahead, events_of, specific_terms, CheckEvent, Comes, Wants, Sees}
+use Rattle.mq_laws.proofs.Common.{SeesGeneral, LosesRole, HasRoleAgain, SeesFault, Changes, AreAhead, AreInOrder, IsOfTick}
+use Rattle.std.specs.Prelude.{◌^◌, Option, None, Some, min, unwrap_or}
+use Rattle.mq_pcap.specs.{Capture.Captured, Frame.carried_in}
+use Rattle.mq_replay.specs.{Listing.moment_of, Report.Datagram, Report.all_sent}
+use Rattle.mq_check.specs.{declared.headers.HeaderFault.HeaderFault, Causes.causes_in}
+use Rattle.mq_laws.specs.Captures.{ticks_passage, packets_passage}
 use Rattle.mq_link.specs.Tick as tick
-use Rattle.mq_replay.specs.Listing.{moment_of}
-use Rattle.mq_replay.specs.Report.{Datagram, datagram_of, all_sent}
-use Rattle.mq_check.specs.declared.headers.HeaderFault.{HeaderFault}
-use Rattle.mq_check.specs.Check.{destination_in, faults_in}
-use Rattle.mq_check.specs.Queries.{asked_in, is_general, terms_of, query_seen}
-use Rattle.mq_laws.specs.Captures.{Passage, happening_behind, wanted_for, wanted_of, wanted_by, role_by_tick, role_by_datagram, tick_passage}
-use Rattle.mq_laws.specs.Captures.{ticks_passage, ticks_through, event_of, fault_events, datagram_passage, frame_passage, packet_passage}
-use Rattle.mq_laws.specs.Captures.{packets_passage, last_of, end_of, events_ahead, events_of}
-use Rattle.mq_check.specs.Blocked.{blocked_in}
-use Rattle.mq_laws.specs.Events.{CheckEvent, Comes, Wants, Sees, SeesGeneral, LosesRole, HasRoleAgain, SeesFault, Blocks}
-use Rattle.mq_laws.specs.OnTime.{AreAhead, AreInOrder, IsOfTick}
 use Rattle.mq_laws.proofs.Followed.{none_passes, one_passes}
 
 -- what is known of links
@@ -56,7 +40,7 @@ order-later now later (SeesGeneral terms wanted ∷ es) end before order = order
 order-later now later (LosesRole ∷ es) end before order = order-later now later es end before order
 order-later now later (HasRoleAgain ∷ es) end before order = order-later now later es end before order
 order-later now later (SeesFault number fault ∷ es) end before order = order-later now later es end before order
-order-later now later (Blocks asked ∷ es) end before order = order-later now later es end before order
+order-later now later (Changes terms asked ∷ es) end before order = order-later now later es end before order
 
 order-append : (now middle : ℕ) (xs ys : List CheckEvent) (end : ℕ) → AreInOrder now xs middle → AreInOrder middle ys end → AreInOrder now (xs ++ ys) end
 order-append now middle [] ys end first second = order-later now middle ys end first second
@@ -67,7 +51,7 @@ order-append now middle (SeesGeneral terms wanted ∷ es) ys end first second = 
 order-append now middle (LosesRole ∷ es) ys end first second = order-append now middle es ys end first second
 order-append now middle (HasRoleAgain ∷ es) ys end first second = order-append now middle es ys end first second
 order-append now middle (SeesFault number fault ∷ es) ys end first second = order-append now middle es ys end first second
-order-append now middle (Blocks asked ∷ es) ys end first second = order-append now middle es ys end first second
+order-append now middle (Changes terms asked ∷ es) ys end first second = order-append now middle es ys end first second
 
 -- what happens at one moment
 order-wanted_for : (now packets : ℕ) (family : Family) (by_tick is_returning : Bool) (to : ℕ) (query : Query ℕ) →
@@ -187,7 +171,8 @@ ordered-datagram known config moment number to datagram None faults packets link
       order = (
         omega arith,
         order-append moment moment (fault_events number faults)
-            (Blocks (blocked_in config.family datagram) ∷ wanted_by config packets false link step ++ role_by_datagram (is_querier link.election.role)
+            (Changes (specific_terms config link.election.timing packets) (causes_in config.family datagram) ∷ wanted_by config packets false link step
+            ++ role_by_datagram (is_querier link.election.role)
             (is_querier step.state.election.role)) moment (order-faults moment number faults)
             (order-append moment moment (wanted_by config packets false link step)
             (role_by_datagram (is_querier link.election.role) (is_querier step.state.election.role)) moment
@@ -308,7 +293,7 @@ order-until now (SeesGeneral terms wanted ∷ es) end later before order = order
 order-until now (LosesRole ∷ es) end later before order = order-until now es end later before order
 order-until now (HasRoleAgain ∷ es) end later before order = order-until now es end later before order
 order-until now (SeesFault number fault ∷ es) end later before order = order-until now es end later before order
-order-until now (Blocks asked ∷ es) end later before order = order-until now es end later before order
+order-until now (Changes terms asked ∷ es) end later before order = order-until now es end later before order
 
 -- the ticks behind the end, where the end is in range and where it isn't
 order-ahead : KnownOfLinks → (config : Configuration) (within end limit packets : ℕ) (link : LinkState) → IsFaultless config →

@@ -1,17 +1,13 @@
 -- The outlet's answers, which don't change the next work of a link.
-use Rattle.std.proofs.Common.{◌≡◌, ℕ, ◌+◌, not, refl, List, [], ◌∷◌, length, Option, None, Some, Result, Ok, Err, sym, ap, ◌∙◌, arith}
-use Rattle.std.specs.{List.count_by, Prelude.map as list_map}
+use Rattle.mq_laws.proofs.Common.{◌≡◌, ℕ, ◌+◌, not, refl, List, [], ◌∷◌, length, Option, None, Some, Result, Ok, Err, sym, ap, ◌∙◌, arith, count_by, list_map}
+use Rattle.mq_laws.proofs.Common.{Message, QueryMessage, OldReport, LeaveMessage, ReportMessage, WireFault, Configuration, Counters, Verdict, Applied, Ignored}
+use Rattle.mq_laws.proofs.Common.{Refused, count_verdict, count_verdicts, Envelope, Receipt, with_outcomes, setting_of, counting_read, taken_or_dropped}
+use Rattle.mq_laws.proofs.Common.{drop_reason, read_of, pseudo_of, OlderJoin, OlderLeave, Outcomes, stated, all_judged, alone, Event, Tick, Datagram, step_of}
+use Rattle.mq_laws.proofs.Common.{answer_to, Happening, Happens, RunFrom, events_alone, outgoing, outgoing_of, LinkState, Step, tick_of, DropReason, unanswered}
+use Rattle.mq_laws.proofs.Common.{DifferInAnswers, HappensAlike, HappenAlike}
 use Rattle.mq_count.specs.Streams.{counted_on}
-use Rattle.mq_wire.specs.declared.message.Message.{Message, TheVariants.Query as QueryMessage, TheVariants.OldReport, TheVariants.Leave as LeaveMessage}
-use Rattle.mq_wire.specs.declared.message.{Message.TheVariants.Report as ReportMessage, WireFault.WireFault}
-use Rattle.mq_link.specs.Configuration.{Configuration}
-use Rattle.mq_link.specs.Counters.{Counters, Verdict, Applied, Ignored, Refused, count_verdict, count_verdicts}
-use Rattle.mq_link.specs.Receive.{Envelope, Receipt, with_outcomes, setting_of, counting_read, taken_in, taken_or_dropped, drop_reason, read_of, pseudo_of}
-use Rattle.mq_link.specs.Record.{OlderJoin, OlderLeave, Outcomes, stated, all_judged, alone}
-use Rattle.mq_link.specs.Run.{Event, Tick, Datagram, step_of, answer_to, Happening, Happens, RunFrom, events_alone}
-use Rattle.mq_link.specs.{Sent.outgoing, Sent.outgoing_of, State.LinkState, Tick.Step, Tick.tick_of, declared.answers.DropReason.DropReason}
+use Rattle.mq_link.specs.Receive.{taken_in}
 use Rattle.mq_laws.proofs.Counting.{two_answers}
-use Rattle.mq_laws.specs.Laws.{unanswered, DifferInAnswers, HappensAlike, HappenAlike}
 use Rattle.std.specs.FinMap as map
 
 quiet : Counters → Counters

@@ -1,20 +1,13 @@
 -- The first entry without a partner: whether there is one, and what is left once it has found its partner.
-use Rattle.std.proofs.Common.{◌≡◌, ℕ, ◌+◌, ◌≤◌, Bool, true, false, List, [], ◌∷◌, refl, ap, sym, ◌∙◌, arith}
-use Rattle.std.specs.Prelude.{None, Some, ◌⊎◌, ◌&&◌, nat_le}
+use Rattle.mq_laws.proofs.Common.{◌≡◌, ℕ, ◌+◌, ◌≤◌, Bool, true, false, List, [], ◌∷◌, refl, ap, sym, ◌∙◌, arith, ◌⊎◌, nat_le, and_left, and_right, and_from}
+use Rattle.mq_laws.proofs.Common.{le-leb, Asked, Entry, Need, Wanted, Seen, Interval, Silence, Packet, Unpaired, Terms, first_terms, first_joined, is_free_seen}
+use Rattle.mq_laws.proofs.Common.{is_free_wanted, terms_differ, is_same, Ask, Expected, Sent, LeftOut, ask_of, seen_about, wanted_about, missing_of}
+use Rattle.std.specs.Prelude.{None, Some, ◌&&◌}
 use mathlib.Core.Logic.{inl, inr}
-use Rattle.std.proofs.lemmas.Bool.{and_left, and_right, and_from, le-leb}
-use Rattle.mq_check.specs.declared.asked.Asked.{Asked}
-use Rattle.mq_check.specs.declared.entry.Entry.{Entry}
-use Rattle.mq_check.specs.declared.entry.Entry.TheVariants.{Wanted, Seen, Interval, Silence, Packet}
-use Rattle.mq_check.specs.declared.entry.Unpaired.{Unpaired}
-use Rattle.mq_check.specs.declared.terms.Terms.{Terms}
-use Rattle.mq_check.specs.Entries.{moment_of, first_terms, first_joined, is_free_seen, is_free_wanted, terms_differ}
-use Rattle.mq_check.specs.Queries.{is_same}
-use Rattle.mq_laws.specs.Pairing.{Ask, Expected, Sent, LeftOut, ask_of, seen_about, wanted_about, missing_of}
+use Rattle.mq_check.specs.Entries.{moment_of}
 use Rattle.mq_laws.proofs.Same.{other_than}
-use Rattle.mq_laws.proofs.Held.{ask, IsKept, Holds, free_seen, IsAscending, NoneOver, kept_ask, wanted_here, wanted_other, wanted_both, seen_here}
-use Rattle.mq_laws.proofs.Held.{seen_other, seen_both, passed_terms, passed_joined, met_terms, met_joined, none_over-ascending, AllStill, ahead-about}
-use Rattle.mq_laws.proofs.Held.{ahead-holds}
+use Rattle.mq_laws.proofs.Held.{ask, IsKept, Holds, free_seen, IsAscending, NoneOver, kept_ask, wanted_here, wanted_other, wanted_both, seen_here, seen_other}
+use Rattle.mq_laws.proofs.Held.{seen_both, passed_terms, passed_joined, met_terms, met_joined, none_over-ascending, AllStill, ahead-about, ahead-holds}
 
 -- A test of entries from a moment on. It finds the same first entry as the test of all entries.
 abbrev pub test_from : (Entry ℕ → Bool) → (from : ℕ) → Entry ℕ → Bool
@@ -117,26 +110,26 @@ missing_sent : (x : Expected) (xs : List Expected) (w : Ask) → x ≡ Sent w �
 missing_sent (Sent v) xs w is = refl
 missing_sent (LeftOut v) xs w is = cc
 
-either_other : (within keep now : ℕ) (asked asked' : Asked ℕ) (other : Terms ℕ) (moment : ℕ) (terms : Terms ℕ) (is_optional : Bool)
+either_other : (within keep now : ℕ) (asked asked' : Asked ℕ) (other : Terms ℕ) (moment : ℕ) (terms : Terms ℕ) (need : Need)
     (es : List (Entry ℕ)) (x : Expected) (xs : List Expected)
-    → is_same asked asked' ≡ false → IsKept moment asked' terms is_optional x
+    → is_same asked asked' ≡ false → IsKept moment asked' terms need x
     → NoneWanted asked es xs ⊎ OneWanted within keep now asked other es xs
-    → NoneWanted asked (Wanted moment asked' terms is_optional false ∷ es) (x ∷ xs) ⊎
-    OneWanted within keep now asked other (Wanted moment asked' terms is_optional false ∷ es) (x ∷ xs)
-either_other within keep now asked asked' other moment terms is_optional es x xs differs kept (inl none) =
-    let e = Wanted moment asked' terms is_optional false in
+    → NoneWanted asked (Wanted moment asked' terms need false ∷ es) (x ∷ xs) ⊎
+    OneWanted within keep now asked other (Wanted moment asked' terms need false ∷ es) (x ∷ xs)
+either_other within keep now asked asked' other moment terms need es x xs differs kept (inl none) =
+    let e = Wanted moment asked' terms need false in
     let fails : is_free_wanted asked e ≡ false = and_left _ _ differs in
-    let away : is_same asked (ask_of x).asked ≡ false = ap (λ (a : Ask). is_same asked a.asked) (kept_ask moment asked' terms is_optional x kept) ∙ differs in
+    let away : is_same asked (ask_of x).asked ≡ false = ap (λ (a : Ask). is_same asked a.asked) (kept_ask moment asked' terms need x kept) ∙ differs in
     inl (record {
       terms = passed_terms (is_free_wanted asked) e es fails ∙ none.terms;
       joined = λ other. passed_joined (is_free_wanted asked) other e es fails ∙ ap (λ (l : List (Entry ℕ)). e ∷ l) (none.joined other);
       none = wanted_other asked x xs away ∙ none.none;
       same = λ from. same_behind (is_free_wanted asked) from e es fails (none.same from);
     })
-either_other within keep now asked asked' other moment terms is_optional es x xs differs kept (inr one) =
-    let e = Wanted moment asked' terms is_optional false in
+either_other within keep now asked asked' other moment terms need es x xs differs kept (inr one) =
+    let e = Wanted moment asked' terms need false in
     let fails : is_free_wanted asked e ≡ false = and_left _ _ differs in
-    let away : is_same asked (ask_of x).asked ≡ false = ap (λ (a : Ask). is_same asked a.asked) (kept_ask moment asked' terms is_optional x kept) ∙ differs in
+    let away : is_same asked (ask_of x).asked ≡ false = ap (λ (a : Ask). is_same asked a.asked) (kept_ask moment asked' terms need x kept) ∙ differs in
     inr (record {
       first = one.first;
       rest = x ∷ one.rest;
@@ -151,14 +144,14 @@ either_other within keep now asked asked' other moment terms is_optional es x xs
       later = λ near. rw (wanted_other asked x one.rest away) (one.later near);
     })
 
-either_here : (within keep now : ℕ) (asked asked' : Asked ℕ) (other : Terms ℕ) (moment : ℕ) (terms : Terms ℕ) (is_optional : Bool)
+either_here : (within keep now : ℕ) (asked asked' : Asked ℕ) (other : Terms ℕ) (moment : ℕ) (terms : Terms ℕ) (need : Need)
     (es : List (Entry ℕ)) (x : Expected) (xs : List Expected)
-    → is_same asked asked' ≡ true → IsKept moment asked' terms is_optional x → Holds es xs → IsAscending moment es now → now ≤ moment + keep
-    → OneWanted within keep now asked other (Wanted moment asked' terms is_optional false ∷ es) (x ∷ xs)
-either_here within keep now asked asked' other moment terms is_optional es x xs same kept holds ascending ahead =
-    let e = Wanted moment asked' terms is_optional false in
+    → is_same asked asked' ≡ true → IsKept moment asked' terms need x → Holds es xs → IsAscending moment es now → now ≤ moment + keep
+    → OneWanted within keep now asked other (Wanted moment asked' terms need false ∷ es) (x ∷ xs)
+either_here within keep now asked asked' other moment terms need es x xs same kept holds ascending ahead =
+    let e = Wanted moment asked' terms need false in
     let free : is_free_wanted asked e ≡ true = and_from _ _ same refl in
-    let is = kept_ask moment asked' terms is_optional x kept in
+    let is = kept_ask moment asked' terms need x kept in
     let near : is_same asked (ask_of x).asked ≡ true = ap (λ (a : Ask). is_same asked a.asked) is ∙ same in
     record {
       first = x;
@@ -180,15 +173,15 @@ pub find_wanted : (low within keep now : ℕ) (asked : Asked ℕ) (other : Terms
 find_wanted low within keep now asked other [] [] holds is ahead =
     inl (record { terms = refl; joined = λ other. refl; none = refl; same = same_none (is_free_wanted asked) })
 find_wanted low within keep now asked other [] (x ∷ xs) holds is ahead = absurd holds
-find_wanted low within keep now asked other (Wanted moment asked' terms is_optional true ∷ es) xs holds is ahead =
-    either_behind within keep now asked other (Wanted moment asked' terms is_optional true) es xs (and_right _ _ refl) (λ ds ys h. h) (λ ds e. e)
+find_wanted low within keep now asked other (Wanted moment asked' terms need true ∷ es) xs holds is ahead =
+    either_behind within keep now asked other (Wanted moment asked' terms need true) es xs (and_right _ _ refl) (λ ds ys h. h) (λ ds e. e)
     (find_wanted moment within keep now asked other es xs holds is.1 ahead.1)
-find_wanted low within keep now asked other (Wanted moment asked' terms is_optional false ∷ es) [] holds is ahead = absurd holds
-find_wanted low within keep now asked other (Wanted moment asked' terms is_optional false ∷ es) (x ∷ xs) holds is ahead =
-    elim (is_same asked asked') as (λ b. is_same asked asked' ≡ b → NoneWanted asked (Wanted moment asked' terms is_optional false ∷ es) (x ∷ xs) ⊎
-    OneWanted within keep now asked other (Wanted moment asked' terms is_optional false ∷ es) (x ∷ xs)) [
-      | true ↦ λ same. inr (either_here within keep now asked asked' other moment terms is_optional es x xs same holds.0 holds.1 is.1 ahead.0)
-      | false ↦ λ differs. either_other within keep now asked asked' other moment terms is_optional es x xs differs holds.0
+find_wanted low within keep now asked other (Wanted moment asked' terms need false ∷ es) [] holds is ahead = absurd holds
+find_wanted low within keep now asked other (Wanted moment asked' terms need false ∷ es) (x ∷ xs) holds is ahead =
+    elim (is_same asked asked') as (λ b. is_same asked asked' ≡ b → NoneWanted asked (Wanted moment asked' terms need false ∷ es) (x ∷ xs) ⊎
+    OneWanted within keep now asked other (Wanted moment asked' terms need false ∷ es) (x ∷ xs)) [
+      | true ↦ λ same. inr (either_here within keep now asked asked' other moment terms need es x xs same holds.0 holds.1 is.1 ahead.0)
+      | false ↦ λ differs. either_other within keep now asked asked' other moment terms need es x xs differs holds.0
           (find_wanted moment within keep now asked other es xs holds.1 is.1 ahead.1)
     ] refl
 find_wanted low within keep now asked other (Seen moment asked' terms None alone ∷ es) xs holds is ahead =
@@ -304,12 +297,12 @@ ascending-low low (e ∷ es) now is = let rest = ascending-low (moment_of e) es 
 pub find_seen : (low now : ℕ) (asked : Asked ℕ) (other : Terms ℕ) (es : List (Entry ℕ)) (xs : List Expected) → Holds es xs → IsAscending low es now →
     NoneSeen asked es ⊎ OneSeen now asked other es xs
 find_seen low now asked other [] xs holds is = inl (record { terms = refl; joined = λ other. refl; none = refl; same = same_none (is_free_seen asked) })
-find_seen low now asked other (Wanted moment asked' terms is_optional true ∷ es) xs holds is =
-    seen_behind now asked other (Wanted moment asked' terms is_optional true) es xs xs refl (λ ds h. h) (λ ds. refl)
+find_seen low now asked other (Wanted moment asked' terms need true ∷ es) xs holds is =
+    seen_behind now asked other (Wanted moment asked' terms need true) es xs xs refl (λ ds h. h) (λ ds. refl)
     (find_seen moment now asked other es xs holds is.1)
-find_seen low now asked other (Wanted moment asked' terms is_optional false ∷ es) [] holds is = absurd holds
-find_seen low now asked other (Wanted moment asked' terms is_optional false ∷ es) (x ∷ xs) holds is =
-    seen_behind now asked other (Wanted moment asked' terms is_optional false) es (x ∷ xs) xs refl (λ ds h. (holds.0, h)) (λ ds. refl)
+find_seen low now asked other (Wanted moment asked' terms need false ∷ es) [] holds is = absurd holds
+find_seen low now asked other (Wanted moment asked' terms need false ∷ es) (x ∷ xs) holds is =
+    seen_behind now asked other (Wanted moment asked' terms need false) es (x ∷ xs) xs refl (λ ds h. (holds.0, h)) (λ ds. refl)
     (find_seen moment now asked other es xs holds.1 is.1)
 find_seen low now asked other (Seen moment asked' terms None alone ∷ es) xs holds is =
     elim (is_same asked asked') as (λ b. is_same asked asked' ≡ b → NoneSeen asked (Seen moment asked' terms None alone ∷ es) ⊎

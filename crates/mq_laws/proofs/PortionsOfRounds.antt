@@ -1,12 +1,10 @@
 -- The portions in which a round asks for its sources.
-use Rattle.std.proofs.Common.{◌≡◌, ℕ, ◌<◌, Bool, true, false, cond, List, [], ◌∷◌, ◌++◌, length, refl, sym, ap, ◌∙◌, subst}
-use Rattle.std.specs.{List.concat, Prelude.map as list_map}
-use Rattle.mq_table.specs.{Group.is_ahead, Group.group_deadline, Lowering.lowered_to, Sendings.has_sendings, Sendings.above}
-use Rattle.mq_table.specs.Sets.{◌∩◌, ◌∖◌}
+use Rattle.mq_laws.proofs.Common.{◌≡◌, ℕ, ◌<◌, Bool, true, false, cond, List, [], ◌∷◌, ◌++◌, length, refl, sym, ap, ◌∙◌, subst, concat, list_map, is_ahead}
+use Rattle.mq_laws.proofs.Common.{group_deadline, lowered_to, has_sendings, above, ◌∩◌, ◌∖◌, SentQuery, GeneralQuery, GroupQuery, SourcesQuery, is_due}
+use Rattle.mq_laws.proofs.Common.{group_due, sources_where, sources_queries, group_messages, source_messages, Round, queries_of, set_portions, clear_portions}
+use Rattle.mq_laws.proofs.Common.{set_sources, clear_sources}
 use Rattle.mq_sched.proofs.InPortions.{together, full}
-use Rattle.mq_sched.specs.{Portions.portions_of, Portions.AllButLast, Sending.SentQuery}
-use Rattle.mq_sched.specs.Sending.{GeneralQuery, GroupQuery, SourcesQuery, is_due, group_due, sources_where, sources_queries, group_messages, source_messages}
-use Rattle.mq_laws.specs.Schedules.{Round, queries_of, set_portions, clear_portions, set_sources, clear_sources}
+use Rattle.mq_sched.specs.Portions.{portions_of, AllButLast}
 
 -- the portions with S set, and those without
 portions-append : (xs ys : List SentQuery)

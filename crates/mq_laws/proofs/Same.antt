@@ -1,9 +1,5 @@
 -- When two ask about the same.
-use Rattle.std.proofs.Common.{◌≡◌, ℕ, true, false, refl, ap, sym, ◌∙◌}
-use Rattle.std.proofs.lemmas.Bool.{and_parts, and_from, eqb-true, eq-eqb}
-use Rattle.mq_check.specs.declared.asked.Asked.{Asked}
-use Rattle.mq_check.specs.declared.asked.Asked.TheVariants.{AllGroups, Group, Source}
-use Rattle.mq_check.specs.Queries.{is_same}
+use Rattle.mq_laws.proofs.Common.{◌≡◌, ℕ, true, false, refl, ap, sym, ◌∙◌, and_parts, and_from, eqb-true, eq-eqb, Asked, AllGroups, Group, Source, is_same}
 
 pub is_same-self : (a : Asked ℕ) → is_same a a ≡ true
 is_same-self AllGroups = refl

@@ -1,9 +1,6 @@
 -- Packets that come again, one packet after the other.
-use Rattle.std.proofs.Common.{◌≡◌, true, false, Bool, List, [], ◌∷◌, ◌++◌, refl, ap, ◌∙◌}
-use Rattle.std.specs.Prelude.{not, ◌&&◌, if◌then◌else◌}
-use Rattle.std.specs.List.{list_any}
-use Rattle.mq_convert.specs.declared.choice.Choice.{Choice}
-use Rattle.mq_convert.specs.Blocks.{Captured}
+use Rattle.mq_laws.proofs.Common.{◌≡◌, true, false, Bool, List, [], ◌∷◌, ◌++◌, refl, ap, ◌∙◌, if◌then◌else◌, list_any, Choice, Captured}
+use Rattle.std.specs.Prelude.{not, ◌&&◌}
 use Rattle.mq_convert.specs.Repeats.{Gone, comes_again, frame_out, gone_after, going_out, is_again, is_compared, left_out}
 
 -- where packets may go out again, all do

@@ -1,18 +1,14 @@
 -- A message changes no group that it doesn't speak of.
-use Rattle.std.proofs.Common.{◌≡◌, ◌==◌, ℕ, Bool, false, ◌||◌, List, [], ◌∷◌, Option, None, Some, Result, Ok, Err, refl, sym, ap, ◌∙◌, arith}
-use Rattle.std.proofs.lemmas.Bool.{true≢false, eq-eqb, or_from, or_parts}
-use Rattle.std.specs.{Option.unwrap_or, Prelude.map as list_map}
+use Rattle.mq_laws.proofs.Common.{◌≡◌, ℕ, Bool, false, ◌||◌, List, [], ◌∷◌, Option, None, Some, Result, Ok, Err, refl, sym, ap, ◌∙◌, arith, true≢false, eq-eqb}
+use Rattle.mq_laws.proofs.Common.{or_from, or_parts, unwrap_or, list_map, Message, QueryMessage, OldReport, LeaveMessage, ReportMessage, WireFault, RecordView}
+use Rattle.mq_laws.proofs.Common.{changes_filter, unchanged, Configuration, Envelope, read_of, pseudo_of, drop_reason, setting_of, Setting, OlderJoin}
+use Rattle.mq_laws.proofs.Common.{OlderLeave, judged, seen_after, Groups, LinkState, unheld, group_at, tick_of, DropReason, DifferAt}
+use Rattle.std.proofs.Common.{◌==◌}
 use Rattle.mq_sets.specs.Ascending.{set_of}
-use Rattle.mq_wire.specs.declared.message.Message.{Message, TheVariants.Query as QueryMessage, TheVariants.OldReport, TheVariants.Leave as LeaveMessage}
-use Rattle.mq_wire.specs.declared.{message.Message.TheVariants.Report as ReportMessage, message.WireFault.WireFault, records.RecordView.RecordView}
-use Rattle.mq_table.specs.Filter.{changes_filter}
-use Rattle.mq_link.proofs.KeptFilters.{unchanged}
-use Rattle.mq_link.specs.{Configuration.Configuration, Forwarding.changes, Forwarding.changed_by_tick, Forwarding.changed_by_all, Forwarding.changed_by_message}
-use Rattle.mq_link.specs.{Forwarding.changed_by_read, Forwarding.changed_by_datagram, Receive.Envelope, Receive.read_of, Receive.pseudo_of, Receive.drop_reason}
-use Rattle.mq_link.specs.{Receive.setting_of, Record.Setting, Record.Seen, Record.OlderJoin, Record.OlderLeave, Record.judged, Record.seen_after, State.Groups}
-use Rattle.mq_link.specs.{State.LinkState, State.unheld, State.group_at, Tick.tick_of, declared.answers.DropReason.DropReason}
+use Rattle.mq_link.specs.Forwarding.{changes, changed_by_tick, changed_by_all, changed_by_message, changed_by_read, changed_by_datagram}
+use Rattle.mq_link.specs.Record.{Seen}
+use Rattle.mq_laws.specs.Following.{groups_in}
 use Rattle.mq_laws.proofs.Unchanged.{others_judged, others_stated}
-use Rattle.mq_laws.specs.{Following.groups_in, Laws.DifferAt}
 use Rattle.std.specs.FinMap as map
 
 -- where the groups differ in another one alone, it isn't changed

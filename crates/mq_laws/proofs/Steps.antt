@@ -1,20 +1,12 @@
 -- One step of a check whose queries pair up: something is wanted, something was seen, or a moment comes.
-use Rattle.std.proofs.Common.{◌≡◌, ℕ, ◌+◌, ◌-◌, ◌<◌, ◌≤◌, Bool, true, false, List, [], ◌∷◌, ◌++◌, refl, ap, sym, ◌∙◌, arith, subst, append_assoc, append-nil}
-use Rattle.std.specs.Prelude.{None, Some, ◌⊎◌, is_some, nat_lt}
+use Rattle.mq_laws.proofs.Common.{◌≡◌, ℕ, ◌+◌, ◌-◌, ◌<◌, ◌≤◌, true, false, List, [], ◌∷◌, ◌++◌, refl, ap, sym, ◌∙◌, arith, subst, append_assoc, append-nil, ◌⊎◌}
+use Rattle.mq_laws.proofs.Common.{is_some, nat_lt, and_left, and_right, lt-leb, ltb-true, Asked, AllGroups, Entry, Need, Wanted, Seen, Interval, Silence}
+use Rattle.mq_laws.proofs.Common.{Packet, Unpaired, Terms, first_terms, first_joined, is_free_seen, is_free_wanted, terms_differ, is_same, Ask, Expected, Sent}
+use Rattle.mq_laws.proofs.Common.{LeftOut, Answers, PairUp, ask_of, seen_about, wanted_about, missing_of, Returns, return_seen, return_wanted, general_ask}
+use Rattle.mq_laws.proofs.Common.{general_returned, still_due}
+use Rattle.std.specs.Prelude.{None, Some}
 use mathlib.Core.Logic.{inl, inr}
-use Rattle.std.proofs.lemmas.Bool.{and_left, and_right, lt-leb, ltb-true}
-use Rattle.mq_check.specs.declared.asked.Asked.{Asked}
-use Rattle.mq_check.specs.declared.asked.Asked.TheVariants.{AllGroups}
-use Rattle.mq_check.specs.declared.entry.Entry.{Entry}
-use Rattle.mq_check.specs.declared.entry.Entry.TheVariants.{Wanted, Seen, Interval, Silence, Packet}
-use Rattle.mq_check.specs.declared.entry.Unpaired.TheVariants.{Extra}
-use Rattle.mq_check.specs.declared.finding.ExtraReason.TheVariants.{NoChange}
-use Rattle.mq_check.specs.declared.entry.Unpaired.{Unpaired}
-use Rattle.mq_check.specs.declared.terms.Terms.{Terms}
-use Rattle.mq_check.specs.Entries.{moment_of, first_terms, first_joined, is_free_seen, is_free_wanted, terms_differ}
-use Rattle.mq_check.specs.Queries.{is_same}
-use Rattle.mq_laws.specs.Pairing.{Ask, Expected, Sent, LeftOut, Answers, PairUp, ask_of, seen_about, wanted_about, missing_of}
-use Rattle.mq_laws.specs.WantedAndSeen.{Returns, return_seen, return_wanted, general_ask, general_returned, still_due}
+use Rattle.mq_check.specs.{declared.entry.Unpaired.TheVariants.Extra, declared.finding.ExtraReason.TheVariants.NoChange, Entries.moment_of}
 use Rattle.mq_laws.proofs.Same.{is_same-self, same_asked}
 use Rattle.mq_laws.proofs.Held.{ask, IsKept, Holds, free_seen, IsAscending, NoneOver, kept_ask, wanted_here, wanted_other, seen_here, seen_other}
 use Rattle.mq_laws.proofs.Held.{wanted_about-append, seen_about-append, ascending-put, ascending-joined, none_over-joined, none_over-put}
@@ -295,13 +287,13 @@ answered_here : (now : ℕ) (before : List Ask) (s : Ask) (rest after : List Ask
 answered_here now before s rest after due first same = rw first (λ i. record { due = due; early = moments_seen (same i) })
 
 -- something is wanted, and nothing that was seen waits for it
-want_none : (within keep now : ℕ) (asked : Asked ℕ) (terms : Terms ℕ) (is_optional : Bool) (x : Expected) (es : List (Entry ℕ))
+want_none : (within keep now : ℕ) (asked : Asked ℕ) (terms : Terms ℕ) (need : Need) (x : Expected) (es : List (Entry ℕ))
     (free wanted : List Expected) (seen : List Ask)
-    → IsKept now asked terms is_optional x → NoneSeen asked es → Stands within keep now es free (x ∷ wanted) seen
-    → Stepped within keep now asked (return_wanted now) es (es ++ Wanted now asked terms is_optional false ∷ []) free (free ++ x ∷ wanted) wanted seen
-want_none within keep now asked terms is_optional x es free wanted seen kept none st =
-    let e = Wanted now asked terms is_optional false in
-    let is = kept_ask now asked terms is_optional x kept in
+    → IsKept now asked terms need x → NoneSeen asked es → Stands within keep now es free (x ∷ wanted) seen
+    → Stepped within keep now asked (return_wanted now) es (es ++ Wanted now asked terms need false ∷ []) free (free ++ x ∷ wanted) wanted seen
+want_none within keep now asked terms need x es free wanted seen kept none st =
+    let e = Wanted now asked terms need false in
+    let is = kept_ask now asked terms need x kept in
     let same : free_seen (es ++ e ∷ []) ≡ free_seen es = free_seen-append es (e ∷ []) ∙ append-nil (free_seen es) in
     let more : free ++ x ∷ wanted ≡ (free ++ x ∷ []) ++ wanted = sym (append_assoc free (x ∷ []) wanted) in
     record {
@@ -368,15 +360,15 @@ seen_near within keep now asked terms x es free wanted seen is st = elim (find_s
       one.same (now - within) (omega arith)
 ]
 
-want_partner : (within keep now : ℕ) (asked : Asked ℕ) (terms : Terms ℕ) (is_optional : Bool) (x : Expected) (es : List (Entry ℕ))
+want_partner : (within keep now : ℕ) (asked : Asked ℕ) (terms : Terms ℕ) (need : Need) (x : Expected) (es : List (Entry ℕ))
     (free wanted : List Expected) (seen : List Ask)
     → ask_of x ≡ ask now asked terms → (one : OneSeen now asked terms es free) → Stands within keep now es free (x ∷ wanted) seen
     → Stepped within keep now asked (return_wanted now) es (first_joined (is_free_seen asked) terms es ++
-    Wanted now asked terms is_optional true ∷ []) free (free ++ x ∷ wanted) wanted seen
-want_partner within keep now asked terms is_optional x es free wanted seen is one st =
+    Wanted now asked terms need true ∷ []) free (free ++ x ∷ wanted) wanted seen
+want_partner within keep now asked terms need x es free wanted seen is one st =
     let test = is_free_seen asked in
     let joined_up = first_joined test terms es in
-    let e = Wanted now asked terms is_optional true in
+    let e = Wanted now asked terms need true in
     let none : wanted_about asked free ≡ [] = no_wanted within keep now asked es free (x ∷ wanted) seen one.first _ one.here st in
     let same : free_seen (joined_up ++ e ∷ []) ≡ free_seen joined_up = free_seen-append joined_up (e ∷ []) ∙ append-nil (free_seen joined_up) in
     let first = first_wanted within keep now asked terms x es free wanted seen is one st in
@@ -416,14 +408,14 @@ want_partner within keep now asked terms is_optional x es free wanted seen is on
     }
 
 -- something is wanted
-pub want_one : (within keep now : ℕ) (asked : Asked ℕ) (terms : Terms ℕ) (is_optional : Bool) (x : Expected) (es : List (Entry ℕ))
+pub want_one : (within keep now : ℕ) (asked : Asked ℕ) (terms : Terms ℕ) (need : Need) (x : Expected) (es : List (Entry ℕ))
     (free wanted : List Expected) (seen : List Ask)
-    → IsKept now asked terms is_optional x → Stands within keep now es free (x ∷ wanted) seen
+    → IsKept now asked terms need x → Stands within keep now es free (x ∷ wanted) seen
     → Stepped within keep now asked (return_wanted now) es (first_joined (is_free_seen asked) terms es ++
-    Wanted now asked terms is_optional (is_some (first_terms (is_free_seen asked) es)) ∷ []) free (free ++ x ∷ wanted) wanted seen
-want_one within keep now asked terms is_optional x es free wanted seen kept st = elim (find_seen 0 now asked terms es free st.holds st.ascending) [
-  | inl none ↦ rw (none.joined terms, none.terms) (want_none within keep now asked terms is_optional x es free wanted seen kept none st)
-  | inr one ↦ rw one.terms (want_partner within keep now asked terms is_optional x es free wanted seen (kept_ask now asked terms is_optional x kept) one st)
+    Wanted now asked terms need (is_some (first_terms (is_free_seen asked) es)) ∷ []) free (free ++ x ∷ wanted) wanted seen
+want_one within keep now asked terms need x es free wanted seen kept st = elim (find_seen 0 now asked terms es free st.holds st.ascending) [
+  | inl none ↦ rw (none.joined terms, none.terms) (want_none within keep now asked terms need x es free wanted seen kept none st)
+  | inr one ↦ rw one.terms (want_partner within keep now asked terms need x es free wanted seen (kept_ask now asked terms need x kept) one st)
 ]
 
 -- an entry that keeps nothing, behind the others

@@ -1,12 +1,7 @@
 -- The ticks before a limit leave none.
-use Rattle.std.proofs.Common.{◌≡◌, ℕ, zero, suc, ◌+◌, ◌<◌, ◌≤◌, true, false, refl, arith}
-use Rattle.std.specs.Prelude.{nat_lt}
-use Rattle.std.proofs.lemmas.Bool.{ltb-false}
-use Rattle.mq_link.specs.Configuration.{Configuration, IsFaultless}
-use Rattle.mq_link.specs.State.{LinkState, IsWellFormed}
-use Rattle.mq_link.specs.Tick.{moment_of, tick_of, next_of}
-use Rattle.mq_replay.specs.Report.{Replayed, ticked_at, ticked_before}
-use Rattle.mq_replay.specs.Ticks.{ticked_within}
+use Rattle.mq_laws.proofs.Common.{◌≡◌, ℕ, zero, suc, ◌+◌, ◌<◌, ◌≤◌, true, false, refl, arith, nat_lt, ltb-false, Configuration, IsFaultless, LinkState}
+use Rattle.mq_laws.proofs.Common.{IsWellFormed, moment_of, tick_of, next_of, Replayed, ticked_before}
+use Rattle.mq_replay.specs.{Report.ticked_at, Ticks.ticked_within}
 use Rattle.mq_replay.proofs.Growing.{next_in, tick_in}
 
 -- the facts about ticks

@@ -1,31 +1,20 @@
 -- A check of a capture that comes to its end tells what is found by what happens in it.
-use Rattle.std.proofs.Common.{◌≡◌, ℕ, ◌+◌, ◌-◌, ◌^◌, true, false, List, [], ◌∷◌, ◌++◌, length, refl, ap, sym, ◌∙◌, subst, max, min, append_assoc, append-nil}
+use Rattle.mq_laws.proofs.Common.{◌≡◌, ℕ, ◌+◌, ◌-◌, ◌^◌, true, false, List, [], ◌∷◌, ◌++◌, length, refl, ap, sym, ◌∙◌, subst, max, min, append_assoc}
+use Rattle.mq_laws.proofs.Common.{append-nil, PcapFault, LinkType, Timing, Configuration, LinkState, link_at, Finding, Checked, Outcome, at_the_start, check_of}
+use Rattle.mq_laws.proofs.Common.{concluded, found_text, looked_ahead, settled_through, ticked_through, totals_of, with_packet, CheckingValue, told}
+use Rattle.mq_laws.proofs.Common.{told_at_end, silence_up_to, all_reported, Passage, packet_passage, ticks_through, last_of, end_of, events_ahead, events_of}
+use Rattle.mq_laws.proofs.Common.{CheckEvent, at_the_end, checked_ahead, checked_by, found_by, found_from, CheckedCapture, CameToItsEnd, TellsWhatHappened}
 use Rattle.std.specs.Prelude.{Option, None, Some, Ok, Err, unwrap_or}
-use Rattle.mq_pcap.specs.declared.fault.PcapFault.{PcapFault}
-use Rattle.mq_pcap.specs.declared.link_type.LinkType.{LinkType}
 use Rattle.mq_pcap.specs.Capture.{Captured}
-use Rattle.mq_table.specs.declared.timing.Timing.{Timing}
-use Rattle.mq_link.specs.Configuration.{Configuration}
-use Rattle.mq_link.specs.State.{LinkState, link_at}
 use Rattle.mq_replay.specs.declared.capture_fault.CaptureFault.{CaptureFault}
 use Rattle.mq_replay.specs.declared.capture_fault.CaptureFault.TheVariants.{Gap, Waiting}
 use Rattle.mq_replay.specs.Courses.{Course, Report, broken_off, course_of, last_moment, reported, with_packets}
 use Rattle.mq_replay.specs.PlacedPackets.{Place, at_first, is_gap, place_behind, placed}
 use Rattle.mq_replay.proofs.ReportedOver.{by_gap, by_room}
-use Rattle.mq_check.specs.declared.basis.Basis.{Basis}
-use Rattle.mq_check.specs.declared.check_terms.Additions.{Additions}
-use Rattle.mq_check.specs.declared.check_terms.CheckTerms.{CheckTerms}
-use Rattle.mq_check.specs.declared.finding.Finding.{Finding}
-use Rattle.mq_check.specs.declared.totals.Totals.{Totals}
-use Rattle.mq_check.specs.Check.{Checked, Outcome, at_the_start, check_of, concluded, ended_at, found_text, looked_ahead, settled_through, ticked_through}
-use Rattle.mq_check.specs.Check.{totals_of, with_packet}
-use Rattle.mq_check.specs.Checking.{CheckingValue, told, told_at_end}
-use Rattle.mq_check.specs.FindingLines.{finding_lines, last_lines}
-use Rattle.mq_check.specs.General.{silence_up_to}
-use Rattle.mq_check.specs.Repeated.{all_reported}
-use Rattle.mq_laws.specs.Captures.{Passage, packet_passage, packets_passage, ticks_through, last_of, end_of, events_ahead, events_of}
-use Rattle.mq_laws.specs.Events.{CheckEvent, at_the_end, checked_ahead, checked_by, found_by, found_from}
-use Rattle.mq_laws.specs.Verdicts.{CheckedCapture, CameToItsEnd, TellsWhatHappened, terms_in}
+use Rattle.mq_check.specs.{declared.basis.Basis.Basis, declared.check_terms.Additions.Additions, declared.check_terms.CheckTerms.CheckTerms}
+use Rattle.mq_check.specs.{declared.totals.Totals.Totals, Check.basis_at_end, Check.ended_at, FindingLines.certain_in, FindingLines.finding_lines}
+use Rattle.mq_check.specs.{FindingLines.last_lines, FindingLines.possible_in}
+use Rattle.mq_laws.specs.{Captures.packets_passage, Verdicts.terms_in}
 use Rattle.mq_laws.proofs.Followed.{Follows, follows-nothing, follows-behind, follows-ticks, follows-packet}
 
 -- Packets come to what happens by them. There may be findings before theirs.
@@ -92,8 +81,9 @@ follows-packets config terms link at (packet ∷ packets) r before whole =
 pub record EndTells (config : Configuration) (additions : Additions) (totals : Totals) (c : CheckingValue) (found : List (Finding ℕ))
     (told : List ℕ) : Type 0 where
   pub room : c.waiting.is_full ≡ false
-  pub text : told ≡ finding_lines config.family additions found ++ last_lines totals
-  pub counted : totals.findings ≡ min (length found) (2 ^ 64 - 1)
+  pub text : told ≡ finding_lines config.family additions found ++ last_lines additions.json totals
+  pub counted : totals.findings ≡ min (length (certain_in found)) (2 ^ 64 - 1)
+  pub possible : totals.possible ≡ min (length (possible_in found)) (2 ^ 64 - 1)
 
 concluded_tells : (config : Configuration) (additions : Additions) (totals : Totals) (c : CheckingValue) (rests : Basis) (found : List (Finding ℕ)) →
     c.waiting.is_full ≡ false
@@ -104,8 +94,9 @@ concluded_tells config additions totals c rests found room answered =
     let same : totals_of c rests told ≡ totals = cc in
     record {
       room = room;
-      text = ap (λ (t : Totals). finding_lines config.family additions told ++ last_lines t) same;
+      text = ap (λ (t : Totals). finding_lines config.family additions told ++ last_lines additions.json t) same;
       counted = ap (λ (t : Totals). t.findings) (sym same);
+      possible = ap (λ (t : Totals). t.possible) (sym same);
     }
 
 -- the findings in the order in which they are found
@@ -136,8 +127,9 @@ ended_tells config within additions moment number found r totals answered =
           ≡ record { text = found_text config additions (found ++ done.found ++ ahead.found); answer = Err (Waiting number) } = rw full refl in
           absurd (let two = ap (λ (v : Report Totals). v.answer) (sym broken) ∙ answered in cc)
       | false ↦ λ room.
-          let ended : ended_at config within additions moment number found r ≡ concluded config additions c done.checked.basis all = rw room refl in
-          rw ended (concluded_tells config additions totals c done.checked.basis all room (ap (λ (v : Report Totals). v.answer) (sym ended) ∙ answered))
+          let ended : ended_at config within additions moment number found r ≡ concluded config additions c (basis_at_end done.checked) all = rw room refl in
+          rw ended
+          (concluded_tells config additions totals c (basis_at_end done.checked) all room (ap (λ (v : Report Totals). v.answer) (sym ended) ∙ answered))
     ] refl
 
 -- what stands behind the packets
@@ -205,7 +197,7 @@ pub tells_what_happened : (k : CheckedCapture) → CameToItsEnd k → TellsWhatH
 tells_what_happened k answered =
     let config = k.config in
     let link = k.form.link in
-    let start = at_the_start config k.within k.strict in
+    let start = at_the_start config k.within k.flags in
     let course = course_of (check_of config (terms_in k)) (Ok k.form) k.packets in
     let at_packets = course.state.checked in
     let told = behind_packets k course course.fault k.end (length k.packets + 1) refl answered in
@@ -228,15 +220,17 @@ tells_what_happened k answered =
     let events = events_of config k.until k.form k.packets in
     let ahead = events_ahead config k.within k.until k.form k.packets in
     let c : at_last config k.within moment at_packets
-    ≡ checked_ahead k.within config.timing end ahead (checked_by k.within config.timing k.strict events) =
+    ≡ checked_ahead k.within config.timing end ahead (checked_by k.within config.timing k.flags events) =
     looks.last ∙ (λ i. checked_ahead k.within config.timing (at i) (ahead_at config k.within (at i) (both.packets i) (both.link i)) (both.checking 0 i)) in
-    let found : all_found config k.within moment course.state.found at_packets ≡ found_by k.within config.timing k.strict end events ahead =
+    let found : all_found config k.within moment course.state.found at_packets ≡ found_by k.within config.timing k.flags end events ahead =
     looks.found ∙ (λ i. both.found 0 i ++ found_from k.within config.timing (at i) (ahead_at config k.within (at i) (both.packets i) (both.link i))
     (both.checking 0 i)) in
     record {
       room = ap (λ (v : CheckingValue). v.waiting.is_full) (sym c) ∙ told.1.room;
       tells = record {
-        text = told.1.text ∙ ap (λ (l : List (Finding ℕ)). finding_lines config.family k.additions (all_reported k.additions l) ++ last_lines k.totals) found;
-        counted = told.1.counted ∙ ap (λ (l : List (Finding ℕ)). min (length (all_reported k.additions l)) (2 ^ 64 - 1)) found;
+        text = told.1.text ∙ ap (λ (l : List (Finding ℕ)). finding_lines config.family k.additions (all_reported k.additions l) ++
+            last_lines k.additions.json k.totals) found;
+        counted = told.1.counted ∙ ap (λ (l : List (Finding ℕ)). min (length (certain_in (all_reported k.additions l))) (2 ^ 64 - 1)) found;
+        possible = told.1.possible ∙ ap (λ (l : List (Finding ℕ)). min (length (possible_in (all_reported k.additions l))) (2 ^ 64 - 1)) found;
       };
     }

@@ -1,12 +1,11 @@
 -- Two filters differ exactly where some source is turned: where one of them forwards it alone.
-use Rattle.std.proofs.Common.{◌≡◌, ◌↔◌, ℕ, ◌+◌, ◌<◌, Bool, true, false, cond, not, ◌&&◌, List, [], ◌∷◌, refl, sym, ap, ◌∙◌, arith}
-use Rattle.std.proofs.lemmas.Bool.{true≢false, or_from, or_left, or_right, Decides.nat_tests}
+use Rattle.mq_laws.proofs.Common.{◌≡◌, ◌↔◌, ℕ, ◌+◌, ◌<◌, Bool, true, false, cond, not, ◌&&◌, List, [], ◌∷◌, refl, sym, ap, ◌∙◌, arith, true≢false, or_from}
+use Rattle.mq_laws.proofs.Common.{or_left, or_right, nat_tests, list_all, list_any, sum_by, nat_cmp, eq_by_cmp, forwards_by-filter_of, Filter, filter_of}
+use Rattle.mq_laws.proofs.Common.{forwards_by, are_same, GroupState, forwards_in, alike_after, unchanged}
 use Rattle.std.proofs.lemmas.List.Sums.{sum_by-cons}
-use Rattle.std.specs.{Bool.beq, Cmp.nat_cmp_total, FinSet.FinSet, List.list_all, List.list_any, List.sum_by, Ordering.nat_cmp, Ordering.eq_by_cmp}
-use Rattle.mq_table.proofs.Filters.{forwards_by-filter_of}
-use Rattle.mq_table.specs.{Filter.Filter, Filter.filter_of, Filter.forwards_by, Filter.are_same, Filter.changes_filter, Group.GroupState, Group.forwards_in}
+use Rattle.std.specs.{Bool.beq, Cmp.nat_cmp_total, FinSet.FinSet}
+use Rattle.mq_table.specs.Filter.{changes_filter}
 use Rattle.mq_held.proofs.{RestartedEach.each_passes, Sorted.ties}
-use Rattle.mq_link.proofs.KeptFilters.{alike_after, unchanged}
 use Rattle.mq_laws.proofs.Following.{same_unless_changed}
 use Rattle.std.specs.FinSet as set
 

@@ -1,19 +1,13 @@
 -- The state that records and datagrams leave unchanged.
-use Rattle.std.proofs.Common.{◌≡◌, ℕ, Bool, true, false, cond, refl, List, Option, None, Some, Result, Ok, Err, ap, ◌∙◌, arith, eqb}
-use Rattle.std.proofs.lemmas.Bool.{eqb-true, Decides.nat_tests}
-use Rattle.std.specs.{Option.option_and_then, Ordering.nat_cmp, Ordering.eq_by_cmp}
-use Rattle.mq_wire.specs.declared.{message.Message.Message, message.WireFault.WireFault, query.Query.Query, records.RecordView.RecordView}
-use Rattle.mq_table.proofs.Maps.{get-kept}
-use Rattle.mq_table.specs.{Group.is_vacant, Table.GroupChange, declared.kind.Kind.Kind, declared.timing.Timing.Timing}
-use Rattle.mq_sched.specs.{Election.loses_role, Election.heard, Schedule.ScheduledGroup, Sending.SentQuery}
+use Rattle.mq_laws.proofs.Common.{◌≡◌, ℕ, Bool, true, false, cond, refl, List, Option, None, Some, Result, Ok, Err, ap, ◌∙◌, arith, eqb, eqb-true, nat_tests}
+use Rattle.mq_laws.proofs.Common.{option_and_then, nat_cmp, eq_by_cmp, Message, WireFault, Query, RecordView, get-kept, is_vacant, GroupChange, Kind, Timing}
+use Rattle.mq_laws.proofs.Common.{loses_role, heard, ScheduledGroup, SentQuery, Configuration, Refused, Verdict, is_applied, announced_by, groups_cleared}
+use Rattle.mq_laws.proofs.Common.{group_lowered, query_heard, Envelope, counting_read, taken_or_dropped, Statement, RecordOf, limit_passed, Setting, leaving}
+use Rattle.mq_laws.proofs.Common.{unless_passed, changed_by, after_sending, sent_at_once, changed_or_refused, change_in, Entrance, Stops, GoesOn, entrance}
+use Rattle.mq_laws.proofs.Common.{is_repeated, judged_from, Groups, LinkState, Step, DropReason, Refusal, Repeated, ChangesNothing, IsOnlyCounted, DifferAt}
 use Rattle.mq_link.proofs.Recorded.{get-with_group}
-use Rattle.mq_link.specs.{Configuration.Configuration, Counters.Refused, Counters.Verdict, Counters.is_applied, Heard.announced_by, Heard.groups_cleared}
-use Rattle.mq_link.specs.{Heard.group_lowered, Heard.groups_lowered, Heard.query_heard, Receive.Envelope, Receive.counting_read, Receive.taken_in}
-use Rattle.mq_link.specs.{Receive.taken_or_dropped, Record.Outcome, Record.Statement, Record.RecordOf, Record.limit_passed, Record.Setting, Record.leaving}
-use Rattle.mq_link.specs.Record.{unless_passed, changed_by, after_sending, sent_at_once, changed_or_refused, change_in, stated, Seen, Entrance, Stops, GoesOn}
-use Rattle.mq_link.specs.{Record.entrance, Record.is_repeated, Record.judged_from, Record.judged, State.Groups, State.LinkState, State.with_group, Tick.Step}
-use Rattle.mq_link.specs.declared.answers.{DropReason.DropReason, Received.TheVariants.Dropped, Refusal.Refusal, Refusal.TheVariants.Repeated}
-use Rattle.mq_laws.specs.Laws.{ChangesNothing, IsOnlyCounted, DifferAt}
+use Rattle.mq_link.specs.{Heard.groups_lowered, Receive.taken_in, Record.Outcome, Record.stated, Record.Seen, Record.judged, State.with_group}
+use Rattle.mq_link.specs.{declared.answers.Received.TheVariants.Dropped}
 use Rattle.std.specs.FinMap as map
 use Rattle.std.specs.FinSet as set
 

@@ -1,24 +1,13 @@
 -- A conversion that came to the end of a file, or to a fault of it, tells what the whole file is.
-use Rattle.std.proofs.Common.{◌≡◌, ◌<◌, ℕ, Bool, true, false, List, ◌++◌, drop, Option, None, Some, Result, Ok, Err, refl, sym, ◌∙◌, ap, subst, append-nil}
-use Rattle.std.specs.Prelude.{IsOk}
+use Rattle.mq_laws.proofs.Common.{◌≡◌, ◌<◌, ℕ, Bool, true, false, List, ◌++◌, drop, Option, None, Some, Result, Ok, Err, refl, sym, ◌∙◌, ap, subst, append-nil}
+use Rattle.mq_laws.proofs.Common.{IsOk, All, Choice, BlockFault, Captured, Captures, ArePlain, everything, looked_at, plain}
 use Rattle.std.specs.Io.KnownBytes.{Appends, Consumes, IsAtEnd}
-use Rattle.std.specs.List.{All}
-use Rattle.mq_pcap.specs.Capture as pcap
 use Rattle.mq_pcap.specs.Filling.{InputState}
-use Rattle.mq_convert.specs.declared.choice.Choice.{Choice}
-use Rattle.mq_convert.specs.declared.counts.ConvertCounts.{ConvertCounts}
-use Rattle.mq_convert.specs.declared.fault.BlockFault.{BlockFault}
-use Rattle.mq_convert.specs.declared.fault.ConvertFault.{ConvertFault}
-use Rattle.mq_convert.specs.declared.fault.ConvertFault.TheVariants as answer
-use Rattle.mq_convert.specs.Blocks.{Captured}
-use Rattle.mq_convert.specs.Converting.{Converts}
-use Rattle.mq_convert.specs.Faults.{is_cut}
-use Rattle.mq_convert.specs.Files.{Captures}
+use Rattle.mq_convert.specs.{declared.counts.ConvertCounts.ConvertCounts, declared.fault.ConvertFault.ConvertFault, Converting.Converts, Faults.is_cut}
 use Rattle.mq_laws.specs.Conversions.{TellsOfFile}
-use Rattle.mq_laws.specs.PlainCaptures.{ArePlain, everything, looked_at, plain}
-use Rattle.mq_laws.proofs.AsItWas.{as_it_was_lem}
-use Rattle.mq_laws.proofs.FaultsStay.{faults_stay_lem}
-use Rattle.mq_laws.proofs.OneFile.{one_file_lem}
+use Rattle.mq_pcap.specs.Capture as pcap
+use Rattle.mq_convert.specs.declared.fault.ConvertFault.TheVariants as answer
+use Rattle.mq_laws.proofs.{AsItWas.as_it_was_lem, FaultsStay.faults_stay_lem, OneFile.one_file_lem}
 
 -- the rest of the file
 rest_of : (ahead : Option (List ℕ)) (file bytes : List ℕ) → Consumes (Some file) ahead bytes → (rest : List ℕ) × (ahead ≡ Some rest) × (file ≡ bytes ++ rest)

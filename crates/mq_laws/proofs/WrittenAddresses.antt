@@ -1,17 +1,12 @@
 -- The text that is written of an IPv6 address has its groups.
-use Rattle.std.proofs.Common.{◌≡◌, ℕ, suc, ◌+◌, ◌-◌, ◌/◌, ◌%◌, ◌<◌, ◌≤◌, nat_le, Bool, true, false, List, [], ◌∷◌, ◌++◌, length, take, drop}
-use Rattle.std.proofs.Common.{replicate, get_or, codes, ◌⊎◌, inl, inr, refl, ap, sym, ◌∙◌, arith, append-nil, append_assoc, add-one, length-drop}
-use Rattle.std.proofs.Common.{take-append-drop, if◌then◌else◌, ◌==◌}
-use Rattle.std.proofs.lemmas.Bool.{cases_lt, eqb-true, leb-true}
-use Rattle.std.proofs.lemmas.List.{length-take-le, drop-drop}
+use Rattle.mq_laws.proofs.Common.{◌≡◌, ℕ, suc, ◌+◌, ◌-◌, ◌/◌, ◌%◌, ◌<◌, ◌≤◌, Bool, true, false, List, [], ◌∷◌, ◌++◌, length, take, drop, replicate, get_or}
+use Rattle.mq_laws.proofs.Common.{codes, inl, inr, refl, ap, sym, ◌∙◌, arith, append-nil, append_assoc, add-one, length-drop, cases_lt, eqb-true, leb-true}
+use Rattle.mq_laws.proofs.Common.{length-take-le, drop-drop, nat_tests, w128, to_be_bytes}
+use Rattle.std.proofs.Common.{nat_le, ◌⊎◌, take-append-drop, if◌then◌else◌, ◌==◌}
 use Rattle.std.proofs.NetLemmas.Texts.{AllSegments-take, AllSegments-drop}
-use Rattle.std.proofs.lemmas.Bool.Decides.{nat_tests}
-use Rattle.std.specs.Char.{digit_value}
-use Rattle.std.specs.Fmt.{digit_glyph}
-use Rattle.std.specs.Net.Grammar.{IsGroup}
+use Rattle.std.specs.{Char.digit_value, Fmt.digit_glyph, Net.Grammar.IsGroup}
 use Rattle.mq_text.specs.AddressV6.{groups_of, hexadecimal, with_colons, zeros_ahead, longest_zeros, shortened}
 use Rattle.mq_text.specs.Reading.{AreGroupsBehind, AreGroups, AreShortened, HasGroups}
-use Rattle.std.specs.Int.{w128, to_be_bytes}
 use Rattle.mq_text.proofs.Hexadecimal.{one_digit, two_digits, three_digits, all_four_digits}
 use Rattle.mq_text.proofs.LongestRun.{is_first_longest, zeros_within}
 use Rattle.mq_laws.specs.Texts.{WrittenIsSpelled}

@@ -1,27 +1,14 @@
 -- The one encoding of a query.
-use Rattle.std.proofs.Common.{◌≡◌, ℕ, ◌+◌, ◌*◌, ◌/◌, ◌%◌, ◌<◌, ◌≤◌, List, [], ◌∷◌, ◌++◌, All, ◌^◌, length, ap, sym, subst, refl, arith}
-use Rattle.std.specs.List.{flat_map}
-use Rattle.byteorder.specs.Endian.{big_bytes, big_number}
-use Rattle.byteorder.specs.Numbers.{big_number-reads_back}
-use Rattle.mq_wire.specs.declared.query.Query.{Query}
-use Rattle.mq_wire.specs.declared.query.QuerierFields.{QuerierFields}
-use Rattle.mq_wire.specs.declared.query.QueryVersion.{QueryVersion}
-use Rattle.mq_wire.specs.declared.query.QueryVersion.TheVariants.{Current}
-use Rattle.mq_wire.specs.declared.message.Message.TheVariants.{Query as QueryMessage}
-use Rattle.mq_wire.specs.Canon.{canon, covered_before, without_checksum, flags_byte}
-use Rattle.mq_wire.specs.Checksum.{checksum_behind, sum_of_words, with_field}
-use Rattle.mq_wire.specs.Codes.{value8, value16, code8_of, code16_of}
-use Rattle.mq_wire.specs.Family.{Family, Igmp, Mld}
-use Rattle.mq_wire.specs.RoundTrip.{response_lowered}
-use Rattle.mq_wire.specs.Spelling.{Spells}
-use Rattle.mq_wire.proofs.FoundCodes.{code_is_greatest}
-use Rattle.mq_wire.proofs.SpelledQueries.{spells_query}
-use Rattle.mq_wire.proofs.Sums.{sum_of_both}
-use Rattle.mq_wire.proofs.WrittenParts.{length_with_checksum}
+use Rattle.mq_laws.proofs.Common.{◌≡◌, ℕ, ◌+◌, ◌*◌, ◌/◌, ◌%◌, ◌<◌, ◌≤◌, List, [], ◌∷◌, ◌++◌, ◌^◌, length, ap, sym, subst, refl, arith, flat_map, big_bytes}
+use Rattle.mq_laws.proofs.Common.{big_number, big_number-reads_back, Query, QueryMessage, value8, value16, code8_of, code16_of, Family, Igmp, Mld}
+use Rattle.std.proofs.Common.{All}
+use Rattle.mq_wire.specs.{declared.query.QuerierFields.QuerierFields, declared.query.QueryVersion.QueryVersion, declared.query.QueryVersion.TheVariants.Current}
+use Rattle.mq_wire.specs.{Canon.canon, Canon.covered_before, Canon.without_checksum, Canon.flags_byte, Checksum.checksum_behind, Checksum.sum_of_words}
+use Rattle.mq_wire.specs.{Checksum.with_field, RoundTrip.response_lowered, Spelling.Spells}
+use Rattle.mq_wire.proofs.{FoundCodes.code_is_greatest, SpelledQueries.spells_query, Sums.sum_of_both, WrittenParts.length_with_checksum}
 use Rattle.mq_laws.specs.Messages.{ChecksumIsBelow, ReadsBack, ValuesOfCodesStay, greatest_code, lowered, response_of_code}
-use Rattle.mq_laws.proofs.OneCode.{come_back}
-use Rattle.mq_laws.proofs.ReadBack.{igmp_bytes, mld_bytes, igmp_back, mld_back, length_igmp, length_mld}
-use Rattle.mq_laws.proofs.CompletedSums.{checksum_below, completed_behind}
+use Rattle.mq_laws.proofs.{OneCode.come_back, ReadBack.igmp_bytes, ReadBack.mld_bytes, ReadBack.igmp_back, ReadBack.mld_back, ReadBack.length_igmp}
+use Rattle.mq_laws.proofs.{ReadBack.length_mld, CompletedSums.checksum_below, CompletedSums.completed_behind}
 
 -- a query of IGMPv3 or MLDv2 of its parts
 abbrev query_with : (group response : ℕ) → QuerierFields ℕ → Query ℕ

@@ -17,13 +17,12 @@ use Rattle.mq_link.specs.Tick.{Step, tick_of, next_of}
 use Rattle.mq_replay.specs.Listing.{moment_of}
 use Rattle.mq_replay.specs.Report.{Datagram, datagram_of, all_sent}
 use Rattle.mq_check.specs.declared.headers.HeaderFault.{HeaderFault}
-use Rattle.mq_check.specs.Blocked.{blocked_in}
+use Rattle.mq_check.specs.Causes.{causes_in}
 use Rattle.mq_check.specs.Check.{destination_in, faults_in}
 use Rattle.mq_check.specs.Checking.{counted_up}
-use Rattle.mq_check.specs.Queries.{asked_in, is_general, terms_of, general_terms, query_seen}
+use Rattle.mq_check.specs.Queries.{asked_in, is_general, terms_of, general_terms, query_seen, specific_terms}
 use Rattle.mq_check.specs.Standing.{standing_in}
-use Rattle.mq_check.specs.Unheld.{specific_terms}
-use Rattle.mq_laws.specs.Events.{CheckEvent, Comes, Wants, Sees, SeesGeneral, LosesRole, HasRoleAgain, SeesFault, Blocks}
+use Rattle.mq_laws.specs.Events.{CheckEvent, Comes, Wants, Sees, SeesGeneral, LosesRole, HasRoleAgain, SeesFault, Changes}
 
 -- a link after a part of a capture, the number of packets so far, and the events of the check
 pub record Passage : Type 0 where
@@ -94,13 +93,13 @@ ticks_through config moment packets link = ticks_passage (moment + 1) config (mo
 abbrev pub fault_events : (number : ℕ) → List HeaderFault → List CheckEvent
 fault_events number faults = list_map (SeesFault number) faults
 
--- A query from the querier's address, or any other datagram, which the link receives. A Report may block sources.
+-- A query from the querier's address, or any other datagram, which the link receives. It may have changes of hosts.
 abbrev pub event_of : Configuration → LinkState → (moment packets to : ℕ) → Query ℕ → CheckEvent
 event_of config link moment packets to query =
     if is_general query
     then SeesGeneral (terms_of config.family packets to query) (general_terms config link.election.timing)
     else Sees (terms_of config.family packets to query)
-    (standing_in config.family link.groups moment (specific_terms config link.election.timing query)) (asked_in query)
+    (standing_in config.family link.groups link.election.timing moment) (asked_in query)
 
 abbrev pub datagram_passage : Configuration → (moment to : ℕ) → Datagram → Option (Query ℕ) → (faults : List CheckEvent) → (packets : ℕ) → LinkState → Passage
 datagram_passage config moment to datagram (Some query) faults packets link =
@@ -112,7 +111,7 @@ datagram_passage config moment to datagram None faults packets link =
       packets = packets;
       events =
           Comes moment ∷ faults
-          ++ (Blocks (blocked_in config.family datagram) ∷ wanted_by config packets false link step ++ role_by_datagram (is_querier link.election.role) (is_querier step.state.election.role));
+          ++ (Changes (specific_terms config link.election.timing packets) (causes_in config.family datagram) ∷ wanted_by config packets false link step ++ role_by_datagram (is_querier link.election.role) (is_querier step.state.election.role));
     }
 
 -- a frame, if it carries a datagram; the faults of the headers of a query come first

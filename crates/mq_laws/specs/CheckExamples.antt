@@ -4,15 +4,20 @@
 use Rattle.std.specs.Prelude.{◌≡◌, ℕ, ◌+◌, false, true, List, [], ◌∷◌, ◌++◌, Some}
 use Rattle.mq_table.specs.declared.timing.Timing.{Timing}
 use Rattle.mq_check.specs.declared.asked.Asked.TheVariants.{AllGroups, Group, Source}
+use Rattle.mq_check.specs.declared.check_terms.CheckFlags.{CheckFlags}
 use Rattle.mq_check.specs.declared.terms.Terms.{Terms}
-use Rattle.mq_check.specs.Standing.{held}
+use Rattle.mq_check.specs.Standing.{plain}
 use Rattle.mq_laws.specs.Pairing.{Ask, Expected, Sent, LeftOut}
-use Rattle.mq_laws.specs.Events.{CheckEvent, Comes, Wants, Sees, SeesGeneral, LosesRole, HasRoleAgain, Blocks, HasRoom}
+use Rattle.mq_laws.specs.Events.{CheckEvent, Comes, Wants, Sees, SeesGeneral, LosesRole, HasRoleAgain, Changes, HasRoom}
 use Rattle.mq_laws.specs.OnTime.{AreInOrder, IsOnTime}
 use Rattle.mq_laws.specs.WantedAndSeen.{all_wanted_in}
 
 abbrev pub example_timing : Timing
 example_timing = record { robustness = 2; query_seconds = 125; response_interval = 10000; last_member_interval = 1000 }
+
+-- a strict check from the querier's beginning
+abbrev pub began : CheckFlags
+began = record { began = true; strict = true }
 
 abbrev pub group_terms : (packet : ℕ) → Terms ℕ
 group_terms packet = record {
@@ -36,9 +41,9 @@ general_terms packet = record {
 abbrev pub example_events : (delay : ℕ) → (second : List CheckEvent) → List CheckEvent
 example_events delay second =
     Comes 500 ∷ SeesGeneral (general_terms 1) (general_terms 0)
-    ∷ Comes 1000 ∷ Blocks [] ∷ Wants false (group_terms 2) (Group 5 ∷ [])
-    ∷ Comes (1000 + delay) ∷ Sees (group_terms 3) (λ asked. held) (Group 5 ∷ [])
-    ∷ Comes 1200 ∷ Blocks (Source 5 7 ∷ [])
+    ∷ Comes 1000 ∷ Changes (λ group. group_terms 2) (Group 5 ∷ []) ∷ Wants false (group_terms 2) (Group 5 ∷ [])
+    ∷ Comes (1000 + delay) ∷ Sees (group_terms 3) (λ asked. plain) (Group 5 ∷ [])
+    ∷ Comes 1200 ∷ Changes (λ group. group_terms 4) (Source 5 7 ∷ [])
     ∷ Comes 2000 ∷ Wants true (group_terms 4) (Group 5 ∷ []) ∷ second
     ++ Comes 20000 ∷ LosesRole
     ∷ Comes 260000 ∷ Wants false (general_terms 6) (AllGroups ∷ []) ∷ HasRoleAgain
@@ -50,7 +55,7 @@ abbrev pub one_left_out : (delay : ℕ) → List CheckEvent
 one_left_out delay = example_events delay []
 
 abbrev pub all_answered : (delay : ℕ) → List CheckEvent
-all_answered delay = example_events delay (Comes (2000 + delay) ∷ Sees (group_terms 5) (λ asked. held) (Group 5 ∷ []) ∷ [])
+all_answered delay = example_events delay (Comes (2000 + delay) ∷ Sees (group_terms 5) (λ asked. plain) (Group 5 ∷ []) ∷ [])
 
 -- The expected queries. A tick sends the second one again, so it has the packet of the first.
 abbrev pub first_ask : Ask
@@ -69,5 +74,5 @@ example_expected = Sent first_ask ∷ LeftOut second_ask ∷ Sent last_ask ∷ [
 pub record IsExample (events : List CheckEvent) : Type 0 where
   pub in_order : AreInOrder 0 events 262000
   pub on_time : IsOnTime 100 example_timing 262000 events
-  pub room : HasRoom 100 example_timing false 262000 events []
-  pub wanted : all_wanted_in 100 example_timing false events ≡ first_ask ∷ second_ask ∷ last_ask ∷ []
+  pub room : HasRoom 100 example_timing began 262000 events []
+  pub wanted : all_wanted_in 100 example_timing began events ≡ first_ask ∷ second_ask ∷ last_ask ∷ []

@@ -2,26 +2,28 @@
 use Rattle.std.specs.Prelude.{◌≡◌, ℕ, Bool, false, List, [], ◌∷◌, ◌++◌, fold}
 use Rattle.mq_table.specs.declared.timing.Timing.{Timing}
 use Rattle.mq_check.specs.declared.asked.Asked.{Asked}
+use Rattle.mq_check.specs.declared.check_terms.CheckFlags.{CheckFlags}
 use Rattle.mq_check.specs.declared.finding.Finding.{Finding}
 use Rattle.mq_check.specs.declared.headers.HeaderFault.{HeaderFault}
 use Rattle.mq_check.specs.declared.standing.Standing.{Standing}
 use Rattle.mq_check.specs.declared.terms.Terms.{Terms}
 use Rattle.mq_check.specs.General.{silence_up_to}
-use Rattle.mq_check.specs.Checking.{CheckingValue, checking_at_start, told, settled, subject_wanted, specific_seen, general_seen, with_fault, role_lost, role_returned, all_blocked, told_at_end, with_all_excused}
+use Rattle.mq_check.specs.Checking.{CheckingValue, checking_at_start, told, settled, subject_wanted, specific_seen, general_seen, with_fault, role_lost, role_returned, all_changed, told_at_end, with_all_excused}
 
 -- An event of a check. A moment comes, the link sends a query about these things, which is expected, or a query about
 -- these was seen. `is_again` is set if a tick of the link sends it again. For a seen query `standing` has the standing of
 -- each of them in the link. A general query was seen, with the expected one. The router loses the role of querier, or is
--- querier again. A query's packet has a fault in its headers. A host blocks these sources, or none.
+-- querier again. A query's packet has a fault in its headers. Hosts make changes that may make a querier ask for these
+-- things, or none; `terms` has the terms of a query for each group, or for its sources.
 pub data CheckEvent : Type 0 where
   Comes : (moment : ℕ) → CheckEvent
   Wants : (is_again : Bool) → Terms ℕ → List (Asked ℕ) → CheckEvent
-  Sees : Terms ℕ → (standing : Asked ℕ → Standing ℕ) → List (Asked ℕ) → CheckEvent
+  Sees : Terms ℕ → (standing : Asked ℕ → Standing) → List (Asked ℕ) → CheckEvent
   SeesGeneral : (terms wanted : Terms ℕ) → CheckEvent
   LosesRole : CheckEvent
   HasRoleAgain : CheckEvent
   SeesFault : (number : ℕ) → HeaderFault → CheckEvent
-  Blocks : List (Asked ℕ) → CheckEvent
+  Changes : (terms : ℕ → Terms ℕ) → List (Asked ℕ) → CheckEvent
 
 -- the moment after an event
 abbrev pub moment_behind : (now : ℕ) → CheckEvent → ℕ
@@ -32,7 +34,7 @@ moment_behind now (SeesGeneral terms wanted) = now
 moment_behind now LosesRole = now
 moment_behind now HasRoleAgain = now
 moment_behind now (SeesFault number fault) = now
-moment_behind now (Blocks asked) = now
+moment_behind now (Changes terms asked) = now
 
 -- a check after one event, and the findings by it
 abbrev pub check_by : (within : ℕ) → Timing → (now : ℕ) → CheckEvent → CheckingValue → CheckingValue
@@ -43,7 +45,7 @@ check_by within timing now (SeesGeneral terms wanted) c = general_seen within ti
 check_by within timing now LosesRole c = role_lost within timing now c
 check_by within timing now HasRoleAgain c = role_returned within now c
 check_by within timing now (SeesFault number fault) c = with_fault now number c fault
-check_by within timing now (Blocks asked) c = all_blocked now asked c
+check_by within timing now (Changes terms asked) c = all_changed now terms asked c
 
 abbrev pub told_by : (within : ℕ) → CheckEvent → CheckingValue → List (Finding ℕ)
 told_by within (Comes moment) c = told within moment c
@@ -53,7 +55,7 @@ told_by within (SeesGeneral terms wanted) c = []
 told_by within LosesRole c = []
 told_by within HasRoleAgain c = []
 told_by within (SeesFault number fault) c = []
-told_by within (Blocks asked) c = []
+told_by within (Changes terms asked) c = []
 
 -- the moment, the check and the findings after several events
 abbrev pub moment_behind_all : (now : ℕ) → List CheckEvent → ℕ
@@ -68,10 +70,10 @@ abbrev pub told_by_all : (within : ℕ) → Timing → (now : ℕ) → List Chec
 told_by_all within timing now [] c = []
 told_by_all within timing now (e ∷ es) c = told_by within e c ++ told_by_all within timing (moment_behind now e) es (check_by within timing now e c)
 
--- The check of a capture with these events up to its end, at a moment, and all its findings. It is strict, or accepts
--- what the standard's words allow.
-abbrev pub checked_by : (within : ℕ) → Timing → (strict : Bool) → List CheckEvent → CheckingValue
-checked_by within timing strict events = check_by_all within timing 0 events (checking_at_start within timing strict)
+-- The check of a capture with these events up to its end, at a moment, and all its findings. `flags` say what it
+-- accepts.
+abbrev pub checked_by : (within : ℕ) → Timing → (flags : CheckFlags) → List CheckEvent → CheckingValue
+checked_by within timing flags events = check_by_all within timing 0 events (checking_at_start within timing flags)
 
 -- The check at the end of a capture: expired entries are removed, and a pending query needn't be sent if its partner may
 -- still come. Then the check after the events that are due just after the end.
@@ -87,12 +89,12 @@ found_from within timing end ahead c =
     told within end c ++ told_by_all within timing end ahead (at_the_end within end c)
     ++ told_at_end within timing end (silence_up_to within timing end c.phase) (checked_ahead within timing end ahead c)
 
-abbrev pub found_by : (within : ℕ) → Timing → (strict : Bool) → (end : ℕ) → (events ahead : List CheckEvent) → List (Finding ℕ)
-found_by within timing strict end events ahead =
-    told_by_all within timing 0 events (checking_at_start within timing strict)
-    ++ found_from within timing end ahead (checked_by within timing strict events)
+abbrev pub found_by : (within : ℕ) → Timing → (flags : CheckFlags) → (end : ℕ) → (events ahead : List CheckEvent) → List (Finding ℕ)
+found_by within timing flags end events ahead =
+    told_by_all within timing 0 events (checking_at_start within timing flags)
+    ++ found_from within timing end ahead (checked_by within timing flags events)
 
 -- there was room for all pending entries
-abbrev pub HasRoom : (within : ℕ) → Timing → (strict : Bool) → (end : ℕ) → (events ahead : List CheckEvent) → Type 0
-HasRoom within timing strict end events ahead =
-    (checked_ahead within timing end ahead (checked_by within timing strict events)).waiting.is_full ≡ false
+abbrev pub HasRoom : (within : ℕ) → Timing → (flags : CheckFlags) → (end : ℕ) → (events ahead : List CheckEvent) → Type 0
+HasRoom within timing flags end events ahead =
+    (checked_ahead within timing end ahead (checked_by within timing flags events)).waiting.is_full ≡ false

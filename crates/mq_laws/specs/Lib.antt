@@ -2,6 +2,7 @@ pub mod Groups
 pub mod Schedules
 pub mod Laws
 pub mod Following
+pub mod Lives
 pub mod AsWanted
 pub mod Captures
 pub mod Events

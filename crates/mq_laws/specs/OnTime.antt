@@ -9,7 +9,7 @@ use Rattle.mq_check.specs.declared.terms.Terms.{Terms}
 use Rattle.mq_check.specs.Checking.{is_querier_in}
 use Rattle.mq_check.specs.Entries.{terms_differ}
 use Rattle.mq_check.specs.General.{phase_again, phase_at_start, wrong_interval, phase_behind, silence_up_to}
-use Rattle.mq_laws.specs.Events.{CheckEvent, Comes, Wants, Sees, SeesGeneral, LosesRole, HasRoleAgain, SeesFault, Blocks}
+use Rattle.mq_laws.specs.Events.{CheckEvent, Comes, Wants, Sees, SeesGeneral, LosesRole, HasRoleAgain, SeesFault, Changes}
 
 -- moments come in order, up to the end
 abbrev pub AreInOrder : (now : ℕ) → List CheckEvent → (end : ℕ) → Type 0
@@ -21,7 +21,7 @@ AreInOrder now (SeesGeneral terms wanted ∷ es) end = AreInOrder now es end
 AreInOrder now (LosesRole ∷ es) end = AreInOrder now es end
 AreInOrder now (HasRoleAgain ∷ es) end = AreInOrder now es end
 AreInOrder now (SeesFault number fault ∷ es) end = AreInOrder now es end
-AreInOrder now (Blocks asked ∷ es) end = AreInOrder now es end
+AreInOrder now (Changes terms asked ∷ es) end = AreInOrder now es end
 
 -- An event of a tick. After the end of a capture there are only these, in order, up to the tolerance after the end.
 abbrev pub IsOfTick : CheckEvent → Type 0
@@ -32,7 +32,7 @@ IsOfTick (SeesGeneral terms wanted) = ⊥
 IsOfTick LosesRole = ⊥
 IsOfTick HasRoleAgain = ⊤
 IsOfTick (SeesFault number fault) = ⊥
-IsOfTick (Blocks asked) = ⊥
+IsOfTick (Changes terms asked) = ⊥
 
 pub record AreAhead (within end : ℕ) (ahead : List CheckEvent) : Type 0 where
   pub order : AreInOrder end ahead (end + within)
@@ -58,7 +58,7 @@ AreOnTime within timing phase last now (LosesRole ∷ es) end =
     (silence_up_to within timing now phase ≡ None) × AreOnTime within timing NotQuerier last now es end
 AreOnTime within timing phase last now (HasRoleAgain ∷ es) end = AreOnTime within timing (phase_again within now last) last now es end
 AreOnTime within timing phase last now (SeesFault number fault ∷ es) end = ⊥
-AreOnTime within timing phase last now (Blocks asked ∷ es) end = AreOnTime within timing phase last now es end
+AreOnTime within timing phase last now (Changes terms asked ∷ es) end = AreOnTime within timing phase last now es end
 
 abbrev pub IsOnTime : (within : ℕ) → Timing → (end : ℕ) → List CheckEvent → Type 0
 IsOnTime within timing end events = AreOnTime within timing (phase_at_start timing) None 0 events end

@@ -3,6 +3,7 @@ use Rattle.std.specs.Prelude.{◌≡◌, ℕ, ◌+◌, ◌<◌, ◌≤◌, Bool,
 use Rattle.std.specs.List.{AllByRecursion}
 use Rattle.mq_table.specs.declared.timing.Timing.{Timing}
 use Rattle.mq_check.specs.declared.asked.Asked.{Asked}
+use Rattle.mq_check.specs.declared.check_terms.CheckFlags.{CheckFlags}
 use Rattle.mq_check.specs.declared.finding.Finding.{Finding}
 use Rattle.mq_check.specs.declared.finding.Finding.TheVariants.{Missing}
 use Rattle.mq_check.specs.declared.terms.Terms.{Terms}
@@ -54,8 +55,8 @@ pub record Answers (within : ℕ) (wanted seen : Ask) : Type 0 where
 -- The time for which a check keeps a query without a partner. In a strict check it is the tolerance, so the laws of strict
 -- checks name no other time. In other checks it is longer, by at most a Last Member Query Interval. There a query that goes
 -- on with a schedule may be the partner of a query from an interval before.
-abbrev pub kept_for : (within : ℕ) → Timing → (strict : Bool) → ℕ
-kept_for within timing strict = keep_in within timing strict
+abbrev pub kept_for : (within : ℕ) → Timing → (flags : CheckFlags) → ℕ
+kept_for within timing flags = keep_in within timing flags.strict
 
 -- all of these were seen later than a moment
 abbrev pub AllLater : (moment : ℕ) → List Ask → Type 0

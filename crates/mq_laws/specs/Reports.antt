@@ -3,7 +3,7 @@ use Rattle.std.specs.Prelude.{ℕ, not, Bool, true, false, List, filter}
 use Rattle.mq_check.specs.declared.finding.Difference.{Difference}
 use Rattle.mq_check.specs.declared.finding.Difference.TheVariants.{Version, Response, Suppress, Robustness, QueryInterval, Destination}
 use Rattle.mq_check.specs.declared.finding.Finding.{Finding}
-use Rattle.mq_check.specs.declared.finding.Finding.TheVariants.{Missing, Extra, Differs, Interval, Silence, Packet}
+use Rattle.mq_check.specs.declared.finding.Finding.TheVariants.{Missing, Extra, PossiblyMissing, PossiblyExtra, Differs, Interval, Silence, Packet}
 
 -- a difference in a variable of the querier: the response, QRV or QQIC
 abbrev pub is_of_variable : Difference ℕ → Bool
@@ -17,6 +17,8 @@ is_of_variable (Destination seen wanted) = false
 abbrev pub may_be_left_out : Finding ℕ → Bool
 may_be_left_out (Missing moment packet asked) = false
 may_be_left_out (Extra moment packet asked reason) = false
+may_be_left_out (PossiblyMissing moment packet asked) = false
+may_be_left_out (PossiblyExtra moment packet asked) = false
 may_be_left_out (Differs moment packet asked difference) = is_of_variable difference
 may_be_left_out (Interval moment packet after wanted) = false
 may_be_left_out (Silence moment after wanted) = false

@@ -2,12 +2,13 @@
 use Rattle.std.specs.Prelude.{ℕ, ◌+◌, Bool, true, false, List, [], ◌∷◌, ◌++◌, map as list_map, nat_lt, if◌then◌else◌}
 use Rattle.mq_table.specs.declared.timing.Timing.{Timing}
 use Rattle.mq_check.specs.declared.asked.Asked.{Asked}
+use Rattle.mq_check.specs.declared.check_terms.CheckFlags.{CheckFlags}
 use Rattle.mq_check.specs.declared.asked.Asked.TheVariants.{AllGroups}
 use Rattle.mq_check.specs.declared.terms.Terms.{Terms}
 use Rattle.mq_check.specs.Checking.{CheckingValue, checking_at_start, subject_wanted}
 use Rattle.mq_check.specs.Queries.{is_same}
 use Rattle.mq_check.specs.Schedules.{terms_wanted}
-use Rattle.mq_laws.specs.Events.{CheckEvent, Comes, Wants, Sees, SeesGeneral, LosesRole, HasRoleAgain, SeesFault, Blocks, check_by, moment_behind}
+use Rattle.mq_laws.specs.Events.{CheckEvent, Comes, Wants, Sees, SeesGeneral, LosesRole, HasRoleAgain, SeesFault, Changes, check_by, moment_behind}
 use Rattle.mq_laws.specs.Pairing.{Ask}
 
 -- The expected queries by one query of the link, one for each thing that it asks about. A query that a tick sends again
@@ -26,15 +27,15 @@ asks_by now (SeesGeneral terms wanted) c = []
 asks_by now LosesRole c = []
 asks_by now HasRoleAgain c = []
 asks_by now (SeesFault number fault) c = []
-asks_by now (Blocks asked) c = []
+asks_by now (Changes terms asked) c = []
 
 -- the expected queries by several events, if `c` is the check before them
 abbrev pub wanted_in : (within : ℕ) → Timing → (now : ℕ) → List CheckEvent → CheckingValue → List Ask
 wanted_in within timing now [] c = []
 wanted_in within timing now (e ∷ es) c = asks_by now e c ++ wanted_in within timing (moment_behind now e) es (check_by within timing now e c)
 
-abbrev pub all_wanted_in : (within : ℕ) → Timing → (strict : Bool) → List CheckEvent → List Ask
-all_wanted_in within timing strict events = wanted_in within timing 0 events (checking_at_start within timing strict)
+abbrev pub all_wanted_in : (within : ℕ) → Timing → (flags : CheckFlags) → List CheckEvent → List Ask
+all_wanted_in within timing flags events = wanted_in within timing 0 events (checking_at_start within timing flags)
 
 -- the seen queries, one for each thing that they ask about
 abbrev pub asks_at : (moment : ℕ) → Terms ℕ → List (Asked ℕ) → List Ask
@@ -97,7 +98,7 @@ seen_in within is_querier r now (SeesGeneral terms wanted ∷ es) =
 seen_in within is_querier r now (LosesRole ∷ es) = seen_in within false r now es
 seen_in within is_querier r now (HasRoleAgain ∷ es) = seen_in within true r now es
 seen_in within is_querier r now (SeesFault number fault ∷ es) = seen_in within is_querier r now es
-seen_in within is_querier r now (Blocks asked ∷ es) = seen_in within is_querier r now es
+seen_in within is_querier r now (Changes terms asked ∷ es) = seen_in within is_querier r now es
 
 abbrev pub all_seen_in : (within : ℕ) → List CheckEvent → List Ask
 all_seen_in within events = seen_in within true none_returned 0 events

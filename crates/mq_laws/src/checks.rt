@@ -1,5 +1,7 @@
 //! Laws of the check of a capture: its definition (`mq_check`) means what it is for. The functions have no effect at
-//! run time: each contract is a law, for every configuration and tolerance, strict or not.
+//! run time: each contract is a law, for every configuration and tolerance. Those on findings are about checks from the
+//! querier's beginning (`began`). Nothing is found of a right querier, strict or not. A strict check finds the queries missing
+//! that it leaves out; another one finds them possibly missing if changes come close together.
 //!
 //! - The text of a check follows from its events: `checks_tell_what_happened`.
 //! - If the queries of a capture are those of the link at their moments: `nothing_is_found`.
@@ -17,6 +19,7 @@ ghost use Rattle.mq_table.specs.Timing.{query_interval};
 ghost use Rattle.mq_check.specs.declared.phase.Phase.TheVariants.{Starting, Heard, Returned};
 ghost use Rattle.mq_check.specs.declared.asked.Asked.{Asked};
 ghost use Rattle.mq_check.specs.declared.check_terms.Additions.{Additions};
+ghost use Rattle.mq_check.specs.declared.check_terms.CheckFlags.{CheckFlags};
 ghost use Rattle.mq_check.specs.declared.finding.Difference.{Difference};
 ghost use Rattle.mq_check.specs.declared.finding.Finding.{Finding};
 ghost use Rattle.mq_check.specs.declared.finding.Finding.TheVariants.{Differs};
@@ -28,7 +31,7 @@ ghost use Rattle.mq_laws.specs.OnTime.{AreAhead, AreInOrder, IsOnTime, IsWantedI
 ghost use Rattle.mq_laws.specs.AsWanted.{AreSeen, AreSeenWithin, IsAsWanted, TakesOut, all_missing};
 ghost use Rattle.mq_laws.specs.Events.{CheckEvent, HasRoom, found_by};
 ghost use Rattle.mq_laws.specs.WantedAndSeen.{all_wanted_in};
-ghost use Rattle.mq_laws.specs.CheckExamples.{IsExample, all_answered, example_expected, example_timing, first_ask, last_ask, one_left_out, second_ask};
+ghost use Rattle.mq_laws.specs.CheckExamples.{IsExample, all_answered, began, example_expected, example_timing, first_ask, last_ask, one_left_out, second_ask};
 ghost use Rattle.mq_laws.specs.Pairing.{Ask, Expected, kept_for, missing_of};
 ghost use Rattle.mq_laws.specs.Reports.{is_of_variable, others_in};
 ghost use Rattle.mq_laws.specs.Verdicts.{CameToItsEnd, CheckedCapture, IsClean, Tells, TellsWhatHappened, ahead_in, end_in, events_in};
@@ -58,54 +61,54 @@ pub fn what_happens_comes_in_order()
 /// A lemma: a check keeps a query without a partner for `kept_for`. In a strict check that is the tolerance, so the laws
 /// of strict checks name no other time. In other checks it is at most a Last Member Query Interval longer.
 pub fn queries_are_kept_for_these_times()
-    ensures strict { (within : ℕ) (timing : Timing) → kept_for within timing true ≡ within }
-    ensures least { (within : ℕ) (timing : Timing) (strict : Bool) → within ≤ kept_for within timing strict }
-    ensures most { (within : ℕ) (timing : Timing) (strict : Bool)
-        → kept_for within timing strict ≤ within + timing.last_member_interval }
+    ensures strict { (within : ℕ) (timing : Timing) (flags : CheckFlags) → flags.strict ≡ true → kept_for within timing flags ≡ within }
+    ensures least { (within : ℕ) (timing : Timing) (flags : CheckFlags) → within ≤ kept_for within timing flags }
+    ensures most { (within : ℕ) (timing : Timing) (flags : CheckFlags)
+        → kept_for within timing flags ≤ within + timing.last_member_interval }
 {}
 
 /// A lemma: if queries about each thing pair up in order, the findings are those that were left out. Each of the others is
 /// within the tolerance of its partner, with the same fields. After a query that was left out, the next one and the end
 /// come after the time for which it is kept. Each finding is there once, in the order in which the queries are expected.
 pub fn what_was_left_out_is_missing()
-    ensures { (within : ℕ) (timing : Timing) (strict : Bool) (end : ℕ) (expected : List Expected) (events ahead : List CheckEvent)
-        → AreInOrder 0 events end → AreAhead within end ahead → IsAsWanted within timing strict end expected events
-        → HasRoom within timing strict end events ahead
-        → found_by within timing strict end events ahead ≡ missing_of expected }
+    ensures { (within : ℕ) (timing : Timing) (flags : CheckFlags) (end : ℕ) (expected : List Expected) (events ahead : List CheckEvent)
+        → flags.began ≡ true → AreInOrder 0 events end → AreAhead within end ahead → IsAsWanted within timing flags end expected events
+        → HasRoom within timing flags end events ahead
+        → found_by within timing flags end events ahead ≡ missing_of expected }
 {}
 
 /// A lemma: nothing is found if the seen queries are the expected ones, at their moments.
 pub fn nothing_is_found()
-    ensures { (within : ℕ) (timing : Timing) (strict : Bool) (end : ℕ) (events ahead : List CheckEvent)
-        → AreInOrder 0 events end → AreAhead within end ahead → IsOnTime within timing end events
-        → HasRoom within timing strict end events ahead
-        → AreSeen within (all_wanted_in within timing strict events) events → found_by within timing strict end events ahead ≡ [] }
+    ensures { (within : ℕ) (timing : Timing) (flags : CheckFlags) (end : ℕ) (events ahead : List CheckEvent)
+        → flags.began ≡ true → AreInOrder 0 events end → AreAhead within end ahead → IsOnTime within timing end events
+        → HasRoom within timing flags end events ahead
+        → AreSeen within (all_wanted_in within timing flags events) events → found_by within timing flags end events ahead ≡ [] }
 {}
 
 /// A lemma: if some of the expected queries are taken out, exactly these are missing. The next query about the same thing
 /// and the end come after the time for which they are kept.
 pub fn what_is_taken_out_is_missing()
-    ensures { (within : ℕ) (timing : Timing) (strict : Bool) (end : ℕ) (events ahead : List CheckEvent) (before taken behind : List Ask)
-        → AreInOrder 0 events end → AreAhead within end ahead → IsOnTime within timing end events
-        → HasRoom within timing strict end events ahead
-        → all_wanted_in within timing strict events ≡ before ++ taken ++ behind → TakesOut (kept_for within timing strict) end taken behind
-        → AreSeen within (before ++ behind) events → found_by within timing strict end events ahead ≡ all_missing taken }
+    ensures { (within : ℕ) (timing : Timing) (flags : CheckFlags) (end : ℕ) (events ahead : List CheckEvent) (before taken behind : List Ask)
+        → flags.began ≡ true → AreInOrder 0 events end → AreAhead within end ahead → IsOnTime within timing end events
+        → HasRoom within timing flags end events ahead
+        → all_wanted_in within timing flags events ≡ before ++ taken ++ behind → TakesOut flags.strict (kept_for within timing flags) end taken behind
+        → AreSeen within (before ++ behind) events → found_by within timing flags end events ahead ≡ all_missing taken }
 {}
 
 /// A lemma: nothing is found if any of the expected queries are moved within the tolerance. Queries about one thing
 /// keep their order.
 pub fn nothing_is_found_of_moved_queries()
-    ensures { (within : ℕ) (timing : Timing) (strict : Bool) (end : ℕ) (events ahead : List CheckEvent)
-        → AreInOrder 0 events end → AreAhead within end ahead → IsOnTime within timing end events
-        → HasRoom within timing strict end events ahead
-        → AreSeenWithin within (all_wanted_in within timing strict events) events → found_by within timing strict end events ahead ≡ [] }
+    ensures { (within : ℕ) (timing : Timing) (flags : CheckFlags) (end : ℕ) (events ahead : List CheckEvent)
+        → flags.began ≡ true → AreInOrder 0 events end → AreAhead within end ahead → IsOnTime within timing end events
+        → HasRoom within timing flags end events ahead
+        → AreSeenWithin within (all_wanted_in within timing flags events) events → found_by within timing flags end events ahead ≡ [] }
 {}
 
 /// A lemma: the check of a capture with these queries says that nothing is found, and no more.
 pub fn clean_captures_are_told_so()
     ensures { (c : CheckedCapture)
-        → IsFaultless c.config → CameToItsEnd c → IsOnTime c.within c.config.timing (end_in c) (events_in c)
-        → AreSeenWithin c.within (all_wanted_in c.within c.config.timing c.strict (events_in c)) (events_in c) → IsClean c }
+        → c.flags.began ≡ true → IsFaultless c.config → CameToItsEnd c → IsOnTime c.within c.config.timing (end_in c) (events_in c)
+        → AreSeenWithin c.within (all_wanted_in c.within c.config.timing c.flags (events_in c)) (events_in c) → IsClean c }
 {
     what_happens_comes_in_order();
 }
@@ -113,7 +116,7 @@ pub fn clean_captures_are_told_so()
 /// A lemma: the check says what was left out, and no more.
 pub fn what_was_left_out_is_told()
     ensures { (c : CheckedCapture) (expected : List Expected)
-        → IsFaultless c.config → CameToItsEnd c → IsAsWanted c.within c.config.timing c.strict (end_in c) expected (events_in c)
+        → c.flags.began ≡ true → IsFaultless c.config → CameToItsEnd c → IsAsWanted c.within c.config.timing c.flags (end_in c) expected (events_in c)
         → Tells c (missing_of expected) }
 {
     what_happens_comes_in_order();
@@ -150,9 +153,9 @@ pub fn general_queries_are_on_time_at_these_intervals()
 /// a group: one was seen as late as the tolerance allows, and one was left out. Then the role was lost, and the router was
 /// querier again. The other queries may also be seen at their moments, and the second one too.
 pub fn a_check_of_two_queries()
-    ensures as_wanted { IsAsWanted 100 example_timing false 262000 example_expected (one_left_out 100) }
+    ensures as_wanted { IsAsWanted 100 example_timing began 262000 example_expected (one_left_out 100) }
     ensures late { IsExample (one_left_out 100) }
-    ensures taken_out { TakesOut (kept_for 100 example_timing false) 262000 (second_ask ∷ []) (last_ask ∷ []) }
+    ensures taken_out { TakesOut began.strict (kept_for 100 example_timing began) 262000 (second_ask ∷ []) (last_ask ∷ []) }
     ensures others_seen { AreSeen 100 (first_ask ∷ last_ask ∷ []) (one_left_out 0) }
     ensures others_on_time { IsExample (one_left_out 0) }
     ensures all_seen { AreSeen 100 (first_ask ∷ second_ask ∷ last_ask ∷ []) (all_answered 0) }

@@ -16,13 +16,15 @@ ghost use Rattle.mq_table.specs.Filter.{changes_filter, filter_of};
 ghost use Rattle.mq_table.specs.Group.{GroupState, forwards_in};
 ghost use Rattle.mq_table.specs.Table.{GroupChange};
 ghost use Rattle.mq_sched.specs.Schedule.{ScheduledGroup};
-ghost use Rattle.mq_sched.specs.Election.{Other, is_querier, loses_role};
+ghost use Rattle.mq_table.specs.Timing.{query_interval};
+ghost use Rattle.mq_sched.specs.Election.{Other, Querier, is_querier, loses_role, next_moment};
 ghost use Rattle.mq_link.specs.declared.configuration.Limits.{Limits};
 ghost use Rattle.mq_link.specs.declared.answers.Refusal.{Refusal};
 ghost use Rattle.mq_link.specs.declared.answers.DropReason.{DropReason};
 ghost use Rattle.mq_link.specs.declared.answers.Received.TheVariants.{Dropped};
 ghost use Rattle.mq_link.specs.Family.{is_admitted};
 ghost use Rattle.mq_link.specs.Configuration.{Configuration, IsFaultless};
+ghost use Rattle.mq_link.specs.Configuring.{config_after, configure_fault, state_configured};
 ghost use Rattle.mq_link.specs.Counters.{Ignored, Refused, is_applied, counted_at, kind_number};
 ghost use Rattle.mq_link.specs.State.{Groups, LinkState, IsWellFormed, forwards, link_at, sources_of, sources_in, schedules_in};
 ghost use Rattle.mq_link.specs.Forwarding.{AreThose, changed_by_datagram, changed_by_event, changed_by_tick};
@@ -33,6 +35,7 @@ ghost use Rattle.mq_link.specs.Receive.{Envelope, read_of, pseudo_of, kind_of, r
 ghost use Rattle.mq_link.specs.Run.{Event, Happening, answered, step_of, answer_to, HandsOut, Run, events_of, events_alone};
 ghost use Rattle.mq_link.specs.Sent.{Outgoing};
 ghost use Rattle.mq_laws.specs.Laws.{AllAfter, ChangesNothing, IsOnlyCounted, DifferAt, IsGivenWhere, CountsAnswer, records_in, CountsRecords, unanswered, HappenAlike, would_be, would_leave};
+ghost use Rattle.mq_laws.specs.Lives.{AllThrough, LifeFrom, Stretch};
 ghost use Rattle.mq_laws.specs.Following.{AllFollowed, FilterTable, filter_at, groups_in, nothing_of_any, taken_over};
 
 /// A lemma: a link is well-formed at its start and stays so, whatever it receives. Its groups may be held and are
@@ -47,6 +50,33 @@ pub fn links_keep_form_and_limits()
         → IsWellFormed config (receipt_of config envelope bytes now state).step.state }
     ensures run { (config : Configuration) (start : ℕ) (happenings : List Happening)
         → IsFaultless config → Run config start happenings → AllAfter (IsWellFormed config) happenings }
+{}
+
+/// A lemma: a link stays well-formed in all of its life, whatever it receives and whatever configurations it is given in
+/// between. Another configuration leaves each filter as it is.
+pub fn lives_keep_form()
+    ensures configured { (config asked : Configuration) (state : LinkState) → IsFaultless asked
+        → asked.family ≡ config.family → configure_fault config asked state.groups ≡ None
+        → IsWellFormed config state → IsWellFormed (config_after config asked) (state_configured config asked state) }
+    ensures filters { (config asked : Configuration) (state : LinkState) (group : ℕ)
+        → filter_at (state_configured config asked state) group ≡ filter_at state group }
+    ensures life { (config : Configuration) (start : ℕ) (stretches : List Stretch) → IsFaultless config
+        → LifeFrom config (link_at config start) stretches
+        → AllThrough IsWellFormed config (link_at config start) stretches }
+{}
+
+/// A lemma: after another configuration a router is querier exactly if it was, or if the other querier's address is not
+/// lower than its own. A querier's next general query is due at most one query interval later.
+pub fn configurations_decide_the_role()
+    ensures querier { (config asked : Configuration) (state : LinkState) (due startup_queries : ℕ)
+        → state.election.role ≡ Querier due startup_queries
+        → is_querier (state_configured config asked state).election.role ≡ true }
+    ensures other { (config asked : Configuration) (state : LinkState) (address deadline : ℕ)
+        → state.election.role ≡ Other address deadline
+        → is_querier (state_configured config asked state).election.role ≡ not (nat_lt address asked.own) }
+    ensures due { (config asked : Configuration) (state : LinkState)
+        → let election = (state_configured config asked state).election in
+        is_querier election.role ≡ true → next_moment election.role ≤ state.last + query_interval election.timing }
 {}
 
 /// A lemma: a run is determined by its events and the outlet's answers. No two runs have the same ones.

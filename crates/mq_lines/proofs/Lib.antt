@@ -1,1 +1,4 @@
 pub mod Answered
+pub mod Listed
+pub mod Parts
+pub mod Unescaped

@@ -1,3 +1,4 @@
 pub mod Line
 pub mod Numbered
+pub mod Objects
 pub mod Text

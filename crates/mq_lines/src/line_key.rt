@@ -1,8 +1,9 @@
 //! Addresses in lines.
 
-ghost use Rattle.std.specs.Prelude.{◌≡◌, ◌≤◌, ◌+◌, ◌++◌};
+ghost use Rattle.std.specs.Prelude.{◌≡◌, ◌≤◌, ◌+◌, ◌++◌, length};
 ghost use Rattle.arrayvec.specs.ArrayVec.{array_vec_len};
 ghost use Rattle.mq_wire.specs.Family.{Family, Igmp, Mld};
+ghost use Rattle.mq_lines.specs.Objects.{protocol_text};
 ghost use Rattle.mq_lines.specs.Text.{address_text};
 ghost use Rattle.mq_lines.specs.Text as spec;
 
@@ -24,6 +25,11 @@ pub trait LineKey: WireKey {
     fn current_version() -> u8
         ensures { result ≡ spec.current_version family };
 
+    /// Returns the name of the protocol.
+    fn protocol() -> &'static [u8]
+        ensures name { result.now ≡ protocol_text family }
+        ensures short { length result.now ≤ 4 };
+
     /// Returns whether a query of an older version has a response.
     fn has_response(version: OlderVersion) -> bool
         ensures { result ≡ spec.has_response family version };
@@ -38,6 +44,10 @@ impl LineKey for Addr4 {
 
     fn current_version() -> u8 {
         3
+    }
+
+    fn protocol() -> &'static [u8] {
+        b"igmp"
     }
 
     fn has_response(version: OlderVersion) -> bool {
@@ -57,6 +67,10 @@ impl LineKey for Addr6 {
 
     fn current_version() -> u8 {
         2
+    }
+
+    fn protocol() -> &'static [u8] {
+        b"mld"
     }
 
     fn has_response(_version: OlderVersion) -> bool {

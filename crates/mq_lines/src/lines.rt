@@ -5,11 +5,12 @@ ghost use Rattle.mq_wire.specs.Family.{Igmp, Mld};
 ghost use Rattle.mq_wire.specs.Numbered.{numbered_message, numbered_record, numbered_version};
 ghost use Rattle.mq_wire.specs.PseudoHeader.{pseudo_header};
 ghost use Rattle.mq_text.specs.Printing.{Puts};
-ghost use Rattle.mq_lines.specs.Line.{AnswersBy, PrintsLine, PutsLine};
+ghost use Rattle.mq_lines.specs.Line.{AnswersBy, IsLineIn, PrintsLine, PrintsLineIn, PutsAs, PutsLine};
 ghost use Rattle.mq_lines.specs.Numbered.{numbered_answer};
 ghost use Rattle.mq_lines.specs.Text.{answer_text, line_of, message_text, query_sources, record_text, records_text, sources_text};
 
 use crate::line_key::LineKey;
+use crate::objects::{put_igmp_object, put_mld_object};
 use crate::pieces::{
     put_fault, put_leave, put_older_report, put_query_head, put_record_head, put_report_head,
     put_source,
@@ -20,18 +21,18 @@ use mq_wire::{
     Message, QueryVersion, RecordView, Records, Sources, WireFault, read_igmp, read_mld,
 };
 
-/// Writes the line of an IGMP datagram without its IP header. Returns true for the line of a message, and false for the
-/// line of its fault. If a write fails, a prefix of the line has been written. The line is written in pieces, without
-/// allocation.
-pub fn igmp_line<O: Output>(body: &[u8], writer: &mut O) -> Result<bool, LineFault>
-    ensures line { PrintsLine
+/// Writes the line of an IGMP datagram without its IP header, as text or as an object of JSON. Returns true for the line
+/// of a message, and false for the line of its fault. If a write fails, a prefix of the line has been written. The line
+/// is written in pieces, without allocation.
+pub fn igmp_line<O: Output>(json: bool, body: &[u8], writer: &mut O) -> Result<bool, LineFault>
+    ensures line { PrintsLineIn json
         (O.held writer.old) (O.held writer.new)
         Igmp [] body.now result }
     ensures failed { O.failed writer.new ≡ O.failed writer.old || is_err result }
     ensures same_loan { O.loan writer.new ≡ O.loan writer.old }
 {
     let mut buffer = Text::new();
-    let is_message = put_igmp(body, &mut buffer, writer)?;
+    let is_message = put_igmp_in(json, body, &mut buffer, writer)?;
     flush(&mut buffer, writer)?;
     Ok(is_message)
 }
@@ -39,20 +40,66 @@ pub fn igmp_line<O: Output>(body: &[u8], writer: &mut O) -> Result<bool, LineFau
 /// Writes the line of an MLD datagram without its IPv6 header, as `igmp_line` does. The checksum covers the source and
 /// the destination of the datagram.
 pub fn mld_line<O: Output>(
+    json: bool,
     source: Addr6,
     destination: Addr6,
     body: &[u8],
     writer: &mut O,
 ) -> Result<bool, LineFault>
-    ensures line { PrintsLine
+    ensures line { PrintsLineIn json
         (O.held writer.old) (O.held writer.new)
         Mld (pseudo_header source destination (length body.now)) body.now result }
     ensures failed { O.failed writer.new ≡ O.failed writer.old || is_err result }
     ensures same_loan { O.loan writer.new ≡ O.loan writer.old }
 {
     let mut buffer = Text::new();
-    let is_message = put_mld(source, destination, body, &mut buffer, writer)?;
+    let is_message = put_mld_in(json, source, destination, body, &mut buffer, writer)?;
     flush(&mut buffer, writer)?;
+    Ok(is_message)
+}
+
+/// Puts the line of an IGMP datagram, as text or as an object.
+fn put_igmp_in<O: Output>(
+    json: bool,
+    body: &[u8],
+    buffer: &mut Text,
+    writer: &mut O,
+) -> Result<bool, LineFault>
+    ensures line { PutsAs
+        (O.held writer.old) (O.held writer.new)
+        buffer.old.items buffer.new.items (IsLineIn json Igmp [] body.now) result }
+    ensures failed { O.failed writer.new ≡ O.failed writer.old || is_err result }
+    ensures same_loan { O.loan writer.new ≡ O.loan writer.old }
+{
+    if !json {
+        return put_igmp(body, buffer, writer);
+    }
+    let is_message = put_igmp_object(body, buffer, writer)?;
+    put_end(buffer, writer)?;
+    Ok(is_message)
+}
+
+/// Puts the line of an MLD datagram, as text or as an object.
+fn put_mld_in<O: Output>(
+    json: bool,
+    source: Addr6,
+    destination: Addr6,
+    body: &[u8],
+    buffer: &mut Text,
+    writer: &mut O,
+) -> Result<bool, LineFault>
+    ensures line { PutsAs
+        (O.held writer.old) (O.held writer.new)
+        buffer.old.items buffer.new.items
+        (IsLineIn json Mld (pseudo_header source destination (length body.now)) body.now) result }
+    ensures failed { O.failed writer.new ≡ O.failed writer.old || is_err result }
+    ensures same_loan { O.loan writer.new ≡ O.loan writer.old }
+{
+    if !json {
+        return put_mld(source, destination, body, buffer, writer);
+    }
+    let is_message = put_mld_object(source, destination, body, buffer, writer)?;
+    put_end(buffer, writer)?;
     Ok(is_message)
 }
 

@@ -42,7 +42,7 @@ fn put_version<K: LineKey>(buffer: &mut Text, response: u32, version: &QueryVers
 }
 
 /// Returns the version of a query.
-fn version_of<K: LineKey>(version: &QueryVersion<'_, K>) -> u8
+pub(crate) fn version_of<K: LineKey>(version: &QueryVersion<'_, K>) -> u8
     ensures { result ≡ spec.query_version K.family (numbered_version version.now) }
 {
     match version {
@@ -52,7 +52,7 @@ fn version_of<K: LineKey>(version: &QueryVersion<'_, K>) -> u8
 }
 
 /// Returns the number of an older version.
-fn number_of(version: OlderVersion) -> u8
+pub(crate) fn number_of(version: OlderVersion) -> u8
     ensures { result ≡ spec.older_version version }
 {
     match version {

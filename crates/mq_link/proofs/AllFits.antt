@@ -1,32 +1,15 @@
 -- Each query that a link sends, one message holds.
-use Rattle.std.proofs.Common.{ℕ, Bool, true, false, cond, List, [], ◌∷◌, ◌++◌, Option, None, Some, Result, Ok, Err}
-use Rattle.std.specs.List.{flat_map}
+use Rattle.mq_link.proofs.Common.{ℕ, Bool, true, false, cond, List, [], ◌∷◌, ◌++◌, Option, None, Some, Result, Ok, Err, flat_map, Family, Message, QueryMessage}
+use Rattle.mq_link.proofs.Common.{OldReport, LeaveMessage, ReportMessage, WireFault, RecordView, Timing, GroupChange, ElectionState, returned, general_is_due}
+use Rattle.mq_link.proofs.Common.{general_messages, AllFit, ScheduledGroup, SentQuery, GeneralQuery, GroupQuery, SourcesQuery, messages_due, DropReason}
+use Rattle.mq_link.proofs.Common.{Refusal, Repeated, Configuration, Refused, per_query, Envelope, setting_of, taken_in, taken_or_dropped, drop_reason, read_of}
+use Rattle.mq_link.proofs.Common.{pseudo_of, counting_read, receipt_of, Setting, Statement, RecordOf, OlderJoin, OlderLeave, Outcome, leaving, limit_passed}
+use Rattle.mq_link.proofs.Common.{unless_passed, changed_by, after_sending, sent_at_once, changed_or_refused, change_in, stated, Seen, Entrance, Stops, GoesOn}
+use Rattle.mq_link.proofs.Common.{entrance, is_repeated, seen_after, judged_from, judged, all_judged, Groups, LinkState, with_group, Step, groups_expired}
+use Rattle.mq_link.proofs.Common.{queries_due, tick_of, moment_of}
 use Rattle.std.specs.FinMap as map
 use Rattle.std.specs.FinSet as set
-use Rattle.mq_wire.specs.Family.{Family}
-use Rattle.mq_wire.specs.declared.message.Message.{Message}
-use Rattle.mq_wire.specs.declared.message.Message.TheVariants.{Query as QueryMessage, OldReport, Leave as LeaveMessage, Report as ReportMessage}
-use Rattle.mq_wire.specs.declared.message.WireFault.{WireFault}
-use Rattle.mq_wire.specs.declared.records.RecordView.{RecordView}
-use Rattle.mq_table.specs.declared.timing.Timing.{Timing}
-use Rattle.mq_table.specs.Table.{GroupChange}
-use Rattle.mq_sched.specs.Election.{ElectionState, returned, general_is_due, general_messages}
-use Rattle.mq_sched.specs.Rounds.{AllFit}
-use Rattle.mq_sched.specs.Schedule.{ScheduledGroup}
-use Rattle.mq_sched.specs.Sending.{SentQuery, GeneralQuery, GroupQuery, SourcesQuery, messages_due}
 use Rattle.mq_sched.proofs.FittingRounds.{all_fit}
-use Rattle.mq_link.specs.declared.answers.DropReason.{DropReason}
-use Rattle.mq_link.specs.declared.answers.Refusal.{Refusal}
-use Rattle.mq_link.specs.declared.answers.Refusal.TheVariants.{Repeated}
-use Rattle.mq_link.specs.Configuration.{Configuration}
-use Rattle.mq_link.specs.Counters.{Refused}
-use Rattle.mq_link.specs.Family.{per_query}
-use Rattle.mq_link.specs.Receive.{Envelope, setting_of, taken_in, taken_or_dropped, drop_reason, read_of, pseudo_of, counting_read, receipt_of}
-use Rattle.mq_link.specs.Record.{Setting, Statement, RecordOf, OlderJoin, OlderLeave, Outcome, leaving, limit_passed, unless_passed, changed_by}
-use Rattle.mq_link.specs.Record.{after_sending, sent_at_once, changed_or_refused, change_in, stated, Seen, Entrance, Stops, GoesOn, entrance}
-use Rattle.mq_link.specs.Record.{is_repeated, seen_after, judged_from, judged, all_judged}
-use Rattle.mq_link.specs.State.{Groups, LinkState, with_group}
-use Rattle.mq_link.specs.Tick.{Step, groups_expired, queries_due, tick_of, moment_of}
 
 fit_append : (n : ℕ) (xs ys : List SentQuery) → AllFit n xs → AllFit n ys → AllFit n (xs ++ ys)
 fit_append n [] ys a b = b

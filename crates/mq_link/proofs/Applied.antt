@@ -1,28 +1,16 @@
 -- The conditions and the effect of a statement, whatever the comparisons.
-use Rattle.std.proofs.Common.{◌≡◌, ℕ, refl, ap, arith}
-use Rattle.mq_table.specs.Stored.{named_in}
-use Rattle.mq_sched.specs.Sending.{SentQuery}
-use Rattle.mq_link.specs.declared.statement.StatementKind.{StatementKind}
-use Rattle.mq_link.specs.declared.statement.Verdict.{Verdict}
-use Rattle.mq_link.specs.declared.storage.Scratch.{Scratch}
-use Rattle.mq_link.specs.declared.storage.GroupLookup.{GroupLookup}
-use Rattle.mq_link.specs.declared.storage.Storage.{Storage}
-use Rattle.mq_link.specs.Applying.{CanApply, HasEffect}
-use Rattle.mq_link.specs.Changing.{statement_of}
-use Rattle.mq_link.specs.Judging.{verdict_of}
-use Rattle.mq_link.specs.Record.{Setting, leaving, stated}
-use Rattle.mq_link.specs.Seen.{met_in}
-use Rattle.mq_link.specs.Storage.{KeepsRoom, has_counted, put_by_rows}
-use Rattle.mq_link.proofs.ChangedRecords.{marked_still}
-use Rattle.mq_link.proofs.Moved.{paid_none, paid_within}
+use Rattle.mq_link.proofs.Common.{◌≡◌, ℕ, refl, ap, arith, named_in, SentQuery, StatementKind, Scratch, Storage, CanApply, HasEffect, statement_of, verdict_of}
+use Rattle.mq_link.proofs.Common.{Setting, leaving, stated, met_in, KeepsRoom, has_counted, put_by_rows}
+use Rattle.mq_link.specs.{declared.statement.Verdict.Verdict, declared.storage.GroupLookup.GroupLookup}
+use Rattle.mq_link.proofs.{ChangedRecords.marked_still, Moved.paid_none, Moved.paid_within}
 
 -- after more comparisons it can still be applied
 pub can_apply_still : {K A B : Type 0} {number : K → ℕ} {at : Setting} {storage : Storage K A} {work : Scratch K B} {group : GroupLookup K} (spent : ℕ)
     → CanApply number at storage work group → CanApply number at (has_counted storage spent) work group
 can_apply_still spent can = record {
-  admitted = can.admitted;
   sound = can.sound;
   lookup = can.lookup;
+  within = can.within;
   room = can.room;
   named = can.named;
   group_room = can.group_room;

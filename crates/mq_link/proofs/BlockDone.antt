@@ -1,38 +1,14 @@
 -- A BLOCK done in place: it has the outcome of the model and replaces one group. It
 -- doesn't change what is forwarded of that group.
-use Rattle.std.proofs.Common.{◌≡◌, ℕ, ◌||◌, true, false, List, [], ◌∷◌, is_some, length, refl, sym, ap, ◌∙◌, subst}
+use Rattle.mq_link.proofs.Common.{◌≡◌, ℕ, ◌||◌, true, false, List, [], ◌∷◌, is_some, length, refl, sym, ap, ◌∙◌, subst, true≢false, set_of, is_include}
+use Rattle.mq_link.proofs.Common.{timer_at, ∅, Set, named_in, NamedSources, is_querier, IsQuietAt, ScheduledGroup, SentQuery, acted, after_round, messages_due}
+use Rattle.mq_link.proofs.Common.{Sends, quiet_by, quiet_is_silent, same_round, group_at, HeldState, insert-same, StatementKind, CanBlock, is_block}
+use Rattle.mq_link.proofs.Common.{statement_of, Applied, per_query, changes, Setting, stated, HasOutcome, AreSound, Groups, with_group, put_by_rows}
 use Rattle.std.specs.FinMap as map
 use Rattle.std.specs.FinSet as set
-use Rattle.std.proofs.lemmas.Bool.{true≢false}
-use Rattle.mq_sets.specs.Ascending.{set_of}
-use Rattle.mq_table.specs.Group.{is_include, timer_at}
-use Rattle.mq_table.specs.Sets.{∅, Set}
-use Rattle.mq_table.specs.Stored.{named_in}
-use Rattle.mq_table.specs.Table.{NamedSources}
-use Rattle.mq_sched.specs.Election.{is_querier}
-use Rattle.mq_sched.specs.Rounds.{IsQuietAt}
-use Rattle.mq_sched.specs.Schedule.{ScheduledGroup}
-use Rattle.mq_sched.specs.Sending.{SentQuery, acted, after_round, messages_due}
-use Rattle.mq_sched.specs.Sink.{Sends}
-use Rattle.mq_sched.proofs.Rounds.{quiet_by, quiet_is_silent, same_round}
-use Rattle.mq_held.specs.Groups.{group_at}
-use Rattle.mq_held.specs.Held.{HeldState}
-use Rattle.mq_held.proofs.RestartedTimers.{insert-same}
-use Rattle.mq_link.specs.declared.statement.StatementKind.{StatementKind}
-use Rattle.mq_link.specs.Blocked.{CanBlock, is_block}
-use Rattle.mq_link.specs.Changing.{statement_of}
-use Rattle.mq_link.specs.Counters.{Applied}
-use Rattle.mq_link.specs.Family.{per_query}
-use Rattle.mq_link.specs.Forwarding.{changes}
-use Rattle.mq_link.specs.Record.{Setting, stated}
-use Rattle.mq_link.specs.Router.{HasOutcome}
-use Rattle.mq_link.specs.Sound.{AreSound}
-use Rattle.mq_link.specs.State.{Groups, with_group}
-use Rattle.mq_link.specs.Storage.{put_by_rows}
-use Rattle.mq_link.proofs.BlockedStates.{filter-block, formed, held_as, one_named, one_there, outcome-block, said_is, size_kept, unasked}
-use Rattle.mq_link.proofs.KeptGroups.{group_found}
-use Rattle.mq_link.proofs.OneNamed.{names-none}
-use Rattle.mq_link.proofs.RefreshedStates.{put_by_same, put_is}
+use Rattle.mq_link.proofs.{BlockedStates.filter-block, BlockedStates.formed, BlockedStates.held_as, BlockedStates.one_named, BlockedStates.one_there}
+use Rattle.mq_link.proofs.{BlockedStates.outcome-block, BlockedStates.said_is, BlockedStates.size_kept, BlockedStates.unasked, KeptGroups.group_found}
+use Rattle.mq_link.proofs.{OneNamed.names-none, RefreshedStates.put_by_same, RefreshedStates.put_is}
 
 -- a group with some sources asked for, once the due queries are sent
 abbrev pub asked_of : Setting → Set → ScheduledGroup → ScheduledGroup

@@ -1,63 +1,21 @@
 -- The outcome of a BLOCK in place.
-use Rattle.std.proofs.Common.{◌≡◌, ℕ, ◌+◌, ◌≤◌, ◌==◌, ◌⊎◌, inl, inr, Bool, true, false, cond, ◌&&◌, not, ◌||◌, List, [], ◌∷◌, Option, None, Some}
-use Rattle.std.proofs.Common.{is_some, refl, sym, ap, ◌∙◌, subst, arith, ltb}
-use Rattle.mq_link.proofs.GrownGroups.{one_at_most}
-use Rattle.mq_link.proofs.HeldAs.{is_from}
+use Rattle.mq_link.proofs.Common.{◌≡◌, ℕ, ◌+◌, ◌≤◌, ◌==◌, ◌⊎◌, inl, inr, Bool, true, false, cond, ◌&&◌, not, ◌||◌, List, [], ◌∷◌, Option, None, Some, is_some}
+use Rattle.mq_link.proofs.Common.{refl, sym, ap, ◌∙◌, subst, arith, ltb, list_any, option_map, nat_cmp, eq_by_cmp, or-false, and-true, true≢false, cases_eq}
+use Rattle.mq_link.proofs.Common.{eq-eqb, eqb-true, ltb-true, ne_eqb, and_right, set_of, Kind, Block, Timing, FilterMode, Include, Exclude, SourceTimer}
+use Rattle.mq_link.proofs.Common.{Stopped, Running, changes_filter, is_include, is_running, is_stopped, running, stopped, timer_at, IsHeld, lowered_to}
+use Rattle.mq_link.proofs.Common.{translated_change, above, source_asked, ∅, Set, named_in, size_of, GroupChange, NamedSources, change_of, table_row}
+use Rattle.mq_link.proofs.Common.{last_member_count, membership_interval, same_sources, at_source_of, both, each_case, timer_then, is_querier, IsQuietAt}
+use Rattle.mq_link.proofs.Common.{ScheduledGroup, settled, acted, after_change, after_round, group_counted, messages_due, sources_asked, SentQuery, Sends}
+use Rattle.mq_link.proofs.Common.{timer_at-sources_asked, same_count, held_acted, held_after_round, ties, untied, StatementKind, has_older_hosts}
+use Rattle.mq_link.proofs.Common.{has_schedule_left, is_block, Applied, per_query, v1_mutes_leave, changes, RecordOf, Setting, is_muted, stated, HasOutcome}
+use Rattle.mq_link.proofs.Common.{AreSound}
+use Rattle.mq_link.proofs.{GrownGroups.one_at_most, HeldAs.is_from, ChangedRecords.changed_then, KeptFilters.unchanged, KeptGroups.group_found}
+use Rattle.mq_link.proofs.{MadeEntries.len-made, MadeEntries.round_keeps_size, Quiet.not_vacant, Quiet.same_settled, RefreshedGroups.after-nothing}
+use Rattle.mq_link.proofs.{OneNamed.names-one, RefreshedStates.put_is, StatedSteps.IsChanged, StatedSteps.stated_judged, UnpassedLimits.passes_none_by}
 use Rattle.std.specs.FinMap as map
 use Rattle.std.specs.FinSet as set
-use Rattle.std.specs.List.{list_any}
-use Rattle.std.specs.Option.{option_map}
-use Rattle.std.specs.Ordering.{nat_cmp, eq_by_cmp}
-use Rattle.std.proofs.Math.Bool.{or-false, and-true}
-use Rattle.std.proofs.lemmas.Bool.{true≢false, cases_eq, eq-eqb, eqb-true, ltb-true, ne_eqb, and_right}
-use Rattle.mq_sets.specs.Ascending.{set_of}
-use Rattle.mq_table.specs.declared.kind.Kind.{Kind}
-use Rattle.mq_table.specs.declared.kind.Kind.TheVariants.{IsIn, IsEx, ToIn, ToEx, Allow, Block}
-use Rattle.mq_table.specs.declared.timing.Timing.{Timing}
-use Rattle.mq_table.specs.declared.timers.FilterMode.{FilterMode}
-use Rattle.mq_table.specs.declared.timers.FilterMode.TheVariants.{Include, Exclude}
-use Rattle.mq_table.specs.declared.timers.SourceTimer.{SourceTimer}
-use Rattle.mq_table.specs.declared.timers.SourceTimer.TheVariants.{Stopped, Running}
-use Rattle.mq_table.specs.Filter.{changes_filter}
-use Rattle.mq_table.specs.Group.{is_include, is_running, is_stopped, running, stopped, timer_at, IsWellFormed as IsHeld}
-use Rattle.mq_table.specs.Lowering.{lowered_to}
-use Rattle.mq_table.specs.OlderHosts.{translated_change}
-use Rattle.mq_table.specs.Sendings.{above, source_asked}
-use Rattle.mq_table.specs.Sets.{∅, Set}
-use Rattle.mq_table.specs.Stored.{named_in, size_of}
-use Rattle.mq_table.specs.Table.{GroupChange, NamedSources, change_of, table_row}
-use Rattle.mq_table.specs.Timing.{last_member_count, membership_interval}
-use Rattle.mq_table.proofs.Groups.{same_sources}
-use Rattle.mq_table.proofs.TableRows.{at_source_of, both, each_case, timer_then}
-use Rattle.mq_sched.specs.Election.{is_querier}
-use Rattle.mq_sched.specs.Rounds.{IsQuietAt}
-use Rattle.mq_sched.specs.Schedule.{ScheduledGroup, settled}
-use Rattle.mq_sched.specs.Sending.{acted, after_change, after_round, group_counted, messages_due, sources_asked, SentQuery}
-use Rattle.mq_sched.specs.Sink.{Sends}
-use Rattle.mq_sched.proofs.Asked.{timer_at-sources_asked}
-use Rattle.mq_sched.proofs.Rounds.{same_count}
-use Rattle.mq_sched.proofs.StayHeld.{held_acted, held_after_round}
-use Rattle.mq_held.proofs.Sorted.{ties, untied}
-use Rattle.mq_link.specs.declared.statement.StatementKind.{StatementKind}
-use Rattle.mq_link.specs.declared.statement.StatementKind.TheVariants.{Record as SaidRecord, OlderJoin, OlderLeave}
-use Rattle.mq_link.specs.Blocked.{has_older_hosts, has_schedule_left, is_block}
-use Rattle.mq_link.specs.Counters.{Applied}
-use Rattle.mq_link.specs.Family.{per_query, v1_mutes_leave}
-use Rattle.mq_link.specs.Forwarding.{changes}
-use Rattle.mq_link.specs.Record.{RecordOf, Setting, is_muted, stated}
-use Rattle.mq_link.specs.Router.{HasOutcome}
-use Rattle.mq_link.specs.Sound.{AreSound}
+use Rattle.mq_link.specs.declared.statement.StatementKind.TheVariants.{Record as SaidRecord}
 use Rattle.mq_link.specs.State.{Groups, IsHeldAs, group_at, is_source_specific, one_if, schedules_in, schedules_of, sources_of, with_group}
-use Rattle.mq_link.proofs.ChangedRecords.{changed_then}
-use Rattle.mq_link.proofs.KeptFilters.{unchanged}
-use Rattle.mq_link.proofs.KeptGroups.{group_found}
-use Rattle.mq_link.proofs.MadeEntries.{len-made, round_keeps_size}
-use Rattle.mq_link.proofs.Quiet.{not_vacant, same_settled}
-use Rattle.mq_link.proofs.RefreshedGroups.{after-nothing}
-use Rattle.mq_link.proofs.OneNamed.{names-one}
-use Rattle.mq_link.proofs.RefreshedStates.{put_is}
-use Rattle.mq_link.proofs.StatedSteps.{IsChanged, stated_judged}
-use Rattle.mq_link.proofs.UnpassedLimits.{passes_none_by}
 
 -- a BLOCK leaves the timer of a source as it is that isn't named, or that the group has
 abbrev TimerThen : ℕ → FilterMode → ℕ → Option SourceTimer → Bool → Type 0
@@ -110,9 +68,8 @@ module _ (timing : Timing) (now : ℕ) (a b : Set) (e : ScheduledGroup) (agree :
     where
       none : (c d : Bool) → (c && false) ≡ (d && false)
       none true true = refl
-      none true false = refl
       none false true = refl
-      none false false = refl
+      none _ _ = refl
 
       by_timer : (t : Option SourceTimer) → timer_at e.group s ≡ t → (a s && above timing now e.group s) ≡ (b s && above timing now e.group s)
       by_timer None is = rw is (none (a s) (b s))
@@ -289,13 +246,7 @@ unasked at a groups sound held =
 -- the statement that such a record is
 pub said_is : (said : StatementKind) → is_block said ≡ true → said ≡ SaidRecord Block
 said_is (SaidRecord Block) is = refl
-said_is (SaidRecord IsIn) is = absurd (true≢false (sym is))
-said_is (SaidRecord IsEx) is = absurd (true≢false (sym is))
-said_is (SaidRecord ToIn) is = absurd (true≢false (sym is))
-said_is (SaidRecord ToEx) is = absurd (true≢false (sym is))
-said_is (SaidRecord Allow) is = absurd (true≢false (sym is))
-said_is (OlderJoin version) is = absurd (true≢false (sym is))
-said_is OlderLeave is = absurd (true≢false (sym is))
+said_is _ is = absurd (true≢false (sym is))
 
 -- the source that a list of one names
 pub one_named : {K : Type 0} (number : K → ℕ) (xs : List K) (x : K) → xs ≡ x ∷ [] → (s : ℕ) → set.contains (named_in number xs) s ≡ set_of (λ n. n)

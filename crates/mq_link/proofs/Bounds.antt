@@ -1,25 +1,13 @@
 -- A group after the end of timers, rounds, the loss of the role and lowering. It has at most the sources and schedules that
 -- it had, so limits are kept.
-use Rattle.std.proofs.Common.{◌≡◌, ℕ, ◌+◌, ◌-◌, ◌≤◌, Bool, true, false, cond, Option, None, Some, IfSome, sym, subst, arith, ltb, leb}
+use Rattle.mq_link.proofs.Common.{◌≡◌, ℕ, ◌+◌, ◌-◌, ◌≤◌, Bool, true, false, cond, Option, None, Some, IfSome, sym, subst, arith, ltb, leb, nat_cmp, Timing}
+use Rattle.mq_link.proofs.Common.{SourceTimer, Set, kept, GroupState, vacant, is_vacant, is_include, size_of, mode_expired, source_expired, ahead, expired}
+use Rattle.mq_link.proofs.Common.{lowered_by_query, lowered_to, source_lowered, get-kept, some_source, has_sendings, source_cleared, source_counted}
+use Rattle.mq_link.proofs.Common.{sendings_counted, QuerySchedule, ScheduleState, ScheduledGroup, settled, cleared, is_due, sources_due_next, group_counted}
+use Rattle.mq_link.proofs.Common.{after_round, Limits, group_expired, if_held}
 use Rattle.std.specs.Option.{option_and_then, unwrap_or, is_some}
-use Rattle.std.specs.Ordering.{nat_cmp}
 use Rattle.std.specs.FinMap as map
-use Rattle.mq_table.specs.declared.timing.Timing.{Timing}
-use Rattle.mq_table.specs.declared.timers.SourceTimer.{SourceTimer}
-use Rattle.mq_table.specs.Sets.{Set}
-use Rattle.mq_table.specs.Maps.{kept}
-use Rattle.mq_table.specs.Group.{GroupState, vacant, is_vacant, is_include}
-use Rattle.mq_table.specs.Stored.{size_of}
-use Rattle.mq_table.specs.Expiry.{mode_expired, source_expired, ahead, expired}
-use Rattle.mq_table.specs.Lowering.{lowered_by_query, lowered_to, source_lowered}
-use Rattle.mq_table.proofs.Maps.{get-kept}
-use Rattle.mq_table.specs.Sendings.{some_source, has_sendings, source_cleared, source_counted, sendings_counted}
-use Rattle.mq_sched.specs.declared.queries.QuerySchedule.{QuerySchedule}
-use Rattle.mq_sched.specs.Schedule.{ScheduleState, ScheduledGroup, settled, cleared}
-use Rattle.mq_sched.specs.Sending.{is_due, sources_due_next, group_counted, after_round}
-use Rattle.mq_link.specs.declared.configuration.Limits.{Limits}
 use Rattle.mq_link.specs.State.{Groups, unheld, sources_of, one_if, schedules_of, AreWithin, sources_in}
-use Rattle.mq_link.specs.Tick.{group_expired, if_held}
 use Rattle.mq_link.proofs.Entries.{total-kept, len-kept}
 
 -- no more sources and no more schedules
@@ -52,8 +40,7 @@ one_if-cond false (Some x) = omega arith
 
 one_if-unless : {X : Type 0} (b : Bool) (x : Option X) → one_if (is_some (cond b None x)) ≤ one_if (is_some x)
 one_if-unless true None = omega arith
-one_if-unless true (Some x) = omega arith
-one_if-unless false x = omega arith
+one_if-unless _ _ = omega arith
 
 settled_schedules : (g g' : GroupState) (schedule : ScheduleState) → schedules_of (record { group = g; schedule = settled g schedule }) ≤ schedules_of
     (record { group = g'; schedule = schedule })
@@ -77,8 +64,7 @@ counted_at_most timing now (Some q) = by_due (leb q.due now) (ltb 1 q.sendings)
     by_due : (due more : Bool) →
         one_if (is_some (cond due (cond more (Some (record { sendings = q.sendings - 1; due = now + timing.last_member_interval })) None) (Some q))) ≤ 1
     by_due true true = omega arith
-    by_due true false = omega arith
-    by_due false more = omega arith
+    by_due _ _ = omega arith
 
 pub round_size : (g : GroupState) (due : Bool) → size_of (cond due (sendings_counted g) g) ≤ size_of g
 round_size g true = len-kept (λ s timer. Some (source_counted timer)) g.sources
@@ -91,8 +77,7 @@ round_due timing now g (Some d) = by_due (leb d now) (some_source (has_sendings 
   where
     by_due : (due some : Bool) → one_if (is_some (cond due (cond some (Some (now + timing.last_member_interval)) None) (Some d))) ≤ 1
     by_due true true = omega arith
-    by_due true false = omega arith
-    by_due false some = omega arith
+    by_due _ _ = omega arith
 
 pub round_no_more : (timing : Timing) (now : ℕ) (e : ScheduledGroup) → NoMore e (after_round timing now e)
 round_no_more timing now e = record {

@@ -1,11 +1,7 @@
 -- The defaults of a family, which have no fault.
-use Rattle.std.proofs.Common.{◌≡◌, ℕ, Bool, true, not, cond, Some, None, Option, ap}
-use Rattle.mq_wire.specs.Family.{Family, Igmp, Mld}
-use Rattle.mq_link.specs.declared.configuration.ConfigFault.{ConfigFault}
-use Rattle.mq_link.specs.declared.configuration.ConfigFault.TheVariants.{OwnAddress}
-use Rattle.mq_link.specs.Configuration.{IsFaultless}
+use Rattle.mq_link.proofs.Common.{◌≡◌, ℕ, Bool, true, not, cond, Some, None, Option, ap, Family, Igmp, Mld, ConfigFault, OwnAddress, IsFaultless}
+use Rattle.mq_link.proofs.Common.{is_router_address}
 use Rattle.mq_link.specs.Defaults.{configured_by_default}
-use Rattle.mq_link.specs.Family.{is_router_address}
 
 of_address : Bool → Option ConfigFault
 of_address may = cond (not may) (Some OwnAddress) None

@@ -1,35 +1,15 @@
 -- The groups that records have changed, by their numbers. A record changes only its own group.
-use Rattle.std.proofs.Common.{◌≡◌, ℕ, ◌+◌, ◌<◌, ◌≤◌, Bool, true, false, cond, ◌||◌, List, [], ◌∷◌, length, set, Option, None, Some, IfSome}
-use Rattle.std.proofs.Common.{MatchOption, refl, sym, ap, ◌∙◌, arith, leb, ltb}
-use Rattle.std.proofs.Math.Bool.{or-false}
-use Rattle.std.specs.Prelude.{slice_index}
-use Rattle.std.specs.Option.{option_map_or, unwrap_or}
-use Rattle.std.specs.Ordering.{nat_cmp, eq_by_cmp}
+use Rattle.mq_link.proofs.Common.{◌≡◌, ℕ, ◌+◌, ◌<◌, ◌≤◌, Bool, true, false, cond, ◌||◌, List, [], ◌∷◌, length, set, Option, None, Some, IfSome, MatchOption}
+use Rattle.mq_link.proofs.Common.{refl, sym, ap, ◌∙◌, arith, leb, ltb, or-false, slice_index, option_map_or, unwrap_or, nat_cmp, eq_by_cmp, lt-ltb, true≢false}
+use Rattle.mq_link.proofs.Common.{sum_by-set, Timing, OlderVersion, V1, V2, changes_filter, filter_of, GroupState, is_vacant, older_host, GroupChange}
+use Rattle.mq_link.proofs.Common.{ScheduledGroup, after_change, after_round, HeldState, HasNumber, tied, ties, RecordView, changed_by_all, changes, Seen}
+use Rattle.mq_link.proofs.Common.{Setting, judged, met, seen_after, AreMarked, AreMet, AreNone, KeepsNumbers, counted_again, met_in}
 use Rattle.std.specs.FinMap as map
-use Rattle.std.proofs.lemmas.Bool.{lt-ltb, true≢false}
-use Rattle.std.proofs.lemmas.List.Sums.{sum_by-set}
-use Rattle.mq_table.specs.declared.timing.Timing.{Timing}
-use Rattle.mq_count.specs.declared.versions.OlderVersion.{OlderVersion}
-use Rattle.mq_count.specs.declared.versions.OlderVersion.TheVariants.{V1, V2}
-use Rattle.mq_table.specs.Filter.{changes_filter, filter_of}
-use Rattle.mq_table.specs.Group.{GroupState, is_vacant}
-use Rattle.mq_table.specs.OlderHosts.{older_host}
-use Rattle.mq_table.specs.Table.{GroupChange}
-use Rattle.mq_sched.specs.Schedule.{ScheduledGroup}
-use Rattle.mq_sched.specs.Sending.{after_change, after_round}
 use Rattle.mq_held.specs.Groups.{Groups, group_at, kept_as, unheld, with_group}
-use Rattle.mq_held.specs.Held.{HeldState, HasNumber}
-use Rattle.mq_held.proofs.Sorted.{tied, ties}
-use Rattle.mq_wire.specs.declared.records.RecordView.{RecordView}
-use Rattle.mq_link.specs.Forwarding.{changed_by_all, changes}
-use Rattle.mq_link.specs.Record.{Seen, Setting, judged, met, seen_after}
-use Rattle.mq_link.specs.Seen.{AreMarked, AreMet, AreNone, KeepsNumbers, counted_again, met_in}
-use Rattle.mq_link.proofs.KeptFilters.{alike_after, change_keeps_filter, kept_filter, round_keeps_filter, unchanged}
-use Rattle.mq_link.proofs.KeptGroups.{absent_unheld}
-use Rattle.mq_link.proofs.ListedNumbers.{none_counted}
-use Rattle.mq_link.proofs.MetNumbers.{AreNumbered, met_again_by_number, met_still, unmarked, was_absent, length-counted_again}
-use Rattle.mq_link.proofs.Recorded.{get-with_group}
-use Rattle.mq_link.proofs.TakenRecords.{again, met_once, met_other}
+use Rattle.mq_link.proofs.{KeptFilters.alike_after, KeptFilters.change_keeps_filter, KeptFilters.kept_filter, KeptFilters.round_keeps_filter}
+use Rattle.mq_link.proofs.{KeptFilters.unchanged, KeptGroups.absent_unheld, ListedNumbers.none_counted, MetNumbers.AreNumbered, MetNumbers.met_again_by_number}
+use Rattle.mq_link.proofs.{MetNumbers.met_still, MetNumbers.unmarked, MetNumbers.was_absent, MetNumbers.length-counted_again, Recorded.get-with_group}
+use Rattle.mq_link.proofs.{TakenRecords.again, TakenRecords.met_once, TakenRecords.met_other}
 
 -- host timers are no part of a filter
 changes-older_host : (version : OlderVersion) (timing : Timing) (now : ℕ) (before after : GroupState) →

@@ -1,32 +1,13 @@
 -- The most sources of a group after a statement.
-use Rattle.std.proofs.Common.{◌≡◌, ℕ, ◌+◌, ◌≤◌, Bool, true, false, cond, ◌||◌, List, [], ◌∷◌, ◌++◌, Option, None, Some, IfSome, length, refl, sym, ap}
-use Rattle.std.proofs.Common.{◌∙◌, subst, arith, length-append}
-use Rattle.std.specs.Prelude.{map as list_map}
-use Rattle.std.specs.Option.{option_map}
-use Rattle.std.specs.Ordering.{nat_cmp, eq_by_cmp}
-use Rattle.std.specs.Cmp.{nat_cmp_total}
+use Rattle.mq_link.proofs.Common.{◌≡◌, ℕ, ◌+◌, ◌≤◌, Bool, true, false, cond, ◌||◌, List, [], ◌∷◌, ◌++◌, Option, None, Some, IfSome, length, refl, sym, ap, ◌∙◌}
+use Rattle.mq_link.proofs.Common.{subst, arith, length-append, list_map, option_map, nat_cmp, eq_by_cmp, nat_cmp_total, FinMap, length-map, list_any-append}
+use Rattle.mq_link.proofs.Common.{OlderVersion, V1, V2, Kind, IsEx, ToIn, ToEx, Hosts, Timing, with_entry, entries_by, by_rule, GroupState, size_of, named_in}
+use Rattle.mq_link.proofs.Common.{NamedSources, GroupChange, change_of, hosts_of, translated, older_host, find-entries_by, get-by_rule, StatementKind}
+use Rattle.mq_link.proofs.Common.{statement_of, StatesJoin, StatesLeave, asking_nothing, change_stated}
 use Rattle.std.specs.FinMap as map
-use Rattle.std.specs.FinMap.{FinMap}
 use Rattle.std.specs.FinSet as set
-use Rattle.std.proofs.lemmas.List.{length-map}
-use Rattle.std.proofs.lemmas.List.Folds.{list_any-append}
-use Rattle.mq_count.specs.declared.versions.OlderVersion.{OlderVersion}
-use Rattle.mq_count.specs.declared.versions.OlderVersion.TheVariants.{V1, V2}
-use Rattle.mq_table.specs.declared.kind.Kind.{Kind}
-use Rattle.mq_table.specs.declared.kind.Kind.TheVariants.{IsEx, ToIn, ToEx}
-use Rattle.mq_table.specs.declared.older_hosts.Hosts.{Hosts}
-use Rattle.mq_table.specs.declared.timing.Timing.{Timing}
-use Rattle.mq_table.specs.Maps.{with_entry, entries_by, by_rule}
-use Rattle.mq_table.specs.Group.{GroupState}
-use Rattle.mq_table.specs.Stored.{size_of, named_in}
-use Rattle.mq_table.specs.Table.{NamedSources, GroupChange, change_of}
-use Rattle.mq_table.specs.OlderHosts.{hosts_of, translated, older_host}
-use Rattle.mq_table.proofs.Maps.{find-entries_by, get-by_rule}
-use Rattle.mq_link.specs.declared.statement.StatementKind.{StatementKind}
 use Rattle.mq_link.specs.declared.statement.StatementKind.TheVariants.{Record, OlderJoin, OlderLeave}
-use Rattle.mq_link.specs.Changing.{statement_of}
 use Rattle.mq_link.proofs.TranslatedRecords.{of_translated}
-use Rattle.mq_link.specs.Record.{OlderJoin as StatesJoin, OlderLeave as StatesLeave, asking_nothing, change_stated}
 
 few_entries : {X : Type 0} (es : List (ℕ × X)) → map.len (map.from_entries {R = nat_cmp} es) ≤ length es
 few_entries {X} [] = let n = map.len-empty nat_cmp X in omega arith

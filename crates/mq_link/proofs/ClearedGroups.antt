@@ -1,34 +1,14 @@
 -- The groups of a link while what is to go for them is dropped, one group after the other.
-use Rattle.std.proofs.Common.{◌≡◌, ℕ, zero, suc, ◌+◌, ◌*◌, ◌≤◌, ◌<◌, Bool, true, false, cond, refl, List, length, drop, Option, None, Some, is_some}
-use Rattle.std.proofs.Common.{sym, ap, ◌∙◌, subst, arith, ltb}
-use Rattle.std.proofs.lemmas.Bool.{true≢false}
-use Rattle.std.proofs.lemmas.Bool.Decides.{nat_tests}
-use Rattle.std.proofs.lemmas.List.{length-map, take_all}
-use Rattle.std.specs.List.{sum_by}
-use Rattle.std.specs.Option.{option_and_then, unwrap_or}
-use Rattle.std.specs.Ordering.{nat_cmp, eq_by_cmp}
-use Rattle.std.specs.Cmp.{nat_cmp_total}
+use Rattle.mq_link.proofs.Common.{◌≡◌, ℕ, zero, suc, ◌+◌, ◌*◌, ◌≤◌, ◌<◌, Bool, true, false, cond, refl, List, length, drop, Option, None, Some, is_some, sym}
+use Rattle.mq_link.proofs.Common.{ap, ◌∙◌, subst, arith, ltb, true≢false, nat_tests, length-map, take_all, sum_by, option_and_then, unwrap_or, nat_cmp}
+use Rattle.mq_link.proofs.Common.{eq_by_cmp, nat_cmp_total, Spends, Spends-none, Spends-join_within, timer_at, sendings_of, IsHeld, SourceTimer, Stopped}
+use Rattle.mq_link.proofs.Common.{Running, some_source, has_sendings, source_cleared, get-kept, same_group, same_sources, ScheduleState, ScheduledGroup}
+use Rattle.mq_link.proofs.Common.{IsScheduleOf, no_schedule, cleared, some_source-from, held_cleared, tied, Groups, IsServed, groups_cleared}
 use Rattle.std.specs.FinMap as map
-use Rattle.mq_count.specs.Spending.{Spends}
-use Rattle.mq_count.proofs.Spent.{Spends-none, Spends-join_within}
-use Rattle.mq_table.specs.Group.{timer_at, sendings_of, IsWellFormed as IsHeld}
-use Rattle.mq_table.specs.declared.timers.SourceTimer.{SourceTimer}
-use Rattle.mq_table.specs.declared.timers.SourceTimer.TheVariants.{Stopped, Running}
-use Rattle.mq_table.specs.Sendings.{some_source, has_sendings, source_cleared}
-use Rattle.mq_table.proofs.Maps.{get-kept}
-use Rattle.mq_table.proofs.Groups.{same_group, same_sources}
-use Rattle.mq_sched.specs.Schedule.{ScheduleState, ScheduledGroup, IsScheduleOf, no_schedule, cleared}
-use Rattle.mq_sched.proofs.Asked.{some_source-from}
-use Rattle.mq_sched.proofs.StayHeld.{held_cleared}
 use Rattle.mq_held.specs.Groups.{unheld, group_at, sources_of, sources_in}
-use Rattle.mq_held.proofs.Sorted.{tied}
-use Rattle.mq_link.specs.State.{Groups}
-use Rattle.mq_link.specs.Serving.{IsServed}
-use Rattle.mq_link.specs.Heard.{groups_cleared}
-use Rattle.mq_link.proofs.Bounds.{cleared_no_more}
-use Rattle.mq_link.proofs.DueGroups.{among_keys}
-use Rattle.mq_link.proofs.KeptGroups.{group_found}
-use Rattle.mq_link.proofs.ReplacedGroups.{IsReplacedTo, all_entries, among, entry_at, entry_sources, next_group, one_replaced, one_weighed, sources_of_entries}
+use Rattle.mq_link.proofs.{Bounds.cleared_no_more, DueGroups.among_keys, KeptGroups.group_found, ReplacedGroups.IsReplacedTo, ReplacedGroups.all_entries}
+use Rattle.mq_link.proofs.{ReplacedGroups.among, ReplacedGroups.entry_at, ReplacedGroups.entry_sources, ReplacedGroups.next_group, ReplacedGroups.one_replaced}
+use Rattle.mq_link.proofs.{ReplacedGroups.one_weighed, ReplacedGroups.sources_of_entries}
 
 -- a group for which nothing is to go has none to drop
 pub none_of : {X : Type 0} (x : Option X) → is_some x ≡ false → x ≡ None

@@ -1,16 +1,9 @@
 -- One more at one name, in a row of counters.
 use Rattle.std.proofs.Common.{◌≡◌, ◌≢◌, ℕ, ◌+◌, ◌-◌, ◌<◌, Bool, true, false, cond, List, length, get_or, set, get_or-set_other, sym, ap, ◌∙◌, arith}
-use Rattle.std.proofs.lemmas.Bool.{eqb-true, eq-eqb}
+use Rattle.mq_link.proofs.Common.{eqb-true, eq-eqb, counted_on, DropReason, Truncated, Refusal, counted_at, reason_number, refusal_number}
 use Rattle.std.proofs.lemmas.Grind.{get_or-set_at}
 use Rattle.std.specs.Prelude.{◌==◌}
-use Rattle.mq_count.specs.Streams.{counted_on}
-use Rattle.mq_link.specs.declared.answers.DropReason.{DropReason}
-use Rattle.mq_link.specs.declared.answers.DropReason.TheVariants.{Truncated, Checksum, UnknownType, QueryLength, BadSource, HopLimit, NoAlert}
-use Rattle.mq_link.specs.declared.answers.DropReason.TheVariants.{OwnOrZero, OlderQuery, BadGroup}
-use Rattle.mq_link.specs.declared.answers.Refusal.{Refusal}
-use Rattle.mq_link.specs.declared.answers.Refusal.TheVariants.{Long, Repeated, Groups, GroupSources, Sources, Scheduled, Memory}
-use Rattle.mq_link.specs.Counted.{count_in}
-use Rattle.mq_link.specs.Counters.{counted_at, reason_number, refusal_number}
+use Rattle.mq_link.specs.{declared.answers.Refusal.TheVariants.Long, Counted.count_in}
 
 other_than : (a b : ℕ) → (a == b) ≡ false → a ≢ b
 other_than a b apart same = let is : (a == b) ≡ true = eq-eqb a b same in cc
@@ -37,21 +30,8 @@ row_counted number positive row place name value is within counted =
 
 pub reason_positive : (reason : DropReason) → 0 < reason_number reason
 reason_positive Truncated = omega arith
-reason_positive Checksum = omega arith
-reason_positive UnknownType = omega arith
-reason_positive QueryLength = omega arith
-reason_positive BadSource = omega arith
-reason_positive HopLimit = omega arith
-reason_positive NoAlert = omega arith
-reason_positive OwnOrZero = omega arith
-reason_positive OlderQuery = omega arith
-reason_positive BadGroup = omega arith
+reason_positive _ = omega arith
 
 pub refusal_positive : (name : Refusal) → 0 < refusal_number name
 refusal_positive Long = omega arith
-refusal_positive Repeated = omega arith
-refusal_positive Groups = omega arith
-refusal_positive GroupSources = omega arith
-refusal_positive Sources = omega arith
-refusal_positive Scheduled = omega arith
-refusal_positive Memory = omega arith
+refusal_positive _ = omega arith

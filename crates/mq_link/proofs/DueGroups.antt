@@ -1,33 +1,15 @@
 -- The entries of the groups that have a moment at or before a given one, and facts about the others.
-use Rattle.std.proofs.Common.{◌≡◌, ◌==◌, cond, ℕ, zero, suc, ◌+◌, ◌<◌, ◌≤◌, Bool, true, false, ◌||◌, not, refl, List, [], ◌∷◌, ◌++◌, length, Option}
-use Rattle.std.proofs.Common.{None, Some, IfSome, is_some, sym, ap, ◌∙◌, subst, arith, leb}
-use Rattle.std.specs.Prelude.{map as list_map}
+use Rattle.mq_link.proofs.Common.{◌≡◌, ◌==◌, cond, ℕ, zero, suc, ◌+◌, ◌<◌, ◌≤◌, Bool, true, false, ◌||◌, not, refl, List, [], ◌∷◌, ◌++◌, length, Option, None}
+use Rattle.mq_link.proofs.Common.{Some, IfSome, is_some, sym, ap, ◌∙◌, subst, arith, leb, list_map, option_and_then, nat_cmp, eq_by_cmp, FinMap, true≢false}
+use Rattle.mq_link.proofs.Common.{eq-eqb, ne_eqb, nat_tests, sum_by-cons, IsAscending, Timing, is_vacant, with_entry, kept, get-kept, ScheduledGroup, SentQuery}
+use Rattle.mq_link.proofs.Common.{running_in, sources_of, has_due, addresses_due, due_in, tied, ties, Groups, AreServed}
 use Rattle.std.specs.List.{list_any, sum_by, count_by, filter, flat_map}
-use Rattle.std.specs.Option.{option_and_then}
-use Rattle.std.specs.Ordering.{nat_cmp, eq_by_cmp}
 use Rattle.std.specs.FinMap as map
-use Rattle.std.specs.FinMap.{FinMap}
-use Rattle.std.proofs.lemmas.Bool.{true≢false, eq-eqb, ne_eqb}
-use Rattle.std.proofs.lemmas.Bool.Decides.{nat_tests}
-use Rattle.std.proofs.lemmas.List.Sums.{sum_by-cons}
-use Rattle.mq_sets.specs.Ascending.{IsAscending}
-use Rattle.mq_table.specs.declared.timing.Timing.{Timing}
-use Rattle.mq_table.specs.Group.{is_vacant}
-use Rattle.mq_table.specs.Maps.{with_entry, kept}
-use Rattle.mq_table.proofs.Maps.{get-kept}
-use Rattle.mq_sched.specs.Schedule.{ScheduledGroup}
-use Rattle.mq_sched.specs.Sending.{SentQuery}
-use Rattle.mq_held.specs.Groups.{running_in, sources_of}
 use Rattle.mq_held.specs.Moments.{moments_of}
-use Rattle.mq_held.specs.Places.{has_due, addresses_due, due_in}
-use Rattle.mq_held.proofs.Sorted.{tied, ties}
-use Rattle.mq_link.specs.State.{Groups}
-use Rattle.mq_link.specs.Serving.{AreServed}
-use Rattle.mq_link.proofs.Quiet.{AllAbove, not_vacant}
-use Rattle.mq_link.proofs.PassedEntries.{GroupEntries, IsPassed}
-use Rattle.mq_link.proofs.Entries.{filtered, entries-kept, total-kept, len-kept}
-use Rattle.mq_link.proofs.ReplacedGroups.{AreEntries, all_entries, addresses_of, among, entry_at, entry_sources, sources_of_entries}
-use Rattle.mq_link.proofs.TickedEntries.{ticked_group, queries_at, beyond_passed}
+use Rattle.mq_link.proofs.{Quiet.AllAbove, Quiet.not_vacant, PassedEntries.GroupEntries, PassedEntries.IsPassed, Entries.filtered, Entries.entries-kept}
+use Rattle.mq_link.proofs.{Entries.total-kept, Entries.len-kept, ReplacedGroups.AreEntries, ReplacedGroups.all_entries, ReplacedGroups.addresses_of}
+use Rattle.mq_link.proofs.{ReplacedGroups.among, ReplacedGroups.entry_at, ReplacedGroups.entry_sources, ReplacedGroups.sources_of_entries}
+use Rattle.mq_link.proofs.{TickedEntries.ticked_group, TickedEntries.queries_at, TickedEntries.beyond_passed}
 
 -- no moment at or before one is all of them above it
 none_due : (now : ℕ) (ms : List ℕ) → list_any (λ t. leb t now) ms ≡ false → AllAbove now ms

@@ -1,17 +1,6 @@
 -- The due queries of a moment that a sender has taken.
-use Rattle.std.proofs.Common.{◌≡◌, ℕ, Bool, cond, [], ◌∷◌, ◌++◌, sym, subst}
-use Rattle.mq_wire.specs.Family.{Family}
-use Rattle.mq_table.specs.declared.timing.Timing.{Timing}
-use Rattle.mq_sched.specs.Election.{ElectionState, ticked, general_messages}
-use Rattle.mq_sched.specs.Sending.{SentQuery, GeneralQuery}
-use Rattle.mq_sched.specs.Sink.{Sends}
-use Rattle.mq_sched.proofs.Collecting.{Sends-append}
-use Rattle.mq_link.specs.declared.sender.Sender.{Sender}
-use Rattle.mq_link.specs.Configuration.{Configuration}
-use Rattle.mq_link.specs.Sender.{TakesQuery, begun}
-use Rattle.mq_link.specs.Sent.{Outgoing}
-use Rattle.mq_link.specs.State.{Groups}
-use Rattle.mq_link.specs.Tick.{groups_expired, queries_due}
+use Rattle.mq_link.proofs.Common.{◌≡◌, ℕ, Bool, cond, [], ◌∷◌, ◌++◌, sym, subst, Family, Timing, ElectionState, ticked, general_messages, SentQuery}
+use Rattle.mq_link.proofs.Common.{GeneralQuery, Sends, Sends-append, Sender, Configuration, TakesQuery, begun, Outgoing, Groups, groups_expired, queries_due}
 
 pub due_sent : {F O K E : Type 0} (takes : O → Outgoing → Bool → O → Type 0) (family : Family) (config : Configuration) (now : ℕ)
     (before : ElectionState) (groups : Groups) (timing : Timing) (old first between new : Sender F O K E) (is_due : Bool)

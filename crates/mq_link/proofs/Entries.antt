@@ -1,18 +1,9 @@
 -- The entries of a map whose values are replaced or left out, and how much it holds.
-use Rattle.std.proofs.Common.{◌≡◌, ℕ, ◌+◌, ◌≤◌, Bool, true, false, cond, refl, List, [], ◌∷◌, length, Option, None, Some, IfSome, sym, ap, ◌∙◌, subst, arith}
-use Rattle.std.specs.Prelude.{map as list_map}
-use lib.Dec.{T}
-use Rattle.std.specs.List.{sum_by}
-use Rattle.std.proofs.lemmas.List.Sums.{sum_by-cons}
-use Rattle.std.specs.Option.{option_and_then}
-use Rattle.std.specs.Ordering.{nat_cmp, eq_by_cmp, is_lt}
-use Rattle.std.specs.Cmp.{nat_cmp_total}
+use Rattle.mq_link.proofs.Common.{◌≡◌, ℕ, ◌+◌, ◌≤◌, Bool, true, false, cond, refl, List, [], ◌∷◌, length, Option, None, Some, IfSome, sym, ap, ◌∙◌, subst}
+use Rattle.mq_link.proofs.Common.{arith, list_map, T, sum_by, sum_by-cons, option_and_then, nat_cmp, eq_by_cmp, is_lt, nat_cmp_total, FinMap, find, is_sorted}
+use Rattle.mq_link.proofs.Common.{nat_cmp-IsAntisymmetric, below_all, same_entries, with_entry, kept, get-kept}
 use Rattle.std.specs.FinMap as map
-use Rattle.std.specs.FinMap.{FinMap, find, is_sorted, nat_cmp-IsAntisymmetric}
-use Rattle.std.specs.FinMap.Entries.{below_all, same_entries}
 use Rattle.mq_held.proofs.Sorted.{both, first, second, find_below, tied}
-use Rattle.mq_table.specs.Maps.{with_entry, kept}
-use Rattle.mq_table.proofs.Maps.{get-kept}
 
 abbrev pub filtered : {X : Type 0} → (ℕ → X → Option X) → List (ℕ × X) → List (ℕ × X)
 filtered f [] = []

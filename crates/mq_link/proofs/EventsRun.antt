@@ -1,13 +1,7 @@
 -- A run of a link, made of what each call has done.
-use Rattle.std.proofs.Common.{◌≡◌, ◌<◌, ◌+◌, ℕ, refl, List, [], ◌∷◌, length, map, drop, get_or, Bool, None, Some, sym, ap, ◌∙◌, subst}
-use Rattle.std.proofs.lemmas.List.{drop_more}
-use Rattle.mq_link.specs.declared.answers.Received.{Received}
-use Rattle.mq_link.specs.Events.{HasRun, left_by, messages_of, answers_of}
-use Rattle.mq_link.specs.Handing.{HandsOver}
-use Rattle.mq_link.specs.Link.{LinkValue, HasTicked, HasReceived}
-use Rattle.mq_link.specs.Receive.{Envelope}
-use Rattle.mq_link.specs.Run.{Event, Tick, Datagram, Happening, Happens, RunFrom}
-use Rattle.mq_link.specs.Sent.{Outgoing}
+use Rattle.mq_link.proofs.Common.{◌≡◌, ◌<◌, ◌+◌, ℕ, refl, List, [], ◌∷◌, length, map, drop, get_or, Bool, None, Some, sym, ap, ◌∙◌, subst, drop_more, Received}
+use Rattle.mq_link.proofs.Common.{HasRun, left_by, messages_of, answers_of, HandsOver, LinkValue, HasTicked, HasReceived, Envelope, Event, Tick, Datagram}
+use Rattle.mq_link.proofs.Common.{Happening, Happens, RunFrom, Outgoing}
 use Rattle.mq_link.proofs.HandedOver.{HandsOver-append}
 
 -- To run all events from a link on, it is enough to run those that are left from the link that there is now.

@@ -1,25 +1,13 @@
 -- A configuration without a fault has its variables in range, and a link is well-formed at its start.
-use Rattle.std.proofs.Common.{◌≡◌, ℕ, ◌≤◌, Bool, true, false, ◌||◌, refl, [], ◌∷◌, Option, None, Some, sym, subst, arith, ltb, leb}
-use Rattle.std.proofs.lemmas.Bool.{ltb-false}
-use Rattle.std.specs.Prelude.{map as list_map}
-use Rattle.std.specs.Option.{unwrap_or}
-use Rattle.std.specs.Ordering.{nat_cmp}
+use Rattle.mq_link.proofs.Common.{◌≡◌, ℕ, ◌≤◌, Bool, true, false, ◌||◌, refl, [], ◌∷◌, Option, None, Some, sym, subst, arith, ltb, leb, ltb-false, list_map}
+use Rattle.mq_link.proofs.Common.{unwrap_or, nat_cmp, sum_by, Family, Igmp, Mld, IsWithin, AreInRange, query_interval, ScheduledGroup, ConfigFault, Robustness}
+use Rattle.mq_link.proofs.Common.{QueryInterval, ResponseInterval, LastMember, response_unit, greatest_response, Configuration, is_outside, limit_fault}
+use Rattle.mq_link.proofs.Common.{timing_fault, else_fault, as_fault, IsFaultless, first_named}
 use Rattle.std.specs.FinMap as map
-use Rattle.std.specs.List.{sum_by}
-use Rattle.mq_wire.specs.Family.{Family, Igmp, Mld}
-use Rattle.mq_table.specs.Variables.{IsWithin, AreInRange}
-use Rattle.mq_table.specs.Timing.{query_interval}
-use Rattle.mq_sched.specs.Schedule.{ScheduledGroup}
-use Rattle.mq_link.specs.declared.configuration.ConfigFault.{ConfigFault}
-use Rattle.mq_link.specs.declared.configuration.ConfigFault.TheVariants.{Robustness, QueryInterval, ResponseInterval, LastMember}
 use Rattle.mq_link.specs.declared.configuration.LimitName.{LimitName}
 use Rattle.mq_link.specs.declared.configuration.LimitName.TheVariants.{Groups, GroupSources, Sources, Scheduled}
-use Rattle.mq_link.specs.Family.{response_unit, greatest_response}
-use Rattle.mq_link.specs.Configuration.{Configuration, is_outside, limit_fault, timing_fault, else_fault, as_fault, IsFaultless}
-use Rattle.mq_link.specs.Tests.{first_named}
 use Rattle.mq_link.specs.State.{unheld, sources_of, schedules_of, IsWellFormed, link_at}
-use Rattle.mq_link.proofs.Bounds.{no_sources}
-use Rattle.mq_link.proofs.Known.{entries-known}
+use Rattle.mq_link.proofs.{Bounds.no_sources, Known.entries-known}
 
 first_none : (a b : Option ConfigFault) → else_fault a b ≡ None → a ≡ None
 first_none None b h = refl
@@ -43,11 +31,8 @@ inside low high n h = by_tests (ltb n low) (ltb high n) refl refl h
 
 none_of_four : {X : Type 0} (a b c d : Bool) (w x y z : X) → first_named ((w, a) ∷ (x, b) ∷ (y, c) ∷ (z, d) ∷ []) ≡ None → (a ≡ false) × (b ≡ false) ×
     (c ≡ false) × (d ≡ false)
-none_of_four true b c d w x y z h = cc
-none_of_four false true c d w x y z h = cc
-none_of_four false false true d w x y z h = cc
-none_of_four false false false true w x y z h = cc
 none_of_four false false false false w x y z h = (refl, refl, refl, refl)
+none_of_four _ _ _ _ w x y z h = cc
 
 left_false : (a b : Bool) → (a || b) ≡ false → a ≡ false
 left_false true b h = cc

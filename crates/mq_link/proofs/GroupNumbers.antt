@@ -1,17 +1,8 @@
 -- The groups, by their numbers.
-use Rattle.std.proofs.Common.{◌≡◌, ◌==◌, cond, ℕ, zero, suc, ◌+◌, ◌<◌, ◌≤◌, Bool, true, false, ◌||◌, refl, List, [], ◌∷◌, length, get_or, Some, sym}
-use Rattle.std.proofs.Common.{ap, ◌∙◌, subst, arith}
-use Rattle.std.specs.Prelude.{map as list_map}
-use Rattle.std.specs.List.{All, Contains}
-use Rattle.std.specs.Option.{option_map_or}
-use Rattle.std.proofs.lemmas.Bool.{false≢true, eqb-true, eq-eqb, ne_eqb}
-use Rattle.std.proofs.lemmas.List.Elements.{All-head, All-tail}
-use Rattle.std.proofs.lemmas.List.Sums.{sum_by-cons}
-use Rattle.mq_sets.specs.Ascending.{IsAscending, set_of}
-use Rattle.mq_sets.specs.NumberedKeys.{NumberedKey, NumberedKeysState, key_in}
-use Rattle.mq_sets.specs.Slots.{times}
-use Rattle.mq_sets.proofs.Ascents.{IsAscending-head, IsAscending-tail}
-use Rattle.mq_held.specs.Held.{HeldState, HasNumber, IsNumber}
+use Rattle.mq_link.proofs.Common.{◌≡◌, ◌==◌, cond, ℕ, zero, suc, ◌+◌, ◌<◌, ◌≤◌, Bool, true, false, ◌||◌, refl, List, [], ◌∷◌, length, get_or, Some, sym, ap}
+use Rattle.mq_link.proofs.Common.{◌∙◌, subst, arith, list_map, All, Contains, option_map_or, false≢true, eqb-true, eq-eqb, ne_eqb, All-head, All-tail}
+use Rattle.mq_link.proofs.Common.{sum_by-cons, IsAscending, set_of, NumberedKey, NumberedKeysState, key_in, times, IsAscending-head, IsAscending-tail}
+use Rattle.mq_link.proofs.Common.{HeldState, HasNumber, IsNumber}
 
 -- a number that some item has is that of an item with its key
 numbered_item : (items : List NumberedKey) (n : ℕ) → set_of (λ (x : NumberedKey). x.number) items n ≡ true →

@@ -1,21 +1,10 @@
 -- The number of groups that records add.
-use Rattle.std.proofs.Common.{ℕ, ◌+◌, ◌≤◌, Bool, true, false, cond, not, List, [], ◌∷◌, length, Option, None, Some, arith}
+use Rattle.mq_link.proofs.Common.{ℕ, ◌+◌, ◌≤◌, Bool, true, false, cond, not, List, [], ◌∷◌, length, Option, None, Some, arith, RecordView, is_vacant}
+use Rattle.mq_link.proofs.Common.{GroupChange, Kind, ScheduledGroup, one_if, len-with_group, Refusal, Repeated, Refused, Setting, Statement, RecordOf, Seen}
+use Rattle.mq_link.proofs.Common.{Entrance, Stops, GoesOn, after_sending, all_judged, change_in, changed_by, changed_or_refused, entrance, is_repeated, judged}
+use Rattle.mq_link.proofs.Common.{judged_from, leaving, limit_passed, seen_after, sent_at_once, stated, unless_passed, Groups, with_group}
 use Rattle.std.specs.FinMap as map
 use Rattle.std.specs.FinSet as set
-use Rattle.mq_wire.specs.declared.records.RecordView.{RecordView}
-use Rattle.mq_table.specs.Group.{is_vacant}
-use Rattle.mq_table.specs.Table.{GroupChange}
-use Rattle.mq_table.specs.declared.kind.Kind.{Kind}
-use Rattle.mq_sched.specs.Schedule.{ScheduledGroup}
-use Rattle.mq_held.specs.Groups.{one_if}
-use Rattle.mq_held.proofs.Amounts.{len-with_group}
-use Rattle.mq_link.specs.declared.answers.Refusal.{Refusal}
-use Rattle.mq_link.specs.declared.answers.Refusal.TheVariants.{Repeated}
-use Rattle.mq_link.specs.Counters.{Refused}
-use Rattle.mq_link.specs.Record.{Setting, Statement, RecordOf, Seen, Entrance, Stops, GoesOn, after_sending, all_judged, change_in, changed_by}
-use Rattle.mq_link.specs.Record.{changed_or_refused, entrance, is_repeated, judged, judged_from, leaving, limit_passed, seen_after, sent_at_once}
-use Rattle.mq_link.specs.Record.{stated, unless_passed}
-use Rattle.mq_link.specs.State.{Groups, with_group}
 
 pub one_at_most : (b : Bool) → one_if b ≤ 1
 one_at_most true = omega arith

@@ -1,21 +1,7 @@
 -- The datagrams of a step, by those that a sender has taken.
-use Rattle.std.proofs.Common.{◌≡◌, ℕ, Bool, not, refl, suc, List, [], ◌∷◌, length, sym, ap, ◌∙◌, subst}
-use Rattle.std.specs.Prelude.{map as list_map}
-use Rattle.std.specs.List.{count_by}
-use Rattle.mq_count.specs.Streams.{counted_on}
-use Rattle.mq_wire.specs.Family.{Family}
-use Rattle.mq_sched.specs.Rounds.{AllFit}
-use Rattle.mq_sched.specs.Sink.{Sends}
-use Rattle.mq_link.specs.declared.sender.Sender.{Sender}
-use Rattle.mq_link.specs.Configuration.{Configuration}
-use Rattle.mq_link.specs.Counters.{Counters}
-use Rattle.mq_link.specs.Family.{per_query}
-use Rattle.mq_link.specs.Handing.{HandsOver, Terms, outgoing_on}
-use Rattle.mq_link.specs.Run.{answered, HandsOut}
-use Rattle.mq_link.specs.Sender.{TakesQuery, begun}
-use Rattle.mq_link.specs.Sent.{Outgoing, outgoing_of}
-use Rattle.mq_link.specs.State.{LinkState}
-use Rattle.mq_link.specs.Tick.{Step}
+use Rattle.mq_link.proofs.Common.{◌≡◌, ℕ, Bool, not, refl, suc, List, [], ◌∷◌, length, sym, ap, ◌∙◌, subst, list_map, count_by, counted_on, Family, AllFit}
+use Rattle.mq_link.proofs.Common.{Sends, Sender, Configuration, Counters, per_query, HandsOver, Terms, outgoing_on, answered, HandsOut, TakesQuery, begun}
+use Rattle.mq_link.proofs.Common.{Outgoing, outgoing_of, LinkState, Step}
 use Rattle.mq_link.proofs.HandedOver.{handed_all, counted_from_none}
 
 -- each message has been answered

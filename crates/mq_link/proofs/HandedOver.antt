@@ -1,18 +1,7 @@
 -- The datagrams that a sender has passed to its outlet after some queries.
-use Rattle.std.proofs.Common.{◌≡◌, ℕ, ◌+◌, Bool, not, List, [], ◌∷◌, ◌++◌, sym, ap, ◌∙◌, subst, arith, cond}
-use Rattle.std.specs.Prelude.{map as list_map}
-use Rattle.std.specs.List.{count_by}
-use Rattle.std.proofs.lemmas.List.Sums.{sum_by-cons}
-use Rattle.mq_count.specs.Streams.{counted_on}
-use Rattle.mq_wire.specs.Family.{Family}
-use Rattle.mq_sched.specs.Rounds.{AllFit}
-use Rattle.mq_sched.specs.Sending.{SentQuery, GeneralQuery, GroupQuery, SourcesQuery}
-use Rattle.mq_sched.specs.Sink.{Sends}
-use Rattle.mq_link.specs.Family.{per_query}
-use Rattle.mq_link.specs.declared.sender.Sender.{Sender}
-use Rattle.mq_link.specs.Handing.{HandsOver, HandsAll, FitsOne, outgoing_on}
-use Rattle.mq_link.specs.Sender.{TakesQuery, tally_of}
-use Rattle.mq_link.specs.Sent.{Outgoing}
+use Rattle.mq_link.proofs.Common.{◌≡◌, ℕ, ◌+◌, Bool, not, List, [], ◌∷◌, ◌++◌, sym, ap, ◌∙◌, subst, arith, cond, list_map, count_by, sum_by-cons, counted_on}
+use Rattle.mq_link.proofs.Common.{Family, AllFit, SentQuery, GeneralQuery, GroupQuery, SourcesQuery, Sends, per_query, Sender, HandsOver, HandsAll, FitsOne}
+use Rattle.mq_link.proofs.Common.{outgoing_on, TakesQuery, tally_of, Outgoing}
 use Rattle.mq_link.specs.State.{one_if}
 
 -- some messages, and then others

@@ -1,36 +1,14 @@
 -- The groups once a query has been heard: the lowered timers if its group is held, and the groups
 -- once their schedules are dropped.
-use Rattle.std.proofs.Common.{◌≡◌, ℕ, ◌+◌, ◌*◌, ◌≤◌, Bool, true, false, cond, refl, Option, None, Some, sym, ap, ◌∙◌, subst, arith, eqb}
-use Rattle.std.proofs.lemmas.Bool.{true≢false, eqb-true}
-use Rattle.std.proofs.lemmas.Bool.Decides.{nat_tests}
-use Rattle.std.specs.Option.{option_and_then, unwrap_or}
-use Rattle.std.specs.Ordering.{nat_cmp, eq_by_cmp}
-use Rattle.std.specs.Cmp.{nat_cmp_total}
+use Rattle.mq_link.proofs.Common.{◌≡◌, ℕ, ◌+◌, ◌*◌, ◌≤◌, Bool, true, false, cond, refl, Option, None, Some, sym, ap, ◌∙◌, subst, arith, eqb, true≢false}
+use Rattle.mq_link.proofs.Common.{eqb-true, nat_tests, option_and_then, unwrap_or, nat_cmp, eq_by_cmp, nat_cmp_total, Timing, Set, GroupState, IsHeld}
+use Rattle.mq_link.proofs.Common.{lowered_by_query, get-kept, same_sources, IsWellFormed-group_lowered, IsWellFormed-sources_lowered, Query, QueryVersion}
+use Rattle.mq_link.proofs.Common.{ScheduledGroup, cleared, fits_cleared, held_cleared, tied, ties, Groups, suppresses, asked_by, groups_cleared, group_lowered}
+use Rattle.mq_link.proofs.Common.{groups_lowered, Storage, IsServed, AreServed, IsReady}
 use Rattle.std.specs.FinMap as map
-use Rattle.mq_table.specs.declared.timing.Timing.{Timing}
-use Rattle.mq_table.specs.Sets.{Set}
-use Rattle.mq_table.specs.Group.{GroupState, IsWellFormed as IsHeld}
-use Rattle.mq_table.specs.Lowering.{lowered_by_query}
-use Rattle.mq_table.proofs.Maps.{get-kept}
-use Rattle.mq_table.proofs.Groups.{same_sources}
-use Rattle.mq_table.proofs.Held.{IsWellFormed-group_lowered, IsWellFormed-sources_lowered}
-use Rattle.mq_wire.specs.declared.query.Query.{Query}
-use Rattle.mq_wire.specs.declared.query.QueryVersion.{QueryVersion}
-use Rattle.mq_sched.specs.Schedule.{ScheduledGroup, cleared}
-use Rattle.mq_sched.proofs.Fits.{fits_cleared}
-use Rattle.mq_sched.proofs.StayHeld.{held_cleared}
 use Rattle.mq_held.specs.Groups.{unheld, group_at, sources_of, sources_in}
-use Rattle.mq_held.proofs.Sorted.{tied, ties}
-use Rattle.mq_link.specs.State.{Groups}
-use Rattle.mq_link.specs.Heard.{suppresses, asked_by, groups_cleared, group_lowered, groups_lowered}
-use Rattle.mq_link.specs.declared.storage.Storage.{Storage}
-use Rattle.mq_link.specs.Serving.{IsServed, AreServed}
-use Rattle.mq_link.specs.Storage.{IsReady}
-use Rattle.mq_link.proofs.Bounds.{cleared_no_more, lowered_no_more}
-use Rattle.mq_link.proofs.Entries.{total-kept, len-kept}
-use Rattle.mq_link.proofs.HeldAs.{all-kept}
-use Rattle.mq_link.proofs.ClearedGroups.{served_more}
-use Rattle.mq_link.proofs.KeptGroups.{group_found, group_absent}
+use Rattle.mq_link.proofs.{Bounds.cleared_no_more, Bounds.lowered_no_more, Entries.total-kept, Entries.len-kept, HeldAs.all-kept, ClearedGroups.served_more}
+use Rattle.mq_link.proofs.{KeptGroups.group_found, KeptGroups.group_absent}
 
 -- a lowered group is held, and has no more sources
 lowered_held : (timing : Timing) (now : ℕ) (s : Bool) (asked : Option Set) (g : GroupState) → IsHeld g → IsHeld (lowered_by_query timing now s asked g)

@@ -1,29 +1,13 @@
 -- Groups as a link may hold them, after the end of timers, rounds, the loss of the role and lowering.
-use Rattle.std.proofs.Common.{◌≡◌, ℕ, Bool, true, false, cond, inl, inr, refl, Option, None, Some, IfSome, sym, ap, ◌∙◌, subst, eqb, ltb}
-use Rattle.std.proofs.lemmas.Bool.{true≢false}
-use Rattle.std.specs.Option.{option_and_then}
-use Rattle.std.specs.Ordering.{nat_cmp}
+use Rattle.mq_link.proofs.Common.{◌≡◌, ℕ, Bool, true, false, cond, inl, inr, refl, Option, None, Some, IfSome, sym, ap, ◌∙◌, subst, eqb, ltb, true≢false}
+use Rattle.mq_link.proofs.Common.{option_and_then, nat_cmp, Timing, FilterMode, Include, Exclude, SourceTimer, Stopped, Running, Set, kept, GroupState}
+use Rattle.mq_link.proofs.Common.{is_include, vacant, is_vacant, timer_at, sendings_of, IsHeld, IsAnyGroup, mode_expired, source_expired, ahead, expired}
+use Rattle.mq_link.proofs.Common.{lowered_by_query, lowered_to, mode_lowered, source_lowered, sources_lowered, get-kept, IsAnyGroup-expired}
+use Rattle.mq_link.proofs.Common.{IsWellFormed-group_lowered, IsWellFormed-sources_lowered, some_source, has_sendings, sendings_counted, ScheduleState}
+use Rattle.mq_link.proofs.Common.{ScheduledGroup, no_schedule, settled, IsScheduleOf, cleared, is_due, group_counted, sources_due_next, after_round}
+use Rattle.mq_link.proofs.Common.{fits_after_expiry, fits_after_round, fits_cleared, sendings_before, held_after_round, held_cleared, Configuration, Groups}
+use Rattle.mq_link.proofs.Common.{IsSourceSpecific, IsHeldAs, IsSilent, group_expired, if_held}
 use Rattle.std.specs.FinMap as map
-use Rattle.mq_table.specs.declared.timing.Timing.{Timing}
-use Rattle.mq_table.specs.declared.timers.FilterMode.{FilterMode}
-use Rattle.mq_table.specs.declared.timers.FilterMode.TheVariants.{Include, Exclude}
-use Rattle.mq_table.specs.declared.timers.SourceTimer.{SourceTimer}
-use Rattle.mq_table.specs.declared.timers.SourceTimer.TheVariants.{Stopped, Running}
-use Rattle.mq_table.specs.Sets.{Set}
-use Rattle.mq_table.specs.Maps.{kept}
-use Rattle.mq_table.specs.Group.{GroupState, is_include, vacant, is_vacant, timer_at, sendings_of, IsWellFormed as IsHeld, IsAnyGroup}
-use Rattle.mq_table.specs.Expiry.{mode_expired, source_expired, ahead, expired}
-use Rattle.mq_table.specs.Lowering.{lowered_by_query, lowered_to, mode_lowered, source_lowered, sources_lowered}
-use Rattle.mq_table.proofs.Maps.{get-kept}
-use Rattle.mq_table.proofs.Held.{IsAnyGroup-expired, IsWellFormed-group_lowered, IsWellFormed-sources_lowered}
-use Rattle.mq_table.specs.Sendings.{some_source, has_sendings, sendings_counted}
-use Rattle.mq_sched.specs.Schedule.{ScheduleState, ScheduledGroup, no_schedule, settled, IsScheduleOf, cleared}
-use Rattle.mq_sched.specs.Sending.{is_due, group_counted, sources_due_next, after_round}
-use Rattle.mq_sched.proofs.Fits.{fits_after_expiry, fits_after_round, fits_cleared, sendings_before}
-use Rattle.mq_sched.proofs.StayHeld.{held_after_round, held_cleared}
-use Rattle.mq_link.specs.Configuration.{Configuration}
-use Rattle.mq_link.specs.State.{Groups, IsSourceSpecific, IsHeldAs, IsSilent}
-use Rattle.mq_link.specs.Tick.{group_expired, if_held}
 
 -- a fact about each held group
 abbrev pub All : (ℕ → ScheduledGroup → Type 0) → Groups → Type 0
@@ -93,9 +77,8 @@ settled_silent g schedule is = ap (settled g) is ∙ by_tests (is_include g.mode
   where
     by_tests : (a b : Bool) → ◌≡◌ {A = ScheduleState} (record { group_query = cond a None None; sources_due = cond b None None }) no_schedule
     by_tests true true = refl
-    by_tests true false = refl
     by_tests false true = refl
-    by_tests false false = refl
+    by_tests _ _ = refl
 
 pub silent_expired : (now group : ℕ) (e : ScheduledGroup) → IsSilent e → IfSome (if_held (group_expired now e)) IsSilent
 silent_expired now group e h = elim (is_vacant (expired now e.group)) as (λ b. IfSome (cond b None (Some (group_expired now e))) IsSilent) [

@@ -1,18 +1,9 @@
 -- A held group after a statement, which is held: its sources stay, with lowered timers.
-use Rattle.std.proofs.Common.{◌≡◌, ℕ, Bool, true, false, cond, Option, None, Some, IfSome}
-use Rattle.std.specs.Option.{option_map}
+use Rattle.mq_link.proofs.Common.{◌≡◌, ℕ, Bool, true, false, cond, Option, None, Some, IfSome, option_map, Kind, ToIn, Timing, GroupState, is_vacant, IsHeld}
+use Rattle.mq_link.proofs.Common.{hosts_of, translated, older_report, NamedSources, GroupChange, change_of, IsWellFormed-change_of, IsWellFormed-older_report}
+use Rattle.mq_link.proofs.Common.{ScheduleState, ScheduledGroup, settled, acted, after_change, after_round, held_acted, held_after_round, Statement, RecordOf}
+use Rattle.mq_link.proofs.Common.{OlderJoin, OlderLeave, asking_nothing, change_stated}
 use Rattle.std.specs.FinSet as set
-use Rattle.mq_table.specs.declared.kind.Kind.{Kind}
-use Rattle.mq_table.specs.declared.kind.Kind.TheVariants.{ToIn}
-use Rattle.mq_table.specs.declared.timing.Timing.{Timing}
-use Rattle.mq_table.specs.Group.{GroupState, is_vacant, IsWellFormed as IsHeld}
-use Rattle.mq_table.specs.OlderHosts.{hosts_of, translated, older_report}
-use Rattle.mq_table.specs.Table.{NamedSources, GroupChange, change_of}
-use Rattle.mq_table.proofs.Held.{IsWellFormed-change_of, IsWellFormed-older_report}
-use Rattle.mq_sched.specs.Schedule.{ScheduleState, ScheduledGroup, settled}
-use Rattle.mq_sched.specs.Sending.{acted, after_change, after_round}
-use Rattle.mq_sched.proofs.StayHeld.{held_acted, held_after_round}
-use Rattle.mq_link.specs.Record.{Statement, RecordOf, OlderJoin, OlderLeave, asking_nothing, change_stated}
 use Rattle.mq_link.proofs.Quiet.{not_vacant}
 
 -- whatever kind of record a statement acts as

@@ -1,10 +1,6 @@
 -- The timing in force differs from the configured one in the variables alone that queries of other routers carry.
-use Rattle.std.proofs.Common.{ℕ, Bool, true, false, cond, refl, Option, None, Some}
-use Rattle.mq_table.specs.declared.timing.Timing.{Timing}
-use Rattle.mq_sched.specs.declared.announced.Announced.{Announced}
-use Rattle.mq_sched.specs.Election.{ElectionState, Querier, is_querier, election_at, adopted, heard, deadline_ended, returned, general_is_due}
-use Rattle.mq_sched.specs.Election.{after_general, ticked}
-use Rattle.mq_link.specs.Handing.{KeepsIntervals}
+use Rattle.mq_link.proofs.Common.{ℕ, Bool, true, false, cond, refl, Option, None, Some, Timing, Announced, ElectionState, Querier, is_querier, election_at}
+use Rattle.mq_link.proofs.Common.{adopted, heard, deadline_ended, returned, general_is_due, after_general, ticked, KeepsIntervals}
 use Rattle.std.specs.Prelude.{nat_lt, not, ◌||◌}
 
 pub kept-election_at : (configured : Timing) (start : ℕ) → KeepsIntervals configured (election_at configured start).timing

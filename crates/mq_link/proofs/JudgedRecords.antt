@@ -1,20 +1,11 @@
 -- The outcome of one record, by its entrance.
-use Rattle.std.proofs.Common.{◌≡◌, ℕ, ◌+◌, ◌-◌, ◌*◌, ◌≤◌, Bool, true, false, cond, not, refl, length, Option, None, Some, ap, ◌∙◌, ltb}
-use Rattle.std.proofs.lemmas.Bool.{ltb-false}
+use Rattle.mq_link.proofs.Common.{◌≡◌, ℕ, ◌+◌, ◌-◌, ◌*◌, ◌≤◌, Bool, true, false, cond, not, refl, length, Option, None, Some, ap, ◌∙◌, ltb, ltb-false}
+use Rattle.mq_link.proofs.Common.{RecordView, Kind, Long, Repeated, is_admitted, Configuration, cost_by, record_cost, search_cost, work_cost, Verdict, Ignored}
+use Rattle.mq_link.proofs.Common.{Refused, least_by, least_judged, least_search, least_work, moved_by_edit, moves_by, record_moves, RecordOf, Setting, leaving}
+use Rattle.mq_link.proofs.Common.{stated, Seen, met, Stops, GoesOn, entrance, entrance_as, kind_named, is_repeated, judged_from, judged, seen_by, seen_after}
 use Rattle.std.specs.FinMap as map
 use Rattle.std.specs.FinSet as set
-use Rattle.mq_wire.specs.declared.records.RecordView.{RecordView}
-use Rattle.mq_table.specs.declared.kind.Kind.{Kind}
-use Rattle.mq_link.specs.declared.answers.Refusal.TheVariants.{Long, Repeated}
-use Rattle.mq_link.specs.Family.{is_admitted}
-use Rattle.mq_link.specs.Configuration.{Configuration}
-use Rattle.mq_link.specs.Cost.{cost_by, record_cost, search_cost, work_cost}
-use Rattle.mq_link.specs.Counters.{Verdict, Ignored, Refused}
-use Rattle.mq_link.specs.LeastCost.{least_by, least_judged, least_search, least_work}
-use Rattle.mq_link.specs.Moved.{moved_by_edit, moves_by, record_moves}
 use Rattle.mq_link.specs.State.{Groups, group_at, sources_of}
-use Rattle.mq_link.specs.Record.{RecordOf, Setting, leaving, stated, Seen, met, Stops, GoesOn, entrance, entrance_as, kind_named, is_repeated}
-use Rattle.mq_link.specs.Record.{judged_from, judged, seen_by, seen_after}
 
 module _ (at : Setting) (seen : Seen) (r : RecordView ℕ) (groups : Groups) where
   pub judged_stopped : (verdict : Verdict) → entrance at.config r ≡ Stops verdict → judged at seen r groups ≡ leaving groups verdict

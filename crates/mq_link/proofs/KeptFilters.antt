@@ -1,30 +1,13 @@
 -- Work on a group that keeps its filter: its queries are counted down, running sources are asked for, and it is put back.
-use Rattle.std.proofs.Common.{◌≡◌, ℕ, Bool, true, false, not, cond, ltb, Option, None, Some, refl, sym, ap, ◌∙◌}
-use Rattle.std.specs.Option.{option_map}
-use Rattle.std.specs.Ordering.{nat_cmp}
-use Rattle.std.specs.Cmp.{nat_cmp_total}
+use Rattle.mq_link.proofs.Common.{◌≡◌, ℕ, Bool, true, false, not, cond, ltb, Option, None, Some, refl, sym, ap, ◌∙◌, option_map, nat_cmp, nat_cmp_total}
+use Rattle.mq_link.proofs.Common.{and_parts, Timing, Set, FilterMode, Include, Exclude, SourceTimer, Stopped, Running, GroupState, is_include, timer_at, vacant}
+use Rattle.mq_link.proofs.Common.{is_vacant, Filter, names, filter_of, nothing, are_same, changes_filter, source_asked, source_counted, sendings_counted}
+use Rattle.mq_link.proofs.Common.{GroupChange, last_member_count, changes-same, contains-filter_of, same_filter, get_of_empty, ScheduleState, ScheduledGroup}
+use Rattle.mq_link.proofs.Common.{settled, group_asked, sources_asked, acted, after_change, after_round, is_due, timer_at-sources_asked, timer_at-after_round}
+use Rattle.mq_link.proofs.Common.{unheld, kept_as}
 use Rattle.std.specs.FinMap as map
 use Rattle.std.specs.FinSet as set
-use Rattle.std.proofs.lemmas.Bool.{and_parts}
-use Rattle.mq_table.specs.declared.timing.Timing.{Timing}
-use Rattle.mq_table.specs.Sets.{Set}
-use Rattle.mq_table.specs.declared.timers.FilterMode.{FilterMode}
-use Rattle.mq_table.specs.declared.timers.FilterMode.TheVariants.{Include, Exclude}
-use Rattle.mq_table.specs.declared.timers.SourceTimer.{SourceTimer}
-use Rattle.mq_table.specs.declared.timers.SourceTimer.TheVariants.{Stopped, Running}
-use Rattle.mq_table.specs.Group.{GroupState, is_include, timer_at, vacant, is_vacant}
-use Rattle.mq_table.specs.Filter.{Filter, names, filter_of, nothing, are_same, changes_filter}
 use Rattle.mq_table.specs.Lowering.{lowered_to, mode_lowered, group_lowered}
-use Rattle.mq_table.specs.Sendings.{source_asked, source_counted, sendings_counted}
-use Rattle.mq_table.specs.Table.{GroupChange}
-use Rattle.mq_table.specs.Timing.{last_member_count}
-use Rattle.mq_table.proofs.Filters.{changes-same, contains-filter_of, same_filter}
-use Rattle.mq_table.proofs.Held.{get_of_empty}
-use Rattle.mq_sched.specs.Schedule.{ScheduleState, ScheduledGroup, settled}
-use Rattle.mq_sched.specs.Sending.{group_asked, sources_asked, acted, after_change, after_round, is_due}
-use Rattle.mq_sched.proofs.Asked.{timer_at-sources_asked}
-use Rattle.mq_sched.proofs.Rounds.{timer_at-after_round}
-use Rattle.mq_held.specs.Groups.{unheld, kept_as}
 
 -- a state has its own filter
 pub unchanged : (g : GroupState) → changes_filter g g ≡ false
@@ -39,10 +22,9 @@ alike_after before a b same = ap (λ (f : Filter). not (are_same (filter_of befo
 counted_named : (mode : FilterMode) (timer : Option SourceTimer) → names mode (option_map source_counted timer) ≡ names mode timer
 counted_named Include None = refl
 counted_named Include (Some Stopped) = refl
-counted_named Include (Some (Running d n)) = refl
 counted_named (Exclude e) None = refl
 counted_named (Exclude e) (Some Stopped) = refl
-counted_named (Exclude e) (Some (Running d n)) = refl
+counted_named _ _ = refl
 
 asked_named : (limit count : ℕ) (mode : FilterMode) (timer : Option SourceTimer) → names mode (option_map (source_asked limit count) timer) ≡ names mode timer
 asked_named limit count Include None = refl

@@ -1,24 +1,12 @@
 -- The groups, by the number of a group or the place where it would go.
-use Rattle.std.proofs.Common.{◌≡◌, ◌==◌, ℕ, ◌+◌, ◌<◌, ◌≤◌, Bool, true, false, cond, refl, length, get_or, Option, None, Some, is_some, Result, Ok}
-use Rattle.std.proofs.Common.{Err, MatchResult, sym, ap, ◌∙◌, arith, ◌⊎◌, inl, inr}
-use Rattle.std.specs.Option.{unwrap_or}
-use Rattle.std.specs.Result.{is_ok}
-use Rattle.std.specs.Ordering.{nat_cmp, eq_by_cmp}
-use Rattle.std.specs.Cmp.{nat_cmp_total}
+use Rattle.mq_link.proofs.Common.{◌≡◌, ◌==◌, ℕ, ◌+◌, ◌<◌, ◌≤◌, Bool, true, false, cond, refl, length, get_or, Option, None, Some, is_some, Result, Ok, Err}
+use Rattle.mq_link.proofs.Common.{MatchResult, sym, ap, ◌∙◌, arith, ◌⊎◌, inl, inr, unwrap_or, is_ok, nat_cmp, eq_by_cmp, nat_cmp_total, cases_lt, eq-eqb}
+use Rattle.mq_link.proofs.Common.{true≢false, list_any_at, NumberedKey, IsSpotFor, rank_of, Spot, is_vacant, IsHeld, same_sources, ScheduledGroup, HeldState}
+use Rattle.mq_link.proofs.Common.{HasNumber, IsNumber, tied}
 use Rattle.std.specs.FinMap as map
-use Rattle.std.proofs.lemmas.Bool.{cases_lt, eq-eqb, true≢false}
-use Rattle.std.proofs.lemmas.List.Folds.{list_any_at}
-use Rattle.mq_sets.specs.NumberedKeys.{NumberedKey, IsSpotFor, rank_of}
-use Rattle.mq_sets.specs.declared.spots.Spot.{Spot}
-use Rattle.mq_table.specs.Group.{is_vacant, IsWellFormed as IsHeld}
-use Rattle.mq_table.proofs.Groups.{same_sources}
-use Rattle.mq_sched.specs.Schedule.{ScheduledGroup}
 use Rattle.mq_held.specs.Groups.{Groups, group_at, kept_as, with_group, sources_of, unheld}
-use Rattle.mq_held.specs.Held.{HeldState, HasNumber, IsNumber}
 pub use Rattle.mq_held.proofs.Inside.{group_found}
-use Rattle.mq_held.proofs.Sorted.{tied}
-use Rattle.mq_link.proofs.Bounds.{no_sources}
-use Rattle.mq_link.proofs.Quiet.{not_vacant}
+use Rattle.mq_link.proofs.{Bounds.no_sources, Quiet.not_vacant}
 
 -- a number of a group that is held is a number
 pub is_number : (s : HeldState) (address n : ℕ) → HasNumber s address n → IsNumber s n

@@ -1,20 +1,13 @@
 -- Finite maps whose entries are known one by one, for the worked examples.
-use Rattle.std.proofs.Common.{◌≡◌, ℕ, Bool, true, false, cond, not, ◌||◌, refl, List, [], ◌∷◌, ◌++◌, length, Option, None, Some, sym, ap, ◌∙◌, arith}
-use Rattle.std.specs.Prelude.{map as list_map}
-use lib.Dec.{T}
-use Rattle.std.specs.List.{list_any}
+use Rattle.mq_link.proofs.Common.{◌≡◌, ℕ, Bool, true, false, cond, not, ◌||◌, refl, List, [], ◌∷◌, ◌++◌, length, Option, None, Some, sym, ap, ◌∙◌, arith}
+use Rattle.mq_link.proofs.Common.{list_map, T, list_any, list_any-append, nat_cmp, eq_by_cmp, nat_cmp_total, FinMap, find, put, is_sorted}
+use Rattle.mq_link.proofs.Common.{nat_cmp-IsAntisymmetric, where_key, find-put, find-where_key, is_sorted-put, is_some-find, by_order, with_entry, entries_by}
+use Rattle.mq_link.proofs.Common.{by_rule, kept, get-by_rule, get-kept, find-entries_by}
 use Rattle.std.specs.Option.{option_map, option_and_then, is_some}
 use Rattle.std.proofs.lemmas.Cmp.{eq_by_cmp_equiv}
-use Rattle.std.proofs.lemmas.List.Folds.{list_any-append}
-use Rattle.std.specs.Ordering.{nat_cmp, eq_by_cmp}
 use Rattle.std.specs.declared.cmp.Ordering.TheVariants.{Less, Equal, Greater}
-use Rattle.std.specs.Cmp.{nat_cmp_total}
 use Rattle.std.specs.FinMap as map
-use Rattle.std.specs.FinMap.{FinMap, find, put, is_sorted, nat_cmp-IsAntisymmetric}
-use Rattle.std.specs.FinMap.Entries.{where_key, find-put, find-where_key, is_sorted-put, is_some-find, by_order}
 use Rattle.std.specs.FinSet as set
-use Rattle.mq_table.specs.Maps.{with_entry, entries_by, by_rule, kept}
-use Rattle.mq_table.proofs.Maps.{get-by_rule, get-kept, find-entries_by}
 
 abbrev pub Entries : Type 0 → Type 0
 Entries X = List (ℕ × X)

@@ -1,28 +1,13 @@
 -- The next moment after a tick, which is later than that of the tick.
-use Rattle.std.proofs.Common.{◌≡◌, ℕ, ◌<◌, Bool, true, false, cond, refl, Option, None, Some, IfSome, sym, ◌∙◌, subst, arith}
-use Rattle.std.specs.Option.{option_and_then}
+use Rattle.mq_link.proofs.Common.{◌≡◌, ℕ, ◌<◌, Bool, true, false, cond, refl, Option, None, Some, IfSome, sym, ◌∙◌, subst, arith, option_and_then, Timing}
+use Rattle.mq_link.proofs.Common.{AreInRange, kept, GroupState, is_vacant, group_deadline, expired, AllAhead, get-kept, sendings_counted, ScheduledGroup}
+use Rattle.mq_link.proofs.Common.{is_due, after_round, ElectionState, ticked, next_moment, quiet_after_round, deadlines_stay, Configuration, Groups, LinkState}
+use Rattle.mq_link.proofs.Common.{IsWellFormed, group_expired, if_held, groups_expired, groups_after_round, tick_at, moments_of, moments_in, next_of}
 use Rattle.std.specs.FinMap as map
-use Rattle.mq_table.specs.declared.timing.Timing.{Timing}
-use Rattle.mq_table.specs.Variables.{AreInRange}
-use Rattle.mq_table.specs.Maps.{kept}
-use Rattle.mq_table.specs.Group.{GroupState, is_vacant, group_deadline}
-use Rattle.mq_table.specs.Expiry.{expired}
-use Rattle.mq_table.specs.Expiry.{AllAhead}
-use Rattle.mq_table.proofs.Maps.{get-kept}
 use Rattle.mq_table.proofs.Ahead.{AllAhead-expired}
-use Rattle.mq_table.specs.Sendings.{sendings_counted}
-use Rattle.mq_sched.specs.Schedule.{ScheduledGroup}
-use Rattle.mq_sched.specs.Sending.{is_due, after_round}
-use Rattle.mq_sched.specs.Election.{ElectionState, ticked, next_moment}
-use Rattle.mq_sched.proofs.Rounds.{quiet_after_round, deadlines_stay}
 use Rattle.mq_sched.proofs.Electing.{later_moment}
-use Rattle.mq_link.specs.Configuration.{Configuration}
-use Rattle.mq_link.specs.State.{Groups, LinkState, IsWellFormed}
-use Rattle.mq_link.specs.Tick.{group_expired, if_held, groups_expired, groups_after_round, tick_at, moments_of, moments_in, next_of}
-use Rattle.mq_link.proofs.Silent.{each-entry}
-use Rattle.mq_link.proofs.HeldAs.{All, some_is}
-use Rattle.mq_link.proofs.Ticked.{ticked_timing}
-use Rattle.mq_link.proofs.Quiet.{IsBeyond, AllAbove, above_beyond, values_above, least_above}
+use Rattle.mq_link.proofs.{Silent.each-entry, HeldAs.All, HeldAs.some_is, Ticked.ticked_timing, Quiet.IsBeyond, Quiet.AllAbove, Quiet.above_beyond}
+use Rattle.mq_link.proofs.{Quiet.values_above, Quiet.least_above}
 
 -- the values of a map, once they are replaced or left out
 all_then : (P Q : ℕ → ScheduledGroup → Type 0) (f : ℕ → ScheduledGroup → Option ScheduledGroup) (groups : Groups) →

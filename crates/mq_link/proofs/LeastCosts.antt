@@ -1,17 +1,7 @@
 -- The least comparisons of a statement and of a record.
-use Rattle.std.proofs.Common.{◌≡◌, ℕ, ◌+◌, ◌≤◌, Bool, true, false, cond, List, [], ◌∷◌, length, Option, Some, min, refl, sym, ap, subst, arith}
-use Rattle.std.proofs.lemmas.List.{length-map}
-use Rattle.std.specs.Prelude.{map as list_map}
-use Rattle.std.specs.Cmp.{nat_cmp_total}
-use Rattle.std.specs.Ordering.{nat_cmp}
+use Rattle.mq_link.proofs.Common.{◌≡◌, ℕ, ◌+◌, ◌≤◌, Bool, true, false, cond, List, [], ◌∷◌, length, Option, Some, min, refl, sym, ap, subst, arith, length-map}
+use Rattle.mq_link.proofs.Common.{list_map, nat_cmp_total, nat_cmp, Spends, Spends-join_within, Kind, with_sources, named_in, NamedSources, least_merge}
 use Rattle.std.specs.FinSet as set
-use Rattle.mq_count.specs.Spending.{Spends}
-use Rattle.mq_count.proofs.Spent.{Spends-join_within}
-use Rattle.mq_table.specs.declared.kind.Kind.{Kind}
-use Rattle.mq_table.specs.OlderHosts.{with_sources}
-use Rattle.mq_table.specs.Stored.{named_in}
-use Rattle.mq_table.specs.Table.{NamedSources}
-use Rattle.mq_link.specs.LeastCost.{least_merge}
 
 -- a set has no more members than the list that it is made of
 pub few_members : (ks : List ℕ) → set.len (set.from_list {R = nat_cmp} ks) ≤ length ks

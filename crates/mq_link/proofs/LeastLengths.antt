@@ -1,21 +1,11 @@
 -- The least length of a message's bytes: each named source takes at least four bytes, and
 -- each record eight besides.
-use Rattle.std.proofs.Common.{◌≡◌, ℕ, zero, suc, ◌+◌, ◌*◌, ◌≤◌, Bool, true, false, cond, List, [], ◌∷◌, ◌++◌, length, Ok, drop, replicate, sum, arith}
-use Rattle.std.proofs.Math.Nat.{mul-le-mul_left}
-use Rattle.std.proofs.lemmas.List.Sums.{sum_by-cons}
-use Rattle.std.specs.List.{sum_by}
-use Rattle.mq_wire.specs.declared.message.Message.{Message}
+use Rattle.mq_link.proofs.Common.{◌≡◌, ℕ, zero, suc, ◌+◌, ◌*◌, ◌≤◌, Bool, true, false, cond, List, [], ◌∷◌, ◌++◌, length, Ok, drop, replicate, sum, arith}
+use Rattle.mq_link.proofs.Common.{mul-le-mul_left, sum_by-cons, sum_by, Message, RecordView, Family, Igmp, Mld, address_width, group_end, number_at}
+use Rattle.mq_link.proofs.Common.{older_spans, query_spans, source_spans, older_query, current_query, record_spans, record_end, record_at, record_source_count}
+use Rattle.mq_link.proofs.Common.{auxiliary_length, record_count, records_at, spans_of_records, report_spans, report_records, least_length, read_of}
 use Rattle.mq_wire.specs.declared.message.Message.TheVariants.{Query, Report}
-use Rattle.mq_wire.specs.declared.records.RecordView.{RecordView}
-use Rattle.mq_wire.specs.Family.{Family, Igmp, Mld, address_width, group_end}
-use Rattle.mq_wire.specs.Fields.{number_at}
-use Rattle.mq_wire.specs.Queries.{older_spans, query_spans, source_spans, older_query, current_query}
-use Rattle.mq_wire.specs.Records.{record_spans, record_end, record_at, record_source_count, auxiliary_length, record_count, records_at}
-use Rattle.mq_wire.specs.Records.{spans_of_records, report_spans, report_records}
-use Rattle.mq_wire.proofs.Addresses.{length_addresses}
-use Rattle.mq_wire.proofs.Spans.{ends_within, sum-append, sum-replicate}
-use Rattle.mq_link.specs.Cost.{least_length}
-use Rattle.mq_link.specs.Receive.{read_of}
+use Rattle.mq_wire.proofs.{Addresses.length_addresses, Spans.ends_within, Spans.sum-append, Spans.sum-replicate}
 use Rattle.mq_link.proofs.SpelledMessages.{AreWhole, where_read}
 
 -- so many addresses

@@ -1,16 +1,9 @@
 -- The bytes of a query in one message.
-use Rattle.std.proofs.Common.{◌≡◌, ℕ, ◌+◌, ◌*◌, ◌≤◌, ◌++◌, Bool, false, List, [], length, take, drop, arith, ◌∙◌}
-use Rattle.std.specs.List.{refill}
-use Rattle.std.proofs.lemmas.List.{take-append-le, take-take}
+use Rattle.mq_link.proofs.Common.{◌≡◌, ℕ, ◌+◌, ◌*◌, ◌≤◌, ◌++◌, Bool, false, List, [], length, take, drop, arith, ◌∙◌, refill, take-append-le, take-take, canon}
+use Rattle.mq_link.proofs.Common.{first_bytes, without_checksum, covered_before, Family, Igmp, Mld, Timing, SentQuery, GeneralQuery, GroupQuery, SourcesQuery}
+use Rattle.mq_link.proofs.Common.{per_query, Terms, outgoing_on, FitsOne, query_with}
 use Rattle.mq_wire.specs.declared.query.QuerierFields.{QuerierFields}
-use Rattle.mq_wire.specs.Canon.{canon, first_bytes, without_checksum, covered_before}
-use Rattle.mq_wire.specs.Family.{Family, Igmp, Mld}
 use Rattle.mq_wire.proofs.WrittenParts.{length_query, length_with_checksum}
-use Rattle.mq_table.specs.declared.timing.Timing.{Timing}
-use Rattle.mq_sched.specs.Sending.{SentQuery, GeneralQuery, GroupQuery, SourcesQuery}
-use Rattle.mq_link.specs.Family.{per_query}
-use Rattle.mq_link.specs.Handing.{Terms, outgoing_on, FitsOne}
-use Rattle.mq_link.specs.Sent.{query_with}
 
 fields_of : Timing → Bool → List ℕ → QuerierFields ℕ
 fields_of timing s sources =

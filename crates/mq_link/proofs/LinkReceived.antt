@@ -1,32 +1,10 @@
 -- A link after a datagram.
-use Rattle.std.proofs.Common.{◌≡◌, ℕ, Bool, refl, List, [], ◌++◌, append-nil, Option, None, Some, Result, Ok, Err, sym, ap, ◌∙◌, subst}
-use Rattle.mq_wire.specs.Family.{Family}
-use Rattle.mq_wire.specs.declared.message.Message.{Message}
-use Rattle.mq_wire.specs.declared.message.Message.TheVariants.{Query as QueryMessage, OldReport, Leave as LeaveMessage, Report as ReportMessage}
-use Rattle.mq_wire.specs.declared.message.WireFault.{WireFault}
-use Rattle.mq_table.specs.declared.timing.Timing.{Timing}
-use Rattle.mq_sched.proofs.Collecting.{Sends-append}
-use Rattle.mq_sched.specs.Rounds.{AllFit}
-use Rattle.mq_sched.specs.Sending.{SentQuery}
-use Rattle.mq_sched.specs.Sink.{Sends}
-use Rattle.mq_link.specs.declared.answers.DropReason.{DropReason}
-use Rattle.mq_link.specs.declared.answers.Received.{Received}
-use Rattle.mq_link.specs.declared.answers.Received.TheVariants.{Dropped}
-use Rattle.mq_link.specs.declared.sender.Sender.{Sender}
-use Rattle.mq_link.specs.Configuration.{Configuration}
-use Rattle.mq_link.specs.Counters.{count_dropped}
-use Rattle.mq_link.specs.Family.{per_query}
-use Rattle.mq_link.specs.Link.{HasReceived}
-use Rattle.mq_link.specs.Receive.{Envelope, Receipt, count_read, taken_in, taken_or_dropped, drop_reason, receipt_after, receipt_of, read_of}
-use Rattle.mq_link.specs.Receive.{pseudo_of, counting_read}
-use Rattle.mq_link.specs.Router.{HasReceipt, HasStep, RouterValue, link_of, silent_step, state_of}
-use Rattle.mq_link.specs.Sender.{TakesQuery, begun}
-use Rattle.mq_link.specs.Sent.{Outgoing}
-use Rattle.mq_link.specs.State.{LinkState}
-use Rattle.mq_link.specs.Tick.{Step, tick_of}
-use Rattle.mq_link.proofs.AllFits.{fits-receipt_of}
-use Rattle.mq_link.proofs.HandedOut.{IsHanded, is_handed, with_answers}
-use Rattle.mq_link.proofs.LinkTicked.{with_answers_in}
+use Rattle.mq_link.proofs.Common.{◌≡◌, ℕ, Bool, refl, List, [], ◌++◌, append-nil, Option, None, Some, Result, Ok, Err, sym, ap, ◌∙◌, subst, Family, Message}
+use Rattle.mq_link.proofs.Common.{QueryMessage, OldReport, LeaveMessage, ReportMessage, WireFault, Timing, Sends-append, AllFit, SentQuery, Sends, DropReason}
+use Rattle.mq_link.proofs.Common.{Received, Dropped, Sender, Configuration, count_dropped, per_query, HasReceived, Envelope, Receipt, count_read, taken_in}
+use Rattle.mq_link.proofs.Common.{taken_or_dropped, drop_reason, receipt_after, receipt_of, read_of, pseudo_of, counting_read, HasReceipt, HasStep, RouterValue}
+use Rattle.mq_link.proofs.Common.{link_of, silent_step, state_of, TakesQuery, begun, Outgoing, LinkState, Step, tick_of}
+use Rattle.mq_link.proofs.{AllFits.fits-receipt_of, HandedOut.IsHanded, HandedOut.is_handed, HandedOut.with_answers, LinkTicked.with_answers_in}
 
 -- a receipt after some queries, beside that of the same datagram after none
 pub record Continues (queries : List SentQuery) (timing : Timing) (whole rest : Receipt) : Type 0 where

@@ -1,29 +1,12 @@
 -- The storage of a link, at its start and after its calls.
-use Rattle.std.proofs.Common.{◌≡◌, ℕ, ◌*◌, ◌<◌, ◌≤◌, List, [], ◌∷◌, false, Some, refl, sym, ap, ◌∙◌, subst, arith, leb}
-use Rattle.std.specs.List.{list_any}
-use Rattle.std.specs.Option.{unwrap_or}
-use Rattle.std.specs.Ordering.{nat_cmp}
+use Rattle.mq_link.proofs.Common.{◌≡◌, ℕ, ◌*◌, ◌<◌, ◌≤◌, List, [], ◌∷◌, false, Some, refl, sym, ap, ◌∙◌, subst, arith, leb, list_any, unwrap_or, nat_cmp}
+use Rattle.mq_link.proofs.Common.{forwards_in, is_running, AreInRange, election_at, next_moment, ScheduledGroup, HeldState, empty_state, has_due, Storage}
+use Rattle.mq_link.proofs.Common.{Configuration, IsFaultless, IsWithinRoom, Setting, IsStored, RouterValue, state_of, AreSound, LinkState, IsWellFormed}
+use Rattle.mq_link.proofs.Common.{IsReady, KeepsRooms, link_at, next_of}
 use Rattle.std.specs.FinMap as map
-use Rattle.mq_table.specs.Group.{forwards_in, is_running}
-use Rattle.mq_table.specs.Variables.{AreInRange}
-use Rattle.mq_sched.specs.Election.{election_at, next_moment}
-use Rattle.mq_sched.specs.Schedule.{ScheduledGroup}
-use Rattle.mq_held.specs.Groups.{Groups, group_at, unheld, sources_of}
-use Rattle.mq_held.specs.Held.{HeldState, empty_state}
-use Rattle.mq_held.specs.Moments.{moments_of, moments_in}
-use Rattle.mq_held.specs.Places.{has_due}
-use Rattle.mq_link.specs.declared.storage.Storage.{Storage}
-use Rattle.mq_link.specs.Configuration.{Configuration, IsFaultless}
-use Rattle.mq_link.specs.Record.{Setting}
-use Rattle.mq_link.specs.Router.{IsStored, RouterValue, state_of}
-use Rattle.mq_link.specs.Sound.{AreSound}
-use Rattle.mq_link.specs.State.{LinkState, IsWellFormed, link_at}
-use Rattle.mq_link.specs.Storage.{IsReady, KeepsRooms}
-use Rattle.mq_link.specs.Tick.{next_of}
-use Rattle.mq_link.proofs.Faultless.{IsWellFormed-link_at, few_groups}
-use Rattle.mq_link.proofs.Quiet.{AllAbove, above_least, above_values}
-use Rattle.mq_link.proofs.Receipts.{sound_in}
-use Rattle.mq_link.proofs.Silent.{from-each, not_reached}
+use Rattle.mq_held.specs.{Groups.Groups, Groups.group_at, Groups.unheld, Groups.sources_of, Moments.moments_of, Moments.moments_in}
+use Rattle.mq_link.proofs.{Faultless.IsWellFormed-link_at, Faultless.few_groups, Quiet.AllAbove, Quiet.above_least, Quiet.above_values, Receipts.sound_in}
+use Rattle.mq_link.proofs.{Silent.from-each, Silent.not_reached}
 
 -- a group that isn't held forwards nothing
 pub none_forwarded : (source : ℕ) → forwards_in unheld.group source ≡ false
@@ -38,27 +21,28 @@ well_formed_at r sound timing = record { groups = sound.all; within = sound.with
 
 -- the storage of a link at its start
 pub stored_at_start : {K A : Type 0} (config : Configuration) (start : ℕ) (storage : Storage K A)
-    → IsFaultless config → storage.held ≡ empty_state config.limits.groups config.limits.sources
+    → IsFaultless config → IsWithinRoom config → storage.held ≡ empty_state config.room.groups config.room.sources
     → (let status : Setting = record { config = config; election = election_at config.timing start; now = start } in IsStored status storage)
-stored_at_start config start storage faultless held =
+stored_at_start config start storage faultless within held =
     let status : Setting = record { config = config; election = election_at config.timing start; now = start } in
     record {
       sound = subst (AreSound status) (sym (ap (λ (h : HeldState). h.groups) held))
           (sound_in config (link_at config start) (IsWellFormed-link_at config start faultless));
+      within = within;
       group_room = ap (λ (h : HeldState). h.order.room) held;
       source_room = ap (λ (h : HeldState). h.source_room) held;
     }
 
 -- the groups are fit to be worked on, and there is room for each
 pub ready_in : {K A : Type 0} (status : Setting) (storage : Storage K A) → IsFaultless status.config → AreSound status storage.held.groups →
-    (room : ℕ) → 2 * status.config.limits.group_sources ≤ room → IsReady room storage
-ready_in status storage faultless sound room wide = record {
+    IsWithinRoom status.config → (room : ℕ) → 2 * status.config.room.group_sources ≤ room → IsReady room storage
+ready_in status storage faultless sound within room wide = record {
   few = let n = sound.within.group_count in omega (arith, n, few_groups status.config faultless);
   served = λ group e is.
       let as_held = sound.all group e is in
       let few : sources_of e ≤ status.config.limits.group_sources =
       subst (λ x. sources_of (unwrap_or x unheld) ≤ status.config.limits.group_sources) is (sound.within.group_sources group) in
-      record { held = as_held.held; fits = as_held.fits; room_for = omega arith };
+      record { held = as_held.held; fits = as_held.fits; room_for = omega (arith, within.group_sources) };
 }
 
 -- before the next moment no group has anything due
@@ -81,6 +65,7 @@ pub stored_next : {K A : Type 0} (status after : Setting) (storage next : Storag
     → IsStored status storage → after.config ≡ status.config → AreSound after next.held.groups → KeepsRooms storage next → IsStored after next
 stored_next status after storage next was same sound kept = record {
   sound = sound;
-  group_room = kept.groups ∙ was.group_room ∙ ap (λ (c : Configuration). c.limits.groups) (sym same);
-  source_room = kept.sources ∙ was.source_room ∙ ap (λ (c : Configuration). c.limits.sources) (sym same);
+  within = subst IsWithinRoom (sym same) was.within;
+  group_room = kept.groups ∙ was.group_room ∙ ap (λ (c : Configuration). c.room.groups) (sym same);
+  source_room = kept.sources ∙ was.source_room ∙ ap (λ (c : Configuration). c.room.sources) (sym same);
 }

@@ -1,23 +1,9 @@
 -- A router after a tick.
-use Rattle.std.proofs.Common.{◌≡◌, ℕ, Bool, max, ◌++◌, sym, ap, ◌∙◌, subst}
-use Rattle.mq_wire.specs.Family.{Family}
-use Rattle.mq_table.specs.Variables.{AreInRange}
-use Rattle.mq_sched.specs.Election.{ticked, general_messages}
-use Rattle.mq_sched.specs.Sink.{Sends}
-use Rattle.mq_link.specs.declared.sender.Sender.{Sender}
-use Rattle.mq_link.specs.Link.{HasTicked}
-use Rattle.mq_link.specs.Record.{Setting}
-use Rattle.mq_link.specs.Router.{HasStep, RouterValue, link_of, state_of}
-use Rattle.mq_link.specs.Sender.{TakesQuery, begun}
-use Rattle.mq_link.specs.Sent.{Outgoing}
-use Rattle.mq_link.specs.Sound.{AreSound}
-use Rattle.mq_link.specs.State.{LinkState}
-use Rattle.mq_link.specs.Tick.{groups_expired, queries_due, groups_after_round, tick_at, tick_of}
-use Rattle.mq_link.proofs.AllFits.{fits-tick_of}
-use Rattle.mq_link.proofs.HandedOut.{is_handed, with_answers}
-use Rattle.mq_link.proofs.LinkStored.{well_formed_at}
-use Rattle.mq_link.proofs.Receipts.{sound_in}
-use Rattle.mq_link.proofs.Ticked.{IsWellFormed-tick_at}
+use Rattle.mq_link.proofs.Common.{◌≡◌, ℕ, Bool, max, ◌++◌, sym, ap, ◌∙◌, subst, Family, AreInRange, ticked, general_messages, Sends, Sender, HasTicked, Setting}
+use Rattle.mq_link.proofs.Common.{HasStep, RouterValue, link_of, state_of, TakesQuery, begun, Outgoing, AreSound, LinkState, groups_expired, queries_due}
+use Rattle.mq_link.proofs.Common.{groups_after_round, tick_at, tick_of}
+use Rattle.mq_link.proofs.{AllFits.fits-tick_of, HandedOut.is_handed, HandedOut.with_answers, LinkStored.well_formed_at, Receipts.sound_in}
+use Rattle.mq_link.proofs.{Ticked.IsWellFormed-tick_at}
 
 -- the state after the work of a moment, and the queries that the sender has taken
 pub record HasDone {F O K E : Type 0} (takes : O → Outgoing → Bool → O → Type 0) (family : Family) (moment : ℕ) (before after : RouterValue)

@@ -1,15 +1,7 @@
 -- The lists of the addresses of changed groups, before and after a call.
-use Rattle.std.proofs.Common.{◌≡◌, ℕ, zero, suc, ◌+◌, ◌*◌, ◌/◌, ◌≤◌, min, Bool, false, ◌||◌, List, length, ap, ◌∙◌, arith, sym}
-use Rattle.std.proofs.Math.Bool.{or-false}
-use Rattle.std.specs.Prelude.{map as list_map, slice_index}
-use Rattle.std.proofs.lemmas.List.{length-map}
-use Rattle.mq_held.specs.Held.{HeldState, IsNumber}
-use Rattle.mq_link.specs.declared.storage.Lists.{Lists}
-use Rattle.mq_link.specs.Forwarding.{AreThose}
-use Rattle.mq_link.specs.Seen.{AreMarked}
-use Rattle.mq_link.specs.Workspace.{WorkspaceState}
-use Rattle.mq_link.proofs.KeptGroups.{is_number}
-use Rattle.mq_link.proofs.PaidEdits.{some_of}
+use Rattle.mq_link.proofs.Common.{◌≡◌, ℕ, zero, suc, ◌+◌, ◌*◌, ◌/◌, ◌≤◌, min, Bool, false, ◌||◌, List, length, ap, ◌∙◌, arith, sym, or-false, list_map}
+use Rattle.mq_link.proofs.Common.{slice_index, length-map, HeldState, IsNumber, Lists, AreThose, AreMarked, WorkspaceState}
+use Rattle.mq_link.proofs.{KeptGroups.is_number, PaidEdits.some_of}
 
 -- the numbers of marked groups are those of groups
 pub numbers_marked : (s : HeldState) (counts : List ℕ) (test : ℕ → Bool) → AreMarked s counts test → (number : ℕ) → 1 ≤ slice_index counts number →

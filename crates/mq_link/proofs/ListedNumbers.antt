@@ -1,17 +1,9 @@
 -- The numbers whose count isn't zero, and the counts.
-use Rattle.std.proofs.Common.{◌≡◌, ◌≢◌, ℕ, suc, ◌+◌, ◌<◌, ◌≤◌, Bool, true, false, cond, ◌⊎◌, inl, inr, List, [], ◌∷◌, ◌++◌, length, set, drop, refl}
-use Rattle.std.proofs.Common.{sym, ap, ◌∙◌, arith, ltb, length-set}
-use Rattle.std.specs.Prelude.{slice_index}
-use Rattle.std.specs.List.{All, count_by}
-use Rattle.std.specs.Ordering.{nat_cmp, eq_by_cmp}
-use Rattle.std.proofs.lemmas.Bool.{cases_lt, lt-ltb, true≢false}
+use Rattle.mq_link.proofs.Common.{◌≡◌, ◌≢◌, ℕ, suc, ◌+◌, ◌<◌, ◌≤◌, Bool, true, false, cond, ◌⊎◌, inl, inr, List, [], ◌∷◌, ◌++◌, length, set, drop, refl, sym}
+use Rattle.mq_link.proofs.Common.{ap, ◌∙◌, arith, ltb, length-set, slice_index, All, count_by, nat_cmp, eq_by_cmp, cases_lt, lt-ltb, true≢false, All-push}
+use Rattle.mq_link.proofs.Common.{sum_by-cons, sum_by-append, sum_by-set, count_by-le-length, tied, ties, times, is_cell, is_cell-same, is_cell-other}
+use Rattle.mq_link.proofs.Common.{AreListed, AreNone}
 use Rattle.std.proofs.lemmas.List.{get_or-set_same, get_or-set_other, length-append, drop_all}
-use Rattle.std.proofs.lemmas.List.Elements.{All-push}
-use Rattle.std.proofs.lemmas.List.Sums.{sum_by-cons, sum_by-append, sum_by-set, count_by-le-length}
-use Rattle.mq_held.proofs.Sorted.{tied, ties}
-use Rattle.mq_sets.specs.Slots.{times}
-use Rattle.mq_sets.proofs.Cells.{is_cell, is_cell-same, is_cell-other}
-use Rattle.mq_link.specs.Seen.{AreListed, AreNone}
 
 abbrev one_or_none : Bool → ℕ
 one_or_none b = cond b 1 0

@@ -1,23 +1,10 @@
 -- A group some of whose sources were lowered one after the other.
-use Rattle.std.proofs.Common.{◌≡◌, ℕ, ◌+◌, ◌*◌, ◌≤◌, ◌<◌, min, Bool, false, cond, ◌||◌, List, [], ◌∷◌, ◌++◌, length, sym, ap, ◌∙◌, arith, append-nil}
-use Rattle.std.proofs.Common.{append_assoc, length-append, eqb}
-use Rattle.std.proofs.lemmas.Bool.Decides.{nat_tests}
-use Rattle.std.specs.List.{list_any}
-use Rattle.std.specs.Ordering.{nat_cmp}
+use Rattle.mq_link.proofs.Common.{◌≡◌, ℕ, ◌+◌, ◌*◌, ◌≤◌, ◌<◌, min, Bool, false, cond, ◌||◌, List, [], ◌∷◌, ◌++◌, length, sym, ap, ◌∙◌, arith, append-nil}
+use Rattle.mq_link.proofs.Common.{append_assoc, length-append, eqb, nat_tests, list_any, nat_cmp, lowered_by_query, some_named, Spends, Spends-join_within}
+use Rattle.mq_link.proofs.Common.{bitlen, Timing, GroupState, sources_lowered, lowered_to, source_lowered, StoredGroup, size_of, same_group}
 use Rattle.std.specs.FinSet as set
-use Rattle.mq_table.specs.Lowering.{lowered_by_query}
-use Rattle.mq_link.specs.Heard.{some_named}
-use Rattle.mq_count.specs.Spending.{Spends}
-use Rattle.mq_count.proofs.Spent.{Spends-join_within}
-use Rattle.mq_sets.specs.Search.{bitlen}
-use Rattle.mq_table.specs.declared.timing.Timing.{Timing}
-use Rattle.mq_table.specs.Group.{GroupState}
-use Rattle.mq_table.specs.Lowering.{sources_lowered, lowered_to, source_lowered}
-use Rattle.mq_table.specs.Stored.{StoredGroup, size_of}
-use Rattle.mq_table.proofs.Groups.{same_group}
 use Rattle.mq_table.proofs.Lower.{timer_at-sources_lowered, lowered_both}
-use Rattle.mq_link.proofs.MadeEntries.{len-made}
-use Rattle.mq_link.proofs.NamedSoFar.{any_push}
+use Rattle.mq_link.proofs.{MadeEntries.len-made, NamedSoFar.any_push}
 
 pub record IsLowered (timing : Timing) (now : ℕ) (all left : List ℕ) (from : StoredGroup) (from_count : ℕ) (g : StoredGroup) (count : ℕ)
     (done : List ℕ) : Type 0 where

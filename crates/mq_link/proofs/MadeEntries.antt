@@ -1,26 +1,10 @@
 -- Maps in which each value is replaced and none is left out.
-use Rattle.std.proofs.Common.{◌≡◌, ℕ, ◌-◌, ◌+◌, Bool, true, false, cond, is_some, List, [], ◌∷◌, length, refl, sym, ap, ◌∙◌, Option, None, Some, ltb}
-use Rattle.std.proofs.Common.{eqb, ◌&&◌, arith}
-use Rattle.std.proofs.lemmas.Bool.Decides.{nat_tests}
-use Rattle.std.specs.Prelude.{map as list_map}
-use Rattle.std.specs.Option.{option_and_then}
-use Rattle.std.specs.List.{list_any}
-use Rattle.std.specs.Ordering.{nat_cmp}
+use Rattle.mq_link.proofs.Common.{◌≡◌, ℕ, ◌-◌, ◌+◌, Bool, true, false, cond, is_some, List, [], ◌∷◌, length, refl, sym, ap, ◌∙◌, Option, None, Some, ltb, eqb}
+use Rattle.mq_link.proofs.Common.{◌&&◌, arith, nat_tests, list_map, option_and_then, list_any, nat_cmp, FinMap, Source, kept, SourceTimer, Stopped, Running}
+use Rattle.mq_link.proofs.Common.{GroupState, is_vacant, is_include, sendings_of, some_source, has_sendings, source_counted, sendings_counted, number_in}
+use Rattle.mq_link.proofs.Common.{timers_in, size_of, get-kept, Timing, ScheduledGroup, is_due, sources_due_next, after_round, IsAscending}
 use Rattle.std.specs.FinMap as map
-use Rattle.std.specs.FinMap.{FinMap}
-use Rattle.mq_table.specs.declared.sources.Source.{Source}
-use Rattle.mq_table.specs.Maps.{kept}
-use Rattle.mq_table.specs.declared.timers.SourceTimer.{SourceTimer}
-use Rattle.mq_table.specs.declared.timers.SourceTimer.TheVariants.{Stopped, Running}
-use Rattle.mq_table.specs.Group.{GroupState, is_vacant, is_include, sendings_of}
-use Rattle.mq_table.specs.Sendings.{some_source, has_sendings, source_counted, sendings_counted}
-use Rattle.mq_table.specs.Stored.{number_in, timers_in, size_of}
-use Rattle.mq_table.proofs.Maps.{get-kept}
 use Rattle.mq_table.proofs.Rows.{any_in_row}
-use Rattle.mq_table.specs.declared.timing.Timing.{Timing}
-use Rattle.mq_sched.specs.Schedule.{ScheduledGroup}
-use Rattle.mq_sched.specs.Sending.{is_due, sources_due_next, after_round}
-use Rattle.mq_sets.specs.Ascending.{IsAscending}
 use Rattle.mq_link.proofs.Entries.{filtered, entries-kept}
 
 module _ {X : Type 0} (f : ℕ → X → X) where

@@ -1,16 +1,9 @@
 -- The counts of groups by number are those by address, whatever records meet.
-use Rattle.std.proofs.Common.{◌≡◌, ◌≢◌, ℕ, ◌+◌, ◌<◌, ◌≤◌, min, Bool, true, false, cond, ◌&&◌, ◌⊎◌, inl, inr, List, length, set, refl, sym, ap, ◌∙◌}
-use Rattle.std.proofs.Common.{subst, arith, leb, ltb, length-set}
-use Rattle.std.specs.Prelude.{slice_index}
-use Rattle.std.specs.Option.{unwrap_or}
-use Rattle.std.specs.Ordering.{nat_cmp, eq_by_cmp}
+use Rattle.mq_link.proofs.Common.{◌≡◌, ◌≢◌, ℕ, ◌+◌, ◌<◌, ◌≤◌, min, Bool, true, false, cond, ◌&&◌, ◌⊎◌, inl, inr, List, length, set, refl, sym, ap, ◌∙◌, subst}
+use Rattle.mq_link.proofs.Common.{arith, leb, ltb, length-set, slice_index, unwrap_or, nat_cmp, eq_by_cmp, cases_lt, le-leb, lt-leb, leb-true, leb-false}
+use Rattle.mq_link.proofs.Common.{true≢false, get_or-set_same, get_or-set_other, HeldState, HasNumber, tied, ties, Seen, met, is_repeated, AreMarked, AreMet}
+use Rattle.mq_link.proofs.Common.{AreNone, KeepsNumbers, counted_again}
 use Rattle.std.specs.FinMap as map
-use Rattle.std.proofs.lemmas.Bool.{cases_lt, le-leb, lt-leb, leb-true, leb-false, true≢false}
-use Rattle.std.proofs.lemmas.List.{get_or-set_same, get_or-set_other}
-use Rattle.mq_held.specs.Held.{HeldState, HasNumber}
-use Rattle.mq_held.proofs.Sorted.{tied, ties}
-use Rattle.mq_link.specs.Record.{Seen, met, is_repeated}
-use Rattle.mq_link.specs.Seen.{AreMarked, AreMet, AreNone, KeepsNumbers, counted_again}
 use Rattle.mq_link.proofs.TakenRecords.{again, met_once, met_other}
 
 -- before the first record none was met

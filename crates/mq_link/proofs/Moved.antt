@@ -1,8 +1,5 @@
 -- The sum of moves, with those put by for the next packing of the rows of sources.
-use Rattle.std.proofs.Common.{◌≡◌, ℕ, ◌+◌, ◌≤◌, arith}
-use Rattle.mq_count.specs.Spending.{Spends}
-use Rattle.mq_count.proofs.Spent.{Spends-none, Spends-within, Spends-join_within}
-use Rattle.mq_link.specs.Moved.{IsPaid}
+use Rattle.mq_link.proofs.Common.{◌≡◌, ℕ, ◌+◌, ◌≤◌, arith, Spends, Spends-none, Spends-within, Spends-join_within, IsPaid}
 
 -- nothing is moved
 pub paid_none : (put_by moved : ℕ) → IsPaid 0 put_by put_by moved moved

@@ -1,22 +1,13 @@
 -- The bound of a record's moves: with those left for later records, at most those left before it and its own.
-use Rattle.std.proofs.Common.{◌≡◌, ℕ, ◌+◌, ◌*◌, ◌≤◌, Bool, true, false, cond, ◌&&◌, refl, List, [], ◌∷◌, length, subst, arith, leb}
-use Rattle.std.proofs.lemmas.Bool.{leb-false}
-use Rattle.std.proofs.lemmas.List.Sums.{sum_by-cons}
+use Rattle.mq_link.proofs.Common.{◌≡◌, ℕ, ◌+◌, ◌*◌, ◌≤◌, Bool, true, false, cond, ◌&&◌, refl, List, [], ◌∷◌, length, subst, arith, leb, leb-false, sum_by-cons}
+use Rattle.mq_link.proofs.Common.{sum_by, RecordView, Kind, Repeated, Refused, IsPaid, moved_by_edit, moves_by, record_moves, own_moves, Setting, RecordOf}
+use Rattle.mq_link.proofs.Common.{leaving, stated, Seen, met, Entrance, Stops, GoesOn, entrance, seen_by, seen_after, judged_from, judged}
 use Rattle.std.specs.FinMap as map
 use Rattle.std.specs.FinSet as set
-use Rattle.std.specs.List.{sum_by}
-use Rattle.mq_wire.specs.declared.records.RecordView.{RecordView}
-use Rattle.mq_table.specs.declared.kind.Kind.{Kind}
-use Rattle.mq_link.specs.declared.answers.Refusal.TheVariants.{Repeated}
-use Rattle.mq_link.specs.Counters.{Refused}
-use Rattle.mq_link.specs.Moved.{IsPaid, moved_by_edit, moves_by, record_moves, own_moves}
-use Rattle.mq_link.specs.Record.{Setting, RecordOf, leaving, stated, Seen, met, Entrance, Stops, GoesOn, entrance, seen_by, seen_after, judged_from, judged}
 use Rattle.mq_link.specs.State.{Groups, group_at, sources_of, sources_in}
-use Rattle.mq_link.proofs.KeptGroups.{absent_sources}
-use Rattle.mq_link.proofs.Moved.{paid_none, paid_join, paid_within}
-use Rattle.mq_link.proofs.Potential.{potential, potential-empty, potential-le, potential-falls}
-use Rattle.mq_link.proofs.RecordCosts.{four_times, stated_left}
-use Rattle.mq_link.proofs.TakenRecords.{again, met_once, met_more}
+use Rattle.mq_link.proofs.{KeptGroups.absent_sources, Moved.paid_none, Moved.paid_join, Moved.paid_within, Potential.potential, Potential.potential-empty}
+use Rattle.mq_link.proofs.{Potential.potential-le, Potential.potential-falls, RecordCosts.four_times, RecordCosts.stated_left, TakenRecords.again}
+use Rattle.mq_link.proofs.{TakenRecords.met_once, TakenRecords.met_more}
 
 pub record_moves_pay : (at : Setting) (seen : Seen) (r : RecordView ℕ) (groups : Groups) →
     record_moves at.config seen r groups + potential (seen_after at.config r groups seen) (judged at seen r groups).groups ≤ potential seen groups + own_moves r

@@ -1,16 +1,6 @@
 -- Messages whose addresses are seen as their numbers are the same with their addresses as numbers.
-use Rattle.std.proofs.Common.{◌≡◌, ◌↔◌, ℕ, List, Result, Ok, Err, Some, refl, sym, ap, ◌∙◌}
-use Rattle.mq_wire.specs.declared.message.Message.{Message}
-use Rattle.mq_wire.specs.declared.message.Message.TheVariants.{Query as AQuery, OldReport, Leave, Report}
-use Rattle.mq_wire.specs.declared.message.WireFault.{WireFault}
-use Rattle.mq_wire.specs.declared.query.Query.{Query}
-use Rattle.mq_wire.specs.declared.query.QueryVersion.{QueryVersion}
-use Rattle.mq_wire.specs.declared.query.QueryVersion.TheVariants.{Older, Current}
-use Rattle.mq_wire.specs.Family.{Family}
-use Rattle.mq_wire.specs.Numbered.{numbered_version, numbered_query, numbered_message}
-use Rattle.mq_wire.specs.Spelling.{Spells, fault_of}
-use Rattle.mq_link.specs.Reading.{numbered_read}
-use Rattle.mq_link.specs.Receive.{read_of}
+use Rattle.mq_link.proofs.Common.{◌≡◌, ◌↔◌, ℕ, List, Result, Ok, Err, Some, refl, sym, ap, ◌∙◌, Message, AQuery, WireFault, Query, QueryVersion, Older, Current}
+use Rattle.mq_link.proofs.Common.{Family, numbered_version, numbered_query, numbered_message, Spells, fault_of, numbered_read, read_of}
 use Rattle.mq_link.proofs.Runs.{message_read, fault_read}
 
 pub same_version : (version : QueryVersion ℕ) → numbered_version version ≡ version
@@ -22,9 +12,7 @@ same_query query = λ i. record { group = query.group; response = query.response
 
 same_message : (message : Message ℕ) → numbered_message (λ n. n) message ≡ message
 same_message (AQuery query) = ap AQuery (same_query query)
-same_message (OldReport version group) = refl
-same_message (Leave group) = refl
-same_message (Report records) = refl
+same_message _ = refl
 
 -- the promise of the readers of messages is the message of the bytes
 pub read_as : (family : Family) (pseudo bytes : List ℕ) (read : Result (Message ℕ) WireFault)

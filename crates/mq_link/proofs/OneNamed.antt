@@ -1,10 +1,6 @@
 -- The names of lists of no source and of one source.
-use Rattle.std.proofs.Common.{◌≡◌, ℕ, get_or, false, List, [], ◌∷◌, length, sym, ap, ◌∙◌, arith}
-use Rattle.std.proofs.Math.Bool.{or-false}
-use Rattle.std.specs.Ordering.{nat_cmp, eq_by_cmp}
-use Rattle.std.specs.Cmp.{nat_cmp_total}
+use Rattle.mq_link.proofs.Common.{◌≡◌, ℕ, get_or, false, List, [], ◌∷◌, length, sym, ap, ◌∙◌, arith, or-false, nat_cmp, eq_by_cmp, nat_cmp_total, named_in}
 use Rattle.std.specs.FinSet as set
-use Rattle.mq_table.specs.Stored.{named_in}
 
 pub names-none : {K : Type 0} (number : K → ℕ) (xs : List K) → xs ≡ [] → (s : ℕ) → set.contains (named_in number xs) s ≡ false
 names-none number xs none s = ap (λ ys. set.contains (named_in number ys) s) none ∙ set.contains-from_list nat_cmp_total [] s

@@ -1,27 +1,12 @@
 -- The moves of a group that is put, made or taken out. Five for each of its sources, and those put by, pay them.
-use Rattle.std.proofs.Common.{◌≡◌, cond, ℕ, ◌+◌, ◌-◌, ◌*◌, ◌/◌, ◌<◌, ◌≤◌, Bool, true, false, not, min, ⊎_elim, None, Some, IfSome, refl, length, sym}
-use Rattle.std.proofs.Common.{ap, ◌∙◌, arith, leb, ltb, ◌⊎◌, inl, inr}
-use Rattle.mq_held.proofs.DueInOrder.{few-running}
-use Rattle.mq_link.proofs.GrownGroups.{one_at_most}
-use Rattle.std.specs.Prelude.{slice_index}
-use Rattle.std.proofs.Math.Nat.{mul-le-mul_right}
-use Rattle.std.proofs.lemmas.Bool.{cases_lt, le-leb, lt-leb, lt-ltb, le-ltb}
+use Rattle.mq_link.proofs.Common.{◌≡◌, cond, ℕ, ◌+◌, ◌-◌, ◌*◌, ◌/◌, ◌<◌, ◌≤◌, Bool, true, false, not, min, ⊎_elim, None, Some, IfSome, refl, length, sym, ap}
+use Rattle.mq_link.proofs.Common.{◌∙◌, arith, leb, ltb, ◌⊎◌, inl, inr, few-running, slice_index, mul-le-mul_right, cases_lt, le-leb, lt-leb, lt-ltb, le-ltb}
+use Rattle.mq_link.proofs.Common.{Spends, NumberedKeysState, AreFilled, IsSpotFor, moved_by_insert, Spot, bitlen, bitlen-le, bitlen-mono, is_vacant}
+use Rattle.mq_link.proofs.Common.{ScheduledGroup, HeldState, ahead_with, moved_by_packing, moved_by_row, moved_by_new_row, no_sources, vacant_sources}
+use Rattle.mq_link.proofs.Common.{own_sources, total-with, total-entries, put_by_rows, IsPaid, moved_by_edit}
+use Rattle.mq_link.proofs.{GrownGroups.one_at_most, Entries.total-kept, HeldAs.vacant_is, Moved.paid_by}
 use Rattle.std.specs.FinMap as map
-use Rattle.mq_count.specs.Spending.{Spends}
-use Rattle.mq_sets.specs.NumberedKeys.{NumberedKeysState, AreFilled, IsSpotFor, moved_by_insert}
-use Rattle.mq_sets.specs.declared.spots.Spot.{Spot}
-use Rattle.mq_sets.specs.Search.{bitlen}
-use Rattle.mq_sets.proofs.Bitlen.{bitlen-le, bitlen-mono}
-use Rattle.mq_table.specs.Group.{is_vacant}
-use Rattle.mq_sched.specs.Schedule.{ScheduledGroup}
 use Rattle.mq_held.specs.Groups.{Groups, unheld, group_at, if_running, kept_as, one_if, running_in, sources_in, sources_of, without_vacant}
-use Rattle.mq_held.specs.Held.{HeldState, ahead_with, moved_by_packing, moved_by_row, moved_by_new_row}
-use Rattle.mq_held.proofs.Amounts.{no_sources, vacant_sources, own_sources, total-with, total-entries}
-use Rattle.mq_link.specs.Storage.{put_by_rows}
-use Rattle.mq_link.specs.Moved.{IsPaid, moved_by_edit}
-use Rattle.mq_link.proofs.Entries.{total-kept}
-use Rattle.mq_link.proofs.HeldAs.{vacant_is}
-use Rattle.mq_link.proofs.Moved.{paid_by}
 
 -- 1 for a group that has a moment, else 0
 abbrev runs : ScheduledGroup → ℕ

@@ -1,7 +1,5 @@
 -- Entries of the groups, and those of them for which nothing is done.
-use Rattle.std.proofs.Common.{◌≡◌, ℕ, List, [], Option, Some}
-use Rattle.mq_sched.specs.Schedule.{ScheduledGroup}
-use Rattle.mq_sched.specs.Sending.{SentQuery}
+use Rattle.mq_link.proofs.Common.{◌≡◌, ℕ, List, [], Option, Some, ScheduledGroup, SentQuery}
 
 abbrev pub GroupEntries : Type 0
 GroupEntries = List (ℕ × ScheduledGroup)

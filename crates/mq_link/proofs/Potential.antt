@@ -1,21 +1,10 @@
 -- The comparisons that a datagram's records may still make on the sources of the held groups. Each of the first four that
 -- meet a group has six for each of its sources. A record takes away those that it makes, without those that it brings.
-use Rattle.std.proofs.Common.{◌≡◌, ℕ, zero, suc, ◌+◌, ◌-◌, ◌*◌, ◌<◌, ◌≤◌, Bool, true, false, cond, refl, List, [], ◌∷◌, Option, None, Some, is_some}
-use Rattle.std.proofs.Common.{sym, ap, ◌∙◌, subst, arith}
-use Rattle.std.proofs.Math.Nat.{mul-le-mul_left, mul-le-mul_right}
-use Rattle.std.proofs.lemmas.Bool.{true≢false}
-use Rattle.std.proofs.lemmas.List.Sums.{sum_by-cons, sum_by-le-sum_by}
-use Rattle.std.specs.Prelude.{map as list_map}
-use Rattle.std.specs.List.{sum_by}
-use Rattle.std.specs.Option.{unwrap_or}
-use Rattle.std.specs.Ordering.{nat_cmp, eq_by_cmp}
+use Rattle.mq_link.proofs.Common.{◌≡◌, ℕ, zero, suc, ◌+◌, ◌-◌, ◌*◌, ◌<◌, ◌≤◌, Bool, true, false, cond, refl, List, [], ◌∷◌, Option, None, Some, is_some, sym}
+use Rattle.mq_link.proofs.Common.{ap, ◌∙◌, subst, arith, mul-le-mul_left, mul-le-mul_right, true≢false, sum_by-cons, sum_by-le-sum_by, list_map, sum_by}
+use Rattle.mq_link.proofs.Common.{unwrap_or, nat_cmp, eq_by_cmp, find, ScheduledGroup, tied, no_sources, vacant_sources, total-with_group, Seen, met}
 use Rattle.std.specs.FinMap as map
-use Rattle.std.specs.FinMap.{find}
-use Rattle.mq_sched.specs.Schedule.{ScheduledGroup}
 use Rattle.mq_held.specs.Groups.{Groups, unheld, group_at, with_group, sources_of, sources_in}
-use Rattle.mq_held.proofs.Sorted.{tied}
-use Rattle.mq_held.proofs.Amounts.{no_sources, vacant_sources, total-with_group}
-use Rattle.mq_link.specs.Record.{Seen, met}
 
 -- the comparisons left for a group with these sources, once these records have met it
 abbrev pub left_for : (meetings sources : ℕ) → ℕ

@@ -1,41 +1,16 @@
 -- A tick before the next moment does nothing, and after a tick the next moment is later.
-use Rattle.std.proofs.Common.{◌≡◌, ℕ, ◌<◌, Bool, true, false, cond, ◌&&◌, refl, List, [], ◌∷◌, ◌++◌, Option, None, Some, IfSome, sym, ap, ◌∙◌, subst}
-use Rattle.std.proofs.Common.{arith, eqb}
-use Rattle.std.specs.Prelude.{map as list_map}
-use Rattle.std.proofs.lemmas.Bool.{true≢false, lt-ltb}
-use Rattle.std.specs.List.{flat_map}
+use Rattle.mq_link.proofs.Common.{◌≡◌, ℕ, ◌<◌, Bool, true, false, cond, ◌&&◌, refl, List, [], ◌∷◌, ◌++◌, Option, None, Some, IfSome, sym, ap, ◌∙◌, subst, arith}
+use Rattle.mq_link.proofs.Common.{eqb, list_map, true≢false, lt-ltb, flat_map, Family, Timing, FilterMode, Include, Exclude, SourceTimer, Stopped, Running}
+use Rattle.mq_link.proofs.Common.{kept, GroupState, is_include, is_running, is_stopped, vacant, is_vacant, timer_at, deadline_of, group_deadline, IsHeld, ahead}
+use Rattle.mq_link.proofs.Common.{mode_expired, at_zero, source_expired, held_or_vacant, expired, AllAhead, get-kept, same_sources, get_of_empty, some_source}
+use Rattle.mq_link.proofs.Common.{has_sendings, QuerySchedule, ScheduleState, ScheduledGroup, settled, IsScheduleOf, GeneralQuery, group_due, messages_due}
+use Rattle.mq_link.proofs.Common.{after_round, Role, Querier, Other, ElectionState, deadline_ended, returned, general_is_due, after_general, ticked}
+use Rattle.mq_link.proofs.Common.{general_messages, next_moment, IsQuietAt, quiet_is_silent, same_round, per_query, Configuration, Groups, LinkState}
+use Rattle.mq_link.proofs.Common.{IsWellFormed, group_expired, if_held, groups_expired, queries_due, groups_after_round, tick_at, those_of, moments_of}
+use Rattle.mq_link.proofs.Common.{moments_in, least, next_of, waited}
 use Rattle.std.specs.Option.{option_and_then, option_to_list, is_some}
 use Rattle.std.specs.FinMap as map
-use Rattle.mq_wire.specs.Family.{Family}
-use Rattle.mq_table.specs.declared.timing.Timing.{Timing}
-use Rattle.mq_table.specs.declared.timers.FilterMode.{FilterMode}
-use Rattle.mq_table.specs.declared.timers.FilterMode.TheVariants.{Include, Exclude}
-use Rattle.mq_table.specs.declared.timers.SourceTimer.{SourceTimer}
-use Rattle.mq_table.specs.declared.timers.SourceTimer.TheVariants.{Stopped, Running}
-use Rattle.mq_table.specs.Maps.{kept}
-use Rattle.mq_table.specs.Group.{GroupState, is_include, is_running, is_stopped, vacant, is_vacant, timer_at, deadline_of, group_deadline}
-use Rattle.mq_table.specs.Group.{IsWellFormed as IsHeld}
-use Rattle.mq_table.specs.Expiry.{ahead, mode_expired, at_zero, source_expired, held_or_vacant, expired}
-use Rattle.mq_table.specs.Expiry.{AllAhead}
-use Rattle.mq_table.proofs.Maps.{get-kept}
-use Rattle.mq_table.proofs.Groups.{same_sources}
-use Rattle.mq_table.proofs.Held.{get_of_empty}
-use Rattle.mq_table.specs.Sendings.{some_source, has_sendings}
-use Rattle.mq_sched.specs.declared.queries.QuerySchedule.{QuerySchedule}
-use Rattle.mq_sched.specs.Schedule.{ScheduleState, ScheduledGroup, settled, IsScheduleOf}
-use Rattle.mq_sched.specs.Sending.{GeneralQuery, group_due, messages_due, after_round}
-use Rattle.mq_sched.specs.Election.{Role, Querier, Other, ElectionState, deadline_ended, returned, general_is_due, after_general, ticked}
-use Rattle.mq_sched.specs.Election.{general_messages, next_moment}
-use Rattle.mq_sched.specs.Rounds.{IsQuietAt}
-use Rattle.mq_sched.proofs.Rounds.{quiet_is_silent, same_round}
-use Rattle.mq_link.specs.Family.{per_query}
-use Rattle.mq_link.specs.Configuration.{Configuration}
-use Rattle.mq_link.specs.State.{Groups, LinkState, IsWellFormed}
-use Rattle.mq_link.specs.Tick.{group_expired, if_held, groups_expired, queries_due, groups_after_round, tick_at, those_of, moments_of, moments_in}
-use Rattle.mq_link.specs.Tick.{least, next_of, waited}
-use Rattle.mq_link.proofs.Known.{same_answers}
-use Rattle.mq_link.proofs.Silent.{Each, each-entry, from-each, not_reached}
-use Rattle.mq_link.proofs.HeldAs.{All}
+use Rattle.mq_link.proofs.{Known.same_answers, Silent.Each, Silent.each-entry, Silent.from-each, Silent.not_reached, HeldAs.All}
 
 -- a list of moments above another
 abbrev pub AllAbove : ℕ → List ℕ → Type 0

@@ -1,35 +1,14 @@
 -- A datagram leaves a state that a link may be in.
-use Rattle.std.proofs.Common.{◌≡◌, ℕ, zero, suc, ◌+◌, ◌*◌, ◌/◌, ◌%◌, ◌^◌, ◌≤◌, ◌<◌, Bool, true, false, cond, refl, not, List, [], ◌∷◌, ◌++◌, length}
-use Rattle.std.proofs.Common.{Option, None, Some, IfSome, Result, Ok, Err, arith, eqb, ltb}
-use Rattle.std.proofs.lemmas.Bool.{ltb-true}
-use Rattle.std.proofs.Math.Nat.{mul-le-mul_right}
-use Rattle.std.specs.Prelude.{slice_index}
+use Rattle.mq_link.proofs.Common.{◌≡◌, ℕ, zero, suc, ◌+◌, ◌*◌, ◌/◌, ◌%◌, ◌^◌, ◌≤◌, ◌<◌, Bool, true, false, cond, refl, not, List, [], ◌∷◌, ◌++◌, length, Option}
+use Rattle.mq_link.proofs.Common.{None, Some, IfSome, Result, Ok, Err, arith, eqb, ltb, ltb-true, mul-le-mul_right, slice_index, option_map, Message}
+use Rattle.mq_link.proofs.Common.{QueryMessage, OldReport, LeaveMessage, ReportMessage, WireFault, Family, Igmp, Mld, group_end, query_of, older_query}
+use Rattle.mq_link.proofs.Common.{current_query, type_named, type_of, message_of, fault_of, AreInRange, DropReason, BadGroup, is_admitted, Configuration}
+use Rattle.mq_link.proofs.Common.{Counters, Groups, LinkState, IsWellFormed, Step, OlderJoin, OlderLeave, announced_by, IsCarriedIn, Envelope, message_in}
+use Rattle.mq_link.proofs.Common.{unless_faulty, read_of, drop_reason, envelope_tests, setting_of, taken_in, counting_read, taken_or_dropped, receipt_after}
+use Rattle.mq_link.proofs.Common.{first_named, AreSound}
 use Rattle.std.specs.FinMap as map
-use Rattle.std.specs.Option.{option_map}
-use Rattle.mq_wire.specs.declared.message.Message.{Message}
-use Rattle.mq_wire.specs.declared.message.Message.TheVariants.{Query as QueryMessage, OldReport, Leave as LeaveMessage, Report as ReportMessage}
-use Rattle.mq_wire.specs.declared.message.WireFault.{WireFault}
-use Rattle.mq_wire.specs.Family.{Family, Igmp, Mld, group_end}
 use Rattle.mq_wire.specs.Codes.{value8}
-use Rattle.mq_wire.specs.Queries.{query_of, older_query, current_query}
-use Rattle.mq_wire.specs.Spelling.{type_named, type_of, message_of, fault_of}
-use Rattle.mq_table.specs.Variables.{AreInRange}
-use Rattle.mq_link.specs.declared.answers.DropReason.{DropReason}
-use Rattle.mq_link.specs.declared.answers.DropReason.TheVariants.{BadGroup}
-use Rattle.mq_link.specs.Family.{is_admitted}
-use Rattle.mq_link.specs.Configuration.{Configuration}
-use Rattle.mq_link.specs.Counters.{Counters}
-use Rattle.mq_link.specs.State.{Groups, LinkState, IsWellFormed}
-use Rattle.mq_link.specs.Tick.{Step}
-use Rattle.mq_link.specs.Record.{OlderJoin, OlderLeave}
-use Rattle.mq_link.specs.Heard.{announced_by}
-use Rattle.mq_link.specs.Reading.{IsCarriedIn}
-use Rattle.mq_link.specs.Receive.{Envelope, message_in, unless_faulty, read_of, drop_reason, envelope_tests, setting_of, taken_in, counting_read}
-use Rattle.mq_link.specs.Receive.{taken_or_dropped, receipt_after}
-use Rattle.mq_link.specs.Tests.{first_named}
-use Rattle.mq_link.proofs.Ticked.{IsCarriedBy, IsWellFormed-query_heard}
-use Rattle.mq_link.specs.Sound.{AreSound}
-use Rattle.mq_link.proofs.Recorded.{stated_leaves, all_judged_leave}
+use Rattle.mq_link.proofs.{Ticked.IsCarriedBy, Ticked.IsWellFormed-query_heard, Recorded.stated_leaves, Recorded.all_judged_leave}
 
 -- this fact for the message of bytes
 abbrev pub IsCarriedWhere : Result (Message ℕ) WireFault → Type 0

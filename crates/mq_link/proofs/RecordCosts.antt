@@ -1,41 +1,18 @@
 -- The bound of a record's comparisons: with those left for later records, at most those left before it and those that it
 -- brings.
-use Rattle.std.proofs.Common.{◌≡◌, ℕ, ◌+◌, ◌-◌, ◌*◌, ◌≤◌, max, Bool, true, false, cond, ◌&&◌, refl, List, [], ◌∷◌, length, Option, None, Some, IfSome}
-use Rattle.std.proofs.Common.{sym, ◌∙◌, subst, arith, leb, add_assoc, add-zero, zero-add}
-use Rattle.std.proofs.Math.Nat.{le-max_right, mul-le-mul_right}
-use Rattle.std.proofs.lemmas.Bool.{leb-false}
-use Rattle.std.proofs.lemmas.List.Sums.{sum_by-cons}
+use Rattle.mq_link.proofs.Common.{◌≡◌, ℕ, ◌+◌, ◌-◌, ◌*◌, ◌≤◌, max, Bool, true, false, cond, ◌&&◌, refl, List, [], ◌∷◌, length, Option, None, Some, IfSome, sym}
+use Rattle.mq_link.proofs.Common.{◌∙◌, subst, arith, leb, add_assoc, add-zero, zero-add, le-max_right, mul-le-mul_right, leb-false, sum_by-cons, sum_by, Spends}
+use Rattle.mq_link.proofs.Common.{Spends-none, Spends-join, Spends-within, bitlen, bitlen-le, RecordView, Kind, size_of, GroupChange, hosts_of, ScheduledGroup}
+use Rattle.mq_link.proofs.Common.{is_querier, own_sources, Refusal, Repeated, search_cost, work_cost, cost_by, record_cost, own_cost, Refused, v1_mutes_leave}
+use Rattle.mq_link.proofs.Common.{least_judged, least_all, Setting, RecordOf, leaving, unless_passed, changed_by, after_sending, sent_at_once}
+use Rattle.mq_link.proofs.Common.{changed_or_refused, change_in, is_muted, limit_passed, stated, Seen, met, Entrance, Stops, GoesOn, entrance, seen_by}
+use Rattle.mq_link.proofs.Common.{seen_after, judged_from, judged}
 use Rattle.std.specs.FinMap as map
 use Rattle.std.specs.FinSet as set
-use Rattle.std.specs.List.{sum_by}
-use Rattle.mq_count.specs.Spending.{Spends}
-use Rattle.mq_count.proofs.Spent.{Spends-none, Spends-join, Spends-within}
-use Rattle.mq_sets.specs.Search.{bitlen}
-use Rattle.mq_sets.proofs.Bitlen.{bitlen-le}
-use Rattle.mq_wire.specs.declared.records.RecordView.{RecordView}
-use Rattle.mq_table.specs.declared.kind.Kind.{Kind}
-use Rattle.mq_table.specs.Stored.{size_of}
-use Rattle.mq_table.specs.Table.{GroupChange}
-use Rattle.mq_table.specs.OlderHosts.{hosts_of}
-use Rattle.mq_sched.specs.Schedule.{ScheduledGroup}
-use Rattle.mq_sched.specs.Election.{is_querier}
-use Rattle.mq_held.proofs.Amounts.{own_sources}
-use Rattle.mq_link.specs.declared.answers.Refusal.{Refusal}
-use Rattle.mq_link.specs.declared.answers.Refusal.TheVariants.{Repeated}
-use Rattle.mq_link.specs.Cost.{search_cost, work_cost, cost_by, record_cost, own_cost}
-use Rattle.mq_link.specs.Counters.{Refused}
-use Rattle.mq_link.specs.Family.{v1_mutes_leave}
-use Rattle.mq_link.specs.LeastCost.{least_judged, least_all}
-use Rattle.mq_link.specs.Record.{Setting, RecordOf, leaving, unless_passed, changed_by, after_sending, sent_at_once, changed_or_refused, change_in}
-use Rattle.mq_link.specs.Record.{is_muted, limit_passed, stated, Seen, met, Entrance, Stops, GoesOn, entrance, seen_by, seen_after, judged_from}
-use Rattle.mq_link.specs.Record.{judged}
 use Rattle.mq_link.specs.State.{Groups, group_at, with_group, sources_of, sources_in}
-use Rattle.mq_link.proofs.ChangedSizes.{translated_few}
-use Rattle.mq_link.proofs.KeptGroups.{absent_sources}
-use Rattle.mq_link.proofs.MadeEntries.{round_keeps_size}
-use Rattle.mq_link.proofs.Potential.{left_for, potential, potential-empty, potential-le, potential-falls, changed_left}
-use Rattle.mq_link.proofs.StatedSteps.{asked_few}
-use Rattle.mq_link.proofs.TakenRecords.{again, met_once, met_more}
+use Rattle.mq_link.proofs.{ChangedSizes.translated_few, KeptGroups.absent_sources, MadeEntries.round_keeps_size, Potential.left_for, Potential.potential}
+use Rattle.mq_link.proofs.{Potential.potential-empty, Potential.potential-le, Potential.potential-falls, Potential.changed_left, StatedSteps.asked_few}
+use Rattle.mq_link.proofs.{TakenRecords.again, TakenRecords.met_once, TakenRecords.met_more}
 
 -- a group gets no more sources than a record names
 module _ (at : Setting) (seen : Seen) (group : ℕ) (kind : Kind) (xs : List ℕ) (groups : Groups) where

@@ -1,57 +1,22 @@
 -- Records, older Reports, Leave and Done leave groups that a link may hold.
-use Rattle.std.proofs.Common.{◌≡◌, ℕ, ◌+◌, ◌≤◌, ◌<◌, Bool, true, false, cond, not, ◌&&◌, ◌||◌, inl, inr, refl, List, [], ◌∷◌, length, Option, None}
-use Rattle.std.proofs.Common.{Some, IfSome, sym, ap, ◌∙◌, subst, arith, eqb, ltb}
-use Rattle.mq_held.proofs.Sorted.{tied}
-use Rattle.std.proofs.lemmas.Bool.{true≢false, ltb-false, eqb-true}
-use Rattle.std.specs.Prelude.{map as list_map}
-use Rattle.std.specs.List.{list_any}
-use Rattle.std.specs.Option.{option_map, unwrap_or}
-use Rattle.std.specs.Ordering.{nat_cmp, eq_by_cmp}
-use Rattle.std.specs.Cmp.{nat_cmp_total}
+use Rattle.mq_link.proofs.Common.{◌≡◌, ℕ, ◌+◌, ◌≤◌, ◌<◌, Bool, true, false, cond, not, ◌&&◌, ◌||◌, inl, inr, refl, List, [], ◌∷◌, length, Option, None, Some}
+use Rattle.mq_link.proofs.Common.{IfSome, sym, ap, ◌∙◌, subst, arith, eqb, ltb, tied, true≢false, ltb-false, eqb-true, list_map, list_any, option_map}
+use Rattle.mq_link.proofs.Common.{unwrap_or, nat_cmp, eq_by_cmp, nat_cmp_total, OlderVersion, V1, V2, RecordView, Kind, IsIn, IsEx, ToIn, ToEx, Allow, Block}
+use Rattle.mq_link.proofs.Common.{Hosts, Timing, FilterMode, Include, Exclude, SourceTimer, Set, GroupState, is_include, vacant, is_vacant, running, stopped}
+use Rattle.mq_link.proofs.Common.{IsAnyGroup, size_of, membership_interval, NamedSources, GroupChange, table_row, change_of, hosts_of, translated}
+use Rattle.mq_link.proofs.Common.{translated_change, older_host, older_report, lowered_to, IsAnyGroup-change_of, IsWellFormed-older_report, has_sendings}
+use Rattle.mq_link.proofs.Common.{sendings_counted, ScheduleState, ScheduledGroup, no_schedule, settled, IsScheduleOf, acted, after_change, is_due, after_round}
+use Rattle.mq_link.proofs.Common.{is_querier, fits_after_record, fits_acted, fits_after_round, held_acted, held_after_round, AreSound, Limits, Refusal}
+use Rattle.mq_link.proofs.Common.{TooManyGroups, GroupSources, Sources, Scheduled, Repeated, Long, is_admitted, v1_mutes_leave, Configuration, Ignored, Refused}
+use Rattle.mq_link.proofs.Common.{IsHeldAs, IsSilent, AreWithin, Statement, RecordOf, OlderJoin, OlderLeave, is_exclude_kind, is_muted, asking_nothing}
+use Rattle.mq_link.proofs.Common.{change_stated, limit_passed, Setting, leaving, unless_passed, changed_by, after_sending, sent_at_once, changed_or_refused}
+use Rattle.mq_link.proofs.Common.{change_in, stated, Seen, Entrance, Stops, GoesOn, entrance, entrance_as, kind_named, is_repeated, seen_after, judged_from}
+use Rattle.mq_link.proofs.Common.{judged, all_judged, first_named}
 use Rattle.std.specs.FinMap as map
 use Rattle.std.specs.FinSet as set
-use Rattle.mq_count.specs.declared.versions.OlderVersion.{OlderVersion}
-use Rattle.mq_count.specs.declared.versions.OlderVersion.TheVariants.{V1, V2}
-use Rattle.mq_wire.specs.declared.records.RecordView.{RecordView}
-use Rattle.mq_table.specs.declared.kind.Kind.{Kind}
-use Rattle.mq_table.specs.declared.kind.Kind.TheVariants.{IsIn, IsEx, ToIn, ToEx, Allow, Block}
-use Rattle.mq_table.specs.declared.older_hosts.Hosts.{Hosts}
-use Rattle.mq_table.specs.declared.timing.Timing.{Timing}
-use Rattle.mq_table.specs.declared.timers.FilterMode.{FilterMode}
-use Rattle.mq_table.specs.declared.timers.FilterMode.TheVariants.{Include, Exclude}
-use Rattle.mq_table.specs.declared.timers.SourceTimer.{SourceTimer}
-use Rattle.mq_table.specs.Sets.{Set}
-use Rattle.mq_table.specs.Group.{GroupState, is_include, vacant, is_vacant, running, stopped, IsAnyGroup}
-use Rattle.mq_table.specs.Stored.{size_of}
-use Rattle.mq_table.specs.Timing.{membership_interval}
-use Rattle.mq_table.specs.Table.{NamedSources, GroupChange, table_row, change_of}
-use Rattle.mq_table.specs.OlderHosts.{hosts_of, translated, translated_change, older_host, older_report}
-use Rattle.mq_table.specs.Lowering.{lowered_to}
-use Rattle.mq_table.proofs.Held.{IsAnyGroup-change_of, IsWellFormed-older_report}
-use Rattle.mq_table.specs.Sendings.{has_sendings, sendings_counted}
-use Rattle.mq_sched.specs.Schedule.{ScheduleState, ScheduledGroup, no_schedule, settled, IsScheduleOf}
-use Rattle.mq_sched.specs.Sending.{acted, after_change, is_due, after_round}
-use Rattle.mq_sched.specs.Election.{is_querier}
-use Rattle.mq_sched.proofs.Fits.{fits_after_record, fits_acted, fits_after_round}
-use Rattle.mq_sched.proofs.StayHeld.{held_acted, held_after_round}
-use Rattle.mq_link.specs.Sound.{AreSound}
-use Rattle.mq_link.specs.declared.configuration.Limits.{Limits}
-use Rattle.mq_link.specs.declared.answers.Refusal.{Refusal}
-use Rattle.mq_link.specs.declared.answers.Refusal.TheVariants.{Groups as TooManyGroups, GroupSources, Sources, Scheduled, Repeated, Long}
-use Rattle.mq_link.specs.Family.{is_admitted, v1_mutes_leave}
-use Rattle.mq_link.specs.Configuration.{Configuration}
-use Rattle.mq_link.specs.Counters.{Ignored, Refused}
 use Rattle.mq_link.specs.State.{Groups, unheld, group_at, with_group, sources_of, sources_in, schedules_in, IsSourceSpecific, is_source_specific}
-use Rattle.mq_link.specs.State.{IsHeldAs, IsSilent, AreWithin}
-use Rattle.mq_link.specs.Record.{Statement, RecordOf, OlderJoin, OlderLeave, is_exclude_kind, is_muted, asking_nothing, change_stated, limit_passed}
-use Rattle.mq_link.specs.Record.{Setting, leaving, unless_passed, changed_by, after_sending, sent_at_once, changed_or_refused, change_in, stated}
-use Rattle.mq_link.specs.Record.{Seen, Entrance, Stops, GoesOn, entrance, entrance_as, kind_named, is_repeated, seen_after, judged_from, judged}
-use Rattle.mq_link.specs.Record.{all_judged}
-use Rattle.mq_link.specs.Tests.{first_named}
-use Rattle.mq_link.proofs.Entries.{len-kept}
-use Rattle.mq_link.proofs.Bounds.{no_sources, round_size}
-use Rattle.mq_link.proofs.Known.{entries-known}
-use Rattle.mq_link.proofs.HeldAs.{All, vacant_is, lowered_include, settled_silent, silent_round}
+use Rattle.mq_link.proofs.{Entries.len-kept, Bounds.no_sources, Bounds.round_size, Known.entries-known, HeldAs.All, HeldAs.vacant_is, HeldAs.lowered_include}
+use Rattle.mq_link.proofs.{HeldAs.settled_silent, HeldAs.silent_round}
 
 -- the group that a record meets: a held group in a proper state, or none
 pub record IsReady (config : Configuration) (group : ℕ) (e : ScheduledGroup) : Type 0 where
@@ -81,12 +46,9 @@ pub record IsSound (config : Configuration) (group : ℕ) (schedule : ScheduleSt
 include_line : (gmi : ℕ) (mode : FilterMode) (kind : Kind) (X Y A : Set) → is_include mode ≡ true → is_exclude_kind kind ≡ false →
     is_include (table_row gmi mode kind X Y A).mode ≡ true
 include_line gmi (Exclude d) kind X Y A h k = cc
-include_line gmi Include IsIn X Y A h k = refl
 include_line gmi Include IsEx X Y A h k = cc
-include_line gmi Include ToIn X Y A h k = refl
 include_line gmi Include ToEx X Y A h k = cc
-include_line gmi Include Allow X Y A h k = refl
-include_line gmi Include Block X Y A h k = refl
+include_line gmi Include _ X Y A h k = refl
 
 changed_soundly : (config : Configuration) (group : ℕ) (timing : Timing) (now : ℕ) (e : ScheduledGroup) (kind : Kind) (named : NamedSources) →
     IsReady config group e → (is_source_specific config group ≡ true → is_exclude_kind kind ≡ false) →
@@ -279,11 +241,8 @@ all-with_group P groups group e here all other found is = by_place (eq_by_cmp na
 -- the four tests of the limits, if none holds
 passes_none : (a b c d : Bool) (w x y z : Refusal) → first_named ((w, a) ∷ (x, b) ∷ (y, c) ∷ (z, d) ∷ []) ≡ None → (a ≡ false) × (b ≡ false) ×
     (c ≡ false) × (d ≡ false)
-passes_none true b c d w x y z h = cc
-passes_none false true c d w x y z h = cc
-passes_none false false true d w x y z h = cc
-passes_none false false false true w x y z h = cc
 passes_none false false false false w x y z h = (refl, refl, refl, refl)
+passes_none _ _ _ _ w x y z h = cc
 
 within-with_group : (limits : Limits) (groups : Groups) (group : ℕ) (e : ScheduledGroup) → limit_passed limits (with_group groups group e) e ≡ None →
     AreWithin limits groups → AreWithin limits (with_group groups group e)

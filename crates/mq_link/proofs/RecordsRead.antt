@@ -1,16 +1,8 @@
 -- The records of a Report, at most as many as its count can hold.
-use Rattle.std.proofs.Common.{◌≡◌, ℕ, ◌+◌, ◌<◌, ◌≤◌, Bool, true, false, List, length, drop, Option, None, Some, IfSome, Ok, refl, arith, eqb}
-use Rattle.std.proofs.lemmas.List.{get_or-drop}
-use Rattle.std.specs.Prelude.{slice_index}
-use Rattle.std.specs.Option.{option_map}
-use Rattle.mq_wire.specs.declared.message.Message.{Message}
-use Rattle.mq_wire.specs.declared.message.WireFault.{WireFault}
-use Rattle.mq_wire.specs.Family.{Family, Igmp, Mld, address_width}
-use Rattle.mq_wire.specs.Records.{record_count, report_records}
-use Rattle.mq_wire.specs.Spelling.{type_named, type_of, message_of, fault_of}
+use Rattle.mq_link.proofs.Common.{◌≡◌, ℕ, ◌+◌, ◌<◌, ◌≤◌, Bool, true, false, List, length, drop, Option, None, Some, IfSome, Ok, refl, arith, eqb, get_or-drop}
+use Rattle.mq_link.proofs.Common.{slice_index, option_map, Message, WireFault, Family, Igmp, Mld, address_width, record_count, report_records, type_named}
+use Rattle.mq_link.proofs.Common.{type_of, message_of, fault_of, most_records, records_in, message_in, unless_faulty, read_of}
 use Rattle.mq_wire.proofs.RecordLists.{length_records}
-use Rattle.mq_link.specs.Reading.{most_records, records_in}
-use Rattle.mq_link.specs.Receive.{message_in, unless_faulty, read_of}
 
 -- each is one of a datagram's bytes
 abbrev pub AreOctets : List ℕ → Type 0

@@ -1,45 +1,17 @@
 -- The comparisons for a record of hosts that still want the named sources.
-use Rattle.std.proofs.Common.{◌≡◌, ℕ, zero, suc, ◌+◌, ◌*◌, ◌^◌, ◌/◌, ◌<◌, ◌≤◌, ◌==◌, Bool, true, false, cond, not, ◌&&◌, ◌||◌, List, [], ◌∷◌, length}
-use Rattle.std.proofs.Common.{get_or, min, Option, None, Some, IfSome, refl, sym, ap, ◌∙◌, arith, add-one}
-use Rattle.std.specs.List.{list_any}
+use Rattle.mq_link.proofs.Common.{◌≡◌, ℕ, zero, suc, ◌+◌, ◌*◌, ◌^◌, ◌/◌, ◌<◌, ◌≤◌, ◌==◌, Bool, true, false, cond, not, ◌&&◌, ◌||◌, List, [], ◌∷◌, length}
+use Rattle.mq_link.proofs.Common.{get_or, min, Option, None, Some, IfSome, refl, sym, ap, ◌∙◌, arith, add-one, list_any, nat_cmp, list_map, length-map}
+use Rattle.mq_link.proofs.Common.{pow-succ', true≢false, eqb-true, Spends, Spends-join_within, Spends-within, IsAscending, bitlen, bitlen-few, bitlen-le, Kind}
+use Rattle.mq_link.proofs.Common.{IsIn, IsEx, ToIn, ToEx, Allow, Block, Hosts, Source, FilterMode, is_include, is_stopped, item_is_stopped, keeps_unnamed}
+use Rattle.mq_link.proofs.Common.{takes_none_away, hosts_of, translated, with_sources, named_in, number_in, timers_in, NamedSources, get-found, one_if}
+use Rattle.mq_link.proofs.Common.{most_set, ties, blocks, StatementKind, statement_of, v1_mutes_leave, least_merge, least_work, RecordOf, Setting, is_muted}
+use Rattle.mq_link.proofs.Common.{StatesJoin, StatesLeave, is_restart, most_asked, most_blocked, most_changed, most_copied, most_hosts, most_merged}
+use Rattle.mq_link.proofs.Common.{most_started, most_tried, restarts}
 use Rattle.std.specs.FinMap as map
 use Rattle.std.specs.FinSet as set
-use Rattle.std.specs.Ordering.{nat_cmp}
-use Rattle.std.specs.Prelude.{map as list_map}
-use Rattle.std.proofs.lemmas.List.{length-map}
-use Rattle.std.proofs.Math.Nat.{pow-succ'}
-use Rattle.std.proofs.lemmas.Bool.{true≢false, eqb-true}
-use Rattle.mq_count.specs.Spending.{Spends}
-use Rattle.mq_count.proofs.Spent.{Spends-join_within, Spends-within}
-use Rattle.mq_sets.specs.Ascending.{IsAscending}
-use Rattle.mq_sets.specs.Search.{bitlen}
-use Rattle.mq_sets.proofs.Bitlen.{bitlen-few, bitlen-le}
-use Rattle.mq_table.specs.declared.kind.Kind.{Kind}
-use Rattle.mq_table.specs.declared.kind.Kind.TheVariants.{IsIn, IsEx, ToIn, ToEx, Allow, Block}
-use Rattle.mq_table.specs.declared.older_hosts.Hosts.{Hosts}
-use Rattle.mq_table.specs.declared.sources.Source.{Source}
-use Rattle.mq_table.specs.declared.timers.FilterMode.{FilterMode}
-use Rattle.mq_table.specs.Group.{is_include, is_stopped}
-use Rattle.mq_table.specs.MergedRecord.{item_is_stopped, keeps_unnamed, takes_none_away}
-use Rattle.mq_table.specs.OlderHosts.{hosts_of, translated, with_sources}
-use Rattle.mq_table.specs.Stored.{named_in, number_in, timers_in}
-use Rattle.mq_table.specs.Table.{NamedSources}
-use Rattle.mq_table.proofs.SourceLists.{get-found}
-use Rattle.mq_held.specs.Groups.{one_if}
-use Rattle.mq_held.specs.Restarted.{most_set}
-use Rattle.mq_held.proofs.Sorted.{ties}
-use Rattle.mq_link.specs.Blocked.{blocks}
-use Rattle.mq_link.specs.declared.statement.StatementKind.{StatementKind}
 use Rattle.mq_link.specs.declared.statement.StatementKind.TheVariants.{Record, OlderJoin, OlderLeave}
-use Rattle.mq_link.specs.Changing.{statement_of}
-use Rattle.mq_link.specs.Family.{v1_mutes_leave}
-use Rattle.mq_link.specs.LeastCost.{least_merge, least_work}
-use Rattle.mq_link.specs.Record.{RecordOf, Setting, is_muted, OlderJoin as StatesJoin, OlderLeave as StatesLeave}
 use Rattle.mq_link.specs.State.{Groups, group_at, sources_of}
-use Rattle.mq_link.specs.Refreshed.{is_restart, most_asked, most_blocked, most_changed, most_copied, most_hosts, most_merged, most_started}
-use Rattle.mq_link.specs.Refreshed.{most_tried, restarts}
-use Rattle.mq_link.proofs.LeastCosts.{few_members, merge_spends}
-use Rattle.mq_link.proofs.OneNamed.{names-one}
+use Rattle.mq_link.proofs.{LeastCosts.few_members, LeastCosts.merge_spends, OneNamed.names-one}
 
 -- no older host mutes such a record
 pub restart_as : (mutes muted : Bool) (hosts : Hosts) (kind : Kind) (named : NamedSources) → restarts kind ≡ true →
@@ -47,34 +19,23 @@ pub restart_as : (mutes muted : Bool) (hosts : Hosts) (kind : Kind) (named : Nam
 restart_as mutes true hosts kind named is = refl
 restart_as mutes false hosts IsIn named is = refl
 restart_as mutes false hosts Allow named is = refl
-restart_as mutes false hosts IsEx named is = absurd (true≢false (sym is))
-restart_as mutes false hosts ToIn named is = absurd (true≢false (sym is))
-restart_as mutes false hosts ToEx named is = absurd (true≢false (sym is))
-restart_as mutes false hosts Block named is = absurd (true≢false (sym is))
+restart_as mutes false hosts _ named is = absurd (true≢false (sym is))
 
 pub kept_unless : (muted : Bool) (kind : Kind) (acts : Option (Kind × Bool)) → acts ≡ cond muted None (Some (kind, false)) →
     IfSome acts (λ (a : Kind × Bool). ◌≡◌ {A = Kind × Bool} a (kind, false))
 kept_unless true kind None is = tt
-kept_unless true kind (Some a) is = cc
 kept_unless false kind None is = cc
-kept_unless false kind (Some a) is = cc
+kept_unless _ kind _ is = cc
 
 -- a record that takes no source away leaves those alone that it doesn't name, where none of INCLUDE is stopped
 pub restarts_keep : (kind : Kind) → restarts kind ≡ true → takes_none_away kind ≡ true
 restarts_keep IsIn is = refl
 restarts_keep Allow is = refl
-restarts_keep IsEx is = absurd (true≢false (sym is))
-restarts_keep ToIn is = absurd (true≢false (sym is))
-restarts_keep ToEx is = absurd (true≢false (sym is))
-restarts_keep Block is = absurd (true≢false (sym is))
+restarts_keep _ is = absurd (true≢false (sym is))
 
 pub blocks_is : (kind : Kind) → blocks kind ≡ true → kind ≡ Block
 blocks_is Block is = refl
-blocks_is IsIn is = absurd (true≢false (sym is))
-blocks_is Allow is = absurd (true≢false (sym is))
-blocks_is IsEx is = absurd (true≢false (sym is))
-blocks_is ToIn is = absurd (true≢false (sym is))
-blocks_is ToEx is = absurd (true≢false (sym is))
+blocks_is _ is = absurd (true≢false (sym is))
 
 pub none_taken_keeps : {K : Type 0} (kind : Kind) (mode : FilterMode) (row : List (Source K)) → takes_none_away kind ≡ true →
     (is_include mode ≡ true → list_any item_is_stopped row ≡ false) → keeps_unnamed kind mode row ≡ true
@@ -260,11 +221,7 @@ tried_and_copied said sources named groups = by_said said
     by_said (Record IsIn) = by_count (named == 1) refl
     by_said (Record Allow) = by_count (named == 1) refl
     by_said (Record Block) = by_block (named == 1) refl
-    by_said (Record IsEx) = others
-    by_said (Record ToIn) = others
-    by_said (Record ToEx) = others
-    by_said (OlderJoin version) = others
-    by_said OlderLeave = others
+    by_said _ = others
 
 -- A BLOCK done in place takes no more than that either.
 pub blocked_few : (said : StatementKind) (sources named groups : ℕ) →
@@ -284,11 +241,7 @@ blocked_few said sources named groups = by_said said
     by_said (Record IsIn) = omega (arith, few (named == 1))
     by_said (Record Allow) = omega (arith, few (named == 1))
     by_said (Record Block) = omega (arith, halves (named == 1))
-    by_said (Record IsEx) = omega arith
-    by_said (Record ToIn) = omega arith
-    by_said (Record ToEx) = omega arith
-    by_said (OlderJoin version) = omega arith
-    by_said OlderLeave = omega arith
+    by_said _ = omega arith
 
 -- and more digits are no fewer comparisons
 pub set-mono : (sources named few digits : ℕ) → few ≤ digits → most_set sources named few ≤ most_set sources named digits

@@ -1,26 +1,10 @@
 -- A group with several sources heard of again.
-use Rattle.std.proofs.Common.{◌≡◌, ℕ, ◌+◌, Bool, true, false, cond, not, ltb, List, [], ◌∷◌, Option, None, Some, is_some, refl, sym, ap, ◌∙◌}
-use Rattle.std.specs.Bool.{beq}
-use Rattle.std.specs.List.{list_any}
-use Rattle.std.specs.Ordering.{nat_cmp, eq_by_cmp}
-use Rattle.std.specs.Cmp.{nat_cmp_total}
+use Rattle.mq_link.proofs.Common.{◌≡◌, ℕ, ◌+◌, Bool, true, false, cond, not, ltb, List, [], ◌∷◌, Option, None, Some, is_some, refl, sym, ap, ◌∙◌, beq, list_any}
+use Rattle.mq_link.proofs.Common.{nat_cmp, eq_by_cmp, nat_cmp_total, and_parts, true≢false, Any-from_list_any, list_any_at, FilterMode, Include, Exclude}
+use Rattle.mq_link.proofs.Common.{SourceTimer, Stopped, Running, names, changes_filter, GroupState, is_stopped, sendings_of, timer_at, has_sendings, size_of}
+use Rattle.mq_link.proofs.Common.{changes-same, changes-at, ScheduledGroup, sources_of, has_each, restarted, restarted_each, some_stopped, each_passes}
+use Rattle.mq_link.proofs.Common.{has_each-restarted, some_passes, timer-restarted, timer-restarted_each, timer-there, tied, ties}
 use Rattle.std.specs.FinMap as map
-use Rattle.std.proofs.lemmas.Bool.{and_parts, true≢false}
-use Rattle.std.proofs.lemmas.List.Folds.{Any-from_list_any, list_any_at}
-use Rattle.mq_table.specs.declared.timers.FilterMode.{FilterMode}
-use Rattle.mq_table.specs.declared.timers.FilterMode.TheVariants.{Include, Exclude}
-use Rattle.mq_table.specs.declared.timers.SourceTimer.{SourceTimer}
-use Rattle.mq_table.specs.declared.timers.SourceTimer.TheVariants.{Stopped, Running}
-use Rattle.mq_table.specs.Filter.{names, changes_filter}
-use Rattle.mq_table.specs.Group.{GroupState, is_stopped, sendings_of, timer_at}
-use Rattle.mq_table.specs.Sendings.{has_sendings}
-use Rattle.mq_table.specs.Stored.{size_of}
-use Rattle.mq_table.proofs.Filters.{changes-same, changes-at}
-use Rattle.mq_sched.specs.Schedule.{ScheduledGroup}
-use Rattle.mq_held.specs.Groups.{sources_of}
-use Rattle.mq_held.specs.Restarted.{has_each, restarted, restarted_each, some_stopped}
-use Rattle.mq_held.proofs.RestartedEach.{each_passes, has_each-restarted, some_passes, timer-restarted, timer-restarted_each, timer-there}
-use Rattle.mq_held.proofs.Sorted.{tied, ties}
 use Rattle.mq_link.proofs.RefreshedGroups.{with_timers}
 
 -- all but the timers stays

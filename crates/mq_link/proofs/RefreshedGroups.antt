@@ -1,32 +1,13 @@
 -- A group after a record that changes only the timers of the sources that it names.
-use Rattle.std.proofs.Common.{List, [], ◌∷◌, ◌≡◌, ℕ, ◌+◌, Bool, true, false, cond, ◌&&◌, Option, None, Some, is_some, refl, sym, ap, ◌∙◌}
+use Rattle.mq_link.proofs.Common.{List, [], ◌∷◌, ◌≡◌, ℕ, ◌+◌, Bool, true, false, cond, ◌&&◌, Option, None, Some, is_some, refl, sym, ap, ◌∙◌, nat_cmp, FinMap}
+use Rattle.mq_link.proofs.Common.{eq-eqb, or_left, true≢false, set_of, Kind, IsIn, Allow, Timing, FilterMode, Include, Exclude, SourceTimer, Running, ∅, Set}
+use Rattle.mq_link.proofs.Common.{GroupState, is_include, is_stopped, running, sendings_of, stopped, timer_at, NamedSources, table_row, change_of}
+use Rattle.mq_link.proofs.Common.{membership_interval, some_source, has_sendings, above, same_sources, timer_then, each_case, both, at_source_of, ScheduleState}
+use Rattle.mq_link.proofs.Common.{ScheduledGroup, IsScheduleOf, settled, after_change, sources_asked, some_source-gives, timer_at-sources_asked}
+use Rattle.mq_link.proofs.Common.{sendings_before, asking_nothing, restarts}
 use Rattle.mq_link.proofs.HeldAs.{is_from, same_tests}
-use Rattle.std.specs.Ordering.{nat_cmp}
 use Rattle.std.specs.FinMap as map
-use Rattle.std.specs.FinMap.{FinMap}
 use Rattle.std.specs.FinSet as set
-use Rattle.std.proofs.lemmas.Bool.{eq-eqb, or_left, true≢false}
-use Rattle.mq_sets.specs.Ascending.{set_of}
-use Rattle.mq_table.specs.declared.kind.Kind.{Kind}
-use Rattle.mq_table.specs.declared.kind.Kind.TheVariants.{IsIn, IsEx, ToIn, ToEx, Allow, Block}
-use Rattle.mq_table.specs.declared.timing.Timing.{Timing}
-use Rattle.mq_table.specs.declared.timers.FilterMode.{FilterMode}
-use Rattle.mq_table.specs.declared.timers.FilterMode.TheVariants.{Include, Exclude}
-use Rattle.mq_table.specs.declared.timers.SourceTimer.{SourceTimer}
-use Rattle.mq_table.specs.declared.timers.SourceTimer.TheVariants.{Running}
-use Rattle.mq_table.specs.Sets.{∅, Set}
-use Rattle.mq_table.specs.Group.{GroupState, is_include, is_stopped, running, sendings_of, stopped, timer_at}
-use Rattle.mq_table.specs.Table.{NamedSources, table_row, change_of}
-use Rattle.mq_table.specs.Timing.{membership_interval}
-use Rattle.mq_table.specs.Sendings.{some_source, has_sendings, above}
-use Rattle.mq_table.proofs.Groups.{same_sources}
-use Rattle.mq_table.proofs.TableRows.{timer_then, each_case, both, at_source_of}
-use Rattle.mq_sched.specs.Schedule.{ScheduleState, ScheduledGroup, IsScheduleOf, settled}
-use Rattle.mq_sched.specs.Sending.{after_change, sources_asked}
-use Rattle.mq_sched.proofs.Asked.{some_source-gives, timer_at-sources_asked}
-use Rattle.mq_sched.proofs.Fits.{sendings_before}
-use Rattle.mq_link.specs.Record.{asking_nothing}
-use Rattle.mq_link.specs.Refreshed.{restarts}
 
 -- the group with other timers of its sources
 abbrev pub with_timers : GroupState → FinMap nat_cmp SourceTimer → GroupState
@@ -38,30 +19,21 @@ mode_kept gmi Include IsIn X Y A is = refl
 mode_kept gmi Include Allow X Y A is = refl
 mode_kept gmi (Exclude d) IsIn X Y A is = refl
 mode_kept gmi (Exclude d) Allow X Y A is = refl
-mode_kept gmi mode IsEx X Y A is = absurd (true≢false (sym is))
-mode_kept gmi mode ToIn X Y A is = absurd (true≢false (sym is))
-mode_kept gmi mode ToEx X Y A is = absurd (true≢false (sym is))
-mode_kept gmi mode Block X Y A is = absurd (true≢false (sym is))
+mode_kept gmi mode _ X Y A is = absurd (true≢false (sym is))
 
 group_unasked : (gmi : ℕ) (mode : FilterMode) (kind : Kind) (X Y A : Set) → restarts kind ≡ true → (table_row gmi mode kind X Y A).query_group ≡ false
 group_unasked gmi Include IsIn X Y A is = refl
 group_unasked gmi Include Allow X Y A is = refl
 group_unasked gmi (Exclude d) IsIn X Y A is = refl
 group_unasked gmi (Exclude d) Allow X Y A is = refl
-group_unasked gmi mode IsEx X Y A is = absurd (true≢false (sym is))
-group_unasked gmi mode ToIn X Y A is = absurd (true≢false (sym is))
-group_unasked gmi mode ToEx X Y A is = absurd (true≢false (sym is))
-group_unasked gmi mode Block X Y A is = absurd (true≢false (sym is))
+group_unasked gmi mode _ X Y A is = absurd (true≢false (sym is))
 
 sources_unasked : (gmi : ℕ) (mode : FilterMode) (kind : Kind) (X Y A : Set) (s : ℕ) → restarts kind ≡ true → (table_row gmi mode kind X Y A).query s ≡ false
 sources_unasked gmi Include IsIn X Y A s is = refl
 sources_unasked gmi Include Allow X Y A s is = refl
 sources_unasked gmi (Exclude d) IsIn X Y A s is = refl
 sources_unasked gmi (Exclude d) Allow X Y A s is = refl
-sources_unasked gmi mode IsEx X Y A s is = absurd (true≢false (sym is))
-sources_unasked gmi mode ToIn X Y A s is = absurd (true≢false (sym is))
-sources_unasked gmi mode ToEx X Y A s is = absurd (true≢false (sym is))
-sources_unasked gmi mode Block X Y A s is = absurd (true≢false (sym is))
+sources_unasked gmi mode _ X Y A s is = absurd (true≢false (sym is))
 
 pub restarts-unasked : (timing : Timing) (now : ℕ) (g : GroupState) (kind : Kind) (named : NamedSources) → restarts kind ≡ true →
     (change_of timing now g kind named).query_group ≡ false
@@ -90,10 +62,7 @@ timer_kept gmi (Exclude m) IsIn s t a is = each_case (TimerThen gmi (Exclude m) 
     (both _ (λ _. refl) (λ _. refl)) (λ d n. both _ (λ _. refl) (λ _. refl)) t a
 timer_kept gmi (Exclude m) Allow s t a is = each_case (TimerThen gmi (Exclude m) Allow s) (both _ (λ _. refl) (λ _. refl))
     (both _ (λ _. refl) (λ _. refl)) (λ d n. both _ (λ _. refl) (λ _. refl)) t a
-timer_kept gmi mode IsEx s t a is = absurd (true≢false (sym is))
-timer_kept gmi mode ToIn s t a is = absurd (true≢false (sym is))
-timer_kept gmi mode ToEx s t a is = absurd (true≢false (sym is))
-timer_kept gmi mode Block s t a is = absurd (true≢false (sym is))
+timer_kept gmi mode _ s t a is = absurd (true≢false (sym is))
 
 -- The change of such a record.
 module _ (timing : Timing) (now : ℕ) (g : GroupState) (kind : Kind) (named : NamedSources) (is : restarts kind ≡ true)

@@ -1,69 +1,30 @@
 -- The outcome of a record that is heard again for a group without due queries.
-use Rattle.std.proofs.Common.{◌≡◌, ℕ, ◌+◌, ◌-◌, ◌*◌, ◌/◌, Bool, true, false, cond, not, List, [], Option, None, Some, is_some, refl, sym, ap, ◌∙◌, subst, arith}
-use Rattle.mq_link.proofs.HeldAs.{is_from}
-use Rattle.std.specs.Ordering.{nat_cmp, eq_by_cmp}
-use Rattle.std.specs.Cmp.{nat_cmp_total}
+use Rattle.mq_link.proofs.Common.{◌≡◌, ℕ, ◌+◌, ◌-◌, ◌*◌, ◌/◌, Bool, true, false, cond, not, List, [], Option, None, Some, is_some, refl, sym, ap, ◌∙◌, subst}
+use Rattle.mq_link.proofs.Common.{arith, nat_cmp, eq_by_cmp, nat_cmp_total, list_any, true≢false, and_right, Kind, IsIn, Allow, Timing, Include, SourceTimer}
+use Rattle.mq_link.proofs.Common.{Running, GroupState, is_include, is_vacant, is_stopped, sendings_of, timer_at, IsHeld, translated_change, has_sendings}
+use Rattle.mq_link.proofs.Common.{NamedSources, change_of, membership_interval, IsQuietAt, ScheduleState, ScheduledGroup, is_querier, after_round}
+use Rattle.mq_link.proofs.Common.{quiet_is_silent, same_round, has_each, restarted_each, ties, IsWellFormed-restarted_each, timer-restarted_each, Limits}
+use Rattle.mq_link.proofs.Common.{Configuration, Applied, per_query, v1_mutes_leave, RecordOf, Setting, Outcome, asking_nothing, is_muted, limit_passed, stated}
+use Rattle.mq_link.proofs.Common.{restarts, AreSound, put_by_rows, one_if, running_in, unheld, HeldState, unwrap_or}
+use Rattle.mq_link.proofs.{HeldAs.is_from, KeptGroups.group_found, Quiet.not_vacant, RefreshedEach.group-restarted_each, RefreshedEach.schedule-restarted_each}
+use Rattle.mq_link.proofs.{RefreshedEach.sendings-restarted_each, RefreshedEach.size-restarted_each, RefreshedGroups.after-nothing, RefreshedGroups.changes-to}
+use Rattle.mq_link.proofs.{StatedSteps.IsChanged, StatedSteps.stated_judged, UnpassedLimits.passes_none_by, PaidEdits.sources_set, PaidEdits.running_set}
 use Rattle.std.specs.FinMap as map
-use Rattle.std.specs.List.{list_any}
 use Rattle.std.specs.FinSet as set
-use Rattle.std.proofs.lemmas.Bool.{true≢false, and_right}
-use Rattle.mq_table.specs.declared.kind.Kind.{Kind}
-use Rattle.mq_table.specs.declared.kind.Kind.TheVariants.{IsIn, IsEx, ToIn, ToEx, Allow, Block}
-use Rattle.mq_table.specs.declared.timing.Timing.{Timing}
-use Rattle.mq_table.specs.declared.timers.FilterMode.TheVariants.{Include}
-use Rattle.mq_table.specs.declared.timers.SourceTimer.{SourceTimer}
-use Rattle.mq_table.specs.declared.timers.SourceTimer.TheVariants.{Running}
-use Rattle.mq_table.specs.Group.{GroupState, is_include, is_vacant, is_stopped, sendings_of, timer_at, IsWellFormed as IsHeld}
-use Rattle.mq_table.specs.OlderHosts.{translated_change}
-use Rattle.mq_table.specs.Sendings.{has_sendings}
-use Rattle.mq_table.specs.Table.{NamedSources, change_of}
-use Rattle.mq_table.specs.Timing.{membership_interval}
-use Rattle.mq_sched.specs.Rounds.{IsQuietAt}
-use Rattle.mq_sched.specs.Schedule.{ScheduleState, ScheduledGroup}
-use Rattle.mq_sched.specs.Election.{is_querier}
-use Rattle.mq_sched.specs.Sending.{after_round}
-use Rattle.mq_sched.proofs.Rounds.{quiet_is_silent, same_round}
-use Rattle.mq_held.specs.Restarted.{has_each, restarted_each}
-use Rattle.mq_held.proofs.Sorted.{ties}
-use Rattle.mq_held.proofs.RestartedEach.{IsWellFormed-restarted_each, timer-restarted_each}
-use Rattle.mq_link.specs.declared.configuration.Limits.{Limits}
-use Rattle.mq_link.specs.Configuration.{Configuration}
-use Rattle.mq_link.specs.Counters.{Applied}
-use Rattle.mq_link.specs.Family.{per_query, v1_mutes_leave}
-use Rattle.mq_link.specs.Record.{RecordOf, Setting, Outcome, asking_nothing, is_muted, limit_passed, stated}
-use Rattle.mq_link.specs.Refreshed.{restarts}
-use Rattle.mq_link.specs.Sound.{AreSound}
 use Rattle.mq_link.specs.State.{AreWithin, Groups, IsHeldAs, group_at, is_source_specific, schedules_of, sources_in, sources_of, with_group}
-use Rattle.mq_link.proofs.KeptGroups.{group_found}
-use Rattle.mq_link.proofs.Quiet.{not_vacant}
-use Rattle.mq_link.proofs.RefreshedEach.{group-restarted_each, schedule-restarted_each, sendings-restarted_each, size-restarted_each}
-use Rattle.mq_link.proofs.RefreshedGroups.{after-nothing, changes-to}
-use Rattle.mq_link.proofs.StatedSteps.{IsChanged, stated_judged}
-use Rattle.mq_link.proofs.UnpassedLimits.{passes_none_by}
-use Rattle.mq_link.proofs.PaidEdits.{sources_set, running_set}
-use Rattle.mq_link.specs.Storage.{put_by_rows}
-use Rattle.mq_held.specs.Groups.{one_if, running_in, unheld}
-use Rattle.mq_held.specs.Held.{HeldState}
-use Rattle.std.specs.Option.{unwrap_or}
 use Rattle.std.specs.Prelude.{min, IfSome, MatchOption, OnSome}
 
 -- such a record is muted nowhere
 unmuted : (config : Configuration) (group : ℕ) (kind : Kind) (named : NamedSources) → restarts kind ≡ true → is_muted config group (RecordOf kind named) ≡ false
 unmuted config group IsIn named is = and_right (is_source_specific config group) false refl
 unmuted config group Allow named is = and_right (is_source_specific config group) false refl
-unmuted config group IsEx named is = absurd (true≢false (sym is))
-unmuted config group ToIn named is = absurd (true≢false (sym is))
-unmuted config group ToEx named is = absurd (true≢false (sym is))
-unmuted config group Block named is = absurd (true≢false (sym is))
+unmuted config group _ named is = absurd (true≢false (sym is))
 
 untranslated : (mutes : Bool) (timing : Timing) (now : ℕ) (g : GroupState) (kind : Kind) (named : NamedSources) → restarts kind ≡ true →
     translated_change mutes false timing now g kind named ≡ Some (change_of timing now g kind named)
 untranslated mutes timing now g IsIn named is = refl
 untranslated mutes timing now g Allow named is = refl
-untranslated mutes timing now g IsEx named is = absurd (true≢false (sym is))
-untranslated mutes timing now g ToIn named is = absurd (true≢false (sym is))
-untranslated mutes timing now g ToEx named is = absurd (true≢false (sym is))
-untranslated mutes timing now g Block named is = absurd (true≢false (sym is))
+untranslated mutes timing now g _ named is = absurd (true≢false (sym is))
 
 -- no limit is passed where no number grows
 pub passes_none : (limits : Limits) (groups : Groups) (a : ℕ) (e : ScheduledGroup) → AreWithin limits groups → map.contains_key groups a ≡ true →

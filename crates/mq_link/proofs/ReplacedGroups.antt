@@ -1,26 +1,12 @@
 -- The groups of a link while some of them are replaced, one after the other, each from what it was before.
-use Rattle.std.proofs.Common.{◌≡◌, ◌==◌, cond, ℕ, suc, ◌+◌, ◌<◌, ◌≤◌, Bool, true, false, ◌||◌, refl, List, [], ◌∷◌, length, take, drop, get_or}
-use Rattle.std.proofs.Common.{Option, Some, is_some, sym, ap, ◌∙◌, arith}
-use Rattle.std.proofs.Math.Bool.{or-false}
-use Rattle.std.specs.Prelude.{map as list_map}
-use Rattle.std.specs.List.{sum_by}
-use Rattle.std.specs.Option.{unwrap_or}
-use Rattle.std.specs.Ordering.{nat_cmp, eq_by_cmp}
-use Rattle.std.specs.Cmp.{nat_cmp_total}
+use Rattle.mq_link.proofs.Common.{◌≡◌, ◌==◌, cond, ℕ, suc, ◌+◌, ◌<◌, ◌≤◌, Bool, true, false, ◌||◌, refl, List, [], ◌∷◌, length, take, drop, get_or, Option}
+use Rattle.mq_link.proofs.Common.{Some, is_some, sym, ap, ◌∙◌, arith, or-false, list_map, sum_by, unwrap_or, nat_cmp, eq_by_cmp, nat_cmp_total, true≢false}
+use Rattle.mq_link.proofs.Common.{eqb-true, eq-eqb, ne_eqb, get_or-map, length-map, length-take, get_or-take, Any-from_list_any, list_any_more, sum_by-cons}
+use Rattle.mq_link.proofs.Common.{IsAscending, set_of, IsAscending-map, ScheduledGroup, tied, ties, ascending-sorted, Groups}
 use Rattle.std.specs.FinMap as map
-use Rattle.std.proofs.Math.Seq.{drop-cons}
-use Rattle.std.proofs.lemmas.Bool.{true≢false, eqb-true, eq-eqb, ne_eqb}
-use Rattle.std.proofs.lemmas.List.{get_or-map, length-map, length-take, get_or-take}
-use Rattle.std.proofs.lemmas.List.Folds.{Any-from_list_any, list_any_more}
-use Rattle.std.proofs.lemmas.List.Sums.{sum_by-cons}
-use Rattle.std.proofs.lemmas.Option.{slice_get-get_or}
-use Rattle.mq_sets.specs.Ascending.{IsAscending, set_of}
-use Rattle.mq_sets.proofs.Ascents.{IsAscending-map}
-use Rattle.mq_sched.specs.Schedule.{ScheduledGroup}
+use Rattle.std.proofs.{Math.Seq.drop-cons, lemmas.Option.slice_get-get_or}
 use Rattle.mq_held.specs.Groups.{unheld, group_at, sources_of, sources_in}
 use Rattle.mq_held.proofs.Entries.{get-place}
-use Rattle.mq_held.proofs.Sorted.{tied, ties, ascending-sorted}
-use Rattle.mq_link.specs.State.{Groups}
 use Rattle.mq_link.proofs.PassedEntries.{GroupEntries}
 
 -- the test of an address for a list

@@ -1,15 +1,8 @@
 -- The steps that keep room for groups and their sources.
-use Rattle.std.proofs.Common.{◌≡◌, ℕ, ◌*◌, ◌≤◌, List, length, ◌&&◌, leb, true, refl, ◌∙◌, sym, subst, arith}
-use Rattle.std.proofs.lemmas.Bool.{le-leb, leb-true, and_parts}
-use Rattle.mq_link.specs.declared.configuration.Limits.{Limits}
-use Rattle.mq_link.specs.declared.storage.Lists.{Lists}
-use Rattle.mq_link.specs.declared.storage.Scratch.{Scratch}
-use Rattle.mq_link.specs.declared.storage.Storage.{Storage}
+use Rattle.mq_link.proofs.Common.{◌≡◌, ℕ, ◌*◌, ◌≤◌, List, length, ◌&&◌, leb, true, refl, ◌∙◌, sym, subst, arith, le-leb, leb-true, and_parts, Limits, Lists}
+use Rattle.mq_link.proofs.Common.{Scratch, Storage, IsAscending, AreNone, HasRoom, HasSpace, IsReady, KeepsRoom, KeepsRooms, KeepsSpace, has_counted}
+use Rattle.mq_link.proofs.Common.{IsWorkspace, suffices}
 use Rattle.std.specs.Prelude.{vec_capacity}
-use Rattle.mq_sets.specs.Ascending.{IsAscending}
-use Rattle.mq_link.specs.Seen.{AreNone}
-use Rattle.mq_link.specs.Storage.{HasRoom, HasSpace, IsReady, KeepsRoom, KeepsRooms, KeepsSpace, has_counted}
-use Rattle.mq_link.specs.Workspace.{IsWorkspace, suffices}
 
 pub room_stays : {K A : Type 0} (w : Scratch K A) → KeepsRoom w w
 room_stays w = record { group = omega arith; named = refl; asked = omega arith; met = refl; changed = refl }

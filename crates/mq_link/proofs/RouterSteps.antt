@@ -1,22 +1,12 @@
 -- Steps of a router leave sound groups, and what is counted is counted of what there was.
-use Rattle.std.proofs.Common.{◌≡◌, ℕ, true, ap, ◌∙◌, sym, subst}
-use Rattle.mq_wire.specs.declared.query.Query.{Query}
-use Rattle.mq_table.specs.Variables.{AreInRange}
-use Rattle.mq_link.specs.Counters.{Counters}
-use Rattle.mq_link.specs.Heard.{announced_by, election_after, groups_heard, query_heard}
-use Rattle.mq_link.specs.Record.{Setting}
-use Rattle.mq_link.specs.Router.{RouterValue, state_of}
-use Rattle.mq_link.specs.Sound.{AreSound}
-use Rattle.mq_link.specs.State.{Groups}
-use Rattle.mq_link.specs.Workspace.{WorkspaceState, suffices}
-use Rattle.mq_link.proofs.LinkStored.{well_formed_at}
-use Rattle.mq_link.proofs.Receipts.{sound_in}
-use Rattle.mq_link.proofs.Ticked.{IsCarriedBy, IsWellFormed-query_heard}
+use Rattle.mq_link.proofs.Common.{◌≡◌, ℕ, true, ap, ◌∙◌, sym, subst, Query, AreInRange, Counters, announced_by, election_after, groups_heard, query_heard}
+use Rattle.mq_link.proofs.Common.{Setting, RouterValue, state_of, AreSound, Groups, WorkspaceState, suffices}
+use Rattle.mq_link.proofs.{LinkStored.well_formed_at, Receipts.sound_in, Ticked.IsCarriedBy, Ticked.IsWellFormed-query_heard}
 
 -- a workspace that suffices for a router suffices for what is inside
-pub enough_inside : {inside value : RouterValue} {w lent : WorkspaceState} → inside ≡ value → w ≡ lent → suffices value.at.config.limits lent ≡ true →
-    suffices inside.at.config.limits w ≡ true
-enough_inside is lent_is enough = (λ i. suffices (is i).at.config.limits (lent_is i)) ∙ enough
+pub enough_inside : {inside value : RouterValue} {w lent : WorkspaceState} → inside ≡ value → w ≡ lent → suffices value.at.config.room lent ≡ true →
+    suffices inside.at.config.room w ≡ true
+enough_inside is lent_is enough = (λ i. suffices (is i).at.config.room (lent_is i)) ∙ enough
 
 -- counters that are changed by a rule
 pub recounted_by : (rule : Counters → Counters) (inside value : RouterValue) (next : Counters) → inside ≡ value → next ≡ rule inside.counters

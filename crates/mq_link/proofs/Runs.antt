@@ -1,16 +1,8 @@
 -- The one run for events and the outlet's answers. Bytes are read as the message that they encode.
-use Rattle.std.proofs.Common.{◌≡◌, ◌↔◌, ℕ, Bool, refl, List, [], ◌∷◌, Option, None, Some, Result, Ok, Err, sym, ap, ◌∙◌, subst}
-use Rattle.std.specs.Option.{option_map}
-use Rattle.mq_wire.specs.declared.message.Message.{Message}
-use Rattle.mq_wire.specs.declared.message.WireFault.{WireFault}
-use Rattle.mq_wire.specs.Family.{Family}
-use Rattle.mq_wire.specs.Spelling.{Spells, message_of, fault_of}
+use Rattle.mq_link.proofs.Common.{◌≡◌, ◌↔◌, ℕ, Bool, refl, List, [], ◌∷◌, Option, None, Some, Result, Ok, Err, sym, ap, ◌∙◌, subst, option_map, Message}
+use Rattle.mq_link.proofs.Common.{WireFault, Family, Spells, message_of, fault_of, Configuration, LinkState, message_in, unless_faulty, read_of, outgoing_of}
+use Rattle.mq_link.proofs.Common.{Event, Happening, Happens, step_of, answer_to, answered, RunFrom, events_of}
 use Rattle.mq_wire.proofs.Spelled.{no_fault, spelled}
-use Rattle.mq_link.specs.Configuration.{Configuration}
-use Rattle.mq_link.specs.State.{LinkState}
-use Rattle.mq_link.specs.Receive.{message_in, unless_faulty, read_of}
-use Rattle.mq_link.specs.Sent.{outgoing_of}
-use Rattle.mq_link.specs.Run.{Event, Happening, Happens, step_of, answer_to, answered, RunFrom, events_of}
 
 -- one happening
 made : Configuration → LinkState → Event × List Bool → Happening

@@ -1,17 +1,7 @@
 -- The rest of a served group: its size and its form.
-use Rattle.std.proofs.Common.{◌≡◌, ℕ, ◌≤◌, false, sym, ap, ◌∙◌, subst, arith}
-use Rattle.mq_table.specs.declared.timing.Timing.{Timing}
-use Rattle.mq_table.specs.Group.{is_vacant, IsWellFormed as IsHeld}
-use Rattle.mq_table.specs.Expiry.{expired}
-use Rattle.mq_table.proofs.Held.{IsAnyGroup-expired}
-use Rattle.mq_sched.specs.Schedule.{ScheduledGroup}
-use Rattle.mq_sched.specs.Sending.{after_round}
-use Rattle.mq_sched.proofs.StayHeld.{held_after_round}
-use Rattle.mq_held.specs.Groups.{sources_of}
-use Rattle.mq_link.specs.Tick.{group_expired}
-use Rattle.mq_link.proofs.Bounds.{expired_size}
-use Rattle.mq_link.proofs.HeldAs.{held_unless_vacant}
-use Rattle.mq_link.proofs.MadeEntries.{round_keeps_size, round_keeps_vacant}
+use Rattle.mq_link.proofs.Common.{◌≡◌, ℕ, ◌≤◌, false, sym, ap, ◌∙◌, subst, arith, Timing, is_vacant, IsHeld, expired, IsAnyGroup-expired, ScheduledGroup}
+use Rattle.mq_link.proofs.Common.{after_round, held_after_round, sources_of, group_expired}
+use Rattle.mq_link.proofs.{Bounds.expired_size, HeldAs.held_unless_vacant, MadeEntries.round_keeps_size, MadeEntries.round_keeps_vacant}
 
 module _ (timing : Timing) (now : ℕ) (e : ScheduledGroup) where
   abbrev pub served : ScheduledGroup

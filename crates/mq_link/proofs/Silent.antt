@@ -1,46 +1,18 @@
 -- Facts about each group of a map and about the list of its entries. A router that isn't querier sends nothing.
-use Rattle.std.proofs.Common.{◌≡◌, ℕ, ◌<◌, Bool, true, false, cond, ltb, leb, refl, List, [], ◌∷◌, ◌++◌, Option, None, Some, Result, Ok, Err, sym, ap}
-use Rattle.std.proofs.Common.{◌∙◌, subst, arith}
-use Rattle.std.proofs.lemmas.Bool.Decides.{nat_tests}
-use lib.Dec.{T}
-use Rattle.std.specs.List.{flat_map}
-use Rattle.std.specs.Option.{unwrap_or}
-use Rattle.std.specs.Ordering.{nat_cmp, eq_by_cmp}
+use Rattle.mq_link.proofs.Common.{◌≡◌, ℕ, ◌<◌, Bool, true, false, cond, ltb, leb, refl, List, [], ◌∷◌, ◌++◌, Option, None, Some, Result, Ok, Err, sym, ap, ◌∙◌}
+use Rattle.mq_link.proofs.Common.{subst, arith, nat_tests, T, flat_map, unwrap_or, nat_cmp, eq_by_cmp, FinMap, find, is_sorted, below_all, Family, Message}
+use Rattle.mq_link.proofs.Common.{QueryMessage, OldReport, LeaveMessage, ReportMessage, WireFault, QueryVersion, RecordView, Kind, Timing, GroupChange}
+use Rattle.mq_link.proofs.Common.{ScheduleState, ScheduledGroup, no_schedule, settled, SentQuery, GeneralQuery, after_change, messages_due, Role, Querier}
+use Rattle.mq_link.proofs.Common.{Other, ElectionState, is_querier, returned, general_is_due, after_general, ticked, Refusal, Repeated, DropReason, per_query}
+use Rattle.mq_link.proofs.Common.{Configuration, Refused, Step, groups_expired, queries_due, tick_at, Statement, RecordOf, OlderJoin, OlderLeave, limit_passed}
+use Rattle.mq_link.proofs.Common.{Setting, leaving, unless_passed, changed_by, after_sending, sent_at_once, changed_or_refused, change_in, stated, Seen}
+use Rattle.mq_link.proofs.Common.{Entrance, Stops, GoesOn, entrance, is_repeated, seen_after, judged_from, judged, all_judged, election_after, Envelope}
+use Rattle.mq_link.proofs.Common.{setting_of, taken_in, taken_or_dropped, counting_read, find_below, first, second, tied, ties, AreSound}
 use Rattle.std.specs.FinMap as map
-use Rattle.std.specs.FinMap.{FinMap, find, is_sorted}
-use Rattle.std.specs.FinMap.Entries.{below_all}
 use Rattle.std.specs.FinSet as set
-use Rattle.mq_wire.specs.Family.{Family}
-use Rattle.mq_wire.specs.declared.message.Message.{Message}
-use Rattle.mq_wire.specs.declared.message.Message.TheVariants.{Query as QueryMessage, OldReport, Leave as LeaveMessage, Report as ReportMessage}
-use Rattle.mq_wire.specs.declared.message.WireFault.{WireFault}
-use Rattle.mq_wire.specs.declared.query.QueryVersion.{QueryVersion}
-use Rattle.mq_wire.specs.declared.records.RecordView.{RecordView}
-use Rattle.mq_table.specs.declared.kind.Kind.{Kind}
-use Rattle.mq_table.specs.declared.timing.Timing.{Timing}
-use Rattle.mq_table.specs.Table.{GroupChange}
-use Rattle.mq_sched.specs.Schedule.{ScheduleState, ScheduledGroup, no_schedule, settled}
-use Rattle.mq_sched.specs.Sending.{SentQuery, GeneralQuery, after_change, messages_due}
-use Rattle.mq_sched.specs.Election.{Role, Querier, Other, ElectionState, is_querier, returned, general_is_due, after_general, ticked}
-use Rattle.mq_link.specs.declared.answers.Refusal.{Refusal}
-use Rattle.mq_link.specs.declared.answers.Refusal.TheVariants.{Repeated}
-use Rattle.mq_link.specs.declared.answers.DropReason.{DropReason}
-use Rattle.mq_link.specs.Family.{per_query}
-use Rattle.mq_link.specs.Configuration.{Configuration}
-use Rattle.mq_link.specs.Counters.{Refused}
 use Rattle.mq_link.specs.State.{Groups, LinkState, unheld, group_at, with_group, IsSilent, IsWellFormed}
-use Rattle.mq_link.specs.Tick.{Step, groups_expired, queries_due, tick_at}
-use Rattle.mq_link.specs.Record.{Statement, RecordOf, OlderJoin, OlderLeave, limit_passed, Setting, leaving, unless_passed, changed_by, after_sending}
-use Rattle.mq_link.specs.Record.{sent_at_once, changed_or_refused, change_in, stated, Seen, Entrance, Stops, GoesOn, entrance, is_repeated}
-use Rattle.mq_link.specs.Record.{seen_after, judged_from, judged, all_judged}
-use Rattle.mq_link.specs.Heard.{election_after}
-use Rattle.mq_link.specs.Receive.{Envelope, setting_of, taken_in, taken_or_dropped, counting_read}
-use Rattle.mq_held.proofs.Sorted.{find_below, first, second, tied, ties}
-use Rattle.mq_link.proofs.HeldAs.{All, settled_silent}
-use Rattle.mq_link.proofs.Ticked.{was_other, ticked_role, silent-groups_expired}
-use Rattle.mq_link.specs.Sound.{AreSound}
-use Rattle.mq_link.proofs.Recorded.{judged_leaves}
-use Rattle.mq_link.proofs.Receipts.{sound_in, positive_in, recounted}
+use Rattle.mq_link.proofs.{HeldAs.All, HeldAs.settled_silent, Ticked.was_other, Ticked.ticked_role, Ticked.silent-groups_expired, Recorded.judged_leaves}
+use Rattle.mq_link.proofs.{Receipts.sound_in, Receipts.positive_in, Receipts.recounted}
 
 abbrev pub Each : {X : Type 0} → (ℕ → X → Type 0) → List (ℕ × X) → Type 0
 Each P [] = Unit {0}
@@ -206,6 +178,5 @@ other_taken config envelope (ReportMessage records) step other = other
 pub other_decided : (config : Configuration) (envelope : Envelope) (step : Step) (read : Result (Message ℕ) WireFault) (reason : Option DropReason) →
     is_querier step.state.election.role ≡ false → is_querier (taken_or_dropped config envelope step read reason).step.state.election.role ≡ false
 other_decided config envelope step (Err fault) (Some reason) other = other
-other_decided config envelope step (Ok message) (Some reason) other = other
-other_decided config envelope step (Err fault) None other = other
 other_decided config envelope step (Ok message) None other = other_taken config envelope message (counting_read (Ok message) step) other
+other_decided config envelope step _ _ other = other

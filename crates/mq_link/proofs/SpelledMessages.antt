@@ -1,14 +1,8 @@
 -- Facts about the message of bytes, which hold for each message with whole fields.
-use Rattle.std.proofs.Common.{◌≡◌, ℕ, Bool, true, false, cond, List, length, None, Ok, IfSome, refl, subst, sym, eqb}
-use Rattle.mq_count.specs.declared.versions.OlderVersion.{OlderVersion}
-use Rattle.mq_wire.specs.declared.message.Message.{Message}
+use Rattle.mq_link.proofs.Common.{◌≡◌, ℕ, Bool, true, false, cond, List, length, None, Ok, IfSome, refl, subst, sym, eqb, OlderVersion, Message, Family, Igmp}
+use Rattle.mq_link.proofs.Common.{Mld, group_end, first_cut, older_spans, query_spans, older_query, current_query, report_spans, report_records, type_named}
+use Rattle.mq_link.proofs.Common.{type_of, spans_of, group_of, message_of, read_of}
 use Rattle.mq_wire.specs.declared.message.Message.TheVariants.{Query, OldReport, Leave, Report}
-use Rattle.mq_wire.specs.Family.{Family, Igmp, Mld, group_end}
-use Rattle.mq_wire.specs.Fields.{first_cut}
-use Rattle.mq_wire.specs.Queries.{older_spans, query_spans, older_query, current_query}
-use Rattle.mq_wire.specs.Records.{report_spans, report_records}
-use Rattle.mq_wire.specs.Spelling.{type_named, type_of, spans_of, group_of, message_of}
-use Rattle.mq_link.specs.Receive.{read_of}
 use Rattle.mq_link.proofs.Runs.{message_read}
 
 -- where all spans are whole

@@ -1,27 +1,13 @@
 -- The outcome of a statement, step by step, by the work on its group.
-use Rattle.std.proofs.Common.{◌≡◌, ℕ, ◌+◌, ◌<◌, ◌≤◌, Bool, true, false, Option, None, Some, IfSome, List, length, sym, ap, ◌∙◌, subst, arith}
+use Rattle.mq_link.proofs.Common.{◌≡◌, ℕ, ◌+◌, ◌<◌, ◌≤◌, Bool, true, false, Option, None, Some, IfSome, List, length, sym, ap, ◌∙◌, subst, arith, set_of}
+use Rattle.mq_link.proofs.Common.{sources-with_group, Timing, GroupState, is_vacant, IsHeld, size_of, named_in, GroupChange, ScheduleState, ScheduledGroup}
+use Rattle.mq_link.proofs.Common.{settled, is_querier, after_change, after_round, Refusal, StatementKind, statement_of, change_written, Ignored, is_admitted}
+use Rattle.mq_link.proofs.Common.{v1_mutes_leave, Statement, Setting, Outcome, leaving, unless_passed, changed_by, after_sending, sent_at_once}
+use Rattle.mq_link.proofs.Common.{changed_or_refused, change_in, change_stated, is_muted, limit_passed, stated, AreSound}
 use Rattle.std.specs.FinMap as map
-use Rattle.mq_sets.specs.Ascending.{set_of}
-use Rattle.mq_held.proofs.Amounts.{sources-with_group}
-use Rattle.mq_table.specs.declared.timing.Timing.{Timing}
-use Rattle.mq_table.specs.Group.{GroupState, is_vacant, IsWellFormed as IsHeld}
-use Rattle.mq_table.specs.Stored.{size_of, named_in}
-use Rattle.mq_table.specs.Table.{GroupChange}
-use Rattle.mq_sched.specs.Schedule.{ScheduleState, ScheduledGroup, settled}
-use Rattle.mq_sched.specs.Election.{is_querier}
-use Rattle.mq_sched.specs.Sending.{after_change, after_round}
-use Rattle.mq_link.specs.declared.answers.Refusal.{Refusal}
-use Rattle.mq_link.specs.declared.statement.StatementKind.{StatementKind}
-use Rattle.mq_link.specs.Changing.{statement_of, change_written}
-use Rattle.mq_link.specs.Counters.{Ignored}
-use Rattle.mq_link.specs.Family.{is_admitted, v1_mutes_leave}
-use Rattle.mq_link.specs.Record.{Statement, Setting, Outcome, leaving, unless_passed, changed_by, after_sending, sent_at_once, changed_or_refused}
-use Rattle.mq_link.specs.Record.{change_in, change_stated, is_muted, limit_passed, stated}
-use Rattle.mq_link.specs.Sound.{AreSound}
 use Rattle.mq_link.specs.State.{Groups, group_at, with_group, sources_of, sources_in}
-use Rattle.mq_link.proofs.ChangedSizes.{stated_few}
-use Rattle.mq_link.proofs.HeldStays.{held_stated, stays_held}
-use Rattle.mq_link.proofs.Recorded.{IsReady, ready, stated_soundly, sound_after, stated_leaves, acted_size, IsSound}
+use Rattle.mq_link.proofs.{ChangedSizes.stated_few, HeldStays.held_stated, HeldStays.stays_held, Recorded.IsReady, Recorded.ready, Recorded.stated_soundly}
+use Rattle.mq_link.proofs.{Recorded.sound_after, Recorded.stated_leaves, Recorded.acted_size, Recorded.IsSound}
 
 -- The work on a group: the change, the sources that it asks for, and the test of the group that it would leave.
 pub record IsChanged (at : Setting) (group : ℕ) (st : Statement) (groups : Groups) (before : ScheduledGroup) (change : GroupChange)

@@ -1,23 +1,19 @@
 -- The status of a router, which stays proper.
-use Rattle.std.proofs.Common.{◌≡◌, ℕ, ◌≤◌, ◌^◌, Option, IfSome, sym, ◌∙◌, subst}
-use Rattle.mq_table.specs.Variables.{AreInRange}
-use Rattle.mq_sched.specs.declared.announced.Announced.{Announced}
-use Rattle.mq_sched.specs.Announcement.{IsCarried}
-use Rattle.mq_sched.specs.Election.{ElectionState, election_at, heard, ticked}
+use Rattle.mq_link.proofs.Common.{◌≡◌, ℕ, ◌≤◌, ◌^◌, Option, IfSome, refl, sym, ◌∙◌, subst, AreInRange, Announced, IsCarried, ElectionState, election_at, heard}
+use Rattle.mq_link.proofs.Common.{ticked, Family, Configuration, IsFaultless, IsWithinRoom, KeepsIntervals}
 use Rattle.mq_sched.specs.StoredElection.{RouterElection}
-use Rattle.mq_wire.specs.Family.{Family}
-use Rattle.mq_link.specs.Configuration.{Configuration, IsFaultless}
-use Rattle.mq_link.specs.Handing.{KeepsIntervals}
+use Rattle.mq_sched.specs.Election.{reconfigured}
+use Rattle.mq_link.specs.Configuring.{config_after}
 use Rattle.mq_link.specs.Status.{IsStatus}
-use Rattle.mq_link.proofs.Faultless.{timing_in_range}
-use Rattle.mq_link.proofs.Intervals.{kept-election_at, kept-heard, kept-ticked}
-use Rattle.mq_link.proofs.Ticked.{heard_timing, ticked_timing}
+use Rattle.mq_link.proofs.{Faultless.timing_in_range, Intervals.kept-election_at, Intervals.kept-heard, Intervals.kept-ticked}
+use Rattle.mq_link.proofs.{Reconfigured.kept-reconfigured, Reconfigured.reconfigured_timing, Ticked.heard_timing, Ticked.ticked_timing}
 
-pub status_at_start : (family : Family) (config : Configuration) (election : RouterElection) (start : ℕ) → IsFaultless config →
+pub status_at_start : (family : Family) (config : Configuration) (election : RouterElection) (start : ℕ) → IsFaultless config → IsWithinRoom config →
     config.family ≡ family → start ≤ 2 ^ 53
     → election.own ≡ config.own → election.configured ≡ config.timing → election.state ≡ election_at config.timing start → IsStatus family config election start
-status_at_start family config election start faultless is_family in_range own configured state = record {
+status_at_start family config election start faultless within is_family in_range own configured state = record {
   faultless = faultless;
+  within = within;
   family_is = is_family;
   own = own;
   configured = configured;
@@ -32,6 +28,7 @@ status_next : (family : Family) (config : Configuration) (election next : Router
     → next ≡ record election { state = left } → KeepsIntervals config.timing left.timing → AreInRange left.timing → IsStatus family config next now
 status_next family config election next left was now h in_range is intervals timing = subst (λ e. IsStatus family config e now) (sym is) (record {
   faultless = h.faultless;
+  within = h.within;
   family_is = h.family_is;
   own = h.own;
   configured = h.configured;
@@ -57,3 +54,23 @@ status_heard family config election next now source announced h carried is =
     (is ∙ (λ i. record election { state = heard (h.configured i) (h.own i) now source announced election.state }))
     (kept-heard config.timing config.own now source announced election.state h.intervals)
     (heard_timing config.timing config.own now source announced election.state (timing_in_range config h.faultless) carried h.timing)
+
+-- the same router with another configuration
+pub status_configured : (family : Family) (config asked : Configuration) (election next : RouterElection) (now : ℕ) → IsStatus family config election now
+    → IsFaultless asked → asked.family ≡ family → IsWithinRoom (config_after config asked)
+    → next ≡ record {
+      own = asked.own;
+      configured = asked.timing;
+      state = reconfigured election.configured asked.timing asked.own now election.state;
+    } → IsStatus family (config_after config asked) next now
+status_configured family config asked election next now h faultless is_family within is =
+    subst (λ e. IsStatus family (config_after config asked) e now) (sym is) (record {
+      faultless = faultless;
+      within = within;
+      family_is = is_family;
+      own = refl;
+      configured = refl;
+      intervals = kept-reconfigured election.configured asked.timing asked.own now election.state;
+      timing = reconfigured_timing election.configured asked.timing asked.own now election.state (timing_in_range asked faultless) h.timing;
+      in_range = h.in_range;
+    })

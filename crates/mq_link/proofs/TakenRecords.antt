@@ -1,20 +1,9 @@
 -- The outcome of a datagram's records so far, and of those left.
-use Rattle.std.proofs.Common.{◌≡◌, ℕ, ◌+◌, ◌<◌, ◌≤◌, Bool, true, false, cond, refl, List, [], ◌∷◌, length, Some, ap, ◌∙◌, subst, arith}
-use Rattle.std.specs.List.{count_by}
-use Rattle.std.proofs.lemmas.List.Sums.{sum_by-cons}
-use Rattle.std.specs.Option.{unwrap_or}
-use Rattle.std.specs.Ordering.{nat_cmp, eq_by_cmp}
-use Rattle.std.specs.Cmp.{nat_cmp_total}
+use Rattle.mq_link.proofs.Common.{◌≡◌, ℕ, ◌+◌, ◌<◌, ◌≤◌, Bool, true, false, cond, refl, List, [], ◌∷◌, length, Some, ap, ◌∙◌, subst, arith, count_by}
+use Rattle.mq_link.proofs.Common.{sum_by-cons, unwrap_or, nat_cmp, eq_by_cmp, nat_cmp_total, tied, ties, RecordView, SentQuery, Sends, SendsOn, Sends-append}
+use Rattle.mq_link.proofs.Common.{Counters, Verdict, Applied, count_verdict, count_verdicts, is_applied, is_ignored, is_refused, Groups, Setting, Seen, met}
+use Rattle.mq_link.proofs.Common.{seen_after, judged, Outcomes, all_judged, AreSound}
 use Rattle.std.specs.FinMap as map
-use Rattle.mq_held.proofs.Sorted.{tied, ties}
-use Rattle.mq_wire.specs.declared.records.RecordView.{RecordView}
-use Rattle.mq_sched.specs.Sending.{SentQuery}
-use Rattle.mq_sched.specs.Sink.{Sends, SendsOn}
-use Rattle.mq_sched.proofs.Collecting.{Sends-append}
-use Rattle.mq_link.specs.Counters.{Counters, Verdict, Applied, Ignored, Refused, count_verdict, count_verdicts, is_applied, is_ignored, is_refused}
-use Rattle.mq_link.specs.State.{Groups}
-use Rattle.mq_link.specs.Record.{Setting, Seen, met, seen_after, judged, Outcomes, all_judged}
-use Rattle.mq_link.specs.Sound.{AreSound}
 use Rattle.mq_link.proofs.Recorded.{judged_leaves}
 
 -- the numbers of records, by their outcome
@@ -77,8 +66,7 @@ module _ (seen : Seen) (group : ℕ) where
 
 counted_one : (v : Verdict) → count_by is_applied (v ∷ []) + count_by is_ignored (v ∷ []) + count_by is_refused (v ∷ []) ≡ 1
 counted_one Applied = omega arith
-counted_one Ignored = omega arith
-counted_one (Refused name) = omega arith
+counted_one _ = omega arith
 
 counted_first : (p : Verdict → Bool) (n : ℕ) (v : Verdict) (vs : List Verdict) → (n + count_by p (v ∷ [])) + count_by p vs ≡ n + count_by p (v ∷ vs)
 counted_first p n v vs =

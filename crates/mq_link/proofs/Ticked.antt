@@ -1,23 +1,11 @@
 -- A tick leaves a state that a link may be in.
-use Rattle.std.proofs.Common.{◌≡◌, ℕ, ◌≤◌, Bool, true, false, cond, not, ◌&&◌, ◌||◌, refl, Option, None, Some, IfSome, sym, ap, ◌∙◌, subst, arith, eqb, ltb}
-use Rattle.std.proofs.lemmas.Bool.{true≢false, eqb-false}
-use Rattle.std.specs.Option.{option_and_then}
+use Rattle.mq_link.proofs.Common.{◌≡◌, ℕ, ◌≤◌, Bool, true, false, cond, not, ◌&&◌, ◌||◌, refl, Option, None, Some, IfSome, sym, ap, ◌∙◌, subst, arith, eqb, ltb}
+use Rattle.mq_link.proofs.Common.{true≢false, eqb-false, option_and_then, kept, get-kept, Timing, AreInRange, IsWithin, ScheduledGroup, cleared, after_round}
+use Rattle.mq_link.proofs.Common.{Announced, IsCarried, Role, Querier, Other, ElectionState, is_querier, deadline_ended, returned, general_is_due}
+use Rattle.mq_link.proofs.Common.{after_general, ticked, heard_or, adopted, heard, loses_role, Query, Configuration, Groups, LinkState, IsHeldAs, IsSilent}
+use Rattle.mq_link.proofs.Common.{AreWithin, IsWellFormed, group_expired, if_held, groups_expired, groups_after_round, tick_at, election_after, announced_by}
+use Rattle.mq_link.proofs.Common.{suppresses, asked_by, groups_cleared, group_lowered, groups_lowered, query_heard}
 use Rattle.std.specs.FinMap as map
-use Rattle.mq_table.specs.Maps.{kept}
-use Rattle.mq_table.proofs.Maps.{get-kept}
-use Rattle.mq_table.specs.declared.timing.Timing.{Timing}
-use Rattle.mq_table.specs.Variables.{AreInRange, IsWithin}
-use Rattle.mq_sched.specs.Schedule.{ScheduledGroup, cleared}
-use Rattle.mq_sched.specs.Sending.{after_round}
-use Rattle.mq_sched.specs.declared.announced.Announced.{Announced}
-use Rattle.mq_sched.specs.Announcement.{IsCarried}
-use Rattle.mq_sched.specs.Election.{Role, Querier, Other, ElectionState, is_querier, deadline_ended, returned, general_is_due, after_general, ticked}
-use Rattle.mq_sched.specs.Election.{heard_or, adopted, heard, loses_role}
-use Rattle.mq_wire.specs.declared.query.Query.{Query}
-use Rattle.mq_link.specs.Configuration.{Configuration}
-use Rattle.mq_link.specs.State.{Groups, LinkState, IsHeldAs, IsSilent, AreWithin, IsWellFormed}
-use Rattle.mq_link.specs.Tick.{group_expired, if_held, groups_expired, groups_after_round, tick_at}
-use Rattle.mq_link.specs.Heard.{election_after, announced_by, suppresses, asked_by, groups_cleared, group_lowered, groups_lowered, query_heard}
 use Rattle.mq_link.proofs.Bounds.{NoMore, expired_no_more, round_no_more, cleared_no_more, lowered_no_more, same_no_more, within-kept}
 use Rattle.mq_link.proofs.HeldAs.{All, all-kept, held_expired, silent_expired, held_round, silent_round, held_after_loss, held_lowered}
 

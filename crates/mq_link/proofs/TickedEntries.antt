@@ -1,29 +1,12 @@
 -- The groups of a link after a tick, and its queries, group by group.
-use Rattle.std.proofs.Common.{◌≡◌, ℕ, Bool, true, false, cond, refl, List, [], ◌∷◌, ◌++◌, length, Option, None, Some, sym, ap, ◌∙◌, arith, eqb}
-use Rattle.std.proofs.lemmas.Bool.{and_parts}
-use Rattle.std.proofs.lemmas.List.{length-map}
-use Rattle.std.proofs.lemmas.Bool.Decides.{nat_tests}
-use Rattle.std.specs.Option.{option_map, option_and_then}
-use Rattle.std.specs.List.{flat_map, list_any}
+use Rattle.mq_link.proofs.Common.{◌≡◌, ℕ, Bool, true, false, cond, refl, List, [], ◌∷◌, ◌++◌, length, Option, None, Some, sym, ap, ◌∙◌, arith, eqb, and_parts}
+use Rattle.mq_link.proofs.Common.{length-map, nat_tests, option_map, option_and_then, flat_map, list_any, Timing, SourceTimer, expired, GroupState, is_vacant}
+use Rattle.mq_link.proofs.Common.{is_include, IsHeld, with_entry, kept, some_source, has_sendings, get-kept, same_sources, ScheduleState, ScheduledGroup}
+use Rattle.mq_link.proofs.Common.{IsScheduleOf, no_schedule, settled, SentQuery, messages_due, after_round, quiet_is_silent, same_round, Family, per_query}
+use Rattle.mq_link.proofs.Common.{Groups, group_expired, if_held, moments_of, groups_expired, groups_after_round, queries_due}
 use Rattle.std.specs.FinMap as map
-use Rattle.mq_table.specs.declared.timing.Timing.{Timing}
-use Rattle.mq_table.specs.declared.timers.SourceTimer.{SourceTimer}
-use Rattle.mq_table.specs.Expiry.{expired}
-use Rattle.mq_table.specs.Group.{GroupState, is_vacant, is_include, IsWellFormed as IsHeld}
-use Rattle.mq_table.specs.Maps.{with_entry, kept}
-use Rattle.mq_table.specs.Sendings.{some_source, has_sendings}
-use Rattle.mq_table.proofs.Maps.{get-kept}
-use Rattle.mq_table.proofs.Groups.{same_sources}
-use Rattle.mq_sched.specs.Schedule.{ScheduleState, ScheduledGroup, IsScheduleOf, no_schedule, settled}
-use Rattle.mq_sched.specs.Sending.{SentQuery, messages_due, after_round}
-use Rattle.mq_sched.proofs.Rounds.{quiet_is_silent, same_round}
-use Rattle.mq_wire.specs.Family.{Family}
-use Rattle.mq_link.specs.Family.{per_query}
-use Rattle.mq_link.specs.State.{Groups}
-use Rattle.mq_link.specs.Tick.{group_expired, if_held, moments_of, groups_expired, groups_after_round, queries_due}
-use Rattle.mq_link.proofs.Entries.{filtered, entries-kept}
-use Rattle.mq_link.proofs.Quiet.{AllAbove, beyond, same_group}
-use Rattle.mq_link.proofs.PassedEntries.{GroupEntries, IsPassed}
+use Rattle.mq_link.proofs.{Entries.filtered, Entries.entries-kept, Quiet.AllAbove, Quiet.beyond, Quiet.same_group, PassedEntries.GroupEntries}
+use Rattle.mq_link.proofs.{PassedEntries.IsPassed}
 
 -- a group after a tick, and the queries sent for it
 abbrev pub ticked_group : Timing → (now : ℕ) → ℕ → ScheduledGroup → Option ScheduledGroup

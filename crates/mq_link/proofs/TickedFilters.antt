@@ -1,34 +1,14 @@
 -- The groups that a tick changes: those that are due and have another filter once they are served.
 use Rattle.std.proofs.Common.{◌≡◌, ◌==◌, ℕ, ◌+◌, ◌<◌, ◌≤◌, Bool, true, false, cond, ◌&&◌, List, [], ◌∷◌, ◌++◌, length, take, filter, get_or, Option}
-use Rattle.std.proofs.Common.{None, Some, refl, sym, ap, ◌∙◌, subst, arith, append-nil}
-use Rattle.std.proofs.Math.Bool.{and-true}
-use Rattle.std.specs.Prelude.{map as list_map}
-use Rattle.std.specs.Bool.{then_some}
-use Rattle.std.specs.Option.{option_map, option_and_then, unwrap_or}
-use Rattle.std.specs.Cmp.{nat_cmp_total}
+use Rattle.mq_link.proofs.Common.{None, Some, refl, sym, ap, ◌∙◌, subst, arith, append-nil, and-true, list_map, then_some, option_map, option_and_then}
+use Rattle.mq_link.proofs.Common.{unwrap_or, nat_cmp_total, eqb-true, and_right, map-append, take_all, take_more, get_or-map, length-map, length-take}
+use Rattle.mq_link.proofs.Common.{filter-append, AllPairs-filter, IsAscending, set_of, Timing, is_vacant, filter_of, changes_filter, get-kept, ScheduledGroup}
+use Rattle.mq_link.proofs.Common.{unheld, group_at, if_running, kept_as, without_vacant, addresses_due, ties, AreThose, changes, AreServed, Groups}
 use Rattle.std.specs.FinMap as map
-use Rattle.std.proofs.lemmas.Bool.{eqb-true, and_right}
-use Rattle.std.proofs.lemmas.List.{map-append, take_all, take_more, get_or-map, length-map, length-take}
-use Rattle.std.proofs.lemmas.List.Elements.{filter-append}
-use Rattle.std.proofs.lemmas.List.Kept.{AllPairs-filter}
 use Rattle.std.proofs.lemmas.Map.Views.{any-filter_same}
-use Rattle.mq_sets.specs.Ascending.{IsAscending, set_of}
-use Rattle.mq_table.specs.declared.timing.Timing.{Timing}
-use Rattle.mq_table.specs.Group.{is_vacant}
-use Rattle.mq_table.specs.Filter.{filter_of, changes_filter}
-use Rattle.mq_table.proofs.Maps.{get-kept}
-use Rattle.mq_sched.specs.Schedule.{ScheduledGroup}
-use Rattle.mq_held.specs.Groups.{unheld, group_at, if_running, kept_as, without_vacant}
-use Rattle.mq_held.specs.Places.{addresses_due}
-use Rattle.mq_held.proofs.Sorted.{ties}
-use Rattle.mq_link.specs.Forwarding.{AreThose, changes}
-use Rattle.mq_link.specs.Serving.{AreServed}
-use Rattle.mq_link.specs.State.{Groups}
-use Rattle.mq_link.proofs.DueGroups.{are_due, due_entries}
-use Rattle.mq_link.proofs.HeldAs.{vacant_is}
-use Rattle.mq_link.proofs.KeptFilters.{alike_after, kept_filter, unchanged}
-use Rattle.mq_link.proofs.ReplacedGroups.{IsReplacedTo, among, entry_at, next_group, next_held}
-use Rattle.mq_link.proofs.TickedNumbers.{replaced_at, served_as}
+use Rattle.mq_link.proofs.{DueGroups.are_due, DueGroups.due_entries, HeldAs.vacant_is, KeptFilters.alike_after, KeptFilters.kept_filter, KeptFilters.unchanged}
+use Rattle.mq_link.proofs.{ReplacedGroups.IsReplacedTo, ReplacedGroups.among, ReplacedGroups.entry_at, ReplacedGroups.next_group, ReplacedGroups.next_held}
+use Rattle.mq_link.proofs.{TickedNumbers.replaced_at, TickedNumbers.served_as}
 
 group_put : (groups : Groups) (address : ℕ) (e : ScheduledGroup) → group_at (map.insert groups address e) address ≡ e
 group_put groups address e =

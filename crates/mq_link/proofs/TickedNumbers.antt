@@ -1,38 +1,18 @@
 -- The groups of a link while the due ones are served one after the other, by the listed numbers.
-use Rattle.std.proofs.Common.{◌≡◌, cond, ℕ, ◌+◌, ◌*◌, ◌<◌, ◌≤◌, Bool, true, false, refl, List, [], ◌∷◌, ◌++◌, length, take, drop, get_or, Option}
-use Rattle.std.proofs.Common.{None, Some, is_some, sym, ap, ◌∙◌, subst, arith, append-nil}
-use Rattle.std.specs.Prelude.{map as list_map}
-use Rattle.std.specs.List.{All, sum_by, flat_map}
-use Rattle.std.specs.Option.{option_map, option_and_then, unwrap_or}
+use Rattle.mq_link.proofs.Common.{◌≡◌, cond, ℕ, ◌+◌, ◌*◌, ◌<◌, ◌≤◌, Bool, true, false, refl, List, [], ◌∷◌, ◌++◌, length, take, drop, get_or, Option, None}
+use Rattle.mq_link.proofs.Common.{Some, is_some, sym, ap, ◌∙◌, subst, arith, append-nil, list_map, All, sum_by, flat_map, option_map, option_and_then}
+use Rattle.mq_link.proofs.Common.{unwrap_or, true≢false, false≢true, take_more, take_all, length-map, Spends, Spends-none, Spends-join_within, key_in, times}
+use Rattle.mq_link.proofs.Common.{Timing, is_vacant, get-kept, same_sources, ScheduledGroup, SentQuery, messages_due, after_round, Sends, Sends-append}
+use Rattle.mq_link.proofs.Common.{HeldState, HasNumber, IsNumber, is_vacant_at, addresses_due, has_due, Groups, AreServed, group_expired, groups_expired}
+use Rattle.mq_link.proofs.Common.{groups_after_round}
 use Rattle.std.specs.FinMap as map
-use Rattle.std.proofs.lemmas.Bool.{true≢false, false≢true}
-use Rattle.std.proofs.lemmas.List.{take_more, take_all, length-map}
 use Rattle.std.proofs.lemmas.List.Concat.{flat_map-append}
-use Rattle.mq_count.specs.Spending.{Spends}
-use Rattle.mq_count.proofs.Spent.{Spends-none, Spends-join_within}
-use Rattle.mq_sets.specs.NumberedKeys.{key_in}
-use Rattle.mq_sets.specs.Slots.{times}
-use Rattle.mq_table.specs.declared.timing.Timing.{Timing}
-use Rattle.mq_table.specs.Group.{is_vacant}
-use Rattle.mq_table.proofs.Maps.{get-kept}
-use Rattle.mq_table.proofs.Groups.{same_sources}
-use Rattle.mq_sched.specs.Schedule.{ScheduledGroup}
-use Rattle.mq_sched.specs.Sending.{SentQuery, messages_due, after_round}
-use Rattle.mq_sched.specs.Sink.{Sends}
-use Rattle.mq_sched.proofs.Collecting.{Sends-append}
 use Rattle.mq_held.specs.Groups.{unheld, group_at, if_running, kept_as, sources_of, sources_in, without_vacant}
-use Rattle.mq_held.specs.Held.{HeldState, HasNumber, IsNumber, is_vacant_at}
-use Rattle.mq_held.specs.Places.{addresses_due, has_due}
-use Rattle.mq_link.specs.State.{Groups}
-use Rattle.mq_link.specs.Serving.{AreServed}
-use Rattle.mq_link.specs.Tick.{group_expired, groups_expired, groups_after_round}
-use Rattle.mq_link.proofs.DueGroups.{among_due, are_due, due_entries, not_due_passed}
-use Rattle.mq_link.proofs.GroupNumbers.{number_found, is_number_stayed, stands_at}
-use Rattle.mq_link.proofs.HeldAs.{vacant_is}
-use Rattle.mq_link.proofs.MadeEntries.{round_keeps_vacant}
-use Rattle.mq_link.proofs.Quiet.{not_vacant}
-use Rattle.mq_link.proofs.ReplacedGroups.{IsReplacedTo, addresses_of, among, entry_at, entry_sources, next_group, number_at, one_replaced, one_weighed}
-use Rattle.mq_link.proofs.TickedEntries.{ticked_group, queries_at, groups_ticked}
+use Rattle.mq_link.proofs.{DueGroups.among_due, DueGroups.are_due, DueGroups.due_entries, DueGroups.not_due_passed, GroupNumbers.number_found}
+use Rattle.mq_link.proofs.{GroupNumbers.is_number_stayed, GroupNumbers.stands_at, HeldAs.vacant_is, MadeEntries.round_keeps_vacant, Quiet.not_vacant}
+use Rattle.mq_link.proofs.{ReplacedGroups.IsReplacedTo, ReplacedGroups.addresses_of, ReplacedGroups.among, ReplacedGroups.entry_at}
+use Rattle.mq_link.proofs.{ReplacedGroups.entry_sources, ReplacedGroups.next_group, ReplacedGroups.number_at, ReplacedGroups.one_replaced}
+use Rattle.mq_link.proofs.{ReplacedGroups.one_weighed, TickedEntries.ticked_group, TickedEntries.queries_at, TickedEntries.groups_ticked}
 
 -- the entry put back for a served group
 abbrev pub served_as : Timing → (now : ℕ) → ScheduledGroup → ScheduledGroup

@@ -1,24 +1,11 @@
 -- The groups and sources after a tick, at most those before. So a datagram spends within those held before both, and
 -- at least its costs on the groups that the tick leaves.
-use Rattle.std.proofs.Common.{◌≡◌, ℕ, ◌+◌, ◌*◌, ◌≤◌, max, List, Some, sym, ap, ◌∙◌, subst, arith}
+use Rattle.mq_link.proofs.Common.{◌≡◌, ℕ, ◌+◌, ◌*◌, ◌≤◌, max, List, Some, sym, ap, ◌∙◌, subst, arith, max-le, Spends, Spends-join_within, Timing, after_round}
+use Rattle.mq_link.proofs.Common.{Family, Configuration, cost_of, least_after, least_received, IsPaid, most_moved, most_moved_by_tick, Envelope, setting_of}
+use Rattle.mq_link.proofs.Common.{Groups, LinkState, sources_in, group_expired, if_held, groups_expired, groups_after_round, moment_of, tick_at}
 use Rattle.std.specs.FinMap as map
-use Rattle.std.proofs.Math.Nat.{max-le}
-use Rattle.mq_count.specs.Spending.{Spends}
-use Rattle.mq_count.proofs.Spent.{Spends-join_within}
-use Rattle.mq_table.specs.declared.timing.Timing.{Timing}
-use Rattle.mq_sched.specs.Sending.{after_round}
-use Rattle.mq_wire.specs.Family.{Family}
-use Rattle.mq_link.specs.Configuration.{Configuration}
-use Rattle.mq_link.specs.Cost.{cost_of}
-use Rattle.mq_link.specs.LeastCost.{least_after, least_received}
-use Rattle.mq_link.specs.Moved.{IsPaid, most_moved, most_moved_by_tick}
-use Rattle.mq_link.specs.Receive.{Envelope, setting_of}
-use Rattle.mq_link.specs.State.{Groups, LinkState, sources_in}
-use Rattle.mq_link.specs.Tick.{group_expired, if_held, groups_expired, groups_after_round, moment_of, tick_at}
-use Rattle.mq_link.proofs.Bounds.{expired_no_more, round_no_more, sources_kept}
-use Rattle.mq_link.proofs.Entries.{len-kept}
-use Rattle.mq_link.proofs.LinkReceived.{read_in}
-use Rattle.mq_link.proofs.Moved.{paid_join, paid_moves}
+use Rattle.mq_link.proofs.{Bounds.expired_no_more, Bounds.round_no_more, Bounds.sources_kept, Entries.len-kept, LinkReceived.read_in, Moved.paid_join}
+use Rattle.mq_link.proofs.{Moved.paid_moves}
 
 module _ (timing : Timing) (now : ℕ) (groups : Groups) where
   abbrev left_groups : Groups

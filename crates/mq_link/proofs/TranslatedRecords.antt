@@ -1,14 +1,7 @@
 -- Facts about the change of a record while older hosts are there, which hold for each change that it may make.
-use Rattle.std.proofs.Common.{Bool, true, false, cond, ◌&&◌, ◌||◌, ℕ, None, Some, IfSome}
+use Rattle.mq_link.proofs.Common.{Bool, true, false, cond, ◌&&◌, ◌||◌, ℕ, None, Some, IfSome, option_map, Kind, IsIn, IsEx, ToIn, ToEx, Allow, Block, Hosts}
+use Rattle.mq_link.proofs.Common.{Timing, GroupState, translated, NamedSources, GroupChange, change_of}
 use Rattle.std.specs.FinSet as set
-use Rattle.std.specs.Option.{option_map}
-use Rattle.mq_table.specs.declared.kind.Kind.{Kind}
-use Rattle.mq_table.specs.declared.kind.Kind.TheVariants.{IsIn, IsEx, ToIn, ToEx, Allow, Block}
-use Rattle.mq_table.specs.declared.older_hosts.Hosts.{Hosts}
-use Rattle.mq_table.specs.declared.timing.Timing.{Timing}
-use Rattle.mq_table.specs.Group.{GroupState}
-use Rattle.mq_table.specs.OlderHosts.{translated}
-use Rattle.mq_table.specs.Table.{NamedSources, GroupChange, change_of}
 
 module _ (P : GroupChange → Type 0) (mutes : Bool) (timing : Timing) (now : ℕ) (g : GroupState) (named : NamedSources)
     (of_named : (kind : Kind) → P (change_of timing now g kind named))

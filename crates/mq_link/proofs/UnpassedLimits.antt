@@ -1,15 +1,8 @@
 -- Limits that hold, since a held group stays as large and its schedules are few enough.
-use Rattle.std.proofs.Common.{◌≡◌, ℕ, ◌+◌, ◌≤◌, true, false, cond, not, [], ◌∷◌, None, ap, arith}
+use Rattle.mq_link.proofs.Common.{◌≡◌, ℕ, ◌+◌, ◌≤◌, true, false, cond, not, [], ◌∷◌, None, ap, arith, le-ltb, is_vacant, ScheduledGroup, len-with_group}
+use Rattle.mq_link.proofs.Common.{schedules-with_group, sources-with_group, TooManyGroups, GroupSources, Sources, Scheduled, Limits, limit_passed, first_named}
 use Rattle.std.specs.FinMap as map
-use Rattle.std.proofs.lemmas.Bool.{le-ltb}
-use Rattle.mq_table.specs.Group.{is_vacant}
-use Rattle.mq_sched.specs.Schedule.{ScheduledGroup}
-use Rattle.mq_held.proofs.Amounts.{len-with_group, schedules-with_group, sources-with_group}
-use Rattle.mq_link.specs.declared.answers.Refusal.TheVariants.{Groups as TooManyGroups, GroupSources, Sources, Scheduled}
-use Rattle.mq_link.specs.declared.configuration.Limits.{Limits}
-use Rattle.mq_link.specs.Record.{limit_passed}
 use Rattle.mq_link.specs.State.{AreWithin, Groups, group_at, one_if, schedules_in, schedules_of, sources_in, sources_of, with_group}
-use Rattle.mq_link.specs.Tests.{first_named}
 
 pub passes_none_by : (limits : Limits) (groups : Groups) (a : ℕ) (e : ScheduledGroup) → AreWithin limits groups → map.contains_key groups a ≡ true →
     is_vacant e.group ≡ false → sources_of e ≡ sources_of (group_at groups a) →

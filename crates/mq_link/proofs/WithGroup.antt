@@ -1,15 +1,9 @@
 -- The amounts of the groups with one of them changed and its due queries sent.
-use Rattle.std.proofs.Common.{◌≡◌, ℕ, ◌+◌, ◌-◌, ◌≤◌, Bool, true, false, cond, not, refl, sym, ap, ◌∙◌, arith}
+use Rattle.mq_link.proofs.Common.{◌≡◌, ℕ, ◌+◌, ◌-◌, ◌≤◌, Bool, true, false, cond, not, refl, sym, ap, ◌∙◌, arith, Timing, is_vacant, ScheduledGroup}
+use Rattle.mq_link.proofs.Common.{after_round, len-with_group, sources-with_group, schedules-with_group, Limits, limit_passed_by, limit_passed}
 use mir.Val.{bool_byte}
 use Rattle.std.specs.FinMap as map
-use Rattle.mq_table.specs.declared.timing.Timing.{Timing}
-use Rattle.mq_table.specs.Group.{is_vacant}
-use Rattle.mq_sched.specs.Schedule.{ScheduledGroup}
-use Rattle.mq_sched.specs.Sending.{after_round}
 use Rattle.mq_held.specs.Groups.{Groups, group_at, with_group, sources_of, sources_in, one_if, schedules_of, schedules_in}
-use Rattle.mq_held.proofs.Amounts.{len-with_group, sources-with_group, schedules-with_group}
-use Rattle.mq_link.specs.declared.configuration.Limits.{Limits}
-use Rattle.mq_link.specs.Record.{limit_passed_by, limit_passed}
 use Rattle.mq_link.proofs.MadeEntries.{round_keeps_size, round_keeps_vacant}
 
 module _ (groups : Groups) (address : ℕ) (timing : Timing) (now : ℕ) (before after : ScheduledGroup) (was_held : Bool)

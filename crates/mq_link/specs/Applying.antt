@@ -1,5 +1,5 @@
 -- The conditions for a statement about a group, and its effect on the router.
-use Rattle.std.specs.Prelude.{◌≡◌, ℕ, ◌+◌, ◌*◌, ◌≤◌, Bool, true, ◌||◌, length}
+use Rattle.std.specs.Prelude.{◌≡◌, ℕ, ◌+◌, ◌*◌, ◌≤◌, Bool, ◌||◌, length}
 use Rattle.mq_table.specs.Stored.{named_in}
 use Rattle.mq_sched.specs.Sending.{SentQuery}
 use Rattle.mq_held.specs.Groups.{group_at, sources_of}
@@ -9,7 +9,7 @@ use Rattle.mq_link.specs.declared.storage.Scratch.{Scratch}
 use Rattle.mq_link.specs.declared.storage.GroupLookup.{GroupLookup}
 use Rattle.mq_link.specs.declared.storage.Storage.{Storage}
 use Rattle.mq_link.specs.Changing.{statement_of}
-use Rattle.mq_link.specs.Family.{is_admitted}
+use Rattle.mq_link.specs.Configuration.{IsWithinRoom}
 use Rattle.mq_link.specs.Forwarding.{changes}
 use Rattle.mq_link.specs.Judging.{verdict_of}
 use Rattle.mq_link.specs.Moved.{MovesWithin, moved_by_edit}
@@ -19,16 +19,16 @@ use Rattle.mq_link.specs.Seen.{AreMarked, KeepsNumbers, met_in}
 use Rattle.mq_link.specs.Sound.{AreSound}
 use Rattle.mq_link.specs.Storage.{HasRoom, IsLookup, KeepsRoom, KeepsRooms}
 
--- The conditions for a statement about a group. The group is admitted and was searched for, and the router may hold its
+-- The conditions for a statement about an admitted group. The group was searched for, and the router may hold its
 -- groups. The work names at most as many sources as a group may have. There is room for what the configuration allows.
 pub record CanApply {K A B : Type 0} (number : K → ℕ) (at : Setting) (storage : Storage K A) (work : Scratch K B) (group : GroupLookup K) : Type 0 where
-  pub admitted : is_admitted at.config.family (number group.address) ≡ true
   pub sound : AreSound at storage.held.groups
   pub lookup : IsLookup number storage.held group
-  pub room : HasRoom at.config.limits.groups at.config.limits.group_sources work
+  pub within : IsWithinRoom at.config
+  pub room : HasRoom at.config.room.groups at.config.room.group_sources work
   pub named : length work.named.members ≤ at.config.limits.group_sources
-  pub group_room : storage.held.order.room ≡ at.config.limits.groups
-  pub source_room : storage.held.source_room ≡ at.config.limits.sources
+  pub group_room : storage.held.order.room ≡ at.config.room.groups
+  pub source_room : storage.held.source_room ≡ at.config.room.sources
 
 -- The effect of a statement about a group. The work names its sources. The verdict, the groups afterwards, and the
 -- queries that the sink takes are those of its outcome. Groups keep their numbers, and storage and work their room. The

@@ -1,5 +1,5 @@
 -- The configuration of a link, and its faults.
-use Rattle.std.specs.Prelude.{◌≡◌, ℕ, not, ◌||◌, nat_lt, nat_le, Bool, [], ◌∷◌, Option, None, Some}
+use Rattle.std.specs.Prelude.{◌≡◌, ℕ, ◌≤◌, not, ◌||◌, nat_lt, nat_le, Bool, [], ◌∷◌, Option, None, Some}
 use Rattle.mq_table.specs.declared.timing.Timing.{Timing}
 use Rattle.mq_table.specs.Timing.{query_interval}
 use Rattle.mq_wire.specs.Family.{Family}
@@ -13,13 +13,16 @@ use Rattle.mq_link.specs.Tests.{first_named}
 
 -- The configuration of a link. `timing` has the Robustness Variable, the Query Interval, the Query Response Interval
 -- and the Last Member (Last Listener) Query Interval (RFC 3376 section 8, RFC 3810 section 9). `own` is the router's
--- own address. `source_specific` keeps the source-specific range for source-specific multicast.
+-- own address. `source_specific` keeps the source-specific range for source-specific multicast. `room` has the limits
+-- for which memory is allocated when the link is made. Those of a running link may be lowered, and raised again to
+-- these.
 pub record Configuration : Type 0 where
   pub family : Family
   pub timing : Timing
   pub limits : Limits
   pub own : ℕ
   pub source_specific : Bool
+  pub room : Limits
 
 abbrev pub is_outside : (low high : ℕ) → ℕ → Bool
 is_outside low high n = nat_lt n low || nat_lt high n
@@ -62,6 +65,15 @@ configuration_fault c =
     else_fault (timing_fault c.family c.timing)
     (else_fault (as_fault (limit_fault c.limits))
     (first_named ((OwnAddress, not (is_router_address c.family c.own)) ∷ [])))
+
+-- The limits are no greater than those of the memory, which is allocated for at most 65535 groups and sources.
+pub record IsWithinRoom (c : Configuration) : Type 0 where
+  pub groups : c.limits.groups ≤ c.room.groups
+  pub group_sources : c.limits.group_sources ≤ c.room.group_sources
+  pub sources : c.limits.sources ≤ c.room.sources
+  pub scheduled : c.limits.scheduled ≤ c.room.scheduled
+  pub few_groups : c.room.groups ≤ 65535
+  pub few_sources : c.room.sources ≤ 65535
 
 -- a configuration without a fault
 abbrev pub IsFaultless : Configuration → Type 0

@@ -16,7 +16,7 @@ variables robustness query_seconds response_interval last_member_interval = reco
 
 abbrev pub configured : Family → Variables → Limits → (own : ℕ) → Bool → Configuration
 configured family timing limits own source_specific =
-    record { family = family; timing = timing; limits = limits; own = own; source_specific = source_specific }
+    record { family = family; timing = timing; limits = limits; own = own; source_specific = source_specific; room = limits }
 
 -- the configuration is returned if it has no fault, and otherwise its fault
 abbrev pub IsGivenOrFaulty : (asked : Configuration) → Result Configuration ConfigFault → Type 0

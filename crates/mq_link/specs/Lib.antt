@@ -30,6 +30,8 @@ pub mod Handing
 pub mod Sender
 pub mod Counted
 pub mod Link
+pub mod Configuring
+pub mod TickCosts
 pub mod Router
 pub mod Applying
 pub mod LinkCode

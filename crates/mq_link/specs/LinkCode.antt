@@ -48,10 +48,10 @@ limits_code =
 
 abbrev pub configuration_code : Coded Configuration
 configuration_code =
-    code_by ((Family × Variables) × (Limits × (ℕ × Bool)))
-    (coded× (coded× family_code variables_code) (coded× limits_code (coded× coded_ℕ coded_bool)))
-    (λ c. ((c.family, c.timing), (c.limits, (c.own, c.source_specific))))
-    (λ p. record { family = p.0.0; timing = p.0.1; limits = p.1.0; own = p.1.1.0; source_specific = p.1.1.1 })
+    code_by ((Family × Variables) × ((Limits × Limits) × (ℕ × Bool)))
+    (coded× (coded× family_code variables_code) (coded× (coded× limits_code limits_code) (coded× coded_ℕ coded_bool)))
+    (λ c. ((c.family, c.timing), ((c.limits, c.room), (c.own, c.source_specific))))
+    (λ p. record { family = p.0.0; timing = p.0.1; limits = p.1.0.0; own = p.1.1.0; source_specific = p.1.1.1; room = p.1.0.1 })
     (λ _. refl)
 
 -- a role: a flag for the querier, and its two numbers

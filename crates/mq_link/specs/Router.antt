@@ -4,6 +4,7 @@ use Rattle.mq_sched.specs.Sending.{SentQuery}
 use Rattle.mq_sched.specs.Sink.{Sends}
 use Rattle.mq_link.specs.declared.answers.Received.{Received}
 use Rattle.mq_link.specs.declared.storage.Storage.{Storage}
+use Rattle.mq_link.specs.Configuration.{IsWithinRoom}
 use Rattle.mq_link.specs.Counters.{Counters, Verdict, count_verdicts}
 use Rattle.mq_link.specs.Link.{LinkValue}
 use Rattle.mq_link.specs.Receive.{Receipt, taken}
@@ -78,5 +79,6 @@ pub record HasReceipt {S : Type 0} (takes : S → SentQuery → S → Type 0) (r
 -- The router may hold the groups, and there is room for what the configuration allows.
 pub record IsStored {K A : Type 0} (at : Setting) (storage : Storage K A) : Type 0 where
   pub sound : AreSound at storage.held.groups
-  pub group_room : storage.held.order.room ≡ at.config.limits.groups
-  pub source_room : storage.held.source_room ≡ at.config.limits.sources
+  pub within : IsWithinRoom at.config
+  pub group_room : storage.held.order.room ≡ at.config.room.groups
+  pub source_room : storage.held.source_room ≡ at.config.room.sources

@@ -68,7 +68,7 @@ impl DropReason {
 }
 
 /// The reasons to refuse a record, in the order of their numbers, 1 to 7.
-#[derive(Clone, Copy, PartialEq, Eq)]
+#[derive(Clone, Copy)]
 pub enum Refusal {
     /// A record that names more sources than a group may have.
     Long,
@@ -87,7 +87,7 @@ pub enum Refusal {
 }
 
 /// The kinds of parsed messages, as they are counted, with the dropped ones.
-#[derive(Clone, Copy, PartialEq, Eq)]
+#[derive(Clone, Copy)]
 pub enum MessageKind {
     /// A query of IGMPv3 or MLDv2.
     Query,

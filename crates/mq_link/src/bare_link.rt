@@ -12,6 +12,7 @@ ghost use Rattle.mq_sched.specs.Election.{is_querier};
 ghost use Rattle.mq_sched.specs.StoredElection.{IsOtherOf};
 ghost use Rattle.mq_held.specs.Groups.{group_at, sources_of, sources_in};
 ghost use Rattle.mq_held.specs.Places.{HasPlace};
+ghost use Rattle.mq_link.specs.Configuring.{Configures};
 ghost use Rattle.mq_link.specs.Cost.{cost_of};
 ghost use Rattle.mq_link.specs.Storage.{IsGroupAt};
 ghost use Rattle.mq_link.specs.LeastCost.{least_received, least_ticked};
@@ -21,11 +22,13 @@ ghost use Rattle.mq_link.specs.Sizes.{bytes_of_link};
 ghost use Rattle.mq_link.specs.State as state;
 ghost use Rattle.mq_link.specs.State.{held_of, link_at, IsWellFormed};
 ghost use Rattle.mq_link.specs.Tick.{moment_of, tick_of, next_of};
+ghost use Rattle.mq_link.specs.TickCosts.{TickCosts};
 ghost use Rattle.mq_link.specs.Workspace.{suffices, with_changed};
 ghost use Rattle.mq_link.specs.Forwarding.{AreThose, changed_by_datagram, changed_by_tick};
 
 use crate::answers::Received;
 use crate::config::Config;
+use crate::configuration::ConfigureFault;
 use crate::counts::Counts;
 use crate::family::Family;
 use crate::outlet::QueryOutlet;
@@ -42,8 +45,8 @@ use std::alloc::{Allocator, Global};
 use std::marker::Model;
 
 /// The error of a call that did nothing. The workspace has room for fewer groups, or for fewer sources of one, than the
-/// link's limits allow.
-#[derive(Clone, Copy, PartialEq, Eq)]
+/// link's limits allowed when it was made.
+#[derive(Clone, Copy)]
 pub struct TooSmall;
 
 /// One link of a multicast router, whose calls use a workspace of the caller. Many links may use one in turn. Beside
@@ -84,11 +87,11 @@ impl<F: Family, A: Allocator + Copy> BareLink<F, A> {
 impl<F: Family, A: Allocator> BareLink<F, A> {
     /// Returns the bytes that `new_in` allocates from `memory`, or None if no memory has as many.
     pub fn size(config: &Config<F>) -> Option<usize>
-        ensures { IsSize (bytes_of_link (page.the_row u16 A.row ⟦<A as Allocator>⟧) F.Address.row config.now.limits) result }
+        ensures { IsSize (bytes_of_link (page.the_row u16 A.row ⟦<A as Allocator>⟧) F.Address.row config.now.room) result }
     {
         config.is_faultless();
-        let limits = config.limits();
-        HeldGroups::<F::Address, A>::size(limits.groups as usize, limits.sources as usize)
+        let room = config.room();
+        HeldGroups::<F::Address, A>::size(room.groups as usize, room.sources as usize)
     }
 
     /// Returns a link as `new` does, allocated from `memory`. It succeeds if `memory` has `size` bytes for the
@@ -100,18 +103,28 @@ impl<F: Family, A: Allocator> BareLink<F, A> {
     ) -> Result<BareLink<F, A>, Memory>
         requires in_range { start ≤ 2 ^ 53 }
         ensures link { IfOk result (λ link. link ≡ record { config = config; state = link_at config start; spent = 0; moved = 0; changed = [] }) }
-        ensures memory { Takes (bytes_of_link (page.the_row u16 A.row ⟦<A as Allocator>⟧) F.Address.row config.limits) (M.less_than memory.old) (M.less_than memory.new) (is_ok result) }
+        ensures memory { Takes (bytes_of_link (page.the_row u16 A.row ⟦<A as Allocator>⟧) F.Address.row config.room) (M.less_than memory.old) (M.less_than memory.new) (is_ok result) }
     {
         Ok(BareLink {
             router: Router::new(memory, config, start)?,
         })
     }
 
-    /// Returns whether a workspace has room for the limits of the link.
+    /// Returns whether a workspace has room for the limits with which the link was made.
     pub fn fits<B: Allocator>(&self, workspace: &Workspace<F, B>) -> bool
-        ensures { result ≡ suffices self.now.config.limits workspace.now }
+        ensures { result ≡ suffices self.now.config.room workspace.now }
     {
-        workspace.suffices(&self.router.config().limits())
+        workspace.suffices(&self.router.config().room())
+    }
+
+    /// Acts like `Link::configure`. The calls of the link need the same room in a workspace as before.
+    pub fn configure(&mut self, config: Config<F>) -> Result<(), ConfigureFault>
+        ensures configures { Configures config self.old self.new result }
+        ensures formed { IsWellFormed self.new.config self.new.state }
+    {
+        let result = self.router.configure(config);
+        self.is_well_formed();
+        result
     }
 
     /// Acts like `Link::tick`, in a workspace of the caller. If that is too small, it does nothing. The content of the
@@ -123,7 +136,7 @@ impl<F: Family, A: Allocator> BareLink<F, A> {
         outlet: &mut O,
     ) -> Result<(), TooSmall>
         requires in_range { now ≤ 2 ^ 53 }
-        ensures answer { is_ok result ≡ suffices self.old.config.limits workspace.old }
+        ensures answer { is_ok result ≡ suffices self.old.config.room workspace.old }
         ensures workspace { workspace.new ≡ with_changed workspace.old workspace.new.changed }
         ensures changed { is_ok result ≡ true → AreThose (changed_by_tick self.old.config now self.old.state) workspace.new.changed }
         ensures unchanged { is_ok result ≡ false → workspace.new ≡ workspace.old }
@@ -132,6 +145,11 @@ impl<F: Family, A: Allocator> BareLink<F, A> {
         ensures config { self.new.config ≡ self.old.config }
         ensures formed { IsWellFormed self.new.config self.new.state }
         ensures later { is_ok result ≡ true → now < next_of self.new.state }
+        ensures spent { let groups = self.old.state.groups in
+            Spends 0 (4 * sources_in groups + 44 * map.len groups + 3) self.old.spent self.new.spent }
+        ensures least { let groups = self.old.state.groups in
+            let least = least_ticked (moment_of self.old.state now) groups in
+            is_ok result ≡ true → Spends (2 + least) (4 * sources_in groups + 44 * map.len groups + 3) self.old.spent self.new.spent }
         ensures bounded { Spends 0 (cost_of 0 (held_of self.old.state)) self.old.spent self.new.spent }
         ensures moved { let groups = self.old.state.groups in
             Spends 0 (6 * sources_in groups + 136 * map.len groups) self.old.moved self.new.moved }
@@ -158,7 +176,7 @@ impl<F: Family, A: Allocator> BareLink<F, A> {
         outlet: &mut O,
     ) -> Result<Received, TooSmall>
         requires in_range { now ≤ 2 ^ 53 }
-        ensures answer { is_ok result ≡ suffices self.old.config.limits workspace.old }
+        ensures answer { is_ok result ≡ suffices self.old.config.room workspace.old }
         ensures workspace { workspace.new ≡ with_changed workspace.old workspace.new.changed }
         ensures changed { is_ok result ≡ true →
             AreThose (changed_by_datagram self.old.config (F.envelope_of envelope.now) body.now now self.old.state) workspace.new.changed }
@@ -169,6 +187,8 @@ impl<F: Family, A: Allocator> BareLink<F, A> {
         ensures config { self.new.config ≡ self.old.config }
         ensures formed { IsWellFormed self.new.config self.new.state }
         ensures spent { Spends 0 (cost_of (length body.now) (held_of self.old.state)) self.old.spent self.new.spent }
+        ensures least { let least = least_received self.old.config (F.envelope_of envelope.now) body.now now self.old.state in
+            is_ok result ≡ true → Spends (2 + least) (cost_of (length body.now) (held_of self.old.state)) self.old.spent self.new.spent }
         ensures moved { Spends 0 (most_moved (length body.now) (held_of self.old.state)) self.old.moved self.new.moved }
     {
         self.is_well_formed();
@@ -187,27 +207,22 @@ impl<F: Family, A: Allocator> BareLink<F, A> {
         outlet: &mut O,
     )
         requires in_range { now ≤ 2 ^ 53 }
-        requires enough { suffices self.old.config.limits workspace.old ≡ true }
+        requires enough { suffices self.old.config.room workspace.old ≡ true }
         ensures workspace { workspace.new ≡ with_changed workspace.old workspace.new.changed }
         ensures changed { AreThose (changed_by_tick self.old.config now self.old.state) workspace.new.changed }
         ensures config { self.new.config ≡ self.old.config }
         ensures ticks { HasTicked O.takes now self.old self.new outlet.old outlet.new }
         ensures formed { IsWellFormed self.new.config self.new.state }
         ensures later { now < next_of self.new.state }
-        ensures spent { let groups = self.old.state.groups in
-            let least = least_ticked (moment_of self.old.state now) groups in
-            Spends (2 + least) (4 * sources_in groups + 44 * map.len groups + 3) self.old.spent self.new.spent }
+        ensures costs { TickCosts now self.old self.new }
         ensures bounded { Spends 0 (cost_of 0 (held_of self.old.state)) self.old.spent self.new.spent }
-        ensures quiet { moment_of self.old.state now < next_of self.old.state → Spends 2 3 self.old.spent self.new.spent }
-        ensures moved { let groups = self.old.state.groups in
-            Spends 0 (6 * sources_in groups + 136 * map.len groups) self.old.moved self.new.moved }
-        ensures still { moment_of self.old.state now < next_of self.old.state → self.new.moved ≡ self.old.moved }
     {
         self.is_well_formed();
         self.router.lemma_is_stored();
         let mut terms = QueryTerms::of(self.router.config());
         let mut sender = Sender::new(&mut terms, outlet);
-        self.router.tick(workspace, now, &mut sender);
+        self.router.come_to(workspace, now, &mut sender);
+        self.router.count_answers(sender.sent(), sender.unsent());
         self.is_well_formed();
     }
 
@@ -221,7 +236,7 @@ impl<F: Family, A: Allocator> BareLink<F, A> {
         outlet: &mut O,
     ) -> Received
         requires in_range { now ≤ 2 ^ 53 }
-        requires enough { suffices self.old.config.limits workspace.old ≡ true }
+        requires enough { suffices self.old.config.room workspace.old ≡ true }
         ensures workspace { workspace.new ≡ with_changed workspace.old workspace.new.changed }
         ensures changed { AreThose (changed_by_datagram self.old.config (F.envelope_of envelope.now) body.now now self.old.state) workspace.new.changed }
         ensures config { self.new.config ≡ self.old.config }

@@ -3,7 +3,7 @@
 ghost use Rattle.std.specs.Prelude.{◌≡◌, ℕ, Bool, true, false, not, [], ◌∷◌};
 ghost use Rattle.mq_wire.specs.Family.{Family};
 ghost use Rattle.mq_link.specs.Configuration as spec;
-ghost use Rattle.mq_link.specs.Configuration.{is_outside, as_fault, else_fault, IsFaultless};
+ghost use Rattle.mq_link.specs.Configuration.{is_outside, as_fault, else_fault, IsFaultless, IsWithinRoom};
 ghost use Rattle.mq_link.specs.Configured.{variables, configured, IsGivenOrFaulty};
 ghost use Rattle.mq_link.specs.Defaults.{configured_by_default};
 ghost use Rattle.mq_link.specs.Family.{is_router_address};
@@ -24,19 +24,21 @@ pub struct Config<F: Family> {
     limits: Limits,
     own: F::Address,
     source_specific: bool,
+    room: Limits,
 }
 
 impl<F: Family> Model for Config<F> {
     ghost use Rattle.std.specs.Prelude.{◌≡◌};
-    ghost use Rattle.mq_link.specs.Configuration.{Configuration, IsFaultless};
+    ghost use Rattle.mq_link.specs.Configuration.{Configuration, IsFaultless, IsWithinRoom};
     ghost use Rattle.mq_link.specs.Configured.{configured};
 
     ghost Value = { Configuration };
 
-    ghost view = { λ c. configured F.FAMILY c.timing c.limits (F.Address.number c.own) c.source_specific };
+    ghost view = { λ c. record (configured F.FAMILY c.timing c.limits (F.Address.number c.own) c.source_specific) { room = c.room } };
 
     ghost invariant = { λ c.
         IsFaultless (configured F.FAMILY c.timing c.limits (F.Address.number c.own) c.source_specific)
+        × IsWithinRoom (record (configured F.FAMILY c.timing c.limits (F.Address.number c.own) c.source_specific) { room = c.room })
         × (c.response_interval ≡ c.timing.response_interval) × (c.last_member_interval ≡ c.timing.last_member_interval) };
 }
 
@@ -85,12 +87,14 @@ impl<F: Family> Config<F> {
             limits,
             own,
             source_specific,
+            room: limits,
         })
     }
 
     /// A lemma: each configuration has no fault, and is of its family. It has no effect at run time.
     pub fn is_faultless(&self)
         ensures faultless { IsFaultless self.now }
+        ensures within { IsWithinRoom self.now }
         ensures family { self.now.family ≡ F.FAMILY }
     {
         let _held = self.source_specific;
@@ -123,6 +127,21 @@ impl<F: Family> Config<F> {
         ensures { result ≡ self.now.limits }
     {
         self.limits
+    }
+
+    /// Returns the limits for which the memory of its link is allocated: those with which it was made.
+    pub fn room(&self) -> Limits
+        ensures { result ≡ self.now.room }
+    {
+        self.room
+    }
+
+    /// Returns this configuration for a link whose memory was allocated for other limits.
+    pub(crate) fn with_room(self, room: Limits) -> Config<F>
+        requires within { IsWithinRoom (record self { room = room }) }
+        ensures { result ≡ record self { room = room } }
+    {
+        Config { room, ..self }
     }
 
     /// Returns the router's own address.

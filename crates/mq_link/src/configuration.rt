@@ -2,7 +2,6 @@
 
 ghost use Rattle.std.specs.Prelude.{◌≡◌};
 
-use std::fmt;
 use thiserror::Error;
 
 /// The limits of what a link may hold.
@@ -60,28 +59,21 @@ impl Defaults {
     }
 }
 
-/// The name of a limit.
-#[derive(Clone, Copy, Debug, PartialEq, Eq)]
+/// The name of a limit. As text it is the fault that the limit is out of its range.
+#[derive(Clone, Copy, Debug, PartialEq, Eq, Error)]
 pub enum LimitName {
     /// `groups`.
+    #[error("the limit of groups is not within 1 to 65535")]
     Groups,
     /// `group_sources`.
+    #[error("the limit of sources of a group is not within 1 to 1024")]
     GroupSources,
     /// `sources`.
+    #[error("the limit of sources is not within 1 to 65535")]
     Sources,
     /// `scheduled`.
+    #[error("the limit of schedules is not within 1 to 65535")]
     Scheduled,
-}
-
-impl fmt::Display for LimitName {
-    fn fmt<W: fmt::Write>(&self, f: &mut fmt::Formatter<W>) -> fmt::Result {
-        f.write_str(match self {
-            LimitName::Groups => "groups",
-            LimitName::GroupSources => "group_sources",
-            LimitName::Sources => "sources",
-            LimitName::Scheduled => "scheduled",
-        })
-    }
 }
 
 /// A fault of a configuration: the first of these that holds.
@@ -95,18 +87,30 @@ pub enum ConfigFault {
     QueryInterval,
     /// A query response interval out of range. It is below one unit of its code, not below the query interval, or above
     /// the greatest value of the code.
-    #[error("the query response interval is not below the query interval, or no code says it")]
+    #[error("the response interval is out of range or not below the query interval")]
     ResponseInterval,
     /// A last member query interval below one unit of its code or above the greatest value of the code.
-    #[error("no code says the last member query interval")]
+    #[error("the last member query interval is out of range")]
     LastMember,
     /// A limit out of its range.
-    #[error("the limit {which} is out of its range")]
+    #[error("{which}")]
     Limit {
         /// The first limit that is out of its range.
         which: LimitName,
     },
     /// An own address from which no router may send queries.
-    #[error("the router's own address is none that it may send queries from")]
+    #[error("no router may send queries from the own address")]
     OwnAddress,
+}
+
+/// The reason for which a running link refuses a configuration: the first of these that holds.
+#[derive(Clone, Copy, Debug, PartialEq, Eq, Error)]
+pub enum ConfigureFault {
+    /// A limit above that with which the link was made, for which its memory was allocated.
+    #[error("a limit exceeds that with which the link was made")]
+    Room,
+    /// Groups that the configuration does not allow. They exceed a limit, or one in the source-specific range that is to
+    /// be kept is in EXCLUDE mode or has older hosts.
+    #[error("the link holds more than the configuration allows")]
+    Held,
 }

@@ -97,7 +97,7 @@ fn refusal_place(name: Refusal) -> usize
 
 impl Counts {
     /// Returns counters at zero.
-    pub(crate) fn none() -> Counts
+    pub fn none() -> Counts
         ensures { result ≡ no_counts }
     {
         Counts {
@@ -145,28 +145,6 @@ impl Counts {
         self.dropped_by[place] = self.dropped_by[place].saturating_add(1);
     }
 
-    /// Counts a record that was applied.
-    fn count_applied(&mut self)
-        ensures { self.new ≡ spec.count_verdict Applied self.old }
-    {
-        self.applied = self.applied.saturating_add(1);
-    }
-
-    /// Counts a record that was ignored.
-    fn count_ignored(&mut self)
-        ensures { self.new ≡ spec.count_verdict Ignored self.old }
-    {
-        self.ignored = self.ignored.saturating_add(1);
-    }
-
-    /// Counts a record that was refused.
-    fn count_refused(&mut self, name: Refusal)
-        ensures { self.new ≡ spec.count_verdict (Refused name) self.old }
-    {
-        self.refused = self.refused.saturating_add(1);
-        self.count_refusal(name);
-    }
-
     /// Counts the name alone.
     fn count_refusal(&mut self, name: Refusal)
         ensures { self.new ≡ record self.old { refused_by = counted_at refusal_number name 1 self.old.refused_by } }
@@ -180,9 +158,12 @@ impl Counts {
         ensures { self.new ≡ spec.count_verdict (verdict_of verdict) self.old }
     {
         match verdict {
-            Verdict::Applied => self.count_applied(),
-            Verdict::Ignored => self.count_ignored(),
-            Verdict::Refused(name) => self.count_refused(name),
+            Verdict::Applied => self.applied = self.applied.saturating_add(1),
+            Verdict::Ignored => self.ignored = self.ignored.saturating_add(1),
+            Verdict::Refused(name) => {
+                self.refused = self.refused.saturating_add(1);
+                self.count_refusal(name);
+            }
         }
     }
 

@@ -74,8 +74,8 @@ impl<F: Family, A: Allocator> Router<F, A> {
         requires kept { spec.drop_reason self.old.at.config (F.envelope_of envelope.now) (Ok (numbered_message F.Address.number message.now)) ≡ None }
         requires carried { IsCarriedIn (numbered_message F.Address.number message.now) }
         requires counted { length (records_in (numbered_message F.Address.number message.now)) ≤ most_records }
-        requires enough { suffices self.old.at.config.limits work.old ≡ true }
-        requires few_changed { length work.old.changed ≤ self.old.at.config.limits.groups }
+        requires enough { suffices self.old.at.config.room work.old ≡ true }
+        requires few_changed { length work.old.changed ≤ self.old.at.config.room.groups }
         ensures receipt { let said = numbered_message F.Address.number message.now in
             let receipt = spec.taken_in self.old.at.config (F.envelope_of envelope.now) said (silent_step (state_of self.old)) in
             HasReceipt (TakesQuery O.takes F.FAMILY) receipt result self.old self.new sender.old sender.new }
@@ -121,8 +121,8 @@ impl<F: Family, A: Allocator> Router<F, A> {
         body: &[u8],
         sender: &mut Sender<F, O>,
     ) -> Received
-        requires enough { suffices self.old.at.config.limits work.old ≡ true }
-        requires few_changed { length work.old.changed ≤ self.old.at.config.limits.groups }
+        requires enough { suffices self.old.at.config.room work.old ≡ true }
+        requires few_changed { length work.old.changed ≤ self.old.at.config.room.groups }
         ensures receipt { let around = F.envelope_of envelope.now in
             let read = spec.read_of F.FAMILY (spec.pseudo_of F.FAMILY around body.now) body.now in
             let receipt = spec.receipt_after self.old.at.config around read (silent_step (state_of self.old)) in
@@ -164,7 +164,7 @@ impl<F: Family, A: Allocator> Router<F, A> {
         sender: &mut Sender<F, O>,
     ) -> Received
         requires in_range { now ≤ 2 ^ 53 }
-        requires enough { suffices self.old.at.config.limits work.old ≡ true }
+        requires enough { suffices self.old.at.config.room work.old ≡ true }
         ensures config { self.new.at.config ≡ self.old.at.config }
         ensures receives { HasReceived O.takes (F.envelope_of envelope.now) body.now now result (link_of self.old) (link_of self.new)
             sender.old.outlet.now sender.new.outlet.now }

@@ -10,6 +10,7 @@ use mq_count::Moment;
 use std::alloc::Allocator;
 
 /// An event of a link.
+#[derive(Drop)]
 pub enum Event<'a, F: Family> {
     /// A tick at a moment.
     Tick(Moment),

@@ -3,7 +3,7 @@
 //! The definitions, and the names of results:
 //! - The result of a datagram: `Received`, with a `DropReason` or the counts of its records. Each record was applied,
 //!   ignored, or refused by a `Refusal`.
-//! - A configuration: its `Limits`, and its `ConfigFault`.
+//! - A configuration: its `Limits`, its `ConfigFault`, and the `ConfigureFault` of a running link.
 //! - The counted messages: `MessageKind`.
 //!
 //! The code:
@@ -23,6 +23,7 @@ mod block_in_place;
 mod changed;
 pub mod config;
 pub mod configuration;
+mod configuring;
 pub mod counts;
 mod datagram;
 pub mod dropping;
@@ -48,7 +49,7 @@ pub mod workspace;
 pub use answers::{DropReason, MessageKind, Received, Refusal};
 pub use bare_link::{BareLink, TooSmall};
 pub use config::Config;
-pub use configuration::{ConfigFault, Defaults, LimitName, Limits};
+pub use configuration::{ConfigFault, ConfigureFault, Defaults, LimitName, Limits};
 pub use counts::Counts;
 pub use events::{Event, run};
 pub use family::Family;

@@ -10,22 +10,25 @@ ghost use Rattle.mq_sets.specs.Ascending.{IsAscending};
 ghost use Rattle.mq_table.specs.Stored.{number_in, timers_in};
 ghost use Rattle.mq_sched.specs.Election.{is_querier};
 ghost use Rattle.mq_sched.specs.StoredElection.{IsOtherOf};
-ghost use Rattle.mq_held.specs.Groups.{group_at, sources_of, sources_in};
+ghost use Rattle.mq_held.specs.Groups.{group_at, sources_of};
 ghost use Rattle.mq_held.specs.Places.{HasPlace};
+ghost use Rattle.mq_link.specs.Configuring.{Configures};
 ghost use Rattle.mq_link.specs.Cost.{cost_of};
 ghost use Rattle.mq_link.specs.Storage.{IsGroupAt};
 ghost use Rattle.mq_link.specs.Forwarding.{AreThose, changed_by_datagram, changed_by_tick};
-ghost use Rattle.mq_link.specs.LeastCost.{least_received, least_ticked};
+ghost use Rattle.mq_link.specs.LeastCost.{least_received};
 ghost use Rattle.mq_link.specs.Link.{HasTicked, HasReceived};
 ghost use Rattle.mq_link.specs.Moved.{most_moved};
 ghost use Rattle.mq_link.specs.Sizes.{bytes_of_link, bytes_of_workspace};
 ghost use Rattle.mq_link.specs.State as state;
 ghost use Rattle.mq_link.specs.State.{held_of, link_at, IsWellFormed};
-ghost use Rattle.mq_link.specs.Tick.{moment_of, tick_of, next_of};
+ghost use Rattle.mq_link.specs.Tick.{tick_of, next_of};
+ghost use Rattle.mq_link.specs.TickCosts.{TickCosts};
 
 use crate::answers::Received;
 use crate::bare_link::BareLink;
 use crate::config::Config;
+use crate::configuration::ConfigureFault;
 use crate::counts::Counts;
 use crate::family::Family;
 use crate::outlet::QueryOutlet;
@@ -63,7 +66,7 @@ impl<F: Family, A: Allocator> Model for Link<F, A> {
 
     ghost view = { λ l. record l.bare { changed = l.workspace.changed } };
 
-    ghost invariant = { λ l. (suffices l.bare.config.limits l.workspace ≡ true) × (l.workspace.groups ≡ l.bare.config.limits.groups) };
+    ghost invariant = { λ l. (suffices l.bare.config.room l.workspace ≡ true) × (l.workspace.groups ≡ l.bare.config.room.groups) };
 }
 
 impl<F: Family, A: Allocator + Copy> Link<F, A> {
@@ -81,10 +84,10 @@ impl<F: Family, A: Allocator + Copy> Link<F, A> {
 impl<F: Family, A: Allocator> Link<F, A> {
     /// Returns the bytes that `new_in` allocates from `memory`, or None if no memory has as many.
     pub fn size(config: &Config<F>) -> Option<usize>
-        ensures { IsSize (bytes_of_workspace F.Address.row config.now.limits + bytes_of_link (page.the_row u16 A.row ⟦<A as Allocator>⟧) F.Address.row config.now.limits) result }
+        ensures { IsSize (bytes_of_workspace F.Address.row config.now.room + bytes_of_link (page.the_row u16 A.row ⟦<A as Allocator>⟧) F.Address.row config.now.room) result }
     {
         both_sizes(
-            Workspace::<F, A>::size(&config.limits()),
+            Workspace::<F, A>::size(&config.room()),
             BareLink::<F, A>::size(config),
         )
     }
@@ -98,9 +101,9 @@ impl<F: Family, A: Allocator> Link<F, A> {
     ) -> Result<Link<F, A>, Memory>
         requires in_range { start ≤ 2 ^ 53 }
         ensures link { IfOk result (λ link. link ≡ record { config = config; state = link_at config start; spent = 0; moved = 0; changed = [] }) }
-        ensures memory { Takes (bytes_of_workspace F.Address.row config.limits + bytes_of_link (page.the_row u16 A.row ⟦<A as Allocator>⟧) F.Address.row config.limits) (M.less_than memory.old) (M.less_than memory.new) (is_ok result) }
+        ensures memory { Takes (bytes_of_workspace F.Address.row config.room + bytes_of_link (page.the_row u16 A.row ⟦<A as Allocator>⟧) F.Address.row config.room) (M.less_than memory.old) (M.less_than memory.new) (is_ok result) }
     {
-        let workspace = Workspace::with_room_in(memory, &config.limits())?;
+        let workspace = Workspace::with_room_in(memory, &config.room())?;
         Ok(Link {
             bare: BareLink::new_in(memory, config, start)?,
             workspace,
@@ -120,14 +123,8 @@ impl<F: Family, A: Allocator> Link<F, A> {
         ensures ticks { HasTicked O.takes now self.old self.new outlet.old outlet.new }
         ensures formed { IsWellFormed self.new.config self.new.state }
         ensures later { now < next_of self.new.state }
-        ensures spent { let groups = self.old.state.groups in
-            let least = least_ticked (moment_of self.old.state now) groups in
-            Spends (2 + least) (4 * sources_in groups + 44 * map.len groups + 3) self.old.spent self.new.spent }
+        ensures costs { TickCosts now self.old self.new }
         ensures bounded { Spends 0 (cost_of 0 (held_of self.old.state)) self.old.spent self.new.spent }
-        ensures quiet { moment_of self.old.state now < next_of self.old.state → Spends 2 3 self.old.spent self.new.spent }
-        ensures moved { let groups = self.old.state.groups in
-            Spends 0 (6 * sources_in groups + 136 * map.len groups) self.old.moved self.new.moved }
-        ensures still { moment_of self.old.state now < next_of self.old.state → self.new.moved ≡ self.old.moved }
     {
         self.bare.tick_in(&mut self.workspace, now, outlet);
     }
@@ -156,6 +153,24 @@ impl<F: Family, A: Allocator> Link<F, A> {
     {
         self.bare
             .receive_in(&mut self.workspace, envelope, body, now, outlet)
+    }
+
+    /// Sets other variables, limits, own address and treatment of the source-specific range. A call that is refused
+    /// changes nothing.
+    ///
+    /// Groups, timers and schedules stay, and later actions use the new values. A variable that changes is in force at
+    /// once, until a query of another router announces another value. A querier stays querier, and its next general
+    /// query is due at most one query interval later. If the other querier's address is not lower than a new own one,
+    /// this router is querier at once. Afterwards `next_deadline()` may be earlier than before. RFC 3376 sections 6.6.2
+    /// and 8, RFC 3810 sections 7.6.2 and 9.
+    ///
+    /// It is refused if a limit exceeds that with which the link was made, or is below what is held. It looks at each
+    /// group once, and neither `spent` nor `moved` counts that.
+    pub fn configure(&mut self, config: Config<F>) -> Result<(), ConfigureFault>
+        ensures configures { Configures config self.old self.new result }
+        ensures formed { IsWellFormed self.new.config self.new.state }
+    {
+        self.bare.configure(config)
     }
 
     /// Returns the link's configuration.
@@ -269,7 +284,7 @@ impl<F: Family, A: Allocator> Link<F, A> {
     /// that the tick ended, and those that records made.
     pub fn changed(&self) -> &[F::Address]
         ensures changed { map_each F.Address.number result.now ≡ self.now.changed }
-        ensures few { length result.now ≤ 2 * self.now.config.limits.groups }
+        ensures few { length result.now ≤ 2 * self.now.config.room.groups }
     {
         self.workspace.changed()
     }

@@ -220,7 +220,7 @@ impl<F: Family, A: Allocator> Router<F, A> {
         source: F::Address,
         query: &Query<'_, F::Address>,
     )
-        requires enough { suffices self.old.at.config.limits work.old ≡ true }
+        requires enough { suffices self.old.at.config.room work.old ≡ true }
         requires carried { IfSome (announced_by (numbered_version query.now.version)) IsCarried }
         ensures leaves { let asked = numbered_query F.Address.number query.now in
             Leaves (query_heard self.old.at.config self.old.at.now (F.Address.number source) asked (state_of self.old)) self.old self.new }

@@ -11,7 +11,7 @@ ghost use Rattle.mq_link.specs.Counters.{no_counts};
 ghost use Rattle.mq_link.specs.Judging.{verdict_of};
 ghost use Rattle.mq_table.specs.Variables.{AreInRange};
 ghost use Rattle.mq_sched.specs.Election.{election_at};
-ghost use Rattle.mq_link.specs.Configuration.{IsFaultless};
+ghost use Rattle.mq_link.specs.Configuration.{IsFaultless, IsWithinRoom};
 ghost use Rattle.mq_link.specs.Sizes.{bytes_of_link};
 ghost use Rattle.mq_link.specs.Sound.{AreSound};
 ghost use Rattle.mq_link.specs.State.{sources_in};
@@ -73,10 +73,10 @@ impl<F: Family, A: Allocator> Router<F, A> {
           moved = 0;
           put_by = 0;
         }) }
-        ensures memory { Takes (bytes_of_link (page.the_row u16 A.row ⟦<A as Allocator>⟧) F.Address.row config.limits) (M.less_than memory.old) (M.less_than memory.new) (is_ok result) }
+        ensures memory { Takes (bytes_of_link (page.the_row u16 A.row ⟦<A as Allocator>⟧) F.Address.row config.room) (M.less_than memory.old) (M.less_than memory.new) (is_ok result) }
     {
         config.is_faultless();
-        let storage = Storage::with_room(memory, &config.limits())?;
+        let storage = Storage::with_room(memory, &config.room())?;
         Ok(Router {
             status: Status::new(config, start),
             storage,
@@ -92,6 +92,7 @@ impl<F: Family, A: Allocator> Router<F, A> {
         ensures put_by { self.now.put_by ≤ sources_in self.now.groups + map.len self.now.groups }
         ensures sound { AreSound self.now.at self.now.groups }
         ensures faultless { IsFaultless self.now.at.config }
+        ensures within { IsWithinRoom self.now.at.config }
         ensures family { self.now.at.config.family ≡ F.FAMILY }
         ensures timing { AreInRange self.now.at.election.timing }
         ensures positive { 0 < self.now.at.election.timing.robustness }

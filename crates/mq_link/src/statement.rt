@@ -20,6 +20,7 @@ ghost use Rattle.mq_held.specs.Groups.{group_at, one_if, sources_of};
 ghost use Rattle.mq_held.specs.Restarted.{most_set};
 ghost use Rattle.mq_link.specs.Applying.{CanApply, HasEffect};
 ghost use Rattle.mq_link.specs.Changing.{statement_of, acts_as, change_written};
+ghost use Rattle.mq_link.specs.Family.{is_admitted};
 ghost use Rattle.mq_link.specs.LeastCost.{least_merge, least_work};
 ghost use Rattle.mq_link.specs.Record as record_spec;
 ghost use Rattle.mq_link.specs.Record.{change_stated};
@@ -276,7 +277,8 @@ impl<F: Family> Status<F> {
         said: StatementKind,
         sink: &mut S,
     ) -> Verdict
-        requires { CanApply F.Address.number self.now storage.old work.old lookup }
+        requires admitted { is_admitted self.now.config.family (F.Address.number lookup.address) ≡ true }
+        requires ready { CanApply F.Address.number self.now storage.old work.old lookup }
         ensures effect { HasEffect F.Address.number S.takes self.now lookup said result storage.old storage.new work.old work.new sink.old sink.new }
         ensures spent { let said_so = statement_of said (named_in F.Address.number work.old.named.members) in
             let sizes = sources_of (group_at storage.old.held.groups (F.Address.number lookup.address)) + length work.old.named.members in
@@ -312,7 +314,8 @@ impl<F: Family> Status<F> {
         said: StatementKind,
         sink: &mut S,
     ) -> Verdict
-        requires { CanApply F.Address.number self.now storage.old work.old lookup }
+        requires admitted { is_admitted self.now.config.family (F.Address.number lookup.address) ≡ true }
+        requires ready { CanApply F.Address.number self.now storage.old work.old lookup }
         ensures effect { HasEffect F.Address.number S.takes self.now lookup said result storage.old storage.new work.old work.new sink.old sink.new }
         ensures spent { let said_so = statement_of said (named_in F.Address.number work.old.named.members) in
             let size = sources_of (group_at storage.old.held.groups (F.Address.number lookup.address)) in

@@ -3,10 +3,11 @@
 ghost use Rattle.std.specs.Prelude.{◌≡◌, ◌^◌, ◌<◌, ◌≤◌, ◌∷◌, [], if◌then◌else◌, IfSome};
 ghost use Rattle.mq_count.specs.Spending.{Spends};
 ghost use Rattle.mq_sched.specs.Announcement.{IsCarried};
-ghost use Rattle.mq_sched.specs.Election.{election_at, general_messages, heard, is_querier, loses_role, ticked};
+ghost use Rattle.mq_sched.specs.Election.{election_at, general_messages, heard, is_querier, loses_role, reconfigured, ticked};
 ghost use Rattle.mq_sched.specs.Sending.{GeneralQuery};
 ghost use Rattle.mq_table.specs.Variables.{AreInRange};
-ghost use Rattle.mq_link.specs.Configuration.{IsFaultless};
+ghost use Rattle.mq_link.specs.Configuration.{IsFaultless, IsWithinRoom};
+ghost use Rattle.mq_link.specs.Configuring.{config_after};
 ghost use Rattle.mq_link.specs.Handing.{KeepsIntervals};
 
 use crate::config::Config;
@@ -64,6 +65,7 @@ impl<F: Family> Status<F> {
     /// effect at run time.
     pub(crate) fn lemma_is_sound(&self)
         ensures faultless { IsFaultless self.now.config }
+        ensures within { IsWithinRoom self.now.config }
         ensures family { self.now.config.family ≡ F.FAMILY }
         ensures timing { AreInRange self.now.election.timing }
         ensures positive { 0 < self.now.election.timing.robustness }
@@ -71,6 +73,21 @@ impl<F: Family> Status<F> {
         ensures in_range { self.now.now ≤ 2 ^ 53 }
     {
         let _moment = self.moment;
+    }
+
+    /// Sets another configuration, for the memory that the link has.
+    pub(crate) fn configure(&mut self, config: Config<F>)
+        requires within { IsWithinRoom (config_after self.old.config config) }
+        ensures { self.new ≡ record self.old {
+          config = config_after self.old.config config;
+          election = reconfigured self.old.config.timing config.timing config.own self.old.now self.old.election;
+        } }
+    {
+        config.is_faultless();
+        self.lemma_is_sound();
+        self.election
+            .configure(config.own(), config.timing(), self.moment);
+        self.config = config.with_room(self.config.room());
     }
 
     /// Returns the configuration.

@@ -8,7 +8,6 @@ ghost use Rattle.mq_count.specs.Spending.{Spends};
 ghost use Rattle.mq_sets.specs.Search.{bitlen};
 ghost use Rattle.mq_table.specs.Filter.{changes_filter};
 ghost use Rattle.mq_table.specs.Stored.{size_of};
-ghost use Rattle.mq_sched.specs.Election.{ticked, general_messages};
 ghost use Rattle.mq_sched.specs.Schedule.{ScheduledGroup};
 ghost use Rattle.mq_sched.specs.Sending.{GeneralQuery, messages_due, after_round};
 ghost use Rattle.mq_sched.specs.Sink.{Sends};
@@ -19,19 +18,19 @@ ghost use Rattle.mq_wire.specs.Family.{Family};
 ghost use Rattle.mq_link.specs.Family as definitions;
 ghost use Rattle.mq_link.specs.Forwarding.{AreThose, changed_by_tick, changes};
 ghost use Rattle.mq_link.specs.LeastCost.{least_ticked};
-ghost use Rattle.mq_link.specs.Link.{HasTicked};
 ghost use Rattle.mq_link.specs.Moved.{HasMoved, MovesWithin, most_moved_by_tick};
 ghost use Rattle.mq_link.specs.Router.{HasStep, link_of, state_of};
 ghost use Rattle.mq_link.specs.Sender.{TakesQuery, begun};
 ghost use Rattle.mq_link.specs.Storage.{HasSpace, IsReady, KeepsRooms, KeepsSpace};
 ghost use Rattle.mq_link.specs.Workspace.{suffices, with_changed};
-ghost use Rattle.mq_link.specs.Tick.{group_expired, groups_expired, queries_due, groups_after_round, moment_of, next_of, tick_of};
+ghost use Rattle.mq_link.specs.Tick.{group_expired, groups_expired, queries_due, groups_after_round, tick_of};
+ghost use Rattle.mq_link.specs.TickCosts.{TickCosts};
 
 use crate::family::Family;
 use crate::outlet::QueryOutlet;
 use crate::router::Router;
 use crate::sender::Sender;
-use crate::status::{QuerierContext, Status};
+use crate::status::QuerierContext;
 use crate::storage::{Lists, Storage};
 use crate::workspace::Workspace;
 use mq_count::{Meter, Moment};
@@ -189,57 +188,11 @@ fn send_general<F: Family, O: QueryOutlet<F::Address>>(is_due: bool, sender: &mu
     }
 }
 
-impl<F: Family> Status<F> {
-    /// Handles what is due at or before `now`. In this order it handles the end of the other querier's deadline, the
-    /// general query, the end of timers, and what is due for the groups. The sender begins anew, on the terms that are
-    /// in force then. Lists the addresses of the groups whose filter changed.
-    fn do_due<A: Allocator, B: Allocator, O: QueryOutlet<F::Address>>(
-        &mut self,
-        storage: &mut Storage<F::Address, A>,
-        lists: &mut Lists<F::Address, B>,
-        group: &mut Group<F::Address, B>,
-        now: Moment,
-        sender: &mut Sender<F, O>,
-    )
-        requires in_range { now ≤ 2 ^ 53 }
-        requires empty { lists.old.changed.items ≡ [] }
-        requires space { HasSpace (map.len storage.old.held.groups) lists.old }
-        requires ready { IsReady group.old.room storage.old }
-        ensures status { self.new ≡ record self.old { election = ticked self.old.config.timing now self.old.election; now = now } }
-        ensures groups { let in_force = (ticked self.old.config.timing now self.old.election).timing in
-            storage.new.held.groups ≡ groups_after_round in_force now (groups_expired now storage.old.held.groups) }
-        ensures sent { let config = self.old.config in
-            let in_force = (ticked config.timing now self.old.election).timing in
-            Sends (TakesQuery O.takes F.FAMILY) (begun config in_force sender.old)
-            (general_messages config.timing now self.old.election
-            ++ queries_due F.FAMILY in_force now (groups_expired now storage.old.held.groups))
-            sender.new }
-        ensures changed { AreThose (changes storage.old.held.groups storage.new.held.groups) (list_map F.Address.number lists.new.changed.items) }
-        ensures few { length lists.new.changed.items ≤ map.len storage.old.held.groups }
-        ensures rooms { KeepsRooms storage.old storage.new }
-        ensures room { group.old.room ≤ group.new.room }
-        ensures space { KeepsSpace lists.old lists.new }
-        ensures spent { let groups = storage.old.held.groups in
-            let least = least_ticked now groups in
-            Spends (1 + least) (4 * sources_in groups + 44 * map.len groups + 2) storage.old.meter storage.new.meter }
-        ensures moved { MovesWithin (most_moved_by_tick storage.old.held.groups) storage.old storage.new }
-        ensures quiet { let is_quiet = (address : ℕ) (e : ScheduledGroup) → map.get storage.old.held.groups address ≡ Some e → has_due now e ≡ false in
-            is_quiet → Spends 1 2 storage.old.meter storage.new.meter }
-        ensures still { let is_quiet = (address : ℕ) (e : ScheduledGroup) → map.get storage.old.held.groups address ≡ Some e → has_due now e ≡ false in
-            is_quiet → storage.new.moves ≡ storage.old.moves }
-    {
-        let is_due = self.tick(now, &mut storage.meter);
-        self.lemma_is_sound();
-        let at = self.in_force();
-        sender.begin(self.config(), at.timing);
-        send_general(is_due, sender);
-        storage.tick_groups(lists, group, &at, sender);
-    }
-}
-
 impl<F: Family, A: Allocator> Router<F, A> {
-    /// Handles what is due at or before `now`; a moment before the last one counts as the last one. The workspace lists
-    /// the groups that it changes, and no others.
+    /// Handles what is due at or before `now`; a moment before the last one counts as the last one. In this order it
+    /// handles the end of the other querier's deadline, the general query, the end of timers, and what is due for the
+    /// groups. The sender begins anew, on the terms that are in force then. The workspace lists the groups that it
+    /// changes, and no others.
     pub(crate) fn come_to<B: Allocator, O: QueryOutlet<F::Address>>(
         &mut self,
         work: &mut Workspace<F, B>,
@@ -247,59 +200,24 @@ impl<F: Family, A: Allocator> Router<F, A> {
         sender: &mut Sender<F, O>,
     )
         requires in_range { now ≤ 2 ^ 53 }
-        requires enough { suffices self.old.at.config.limits work.old ≡ true }
+        requires enough { suffices self.old.at.config.room work.old ≡ true }
         ensures step { let step = tick_of self.old.at.config now (state_of self.old) in
             HasStep (TakesQuery O.takes F.FAMILY) step self.old self.new (begun self.old.at.config step.timing sender.old) sender.new }
         ensures workspace { work.new ≡ with_changed work.old work.new.changed }
         ensures changed { AreThose (changed_by_tick self.old.at.config now (state_of self.old)) work.new.changed }
         ensures few { length work.new.changed ≤ map.len self.old.groups }
-        ensures spent { let groups = self.old.groups in
-            let least = least_ticked (moment_of (state_of self.old) now) groups in
-            Spends (2 + least) (4 * sources_in groups + 44 * map.len groups + 3) self.old.spent self.new.spent }
-        ensures quiet { let state = state_of self.old in
-            moment_of state now < next_of state → Spends 2 3 self.old.spent self.new.spent }
-        ensures moved { HasMoved (most_moved_by_tick self.old.groups) self.old self.new }
-        ensures still { let state = state_of self.old in
-            moment_of state now < next_of state → self.new.moved ≡ self.old.moved }
+        ensures costs { TickCosts now (link_of self.old) (link_of self.new) }
+        ensures paid { HasMoved (most_moved_by_tick self.old.groups) self.old self.new }
     {
         self.status.lemma_is_sound();
         let now = later(self.status.moment(), now, &mut self.storage.meter);
         work.lists.changed.clear();
-        self.status.do_due(
-            &mut self.storage,
-            &mut work.lists,
-            &mut work.scratch.group,
-            now,
-            sender,
-        );
-    }
-
-    /// Handles a tick: what is due then is done, and the answers of the outlet are counted.
-    pub(crate) fn tick<B: Allocator, O: QueryOutlet<F::Address>>(
-        &mut self,
-        work: &mut Workspace<F, B>,
-        now: Moment,
-        sender: &mut Sender<F, O>,
-    )
-        requires in_range { now ≤ 2 ^ 53 }
-        requires enough { suffices self.old.at.config.limits work.old ≡ true }
-        ensures config { self.new.at.config ≡ self.old.at.config }
-        ensures ticks { HasTicked O.takes now (link_of self.old) (link_of self.new) sender.old.outlet.now sender.new.outlet.now }
-        ensures same_outlet { sender.new.outlet.ghost_name ≡ sender.old.outlet.ghost_name }
-        ensures workspace { work.new ≡ with_changed work.old work.new.changed }
-        ensures changed { AreThose (changed_by_tick self.old.at.config now (state_of self.old)) work.new.changed }
-        ensures few { length work.new.changed ≤ map.len self.old.groups }
-        ensures spent { let groups = self.old.groups in
-            let least = least_ticked (moment_of (state_of self.old) now) groups in
-            Spends (2 + least) (4 * sources_in groups + 44 * map.len groups + 3) self.old.spent self.new.spent }
-        ensures quiet { let state = state_of self.old in
-            moment_of state now < next_of state → Spends 2 3 self.old.spent self.new.spent }
-        ensures moved { HasMoved (most_moved_by_tick self.old.groups) self.old self.new }
-        ensures still { let state = state_of self.old in
-            moment_of state now < next_of state → self.new.moved ≡ self.old.moved }
-    {
-        self.lemma_is_stored();
-        self.come_to(work, now, sender);
-        self.count_answers(sender.sent(), sender.unsent());
+        let is_due = self.status.tick(now, &mut self.storage.meter);
+        self.status.lemma_is_sound();
+        let at = self.status.in_force();
+        sender.begin(self.status.config(), at.timing);
+        send_general(is_due, sender);
+        self.storage
+            .tick_groups(&mut work.lists, &mut work.scratch.group, &at, sender);
     }
 }

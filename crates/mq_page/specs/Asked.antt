@@ -25,16 +25,17 @@ configuration_asked family own s =
 abbrev pub until_asked : Settings → Option ℕ
 until_asked s = if s.until == 2 ^ 64 - 1 then None else Some s.until
 
--- The lines of changes, and the citations, if their numbers aren't 0. No finding has the number of its packet, and all are reported. A check accepts what the standard's words allow.
+-- A flag that isn't 0 is given. No finding has the number of its packet, and all are reported, possible ones too.
+-- A check accepts what the standard's words allow.
 abbrev pub replay_asked : Settings → Asked
-replay_asked s = record { until = until_asked s; changes = not (s.changes == 0) }
+replay_asked s = record { until = until_asked s; changes = not (s.changes == 0); json = not (s.json == 0) }
 
 abbrev pub check_asked : Settings → CheckTerms
 check_asked s = record {
   within = s.within;
   until = until_asked s;
-  additions = record { packets = false; cite = not (s.cite == 0); once = false };
-  strict = false;
+  additions = record { packets = false; cite = not (s.cite == 0); once = false; possible = true; json = not (s.json == 0) };
+  flags = record { began = false; strict = false };
 }
 
 -- the interface of the packets to convert, by its number or by its name; 0 stands for all of them
@@ -70,6 +71,7 @@ IsRefused config until (fault.Gap number) = ⊥
 IsRefused config until (fault.Waiting number) = ⊥
 IsRefused config until fault.ConversionRead = ⊥
 IsRefused config until (fault.Conversion number f) = ⊥
+IsRefused config until (fault.NothingJudged why) = ⊥
 
 -- the requested configuration was made, or the fault is its first one
 abbrev pub IsConfigured : (asked : Configuration) → Result Configuration PageFault → Type 0
@@ -83,3 +85,4 @@ IsConfigured asked (Err (fault.Gap number)) = ⊥
 IsConfigured asked (Err (fault.Waiting number)) = ⊥
 IsConfigured asked (Err fault.ConversionRead) = ⊥
 IsConfigured asked (Err (fault.Conversion number f)) = ⊥
+IsConfigured asked (Err (fault.NothingJudged why)) = ⊥

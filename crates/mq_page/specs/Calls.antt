@@ -1,5 +1,5 @@
 -- The results of the calls.
-use Rattle.std.specs.Prelude.{◌≡◌, ◌⊎◌, ℕ, false, List, [], Option, Some, Result, Err}
+use Rattle.std.specs.Prelude.{false, ◌≡◌, ◌⊎◌, ℕ, Bool, List, [], Option, Some, Result, Ok, Err}
 use Rattle.mq_check.specs.declared.check_terms.CheckTerms.{CheckTerms}
 use Rattle.mq_check.specs.CheckedCaptures.{Checks}
 use Rattle.mq_convert.specs.declared.choice.Choice.{Choice}
@@ -14,7 +14,7 @@ use Rattle.mq_page.specs.declared.answer.Answer.{Answer}
 use Rattle.mq_page.specs.declared.page_fault.PageFault.{PageFault}
 use Rattle.mq_page.specs.declared.page_fault.PageFault.TheVariants.{Memory}
 use Rattle.mq_page.specs.Asked.{IsAccepted, IsRefused}
-use Rattle.mq_page.specs.Faults.{of_capture, of_conversion, outcome_of}
+use Rattle.mq_page.specs.Faults.{concluded, of_capture, of_conversion, outcome_of}
 use Rattle.mq_page.specs.Telling.{IsTold}
 
 -- a capture before anything was read
@@ -24,25 +24,25 @@ unread capture = record { ahead = Some capture; taken = 0; failed = false }
 -- The result of a library's call over a capture. It was made, and wrote this text, or its memory ran out, and nothing
 -- was written. `Does` is the effect of the call on the state, the text and the result.
 abbrev pub IsMade : {X E : Type 0} → (Does : (old new : InputState) → (before after : Option (List ℕ)) → Result X E → Type 0)
-    → (count : X → ℕ) → (fault : E → PageFault) → (capture text : List ℕ) → (outcome : Result ℕ PageFault) → Type 0
-IsMade {X} {E} Does count fault capture text outcome =
+    → (done : X → Result ℕ PageFault) → (fault : E → PageFault) → (capture text : List ℕ) → (outcome : Result ℕ PageFault) → Type 0
+IsMade {X} {E} Does done fault capture text outcome =
     ((outcome ≡ Err Memory) × (text ≡ []))
-    ⊎ ((after : InputState) × (r : Result X E) × (outcome ≡ outcome_of count fault r)
+    ⊎ ((after : InputState) × (r : Result X E) × (outcome ≡ outcome_of done fault r)
     × Does (unread capture) after (Some []) (Some text) r)
 
 -- the listing of a capture was written
-pub record ListsInto (capture old new : List ℕ) (answer : Answer) : Type 0 where
+pub record ListsInto (json : Bool) (capture old new : List ℕ) (answer : Answer) : Type 0 where
   pub text : List ℕ
   pub outcome : Result ℕ PageFault
   pub told : IsTold outcome text old new answer
-  pub lists : IsMade Shows (λ count. count) of_capture capture text outcome
+  pub lists : IsMade (Shows json) Ok of_capture capture text outcome
 
 -- all packets of a capture were written as one classic capture
 pub record ConvertsInto (choice : Choice) (capture old new : List ℕ) (answer : Answer) : Type 0 where
   pub text : List ℕ
   pub outcome : Result ℕ PageFault
   pub told : IsTold outcome text old new answer
-  pub converts : IsMade (Converts choice) (λ counts. counts.unread.count) of_conversion capture text outcome
+  pub converts : IsMade (Converts choice) (λ counts. Ok counts.unread.count) of_conversion capture text outcome
 
 -- the request was refused, before anything was written
 abbrev pub IsRefusal : Configuration → (until : Option ℕ) → (text : List ℕ) → (outcome : Result ℕ PageFault) → Type 0
@@ -55,7 +55,7 @@ pub record ReplaysInto (config : Configuration) (asked : Asked) (capture old new
   pub outcome : Result ℕ PageFault
   pub told : IsTold outcome text old new answer
   pub replays : IsRefusal config asked.until text outcome
-      ⊎ (IsAccepted config asked.until × IsMade (Replays config asked) (λ (counters : Counters). 0) of_capture capture text outcome)
+      ⊎ (IsAccepted config asked.until × IsMade (Replays config asked) (λ (counters : Counters). Ok 0) of_capture capture text outcome)
 
 -- a capture was checked
 pub record ChecksInto (config : Configuration) (terms : CheckTerms) (capture old new : List ℕ) (answer : Answer) : Type 0 where
@@ -63,4 +63,4 @@ pub record ChecksInto (config : Configuration) (terms : CheckTerms) (capture old
   pub outcome : Result ℕ PageFault
   pub told : IsTold outcome text old new answer
   pub checks : IsRefusal config terms.until text outcome
-      ⊎ (IsAccepted config terms.until × IsMade (Checks config terms) (λ totals. totals.findings) of_capture capture text outcome)
+      ⊎ (IsAccepted config terms.until × IsMade (Checks config terms) concluded of_capture capture text outcome)

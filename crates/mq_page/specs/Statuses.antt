@@ -1,5 +1,7 @@
 -- Faults as numbers.
 use Rattle.std.specs.Prelude.{ℕ}
+use Rattle.mq_check.specs.declared.unjudged.Unjudged.{Unjudged}
+use Rattle.mq_check.specs.declared.unjudged.Unjudged.TheVariants.{NotUnderstood, OutOfOrder, NoMessage, NoQuery, LimitsExceeded}
 use Rattle.mq_convert.specs.declared.fault.BlockFault.{BlockFault}
 use Rattle.mq_convert.specs.declared.fault.BlockFault.TheVariants as block
 use Rattle.mq_link.specs.declared.configuration.ConfigFault.{ConfigFault}
@@ -9,7 +11,7 @@ use Rattle.mq_link.specs.declared.configuration.LimitName.TheVariants as limit
 use Rattle.mq_pcap.specs.declared.fault.PcapFault.{PcapFault}
 use Rattle.mq_pcap.specs.declared.fault.PcapFault.TheVariants as capture
 use Rattle.mq_page.specs.declared.page_fault.PageFault.{PageFault}
-use Rattle.mq_page.specs.declared.page_fault.PageFault.TheVariants.{Full, Memory, Capture, Gap, Waiting, ConversionRead, Conversion, UntilTooLarge, Configuration}
+use Rattle.mq_page.specs.declared.page_fault.PageFault.TheVariants.{Full, Memory, Capture, Gap, Waiting, ConversionRead, Conversion, UntilTooLarge, Configuration, NothingJudged}
 
 -- the status of a capture's fault: 10 more than the number of the fault in the texts of the program
 abbrev pub capture_status : PcapFault → ℕ
@@ -49,6 +51,14 @@ configuration_status config.LastMember = 54
 configuration_status (config.Limit which) = limit_status which
 configuration_status config.OwnAddress = 56
 
+-- the status of a check that judged nothing
+abbrev pub unjudged_status : Unjudged → ℕ
+unjudged_status NotUnderstood = 71
+unjudged_status OutOfOrder = 72
+unjudged_status NoMessage = 73
+unjudged_status NoQuery = 74
+unjudged_status LimitsExceeded = 75
+
 abbrev pub status_of : PageFault → ℕ
 status_of Full = 1
 status_of Memory = 2
@@ -59,6 +69,7 @@ status_of UntilTooLarge = 22
 status_of ConversionRead = 31
 status_of (Conversion number f) = block_status f
 status_of (Configuration f) = configuration_status f
+status_of (NothingJudged why) = unjudged_status why
 
 -- the number of the record with the fault, or 0
 abbrev pub record_of : PcapFault → ℕ
@@ -82,3 +93,4 @@ number_of UntilTooLarge = 0
 number_of ConversionRead = 0
 number_of (Conversion number f) = number
 number_of (Configuration f) = 0
+number_of (NothingJudged why) = 0

@@ -2,7 +2,7 @@
 use Rattle.std.specs.Prelude.{◌≡◌, ℕ, min, nat_lt, Bool, true, false, ◌&&◌, List, ◌++◌, length, take, drop, Result, Ok, Err, if◌then◌else◌}
 use Rattle.mq_page.specs.declared.answer.Answer.{Answer}
 use Rattle.mq_page.specs.declared.page_fault.PageFault.{PageFault}
-use Rattle.mq_page.specs.declared.page_fault.PageFault.TheVariants.{Full, Memory, Capture, Gap, Waiting, ConversionRead, Conversion, UntilTooLarge, Configuration}
+use Rattle.mq_page.specs.declared.page_fault.PageFault.TheVariants.{Full, Memory, Capture, Gap, Waiting, ConversionRead, Conversion, UntilTooLarge, Configuration, NothingJudged}
 use Rattle.mq_page.specs.Statuses as spec
 
 -- a text at the front of memory, as far as there is room for it; the memory after it is unchanged
@@ -21,6 +21,7 @@ is_full (Err ConversionRead) = false
 is_full (Err (Conversion number f)) = false
 is_full (Err UntilTooLarge) = false
 is_full (Err (Configuration f)) = false
+is_full (Err (NothingJudged why)) = false
 
 -- The outcome for the page, by the bytes of the text and the room. If the text is longer than the room, the outcome is
 -- that, whatever it was. If something didn't fit though there was room, memory ran out.

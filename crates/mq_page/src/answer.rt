@@ -9,6 +9,6 @@ pub struct Answer {
     /// The number of bytes of the text at the front of the memory.
     pub written: u64,
     /// The count if all was done: the packets of a listing, the converted packets with unread link types, or the
-    /// findings of a check. Otherwise it is the record or the block that has the fault, if one has it.
+    /// findings of a check. Otherwise it is the record or the block that has the fault, or 0.
     pub number: u64,
 }

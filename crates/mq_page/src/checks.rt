@@ -4,11 +4,11 @@ ghost use Rattle.mq_page.specs.Asked.{check_asked, configuration_asked};
 ghost use Rattle.mq_page.specs.Calls.{ChecksInto};
 
 use crate::answer::Answer;
-use crate::page_fault::{PageFault, of_capture};
+use crate::page_fault::{PageFault, concluded, of_capture};
 use crate::settings::{Settings, querier_of};
 use crate::telling::told;
 use crate::work_room::WorkRoom;
-use mq_check::{Additions, CheckTerms, CheckedFamily, check};
+use mq_check::{Additions, CheckFlags, CheckTerms, CheckedFamily, check};
 use mq_count::Watched;
 use mq_lines::LineKey;
 use mq_pcap::Ready;
@@ -43,8 +43,13 @@ where
             packets: false,
             cite: settings.cite != 0,
             once: false,
+            possible: true,
+            json: settings.json != 0,
         },
-        strict: false,
+        flags: CheckFlags {
+            began: false,
+            strict: false,
+        },
     };
     let mut reader = Watched::new(capture);
     let mut writer = Watched::new(written);
@@ -56,7 +61,7 @@ where
         &mut reader,
         &mut writer,
     ) {
-        Ok(totals) => Ok(totals.findings),
+        Ok(totals) => concluded(&totals),
         Err(fault) => Err(of_capture(fault)),
     };
     told(outcome, writer.into_inner().written(), text)

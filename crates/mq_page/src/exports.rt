@@ -1,6 +1,6 @@
 //! The calls, as the page makes them.
 
-ghost use Rattle.std.specs.Prelude.{◌≡◌, ◌≤◌, None, false, length, min};
+ghost use Rattle.std.specs.Prelude.{◌≡◌, ◌≤◌, ◌==◌, not, None, false, length, min};
 ghost use Rattle.std.specs.Int.{w32, w128, from_be_bytes};
 ghost use Rattle.mq_wire.specs.Family.{Igmp as FamilyIgmp, Mld as FamilyMld};
 ghost use Rattle.mq_page.specs.declared.page_fault.PageFault.{PageFault as ThePageFault};
@@ -25,12 +25,17 @@ use mq_convert::Choice;
 use mq_count::{Addr4, Addr6};
 use mq_link::{Igmp, Mld};
 
-/// Lists a capture: a line for each packet.
+/// Lists a capture: a line for each packet, or an object of JSON if `json` isn't 0.
 #[unsafe(no_mangle)]
-pub extern "C" fn page_show(capture: &[u8], memory: LentMemory, text: &mut [u8]) -> Answer
-    ensures { ListsInto capture.now text.old text.new result }
+pub extern "C" fn page_show(
+    json: u32,
+    capture: &[u8],
+    memory: LentMemory,
+    text: &mut [u8],
+) -> Answer
+    ensures { ListsInto (not (json == 0)) capture.now text.old text.new result }
 {
-    list(capture, memory.into_units(), text)
+    list(json != 0, capture, memory.into_units(), text)
 }
 
 /// Writes all packets of a capture as one classic capture of Ethernet.

@@ -10,9 +10,14 @@ use mq_count::Watched;
 use mq_pcap::Ready;
 use mq_replay::show;
 
-/// Lists a capture: a line for each packet.
-pub(crate) fn list(capture: &[u8], memory: &'static mut [u128], text: &mut [u8]) -> Answer
-    ensures { ListsInto capture.now text.old text.new result }
+/// Lists a capture: a line or an object of JSON for each packet.
+pub(crate) fn list(
+    json: bool,
+    capture: &[u8],
+    memory: &'static mut [u128],
+    text: &mut [u8],
+) -> Answer
+    ensures { ListsInto json capture.now text.old text.new result }
 {
     let Some(room) = WorkRoom::of(memory, text.len()) else {
         return told(Err(PageFault::Memory), &[], text);
@@ -23,7 +28,7 @@ pub(crate) fn list(capture: &[u8], memory: &'static mut [u128], text: &mut [u8])
     } = room;
     let mut reader = Watched::new(capture);
     let mut writer = Watched::new(written);
-    let outcome = match show(&rest, &Ready, &mut reader, &mut writer) {
+    let outcome = match show(&rest, json, &Ready, &mut reader, &mut writer) {
         Ok(count) => Ok(count),
         Err(fault) => Err(of_capture(fault)),
     };

@@ -3,6 +3,7 @@
 ghost use Rattle.std.specs.Prelude.{◌≡◌};
 ghost use Rattle.mq_page.specs.Faults as spec;
 
+use mq_check::{Totals, Unjudged};
 use mq_convert::{BlockFault, ConvertFault};
 use mq_link::ConfigFault;
 use mq_pcap::PcapFault;
@@ -40,6 +41,8 @@ pub enum PageFault {
     UntilTooLarge,
     /// A configuration that no querier can have.
     Configuration(ConfigFault),
+    /// A check that came to its end and judged nothing.
+    NothingJudged(Unjudged),
 }
 
 /// Returns the fault of a listing, a replay or a check. A failed write found no room.
@@ -64,5 +67,15 @@ pub(crate) fn of_conversion(fault: ConvertFault) -> PageFault
         ConvertFault::Write => PageFault::Full,
         ConvertFault::Memory => PageFault::Memory,
         ConvertFault::Block { number, fault } => PageFault::Conversion { number, fault },
+    }
+}
+
+/// Returns the outcome of a check that came to its end: the number of its findings, or why it judged nothing.
+pub(crate) fn concluded(totals: &Totals) -> Result<u64, PageFault>
+    ensures { result ≡ spec.concluded totals.now }
+{
+    match totals.unjudged() {
+        Some(why) => Err(PageFault::NothingJudged(why)),
+        None => Ok(totals.findings),
     }
 }

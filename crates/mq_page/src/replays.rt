@@ -39,6 +39,7 @@ where
     let asked = Asked {
         until: querier.until,
         changes: settings.changes != 0,
+        json: settings.json != 0,
     };
     let mut reader = Watched::new(capture);
     let mut writer = Watched::new(written);

@@ -29,12 +29,14 @@ pub struct Settings {
     pub scheduled: u32,
     /// The flag to keep the source-specific range for source-specific multicast; 0 says no.
     pub source_specific: u32,
-    /// The flag for lines of a replay for the groups that each event changes; 0 says no.
+    /// The flag of a replay for the groups that each event changes; 0 says no.
     pub changes: u32,
     /// The tolerance of a check in milliseconds.
     pub within: u32,
     /// The flag for the section of the standard after each finding of a check; 0 says no.
     pub cite: u32,
+    /// The flag for objects of JSON in place of lines; 0 says no.
+    pub json: u32,
     /// The moment until which a replay or a check runs at least, in milliseconds; 2^64 - 1 stands for none.
     pub until: u64,
 }

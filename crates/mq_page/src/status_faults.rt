@@ -1,13 +1,15 @@
 //! The faults of statuses.
 
 ghost use Rattle.std.specs.Prelude.{◌≡◌, Some};
+ghost use Rattle.mq_check.specs.declared.unjudged.Unjudged.{Unjudged as TheUnjudged};
 ghost use Rattle.mq_convert.specs.declared.fault.BlockFault.{BlockFault as TheBlockFault};
 ghost use Rattle.mq_link.specs.declared.configuration.ConfigFault.{ConfigFault as TheConfigFault};
 ghost use Rattle.mq_page.specs.declared.page_fault.PageFault.{PageFault as ThePageFault};
-ghost use Rattle.mq_page.specs.Statuses.{block_status, capture_status, configuration_status, number_of, record_of, status_of};
+ghost use Rattle.mq_page.specs.Statuses.{block_status, capture_status, configuration_status, number_of, record_of, status_of, unjudged_status};
 ghost use Rattle.mq_pcap.specs.declared.fault.PcapFault.{PcapFault as ThePcapFault};
 
 use crate::page_fault::PageFault;
+use mq_check::Unjudged;
 use mq_convert::BlockFault;
 use mq_link::{ConfigFault, LimitName};
 use mq_pcap::PcapFault;
@@ -28,6 +30,7 @@ pub(crate) fn fault_of(status: u64, number: u64) -> Option<PageFault>
             number,
             fault: block_fault(status)?,
         }),
+        71..=75 => Some(PageFault::NothingJudged(unjudged(status)?)),
         _ => Some(PageFault::Configuration(configuration_fault(status)?)),
     }
 }
@@ -78,6 +81,19 @@ fn configuration_fault(status: u64) -> Option<ConfigFault>
         62 => Some(limit(LimitName::GroupSources)),
         63 => Some(limit(LimitName::Sources)),
         64 => Some(limit(LimitName::Scheduled)),
+        _ => None,
+    }
+}
+
+fn unjudged(status: u64) -> Option<Unjudged>
+    ensures { (why : TheUnjudged) → unjudged_status why ≡ status → result ≡ Some why }
+{
+    match status {
+        71 => Some(Unjudged::NotUnderstood),
+        72 => Some(Unjudged::OutOfOrder),
+        73 => Some(Unjudged::NoMessage),
+        74 => Some(Unjudged::NoQuery),
+        75 => Some(Unjudged::LimitsExceeded),
         _ => None,
     }
 }

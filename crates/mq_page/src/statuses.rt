@@ -4,6 +4,7 @@ ghost use Rattle.std.specs.Prelude.{◌≡◌};
 ghost use Rattle.mq_page.specs.Statuses as spec;
 
 use crate::page_fault::PageFault;
+use mq_check::Unjudged;
 use mq_convert::BlockFault;
 use mq_link::{ConfigFault, LimitName};
 use mq_pcap::PcapFault;
@@ -25,6 +26,7 @@ pub(crate) fn status_of(fault: PageFault) -> u64
         PageFault::ConversionRead => 31,
         PageFault::Conversion { fault, .. } => block_status(fault),
         PageFault::Configuration(fault) => configuration_status(fault),
+        PageFault::NothingJudged(why) => unjudged_status(why),
     }
 }
 
@@ -80,6 +82,18 @@ fn limit_status(which: LimitName) -> u64
         LimitName::GroupSources => 62,
         LimitName::Sources => 63,
         LimitName::Scheduled => 64,
+    }
+}
+
+fn unjudged_status(why: Unjudged) -> u64
+    ensures { result ≡ spec.unjudged_status why }
+{
+    match why {
+        Unjudged::NotUnderstood => 71,
+        Unjudged::OutOfOrder => 72,
+        Unjudged::NoMessage => 73,
+        Unjudged::NoQuery => 74,
+        Unjudged::LimitsExceeded => 75,
     }
 }
 

@@ -1,9 +1,6 @@
 -- A buffer that is filled up to a place, and one more read.
 use Rattle.std.proofs.Common.{◌≡◌, ◌≤◌, ◌+◌, ◌-◌, ℕ, List, [], ◌++◌, length, take, refl, arith, ◌∙◌, ap, length-append}
-use Rattle.std.proofs.lemmas.List.{length-take-le}
-use Rattle.std.proofs.Math.Seq.{take-append-add}
-use Rattle.std.proofs.lemmas.List.{take-append-le}
-use Rattle.std.proofs.KnownBytes.{Consumes-nil, Consumes-trans}
+use Rattle.std.proofs.{lemmas.List.length-take-le, lemmas.List.take-append-le, Math.Seq.take-append-add, KnownBytes.Consumes-nil, KnownBytes.Consumes-trans}
 use borrow.Rule.Slice.PartMut.{put_mid, mid_of, post_of, mid_len, same_len_mid}
 use Rattle.mq_pcap.specs.Filling.{InputState, Takes}
 

@@ -2,8 +2,7 @@
 use Rattle.std.proofs.Common.{◌≡◌, ◌≤◌, ◌+◌, ◌-◌, ◌*◌, ℕ, List, length, take, drop, Bool, refl, arith}
 use Rattle.std.specs.Prelude.{slice_index}
 use Rattle.std.proofs.lemmas.Bool.{le-ltb}
-use Rattle.mq_pcap.specs.Frame.{mld_in, behind_options}
-use Rattle.mq_pcap.specs.Options.{has_router_alert}
+use Rattle.mq_pcap.specs.{Frame.mld_in, Frame.behind_options, Options.has_router_alert}
 use Rattle.mq_pcap.proofs.Walk.{from_place}
 
 pub mld_behind_options : (packet payload : List ℕ) (n : ℕ) (alert : Bool) → 8 ≤ length payload → n ≡ slice_index payload 1 →

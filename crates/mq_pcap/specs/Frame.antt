@@ -7,11 +7,12 @@ use Rattle.mq_pcap.specs.declared.link_type.LinkType.TheVariants.{Ethernet, RawI
 use Rattle.mq_pcap.specs.declared.frame.Inner.{Inner}
 use Rattle.mq_pcap.specs.declared.frame.Inner.TheVariants as inner
 use Rattle.mq_pcap.specs.Tests.{first_that_holds}
+use Rattle.mq_pcap.specs.IpOptions.{has_router_alert_v4}
 use Rattle.mq_pcap.specs.Options.{has_router_alert}
 
 -- a message of IGMP or MLD with fields of its packet, or the reason why there is none
 pub data Carried : Type 0 where
-  Igmp : (source : ℕ) (body : List ℕ) → Carried
+  Igmp : (source destination ttl : ℕ) (alert : Bool) (body : List ℕ) → Carried
   Mld : (source destination hop_limit : ℕ) (alert : Bool) (body : List ℕ) → Carried
   Other : Carried
   Cut : Carried
@@ -19,7 +20,7 @@ pub data Carried : Type 0 where
 
 -- a result of the code as such data
 abbrev pub carried_of : Inner → Carried
-carried_of (inner.Igmp source body) = Igmp source body.now
+carried_of (inner.Igmp source destination ttl alert body) = Igmp source destination ttl alert body.now
 carried_of (inner.Mld source destination hop_limit alert body) = Mld source destination hop_limit alert body.now
 carried_of inner.Other = Other
 carried_of inner.Cut = Cut
@@ -56,6 +57,9 @@ in_ipv4 packet = first_that_holds
     ∷ [])
     (Igmp
     (from_be_bytes w32 (slice_range packet 12 16))
+    (from_be_bytes w32 (slice_range packet 16 20))
+    (slice_index packet 8)
+    (has_router_alert_v4 (slice_range packet 20 (header_length packet)))
     (slice_range packet (header_length packet) (total_length packet)))
 
 -- an MLD message of an IPv6 packet

@@ -8,7 +8,7 @@ use crate::link_type::LinkType;
 use byteorder::{BigEndian, ByteOrder, LittleEndian};
 
 /// The order of the bytes of each field.
-#[derive(Clone, Copy, PartialEq, Eq)]
+#[derive(Clone, Copy)]
 pub enum Endian {
     /// Most significant byte first.
     Big,
@@ -17,14 +17,14 @@ pub enum Endian {
 }
 
 /// The unit of the fraction of a second in a record's time.
-#[derive(Clone, Copy, PartialEq, Eq)]
+#[derive(Clone, Copy)]
 pub enum Fraction {
     Microseconds,
     Nanoseconds,
 }
 
 /// The form of a capture's records.
-#[derive(Clone, Copy, PartialEq, Eq)]
+#[derive(Clone, Copy)]
 pub struct Form {
     pub order: Endian,
     pub fraction: Fraction,

@@ -5,6 +5,7 @@ ghost use Rattle.std.specs.Int.{w32, w128, from_be_bytes};
 ghost use Rattle.mq_pcap.specs.Frame.{carried_of, carried_in, in_type, in_ethernet, in_raw_ip, in_ipv4, in_ipv6, behind_options, mld_in};
 
 use crate::form::Endian;
+use crate::ip_options::has_router_alert_v4;
 use crate::link_type::LinkType;
 use crate::options::has_router_alert;
 use mq_count::{Addr4, Addr6};
@@ -16,6 +17,12 @@ pub enum Inner<'a> {
     Igmp {
         /// The source of its IPv4 packet.
         source: Addr4,
+        /// The packet's destination.
+        destination: Addr4,
+        /// The packet's time to live; IGMP messages have 1.
+        ttl: u8,
+        /// The presence of Router Alert in the header (type 148).
+        alert: bool,
         /// The message, without the IP header and without padding.
         body: &'a [u8],
     },
@@ -137,6 +144,9 @@ fn ipv4(packet: &[u8]) -> Inner<'_>
     }
     Inner::Igmp {
         source: address4(packet, 12),
+        destination: address4(packet, 16),
+        ttl: packet[8],
+        alert: has_router_alert_v4(&packet[20..header]),
         body: &packet[header..total],
     }
 }

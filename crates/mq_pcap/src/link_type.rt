@@ -1,7 +1,7 @@
 //! Link types of captures.
 
 /// The link type of a capture.
-#[derive(Clone, Copy, PartialEq, Eq)]
+#[derive(Clone, Copy)]
 pub enum LinkType {
     /// Ethernet: each frame begins with an Ethernet header (link type 1).
     Ethernet,

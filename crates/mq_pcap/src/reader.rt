@@ -9,7 +9,7 @@ use crate::fault::PcapFault;
 use crate::filling::fill;
 use crate::form::{FILE_HEADER, Form};
 use crate::link_type::LinkType;
-use crate::reader_state::{Packet, PcapReader, Progress};
+use crate::reader_state::{NextRead, Packet, PcapReader, Progress};
 use crate::record::{RECORD_HEADER, read_record};
 use crate::supply::Supply;
 use mq_count::Watched;
@@ -30,6 +30,20 @@ impl PcapReader {
         })
     }
 
+    /// Returns the reader as it is after `count` records of the capture, whose next record has the following number.
+    /// With it a program reads the rest of a capture whose first records it knows.
+    pub fn after(self, count: u32) -> PcapReader
+        ensures form { form_of result ≡ form_of self }
+        ensures number { number_of result ≡ count + 1 }
+        ensures progress { progress_of result ≡ progress_of self }
+    {
+        PcapReader {
+            form: self.form,
+            number: u64::from(count) + 1,
+            progress: self.progress,
+        }
+    }
+
     /// Returns the link type of the capture.
     pub fn link(&self) -> LinkType
         ensures { result ≡ (form_of self.now).link }
@@ -37,12 +51,17 @@ impl PcapReader {
         self.form.link
     }
 
-    /// Returns whether reading the next record may wait, since not all its bytes are at hand.
-    pub fn may_wait<S: Supply>(&self, supply: &S) -> bool {
+    /// Returns whether the read of the next record may wait, since not all its bytes are at hand.
+    pub fn next_read<S: Supply>(&self, supply: &S) -> NextRead
+        ensures { result.number ≡ number_of self.now }
+    {
         let mut header = [0; RECORD_HEADER];
         let there = supply.at_hand(&mut header);
         let length = self.form.order.double_word(&header, 8) as usize;
-        there < RECORD_HEADER || there - RECORD_HEADER < length
+        NextRead {
+            number: self.number,
+            may_wait: there < RECORD_HEADER || there - RECORD_HEADER < length,
+        }
     }
 
     /// Reads the next packet into the front of `buffer`, or returns None at the end of the capture. `buffer` has room

@@ -17,8 +17,17 @@ pub struct Packet {
     ghost in_range: { stamp_ms ≤ 2 ^ 53 },
 }
 
+/// A read that comes next, and whether it may wait.
+#[derive(Clone, Copy)]
+pub struct NextRead {
+    /// The number of its record.
+    pub number: u64,
+    /// True if not all bytes of the record are at hand.
+    pub may_wait: bool,
+}
+
 /// The progress of a reader.
-#[derive(Clone, Copy, PartialEq, Eq)]
+#[derive(Clone, Copy)]
 pub enum Progress {
     /// Reading: a record may follow.
     Reading,

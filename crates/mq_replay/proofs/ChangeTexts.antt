@@ -21,7 +21,8 @@ use Rattle.mq_link.proofs.KeptGroups.{absent_unheld}
 use Rattle.mq_text.specs.Printing.{GrowsByBeginning, Passes}
 use Rattle.mq_text.proofs.Passing.{broken_behind, broken_within}
 use Rattle.mq_lines.specs.Text.{line_of}
-use Rattle.mq_replay.specs.ChangeLines.{change_line, change_lines, change_start, filter_name, named_sources, named_text}
+use Rattle.mq_replay.specs.ChangeLines.{change_line, change_start, filter_name, named_sources, named_text}
+use Rattle.mq_replay.specs.Events.{Changes, change_events, event_in}
 use Rattle.mq_replay.specs.NamedSources.{if_named, is_named, name_by, named_by}
 
 -- those of some items that are named
@@ -73,24 +74,24 @@ module _ {K : Type 0} (number : K → ℕ) (family : Family) (mode : FilterMode)
       sym (texts_of (number_in number) named (named_text family (is_include mode)) row) i))
       ∙ ap (λ (ss : List ℕ). start ++ line_of (filter_name (is_include mode) ss ++ flat_map (named_text family (is_include mode)) ss)) (sym named_in_row)
 
--- the lines of groups whose addresses are numbered
-pub lines-numbered : {K : Type 0} (number : K → ℕ) (family : Family) (moment : ℕ) (groups : Groups) (addresses : List K)
-    → flat_map (λ x. change_line family moment (number x) (group_at groups (number x)).group) addresses
-    ≡ change_lines family moment groups (list_map number addresses)
-lines-numbered number family moment groups [] = refl
-lines-numbered number family moment groups (x ∷ addresses) =
-    ap (λ (rest : List ℕ). change_line family moment (number x) (group_at groups (number x)).group ++ rest)
-    (lines-numbered number family moment groups addresses)
+-- the events of groups whose addresses are numbered
+pub events-numbered : {K : Type 0} (number : K → ℕ) (json : Bool) (family : Family) (moment : ℕ) (groups : Groups) (addresses : List K)
+    → flat_map (λ x. event_in json family moment (Changes (number x) (group_at groups (number x)).group)) addresses
+    ≡ change_events json family moment groups (list_map number addresses)
+events-numbered number json family moment groups [] = refl
+events-numbered number json family moment groups (x ∷ addresses) =
+    ap (λ (rest : List ℕ). event_in json family moment (Changes (number x) (group_at groups (number x)).group) ++ rest)
+    (events-numbered number json family moment groups addresses)
 
--- the line of a group that isn't held
+-- the line and the event of a group that isn't held
 pub line-vacant : (family : Family) (moment group : ℕ) → (change_start family moment group ++ codes " none") ++
     codes "\n" ≡ change_line family moment group vacant
 line-vacant family moment group = line-row {K = ℕ} (λ n. n) family Include [] (λ i j d before in_list. absurd (omega arith)) moment group
 
-pub line-absent : (family : Family) (moment address : ℕ) (groups : Groups) → map.contains_key groups address ≡ false →
-    change_line family moment address vacant ≡ change_line family moment address (group_at groups address).group
-line-absent family moment address groups absent =
-    sym (ap (λ (e : ScheduledGroup). change_line family moment address e.group) (absent_unheld groups address absent))
+pub event-absent : (json : Bool) (family : Family) (moment address : ℕ) (groups : Groups) → map.contains_key groups address ≡ false →
+    event_in json family moment (Changes address vacant) ≡ event_in json family moment (Changes address (group_at groups address).group)
+event-absent json family moment address groups absent =
+    sym (ap (λ (e : ScheduledGroup). event_in json family moment (Changes address e.group)) (absent_unheld groups address absent))
 
 -- the text of an item was not put whole
 pub item_broken : {X : Type 0} (text_of : X → List ℕ) (a b c : Option (List ℕ)) (held mid : List ℕ) (items : List X) (i : ℕ) (item default : X)

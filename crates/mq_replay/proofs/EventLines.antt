@@ -13,46 +13,46 @@ use Rattle.mq_link.specs.Tick.{Step, tick_of}
 use Rattle.mq_text.specs.declared.printing.LineFault.{LineFault}
 use Rattle.mq_text.specs.Printing.{Puts}
 use Rattle.mq_text.proofs.Passing.{broken_within, put_as, then_put}
-use Rattle.mq_replay.specs.ChangeLines.{change_lines, lines_asked}
+use Rattle.mq_replay.specs.declared.asked.Asked.{Asked}
+use Rattle.mq_replay.specs.Events.{change_events, if_asked, query_events}
 use Rattle.mq_replay.specs.QueryLines.{TicksPrinting, ReceivesPrinting}
-use Rattle.mq_replay.specs.ReplayLines.{query_lines}
 use Rattle.mq_replay.specs.Report.{Replayed, after_step, all_sent, ticked_at, with_changes}
 use Rattle.mq_replay.specs.Steps.{PutsReplayed, begun_with}
 use Rattle.mq_replay.proofs.ChangedGroups.{ticked_those}
 
 -- a step whose messages were passed on and put is a step of a replay
-step_put : {T E : Type 0} (changes : Bool) (family : Family) (now : ℕ) (before after : LinkValue) (step : Step) (old new : Option (List ℕ))
+step_put : {T E : Type 0} (asked : Asked) (family : Family) (now : ℕ) (before after : LinkValue) (step : Step) (old new : Option (List ℕ))
     (held left : List ℕ) (r : Result T E) (messages : List Outgoing) (answers : List Bool)
     → family ≡ before.config.family → after.config ≡ before.config → HandsOut before.config step messages answers after.state
-    → Puts old new held left (query_lines family now messages) r → IfOk r (λ _. answers ≡ list_map (λ message. true) messages)
-    → PutsReplayed before after (after_step before.config now step (begun_with changes before.state)) old new held left r
-step_put changes family now before after step old new held left r messages answers is_family same out put sent =
+    → Puts old new held left (query_events asked.json family now messages) r → IfOk r (λ _. answers ≡ list_map (λ message. true) messages)
+    → PutsReplayed before after (after_step before.config now step (begun_with asked before.state)) old new held left r
+step_put asked family now before after step old new held left r messages answers is_family same out put sent =
     record {
       same_config = same;
       link = linked r sent;
-      text = subst (λ (ms : List Outgoing). Puts old new held left (query_lines before.config.family now ms) r) out.handed
-          (subst (λ (f : Family). Puts old new held left (query_lines f now messages) r) is_family put);
+      text = subst (λ (ms : List Outgoing). Puts old new held left (query_events asked.json before.config.family now ms) r) out.handed
+          (subst (λ (f : Family). Puts old new held left (query_events asked.json f now messages) r) is_family put);
     }
   where
     linked : {T E : Type 0} (r : Result T E) → IfOk r (λ _. answers ≡ list_map (λ message. true) messages) →
-        IfOk r (λ _. after.state ≡ (after_step before.config now step (begun_with changes before.state)).link)
+        IfOk r (λ _. after.state ≡ (after_step before.config now step (begun_with asked before.state)).link)
     linked (Ok x) all = out.leaves ∙ ap (λ (given : List Bool). answered given step) (all ∙ ap all_sent out.handed)
     linked (Err e) all = tt
 
-tick_put : (changes : Bool) (family : Family) (now : ℕ) (before after : LinkValue) (old new : Option (List ℕ)) (held left : List ℕ) (r : Result Unit LineFault)
-    → family ≡ before.config.family → after.config ≡ before.config → TicksPrinting family now before after old new held left r
-    → PutsReplayed before after (after_step before.config now (tick_of before.config now before.state) (begun_with changes before.state)) old new held left r
-tick_put changes family now before after old new held left r is_family same ticks =
-    step_put changes family now before after (tick_of before.config now before.state) old new held left r ticks.messages ticks.answers is_family same
+tick_put : (asked : Asked) (family : Family) (now : ℕ) (before after : LinkValue) (old new : Option (List ℕ)) (held left : List ℕ) (r : Result Unit LineFault)
+    → family ≡ before.config.family → after.config ≡ before.config → TicksPrinting asked.json family now before after old new held left r
+    → PutsReplayed before after (after_step before.config now (tick_of before.config now before.state) (begun_with asked before.state)) old new held left r
+tick_put asked family now before after old new held left r is_family same ticks =
+    step_put asked family now before after (tick_of before.config now before.state) old new held left r ticks.messages ticks.answers is_family same
     ticks.ticks ticks.put ticks.all_sent
 
-pub receipt_put : (changes : Bool) (family : Family) (envelope : Envelope) (bytes : List ℕ) (now : ℕ) (before after : LinkValue)
+pub receipt_put : (asked : Asked) (family : Family) (envelope : Envelope) (bytes : List ℕ) (now : ℕ) (before after : LinkValue)
     (old new : Option (List ℕ)) (held left : List ℕ) (r : Result Received LineFault)
-    → family ≡ before.config.family → after.config ≡ before.config → ReceivesPrinting family envelope bytes now before after old new held left r
+    → family ≡ before.config.family → after.config ≡ before.config → ReceivesPrinting asked.json family envelope bytes now before after old new held left r
     → PutsReplayed before after
-    (after_step before.config now (receipt_of before.config envelope bytes now before.state).step (begun_with changes before.state)) old new held left r
-receipt_put changes family envelope bytes now before after old new held left r is_family same receives =
-    step_put changes family now before after (receipt_of before.config envelope bytes now before.state).step old new held left r receives.messages
+    (after_step before.config now (receipt_of before.config envelope bytes now before.state).step (begun_with asked before.state)) old new held left r
+receipt_put asked family envelope bytes now before after old new held left r is_family same receives =
+    step_put asked family now before after (receipt_of before.config envelope bytes now before.state).step old new held left r receives.messages
     receives.answers is_family same receives.receives.hands_out receives.put receives.all_sent
 
 -- the lines of an event were put, and then those of the groups that it changed
@@ -60,12 +60,12 @@ pub changes_put : {T E : Type 0} (config : Configuration) (family : Family) (now
     (old mid new : Option (List ℕ)) (held more left : List ℕ) (x : T) (it : Result Unit E)
     → family ≡ config.family → changed ≡ after.changed
     → PutsReplayed {E = E} before after r old mid held more (Ok x)
-    → Puts mid new more left (lines_asked r.changes (change_lines family now after.state.groups after.changed)) it
+    → Puts mid new more left (if_asked r.asked.changes (change_events r.asked.json family now after.state.groups after.changed)) it
     → PutsReplayed before after (with_changes config.family now changed r) old new held left it
 changes_put {E = E} config family now changed before after r old mid new held more left x it is_family are put lines =
-    let same : lines_asked r.changes (change_lines family now after.state.groups after.changed)
-    ≡ lines_asked r.changes (change_lines config.family now r.link.groups changed) =
-    (λ i. lines_asked r.changes (change_lines (is_family i) now (put.link i).groups (sym are i))) in
+    let same : if_asked r.asked.changes (change_events r.asked.json family now after.state.groups after.changed)
+    ≡ if_asked r.asked.changes (change_events r.asked.json config.family now r.link.groups changed) =
+    (λ i. if_asked r.asked.changes (change_events r.asked.json (is_family i) now (put.link i).groups (sym are i))) in
     record {
       same_config = put.same_config;
       link = linked it;
@@ -85,26 +85,26 @@ changes_broken config now changed before after r old new held left e f put =
     record {
       same_config = put.same_config;
       link = tt;
-      text = broken_within old new held r.text (lines_asked r.changes (change_lines config.family now r.link.groups changed)) put.text;
+      text = broken_within old new held r.text (if_asked r.asked.changes (change_events r.asked.json config.family now r.link.groups changed)) put.text;
     }
 
 -- a tick with all its lines
-pub tick_lined : (changes : Bool) (family : Family) (now : ℕ) (before after : LinkValue) (old mid new : Option (List ℕ)) (held more left : List ℕ)
+pub tick_lined : (asked : Asked) (family : Family) (now : ℕ) (before after : LinkValue) (old mid new : Option (List ℕ)) (held more left : List ℕ)
     (it : Result Unit LineFault)
     → family ≡ before.config.family → after.config ≡ before.config → AreThose (changed_by_tick before.config now before.state) after.changed
-    → TicksPrinting family now before after old mid held more (Ok tt)
-    → Puts mid new more left (lines_asked changes (change_lines family now after.state.groups after.changed)) it
-    → PutsReplayed before after (ticked_at before.config now (begun_with changes before.state)) old new held left it
+    → TicksPrinting asked.json family now before after old mid held more (Ok tt)
+    → Puts mid new more left (if_asked asked.changes (change_events asked.json family now after.state.groups after.changed)) it
+    → PutsReplayed before after (ticked_at before.config now (begun_with asked before.state)) old new held left it
 unfolding ticked_at
-tick_lined changes family now before after old mid new held more left it is_family same those ticks lines =
+tick_lined asked family now before after old mid new held more left it is_family same those ticks lines =
     changes_put before.config family now _ before after _ old mid new held more left tt it is_family
     (ticked_those before.config now before.state after.changed those)
-    (tick_put changes family now before after old mid held more (Ok tt) is_family same ticks) lines
+    (tick_put asked family now before after old mid held more (Ok tt) is_family same ticks) lines
 
-pub tick_broken_off : (changes : Bool) (family : Family) (now : ℕ) (before after : LinkValue) (old new : Option (List ℕ)) (held left : List ℕ) (e f : LineFault)
-    → family ≡ before.config.family → after.config ≡ before.config → TicksPrinting family now before after old new held left (Err e)
-    → PutsReplayed {T = Unit} before after (ticked_at before.config now (begun_with changes before.state)) old new held left (Err f)
+pub tick_broken_off : (asked : Asked) (family : Family) (now : ℕ) (before after : LinkValue) (old new : Option (List ℕ)) (held left : List ℕ) (e f : LineFault)
+    → family ≡ before.config.family → after.config ≡ before.config → TicksPrinting asked.json family now before after old new held left (Err e)
+    → PutsReplayed {T = Unit} before after (ticked_at before.config now (begun_with asked before.state)) old new held left (Err f)
 unfolding ticked_at
-tick_broken_off changes family now before after old new held left e f is_family same ticks =
+tick_broken_off asked family now before after old new held left e f is_family same ticks =
     changes_broken before.config now _ before after _ old new held left e f
-    (tick_put changes family now before after old new held left (Err e) is_family same ticks)
+    (tick_put asked family now before after old new held left (Err e) is_family same ticks)

@@ -7,8 +7,7 @@ use Rattle.mq_link.specs.Forwarding.{changed_by_tick}
 use Rattle.mq_link.specs.Receive.{receipt_of}
 use Rattle.mq_link.specs.Sent.{outgoing_of}
 use Rattle.mq_link.specs.Tick.{tick_of, next_of}
-use Rattle.mq_replay.specs.ChangeLines.{change_lines, lines_asked}
-use Rattle.mq_replay.specs.ReplayLines.{query_lines, receipt_line, skip_line}
+use Rattle.mq_replay.specs.Events.{Receives, Skips, change_events, event_in, if_asked, query_events}
 use Rattle.mq_replay.specs.Report.{Replayed, after_step, changed_at, ticked_at, those_among, ticked_before, Datagram, datagram_of}
 use Rattle.mq_replay.specs.Report.{received_at, taken_or_skipped, with_changes, with_packet}
 use Rattle.mq_replay.specs.Steps.{begun_with}
@@ -17,18 +16,18 @@ use Rattle.mq_replay.proofs.Ticking.{kept_within, through_within}
 
 -- a replay behind a text
 abbrev pub behind : List ℕ → Replayed → Replayed
-behind text r = record { link = r.link; text = text ++ r.text; changes = r.changes }
+behind text r = record { link = r.link; text = text ++ r.text; asked = r.asked }
 
 -- each is behind its own text
-pub as_behind : (r : Replayed) → behind r.text (begun_with r.changes r.link) ≡ r
-as_behind r = λ i. record { link = r.link; text = append-nil r.text i; changes = r.changes }
+pub as_behind : (r : Replayed) → behind r.text (begun_with r.asked r.link) ≡ r
+as_behind r = λ i. record { link = r.link; text = append-nil r.text i; asked = r.asked }
 
 -- where a text stands in front of an event's own lines, it stands in front of those of the groups that changed
 changes_behind : (config : Configuration) (moment : ℕ) (changed : List ℕ) (text : List ℕ) (r : Replayed) {all : List ℕ} → all ≡ text ++ r.text
     → with_changes config.family moment changed (record r { text = all }) ≡ behind text (with_changes config.family moment changed r)
 changes_behind config moment changed text r same =
-    let lines = lines_asked r.changes (change_lines config.family moment r.link.groups changed) in
-    λ i. record { link = r.link; text = (ap (λ (t : List ℕ). t ++ lines) same ∙ append_assoc text r.text lines) i; changes = r.changes }
+    let lines = if_asked r.asked.changes (change_events r.asked.json config.family moment r.link.groups changed) in
+    λ i. record { link = r.link; text = (ap (λ (t : List ℕ). t ++ lines) same ∙ append_assoc text r.text lines) i; asked = r.asked }
 
 pub ticked_behind : (config : Configuration) (moment : ℕ) (text : List ℕ) (r : Replayed) → ticked_at config moment (behind text r)
     ≡ behind text (ticked_at config moment r)
@@ -36,7 +35,7 @@ unfolding ticked_at
 ticked_behind config moment text r =
     let step = after_step config moment (tick_of config moment r.link) r in
     let changed = those_among (changed_by_tick config moment r.link) (map.keys r.link.groups) in
-    let lines = query_lines config.family moment (outgoing_of config (tick_of config moment r.link)) in
+    let lines = query_events r.asked.json config.family moment (outgoing_of config (tick_of config moment r.link)) in
     changes_behind config moment changed text step (append_assoc text r.text lines)
 
 -- the tick at the next moment
@@ -60,13 +59,13 @@ pub taken_behind : (config : Configuration) (moment number : ℕ) (carried : Car
 unfolding received_at
 taken_behind config moment number carried (Some datagram) text r =
     let receipt = receipt_of config datagram.envelope datagram.body moment r.link in
-    let lines = query_lines config.family moment (outgoing_of config receipt.step) in
-    let line = receipt_line config.family moment number datagram.envelope.source receipt.answer in
+    let lines = query_events r.asked.json config.family moment (outgoing_of config receipt.step) in
+    let line = event_in r.asked.json config.family moment (Receives number datagram.envelope.source receipt.answer) in
     let after = after_step config moment receipt.step r in
     changes_behind config moment (changed_at config moment datagram r.link) text (record after { text = after.text ++ line })
     (ap (λ (t : List ℕ). t ++ line) (append_assoc text r.text lines) ∙ append_assoc text (r.text ++ lines) line)
 taken_behind config moment number carried None text r =
-    λ i. record { link = r.link; text = append_assoc text r.text (skip_line moment number carried) i; changes = r.changes }
+    λ i. record { link = r.link; text = append_assoc text r.text (event_in r.asked.json config.family moment (Skips number carried)) i; asked = r.asked }
 
 pub packet_behind : (config : Configuration) (moment number : ℕ) (carried : Carried) (text : List ℕ) (r : Replayed) →
     with_packet config moment number carried (behind text r) ≡ behind text (with_packet config moment number carried r)
@@ -77,31 +76,31 @@ packet_behind config moment number carried text r =
 
 -- a tick and a packet behind what was replayed
 pub next_tick : (config : Configuration) (moment : ℕ) (r : Replayed) → ticked_at config moment r
-    ≡ behind r.text (ticked_at config moment (begun_with r.changes r.link))
-next_tick config moment r = ap (ticked_at config moment) (sym (as_behind r)) ∙ ticked_behind config moment r.text (begun_with r.changes r.link)
+    ≡ behind r.text (ticked_at config moment (begun_with r.asked r.link))
+next_tick config moment r = ap (ticked_at config moment) (sym (as_behind r)) ∙ ticked_behind config moment r.text (begun_with r.asked r.link)
 
 pub next_packet : (config : Configuration) (moment number : ℕ) (carried : Carried) (r : Replayed) → with_packet config moment number carried r
-    ≡ behind r.text (with_packet config moment number carried (begun_with r.changes r.link))
+    ≡ behind r.text (with_packet config moment number carried (begun_with r.asked r.link))
 next_packet config moment number carried r = ap (with_packet config moment number carried) (sym (as_behind r)) ∙
-    packet_behind config moment number carried r.text (begun_with r.changes r.link)
+    packet_behind config moment number carried r.text (begun_with r.asked r.link)
 
--- the choice of lines of changes stays
-pub ticked_changes : (config : Configuration) (moment : ℕ) (r : Replayed) → (ticked_at config moment r).changes ≡ r.changes
+-- the request stays
+pub ticked_asked : (config : Configuration) (moment : ℕ) (r : Replayed) → (ticked_at config moment r).asked ≡ r.asked
 unfolding ticked_at
-ticked_changes config moment r = refl
+ticked_asked config moment r = refl
 
-pub before_changes : (config : Configuration) (limit : ℕ) (r : Replayed) → (ticked_before config limit r).changes ≡ r.changes
-before_changes config limit r =
-    kept_within next_in (tick_in config) (λ s. s.changes ≡ r.changes) (λ s is. ticked_changes config (next_in s) s ∙ is) limit limit r refl
+pub before_asked : (config : Configuration) (limit : ℕ) (r : Replayed) → (ticked_before config limit r).asked ≡ r.asked
+before_asked config limit r =
+    kept_within next_in (tick_in config) (λ s. s.asked ≡ r.asked) (λ s is. ticked_asked config (next_in s) s ∙ is) limit limit r refl
 
-taken_changes : (config : Configuration) (moment number : ℕ) (carried : Carried) (datagram : Option Datagram) (r : Replayed) →
-    (taken_or_skipped config moment number carried datagram r).changes ≡ r.changes
+taken_asked : (config : Configuration) (moment number : ℕ) (carried : Carried) (datagram : Option Datagram) (r : Replayed) →
+    (taken_or_skipped config moment number carried datagram r).asked ≡ r.asked
 unfolding received_at
-taken_changes config moment number carried (Some datagram) r = refl
-taken_changes config moment number carried None r = refl
+taken_asked config moment number carried (Some datagram) r = refl
+taken_asked config moment number carried None r = refl
 
-pub packet_changes : (config : Configuration) (moment number : ℕ) (carried : Carried) (r : Replayed) →
-    (with_packet config moment number carried r).changes ≡ r.changes
+pub packet_asked : (config : Configuration) (moment number : ℕ) (carried : Carried) (r : Replayed) →
+    (with_packet config moment number carried r).asked ≡ r.asked
 unfolding with_packet
-packet_changes config moment number carried r =
-    taken_changes config moment number carried (datagram_of config.family carried) (ticked_before config moment r) ∙ before_changes config moment r
+packet_asked config moment number carried r =
+    taken_asked config moment number carried (datagram_of config.family carried) (ticked_before config moment r) ∙ before_asked config moment r

@@ -8,15 +8,16 @@ use Rattle.mq_pcap.specs.declared.form.Form.{Form}
 use Rattle.mq_pcap.specs.declared.link_type.LinkType.{LinkType}
 use Rattle.mq_pcap.specs.Capture.{Captured, is_read}
 use Rattle.mq_pcap.specs.Filling.{InputState}
+use Rattle.mq_pcap.specs.Frame.{carried_in}
 use Rattle.mq_text.specs.Printing.{Passes}
 use Rattle.mq_text.proofs.Passing.{both_passed, broken_behind, nothing_passed}
 use Rattle.mq_replay.specs.declared.capture_fault.CaptureFault.{CaptureFault}
 use Rattle.mq_replay.specs.declared.capture_fault.CaptureFault.TheVariants as answer
 use Rattle.mq_replay.specs.declared.walked.Walked.{Walked}
 use Rattle.mq_replay.specs.Faults.{is_failed_write}
-use Rattle.mq_replay.specs.Listing.{AreLines, IsEndedBy, IsListing, place_text}
+use Rattle.mq_replay.specs.Listing.{AreLines, IsEndedBy, IsListing, place_in}
 use Rattle.mq_replay.specs.PlacedPackets.{Place, PlacedPacket, at_first, place_behind, placed}
-use Rattle.mq_replay.specs.Putting.{ListingState, PutsListing, TakesListed}
+use Rattle.mq_replay.specs.Putting.{ListingState, PutsListing, PutsPacket, TakesListed}
 use Rattle.mq_replay.specs.Walking.{IsBrokenOff, IsEndedByFault, IsStopped, ReadCapture, StepsOver, StepsOverAll, Walks}
 use Rattle.mq_replay.proofs.WalkedOver.{steps_counted}
 
@@ -38,43 +39,55 @@ module _ {X : Type 0} (state : X → ListingState) where
 
   record IsListedOver (link : LinkType) (at to : Place) (packets : List Captured) (x x' : X) : Type 0 where
     text : List ℕ
-    lines : (more : List Captured) (rest : List ℕ) → AreLines link to.first to.before to.number more rest →
-        AreLines link at.first at.before at.number (packets ++ more) (text ++ rest)
+    lines : (more : List Captured) (rest : List ℕ) → AreLines (state x).json link to.first to.before to.number more rest →
+        AreLines (state x).json link at.first at.before at.number (packets ++ more) (text ++ rest)
     passed : Passes (state x).output.held (state x').output.held (state x).held (state x').held text
     failed : (state x').output.failed ≡ (state x).output.failed
+    same_json : (state x').json ≡ (state x).json
 
   listed_over : (link : LinkType) (at to : Place) (packets : List Captured) (x x' : X) → StepsOver takes link at packets x to x' →
       IsListedOver link at to packets x x'
   listed_over link at to [] x x' steps = subst (λ (y : X). IsListedOver link at to [] x y) (sym steps.1) (record {
     text = [];
-    lines = λ more rest h. subst (λ (p : Place). AreLines link p.first p.before p.number more rest) steps.0 h;
+    lines = λ more rest h. subst (λ (p : Place). AreLines (state x).json link p.first p.before p.number more rest) steps.0 h;
     passed = nothing_passed _ _;
     failed = refl;
+    same_json = refl;
   })
   listed_over link at to (packet ∷ packets) x x' steps =
       let over = listed_over link (place_behind at packet.stamp) to packets steps.0 x' steps.2 in
       let puts = steps.1.puts in
-      let line = place_text at.number (placed link at packet).moment ++ puts.said in
+      let same : (state steps.0).json ≡ (state x).json = steps.1.same_json in
+      let behind : Place = place_behind at packet.stamp in
+      let line = place_in (state x).json at.number (placed link at packet).moment ++ puts.said in
       record {
         text = line ++ over.text;
-        lines = λ more rest h. (line, over.text ++ rest, append_assoc line over.text rest, (puts.said, puts.is_said, refl), over.lines more rest h);
+        lines = λ more rest h. (
+          line,
+          over.text ++ rest,
+          append_assoc line over.text rest,
+          (puts.said, puts.is_said, refl),
+          subst (λ (json : Bool). AreLines json link behind.first behind.before behind.number (packets ++ more) (over.text ++ rest)) same
+              (over.lines more rest (subst (λ (json : Bool). AreLines json link to.first to.before to.number more rest) (sym same) h)),
+        );
         passed = both_passed _ _ _ _ _ _ line over.text puts.put over.passed;
         failed = over.failed ∙ steps.1.failed ∙ or-false _;
+        same_json = over.same_json ∙ steps.1.same_json;
       }
 
   -- the lines of all packets
   lines_of : (form : Form) (to : Place) (packets : List Captured) (x x' : X) (over : IsListedOver form.link at_first to packets x x') →
-      IsListing (Ok form) packets over.text
+      IsListing (state x).json (Ok form) packets over.text
   lines_of form to packets x x' over = rw (← append-nil packets, ← append-nil over.text) (over.lines [] [] refl)
 
   abbrev Listed : (old new : InputState) (x x' : X) → CaptureFault → Type 0
-  Listed old new x x' e = PutsListing old new (state x).output.held (state x').output.held (state x).held (state x').held (Err e) ×
+  Listed old new x x' e = PutsListing (state x).json old new (state x).output.held (state x').output.held (state x).held (state x').held (Err e) ×
       ((state x').output.failed ≡ (state x).output.failed || is_failed_write {T = Walked} (Err e)) × (e ≡ answer.Memory → ⊥)
 
   by_fault : (c : ReadCapture) (old new : InputState) (x x' : X) (f : PcapFault) (header : Result Form PcapFault) → c.header ≡ header →
       StepsOverAll takes header c.packets x x'
-      → (text : List ℕ) × IsListing header c.packets text × Passes (state x).output.held (state x').output.held (state x).held (state x').held text ×
-      ((state x').output.failed ≡ (state x).output.failed)
+      → (text : List ℕ) × IsListing (state x).json header c.packets text
+      × Passes (state x).output.held (state x').output.held (state x).held (state x').held text × ((state x').output.failed ≡ (state x).output.failed)
   by_fault c old new x x' f (Err g) is_header same = (
     [],
     refl,
@@ -98,12 +111,13 @@ module _ {X : Type 0} (state : X → ListingState) where
           Listed old new x x' e'
       stopped it answer.Write stops =
           let over = listed_over it.form.link at_first it.to it.some x it.between it.steps in
-          let puts = stops.puts in
-          let line = place_text it.to.number (placed it.form.link it.to it.last).moment ++ puts.said in
+          let puts = subst (λ (json : Bool). PutsPacket {T = Unit} {E = Unit} json (state it.between).output.held (state x').output.held (state it.between).held
+          (state x').held it.to.number (placed it.form.link it.to it.last).moment (carried_in it.form.link it.last.bytes) (Err tt)) over.same_json stops.puts in
+          let line = place_in (state x).json it.to.number (placed it.form.link it.to it.last).moment ++ puts.said in
           let all = over.lines (it.last ∷ []) line (line, [], sym (append-nil line), (puts.said, puts.is_said, refl), refl) in
-          let listing : IsListing c.header c.packets (over.text ++ line) =
-          subst (λ (ps : List Captured). IsListing c.header ps (over.text ++ line)) (sym it.packets)
-          (subst (λ (h : Result Form PcapFault). IsListing h (it.some ++ it.last ∷ []) (over.text ++ line)) (sym it.header) all) in (
+          let listing : IsListing (state x).json c.header c.packets (over.text ++ line) =
+          subst (λ (ps : List Captured). IsListing (state x).json c.header ps (over.text ++ line)) (sym it.packets)
+          (subst (λ (h : Result Form PcapFault). IsListing (state x).json h (it.some ++ it.last ∷ []) (over.text ++ line)) (sym it.header) all) in (
             record {
               bytes = c.bytes;
               header = c.header;
@@ -148,7 +162,7 @@ module _ {X : Type 0} (state : X → ListingState) where
 
   -- the walk came to the end of the capture
   pub listed_well : (old new : InputState) (x x' : X) (w : Walked) → Walks takes (λ f it. it ≡ answer.Pcap f) old new x x' (Ok w)
-      → PutsListing old new (state x).output.held (state x').output.held (state x).held (state x').held (Ok w.packets) ×
+      → PutsListing (state x).json old new (state x).output.held (state x').output.held (state x).held (state x').held (Ok w.packets) ×
       ((state x').output.failed ≡ (state x).output.failed || false)
   listed_well old new x x' w walks =
       let c = walks.read in
@@ -157,8 +171,9 @@ module _ {X : Type 0} (state : X → ListingState) where
       let over = listed_over walked.form.link at_first to c.packets x x' walked.steps in
       let numbered : w.packets + 1 ≡ 1 + length c.packets = steps_counted takes walked.form.link at_first to c.packets x x' walked.steps in
       let counted : w.packets ≡ length c.packets = omega (arith, numbered) in
-      let listing : IsListing c.header c.packets over.text = subst (λ (h : Result Form PcapFault). IsListing h c.packets over.text)
-      (sym walked.header) (lines_of walked.form to c.packets x x' over) in (
+      let lines = lines_of walked.form to c.packets x x' over in
+      let listing : IsListing (state x).json c.header c.packets over.text =
+      subst (λ (h : Result Form PcapFault). IsListing (state x).json h c.packets over.text) (sym walked.header) lines in (
         record {
           bytes = c.bytes;
           header = c.header;

@@ -11,7 +11,7 @@ use Rattle.mq_text.specs.Printing.{Puts}
 use Rattle.mq_text.proofs.Passing.{nothing_passed, then_put, broken_within}
 use Rattle.mq_replay.specs.declared.query_outlet.QueryLines.{QueryLines}
 use Rattle.mq_replay.specs.QueryLines.{TakesQuery, PutsQuery}
-use Rattle.mq_replay.specs.ReplayLines.{query_line, query_lines}
+use Rattle.mq_replay.specs.Events.{Sends, event_in, query_events}
 
 module _ {W : Type 0} (contents : W → Option (List ℕ)) (family : Family) where
   abbrev takes : QueryLines W → Outgoing → Bool → QueryLines W → Type 0
@@ -43,23 +43,23 @@ module _ {W : Type 0} (contents : W → Option (List ℕ)) (family : Family) whe
       stays_broken handed.0 messages answers new fault (ap (λ (q : QueryLines W). q.answer) first ∙ broken) handed.2 ∙ first
 
   -- If no write had failed, the lines of all messages were put, or a prefix of them until a write failed.
-  pub record PrintedBy (moment : ℕ) (old : QueryLines W) (messages : List Outgoing) (answers : List Bool) (new : QueryLines W)
+  pub record PrintedBy (json : Bool) (moment : ℕ) (old : QueryLines W) (messages : List Outgoing) (answers : List Bool) (new : QueryLines W)
       (answer : Result Unit LineFault) : Type 0 where
     pub put : Puts (contents (inner_of old.writer.now)) (contents (inner_of new.writer.now)) old.buffer.now.items new.buffer.now.items
-        (query_lines family moment messages) answer
+        (query_events json family moment messages) answer
     pub failed : has_failed new.writer.now ≡ has_failed old.writer.now || is_err answer
     pub all_sent : IfOk answer (λ u. answers ≡ list_map (λ message. true) messages)
 
-  abbrev Printed : (moment : ℕ) (old : QueryLines W) (messages : List Outgoing) (answers : List Bool) (new : QueryLines W) → Type 0
-  Printed moment old messages answers new = PrintedBy moment old messages answers new new.answer
+  abbrev Printed : (json : Bool) (moment : ℕ) (old : QueryLines W) (messages : List Outgoing) (answers : List Bool) (new : QueryLines W) → Type 0
+  Printed json moment old messages answers new = PrintedBy json moment old messages answers new new.answer
 
   more_sent : (messages : List Outgoing) (message : Outgoing) (answer : Bool) (answers : List Bool) (r : Result Unit LineFault) → answer ≡ true
       → IfOk r (λ u. answers ≡ list_map (λ message. true) messages) → IfOk r (λ u. answer ∷ answers ≡ list_map (λ message. true) (message ∷ messages))
   more_sent messages message answer answers (Ok u) is sent = λ i. is i ∷ sent i
   more_sent messages message answer answers (Err fault) is sent = tt
 
-  none_printed : (moment : ℕ) (old : QueryLines W) (u : Unit {0}) → old.answer ≡ Ok u → Printed moment old [] [] old
-  none_printed moment old u fine =
+  none_printed : (json : Bool) (moment : ℕ) (old : QueryLines W) (u : Unit {0}) → old.answer ≡ Ok u → Printed json moment old [] [] old
+  none_printed json moment old u fine =
       let a = contents (inner_of old.writer.now) in
       let held = old.buffer.now.items in
       let none : List Bool = [] in
@@ -71,37 +71,41 @@ module _ {W : Type 0} (contents : W → Option (List ℕ)) (family : Family) whe
         all_sent = subst (λ (r : Result Unit LineFault). IfOk r (λ u. none ≡ list_map (λ message. true) messages)) (sym fine) refl;
       }
 
-  printed : (moment : ℕ) (old : QueryLines W) (messages : List Outgoing) (answers : List Bool) (new : QueryLines W)
-      → old.moment ≡ moment → (u : Unit {0}) → old.answer ≡ Ok u → HandsOver takes old messages answers new → Printed moment old messages answers new
-  printed moment old [] [] new at u fine same = subst (λ (q : QueryLines W). Printed moment old [] [] q) same (none_printed moment old u fine)
-  printed moment old [] (answer ∷ answers) new at u fine handed = absurd handed
-  printed moment old (message ∷ messages) [] new at u fine handed = absurd handed
-  printed moment old (message ∷ messages) (answer ∷ answers) new at u fine handed =
-      by_first handed.0.answer refl (λ v is. printed moment handed.0 messages answers new (handed.1.same_moment ∙ at) v is handed.2)
+  printed : (json : Bool) (moment : ℕ) (old : QueryLines W) (messages : List Outgoing) (answers : List Bool) (new : QueryLines W)
+      → old.json ≡ json → old.moment ≡ moment → (u : Unit {0}) → old.answer ≡ Ok u → HandsOver takes old messages answers new →
+      Printed json moment old messages answers new
+  printed json moment old [] [] new form at u fine same =
+      subst (λ (q : QueryLines W). Printed json moment old [] [] q) same (none_printed json moment old u fine)
+  printed json moment old [] (answer ∷ answers) new form at u fine handed = absurd handed
+  printed json moment old (message ∷ messages) [] new form at u fine handed = absurd handed
+  printed json moment old (message ∷ messages) (answer ∷ answers) new form at u fine handed =
+      by_first handed.0.answer refl
+      (λ v is. printed json moment handed.0 messages answers new (handed.1.same_json ∙ form) (handed.1.same_moment ∙ at) v is handed.2)
     where
       first : (r : Result Unit LineFault) → handed.0.answer ≡ r
           → Puts (contents (inner_of old.writer.now)) (contents (inner_of handed.0.writer.now)) old.buffer.now.items handed.0.buffer.now.items
-          (query_line family moment message.to message.bytes) r
+          (event_in json family moment (Sends message)) r
           × (has_failed handed.0.writer.now ≡ has_failed old.writer.now || is_err r)
       first r is =
           let put = subst (λ (r : Result Unit LineFault). PutsQuery contents family old message handed.0 r) fine handed.1.puts in
           let at_moment = subst
-          (λ (m : ℕ). Puts (contents (inner_of old.writer.now))
-          (contents (inner_of handed.0.writer.now)) old.buffer.now.items handed.0.buffer.now.items
-          (query_line family m message.to message.bytes) handed.0.answer) at put.0 in (
+          (λ (t : List ℕ). Puts (contents (inner_of old.writer.now))
+          (contents (inner_of handed.0.writer.now)) old.buffer.now.items handed.0.buffer.now.items t handed.0.answer)
+          (λ i. event_in (form i) family (at i) (Sends message)) put.0 in (
             subst (λ (r : Result Unit LineFault). Puts (contents (inner_of old.writer.now))
                 (contents (inner_of handed.0.writer.now)) old.buffer.now.items handed.0.buffer.now.items
-                (query_line family moment message.to message.bytes) r) is at_moment,
+                (event_in json family moment (Sends message)) r) is at_moment,
             subst (λ (r : Result Unit LineFault). has_failed handed.0.writer.now ≡ has_failed old.writer.now || is_err r) is put.1,
           )
 
-      by_first : (r : Result Unit LineFault) → handed.0.answer ≡ r → ((v : Unit {0}) → handed.0.answer ≡ Ok v → Printed moment handed.0 messages answers new)
-          → Printed moment old (message ∷ messages) (answer ∷ answers) new
+      by_first : (r : Result Unit LineFault) → handed.0.answer ≡ r
+          → ((v : Unit {0}) → handed.0.answer ≡ Ok v → Printed json moment handed.0 messages answers new)
+          → Printed json moment old (message ∷ messages) (answer ∷ answers) new
       by_first (Ok v) is others =
           let one = first (Ok v) is in
           let rest = others v is in
           record {
-            put = then_put _ _ _ _ _ _ (query_line family moment message.to message.bytes) (query_lines family moment messages) new.answer one.0 rest.put;
+            put = then_put _ _ _ _ _ _ (event_in json family moment (Sends message)) (query_events json family moment messages) new.answer one.0 rest.put;
             failed = rest.failed ∙ ap (λ (b : Bool). b || is_err new.answer) (one.1 ∙ or-false _);
             all_sent = more_sent messages message answer answers new.answer (handed.1.sent_is ∙ ap is_ok is) rest.all_sent;
           }
@@ -112,17 +116,19 @@ module _ {W : Type 0} (contents : W → Option (List ℕ)) (family : Family) whe
           let b = contents (inner_of handed.0.writer.now) in
           let held = old.buffer.now.items in
           let left = handed.0.buffer.now.items in
-          let lines = query_lines family moment (message ∷ messages) in
-          subst (λ (q : QueryLines W). Printed moment old (message ∷ messages) (answer ∷ answers) q) (sym stays) (record {
+          let lines = query_events json family moment (message ∷ messages) in
+          subst (λ (q : QueryLines W). Printed json moment old (message ∷ messages) (answer ∷ answers) q) (sym stays) (record {
             put = subst (λ (r : Result Unit LineFault). Puts a b held left lines r) (sym is)
-                (broken_within a b held (query_line family moment message.to message.bytes) (query_lines family moment messages) one.0);
+                (broken_within a b held (event_in json family moment (Sends message)) (query_events json family moment messages) one.0);
             failed = subst (λ (r : Result Unit LineFault). has_failed handed.0.writer.now ≡ has_failed old.writer.now || is_err r) (sym is) one.1;
             all_sent = subst (λ (r : Result Unit LineFault). IfOk r (λ u. answer ∷ answers ≡ list_map (λ message. true) (message ∷ messages))) (sym is) tt;
           })
 
   -- the same by the answer that the outlet gives at the end
-  pub printed_by : (moment : ℕ) (old : QueryLines W) (messages : List Outgoing) (answers : List Bool) (new : QueryLines W) (answer : Result Unit LineFault)
-      → old.moment ≡ moment → old.answer ≡ Ok tt → HandsOver takes old messages answers new → answer ≡ new.answer →
-      PrintedBy moment old messages answers new answer
-  printed_by moment old messages answers new answer at fine handed is =
-      subst (λ (r : Result Unit LineFault). PrintedBy moment old messages answers new r) (sym is) (printed moment old messages answers new at tt fine handed)
+  pub printed_by : (json : Bool) (moment : ℕ) (old : QueryLines W) (messages : List Outgoing) (answers : List Bool) (new : QueryLines W)
+      (answer : Result Unit LineFault)
+      → old.json ≡ json → old.moment ≡ moment → old.answer ≡ Ok tt → HandsOver takes old messages answers new → answer ≡ new.answer →
+      PrintedBy json moment old messages answers new answer
+  printed_by json moment old messages answers new answer form at fine handed is =
+      subst (λ (r : Result Unit LineFault). PrintedBy json moment old messages answers new r) (sym is)
+      (printed json moment old messages answers new form at tt fine handed)

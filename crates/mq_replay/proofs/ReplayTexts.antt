@@ -1,8 +1,9 @@
 -- The texts of a replay, in parts.
-use Rattle.std.proofs.Common.{◌≡◌, ℕ, ◌+◌, List, [], ◌∷◌, ◌++◌, take, drop, refl, sym, ap, ◌∙◌}
+use Rattle.std.proofs.Common.{◌≡◌, ℕ, ◌+◌, ◌<◌, List, [], ◌∷◌, ◌++◌, take, drop, get_or, length, refl, sym, ap, ◌∙◌}
 use Rattle.std.specs.Prelude.{map as list_map}
 use Rattle.std.specs.List.{flat_map}
 use Rattle.std.proofs.lemmas.List.Concat.{flat_map-append}
+use Rattle.std.proofs.lemmas.List.{drop_more}
 use Rattle.std.proofs.Math.Seq.{take-add}
 use Rattle.hex.specs.Hex.{encode_with, encode_lower}
 use Rattle.mq_wire.specs.Family.{Family}
@@ -35,16 +36,26 @@ encode_lower-next bytes done count =
     ap (flat_map byte_text) (take-add done count bytes) ∙ flat_map-append byte_text first next
     ∙ ap (λ (t : List ℕ). flat_map byte_text first ++ t) (sym (encode_lower-each next))
 
+-- the rest of a list is its next item and those after it
+pub one_left : {A : Type 0} (items : List A) (i : ℕ) (item default : A) → i < length items → item ≡ get_or items i default
+    → drop i items ≡ item ∷ drop (i + 1) items
+one_left items i item default within is = drop_more items i default within ∙ ap (λ (x : _). x ∷ drop (i + 1) items) (sym is)
+
 -- the sources of a stored group are in the order of their addresses
+module _ {K : Type 0} (number : K → ℕ) where
+  abbrev pair : Source K → ℕ × SourceTimer
+  pair x = (number x.address, x.timer)
+
+  pub timers-entries : (row : List (Source K)) → IsAscending (number_in number) row → map.entries (timers_in number row) ≡ list_map pair row
+  timers-entries row up =
+      entries-from_entries (list_map pair row) (sorted-ascending (list_map pair row) (IsAscending-map key_of pair row up))
+
 module _ {K : Type 0} (number : K → ℕ) (family : Family) where
   pub timers-row : (row : List (Source K)) → IsAscending (number_in number) row
       → flat_map (λ (e : ℕ × SourceTimer). timer_text family e.0 e.1) (map.entries (timers_in number row))
       ≡ flat_map (λ (x : Source K). timer_text family (number x.address) x.timer) row
   timers-row row up =
-      let pair : Source K → ℕ × SourceTimer = λ x. (number x.address, x.timer) in
-      let sorted = sorted-ascending (list_map pair row) (IsAscending-map key_of pair row up) in
-      ap (λ (es : List (ℕ × SourceTimer)). flat_map (λ (e : ℕ × SourceTimer). timer_text family e.0 e.1) es)
-      (entries-from_entries (list_map pair row) sorted) ∙ each row
+      ap (λ (es : List (ℕ × SourceTimer)). flat_map (λ (e : ℕ × SourceTimer). timer_text family e.0 e.1) es) (timers-entries number row up) ∙ each row
     where
       each : (row : List (Source K))
           → flat_map (λ (e : ℕ × SourceTimer). timer_text family e.0 e.1)

@@ -15,29 +15,29 @@ use Rattle.mq_replay.specs.declared.capture_fault.CaptureFault.{CaptureFault}
 use Rattle.mq_replay.specs.declared.capture_fault.CaptureFault.TheVariants as answer
 use Rattle.mq_replay.specs.declared.walked.Walked.{Walked}
 use Rattle.mq_replay.specs.Courses.{Report}
+use Rattle.mq_replay.specs.Events.{end_events}
 use Rattle.mq_replay.specs.PlacedPackets.{PlacedPacket}
 use Rattle.mq_replay.specs.PuttingReports.{IsRestPut, PutsReport, end_of, rest_at}
 use Rattle.mq_replay.specs.Report.{Replayed, at_the_start, ended_at, replay_of, ticked_before, with_packet}
-use Rattle.mq_replay.specs.ReplayLines.{end_lines}
 use Rattle.mq_replay.specs.Steps.{PutsReplayed, ReplayState, TakesReplayed, begun_with}
-use Rattle.mq_replay.proofs.Growing.{behind, as_behind, before_behind, next_packet, packet_changes}
+use Rattle.mq_replay.proofs.Growing.{behind, as_behind, before_behind, next_packet, packet_asked}
 use Rattle.mq_replay.proofs.ReportedOver.{IsPassed, IsStepped, Puts, WalksUpToGap, come_to_the_end, report_behind, reported_early, reported_well, rest_joined}
 
 -- the end of a replay behind a text
 abbrev with_end : Configuration → (moment : ℕ) → Replayed → Report Counters
 with_end config moment done = record {
-  text = done.text ++ end_lines config.family moment (is_querier done.link.election.role) done.link.groups done.link.counters;
+  text = done.text ++ end_events done.asked.json config.family moment (is_querier done.link.election.role) done.link.groups done.link.counters;
   answer = Ok done.link.counters;
 }
 
 end_behind : (config : Configuration) (moment : ℕ) (r : Replayed) →
-    ended_at config moment r ≡ report_behind r.text (ended_at config moment (begun_with r.changes r.link))
+    ended_at config moment r ≡ report_behind r.text (ended_at config moment (begun_with r.asked r.link))
 unfolding ended_at
 end_behind config moment r =
-    let done = ticked_before config (moment + 1) (begun_with r.changes r.link) in
-    let lines = end_lines config.family moment (is_querier done.link.election.role) done.link.groups done.link.counters in
+    let done = ticked_before config (moment + 1) (begun_with r.asked r.link) in
+    let lines = end_events done.asked.json config.family moment (is_querier done.link.election.role) done.link.groups done.link.counters in
     ap (with_end config moment)
-    (ap (ticked_before config (moment + 1)) (sym (as_behind r)) ∙ before_behind config (moment + 1) r.text (begun_with r.changes r.link))
+    (ap (ticked_before config (moment + 1)) (sym (as_behind r)) ∙ before_behind config (moment + 1) r.text (begun_with r.asked r.link))
     ∙ (λ i. record { text = append_assoc r.text done.text lines i; answer = Ok done.link.counters })
 
 -- the end of a replay doesn't fail
@@ -47,17 +47,17 @@ unfolding ended_at
 only_waits config moment number r e is = absurd (cc is)
 
 -- a packet behind what was replayed, of a link that has come there
-packet_of : {changes : Bool} (config : Configuration) (moment number : ℕ) (link : LinkValue) (frame : Carried) (r : Replayed) → link.config ≡ config →
-    r.link ≡ link.state → r.changes ≡ changes
-    → with_packet config moment number frame r ≡ behind r.text (with_packet link.config moment number frame (begun_with changes link.state))
+packet_of : {asked : Asked} (config : Configuration) (moment number : ℕ) (link : LinkValue) (frame : Carried) (r : Replayed) → link.config ≡ config →
+    r.link ≡ link.state → r.asked ≡ asked
+    → with_packet config moment number frame r ≡ behind r.text (with_packet link.config moment number frame (begun_with asked link.state))
 packet_of config moment number link frame r is_config is_link is_asked =
     next_packet config moment number frame r ∙ (λ i. behind r.text (with_packet (sym is_config i) moment number frame (begun_with (is_asked i) (is_link i))))
 
 -- the lines of a packet were put behind those of the packets before
-next_put : {changes : Bool} {T E : Type 0} (config : Configuration) (moment number : ℕ) (link link' : LinkValue) (frame : Carried)
+next_put : {asked : Asked} {T E : Type 0} (config : Configuration) (moment number : ℕ) (link link' : LinkValue) (frame : Carried)
     (before now after : Option (List ℕ)) (held more left : List ℕ) (x : T) (r : Replayed)
-    → link.config ≡ config → r.link ≡ link.state → r.changes ≡ changes → Passes before now held more r.text
-    → PutsReplayed {E = E} link link' (with_packet link.config moment number frame (begun_with changes link.state)) now after more left (Ok x)
+    → link.config ≡ config → r.link ≡ link.state → r.asked ≡ asked → Passes before now held more r.text
+    → PutsReplayed {E = E} link link' (with_packet link.config moment number frame (begun_with asked link.state)) now after more left (Ok x)
     → ((with_packet config moment number frame r).link ≡ link'.state) × Passes before after held left (with_packet config moment number frame r).text
 next_put config moment number link link' frame before now after held more left x r is_config is_link is_asked passed put =
     let next = packet_of config moment number link frame r is_config is_link is_asked in (
@@ -66,10 +66,10 @@ next_put config moment number link link' frame before now after held more left x
     )
 
 -- they were not put whole
-next_broken : {changes : Bool} {T E : Type 0} (config : Configuration) (moment number : ℕ) (link link' : LinkValue) (frame : Carried)
+next_broken : {asked : Asked} {T E : Type 0} (config : Configuration) (moment number : ℕ) (link link' : LinkValue) (frame : Carried)
     (before now after : Option (List ℕ)) (held more left : List ℕ) (e : E) (r : Replayed)
-    → link.config ≡ config → r.link ≡ link.state → r.changes ≡ changes → Passes before now held more r.text
-    → PutsReplayed {T = T} link link' (with_packet link.config moment number frame (begun_with changes link.state)) now after more left (Err e)
+    → link.config ≡ config → r.link ≡ link.state → r.asked ≡ asked → Passes before now held more r.text
+    → PutsReplayed {T = T} link link' (with_packet link.config moment number frame (begun_with asked link.state)) now after more left (Err e)
     → GrowsByBeginning before after (held ++ (with_packet config moment number frame r).text)
 next_broken config moment number link link' frame before now after held more left e r is_config is_link is_asked passed put =
     subst (λ (p : Replayed). GrowsByBeginning before after (held ++ p.text)) (sym (packet_of config moment number link frame r is_config is_link is_asked))
@@ -88,7 +88,7 @@ module _ {X : Type 0} (state : X → ReplayState) where
   -- the code has come to this replay, whose text was put behind what was held at the start
   pub record IsReplayedAt (config : Configuration) (asked : Asked) (before : OutputState) (first : List ℕ) (r : Replayed) (x : X) : Type 0 where
     pub link_is : r.link ≡ (state x).link.state
-    pub changes_are : r.changes ≡ asked.changes
+    pub asked_is : r.asked ≡ asked
     pub same_asked : (state x).asked ≡ asked
     pub same_config : (state x).link.config ≡ config
     pub passed : Passes before.held (out x).held first (held x) r.text
@@ -103,12 +103,12 @@ module _ {X : Type 0} (state : X → ReplayState) where
         takes packet x x' it → IsStepped (replay_of config asked) (IsReplayedAt config asked before first) out held before first packet r x' it
     stepped_at packet r x x' (Ok u) at step =
         let frame = carried_in packet.link packet.frame in
-        let changes = at.changes_are ∙ ap (λ (a : Asked). a.changes) (sym at.same_asked) in
+        let is_asked = at.asked_is ∙ sym at.same_asked in
         let next = next_put {T = Unit} {E = Unit} config packet.moment packet.number (state x).link (state x').link frame before.held
-        (out x).held (out x').held first (held x) (held x') tt r at.same_config at.link_is changes at.passed step.puts in (
+        (out x).held (out x').held first (held x) (held x') tt r at.same_config at.link_is is_asked at.passed step.puts in (
           record {
             link_is = next.0;
-            changes_are = packet_changes config packet.moment packet.number frame r ∙ at.changes_are;
+            asked_is = packet_asked config packet.moment packet.number frame r ∙ at.asked_is;
             same_asked = step.same_asked ∙ at.same_asked;
             same_config = step.puts.same_config ∙ at.same_config;
             passed = next.1;
@@ -117,9 +117,9 @@ module _ {X : Type 0} (state : X → ReplayState) where
           refl,
         )
     stepped_at packet r x x' (Err answer.Write) at step =
-        let changes = at.changes_are ∙ ap (λ (a : Asked). a.changes) (sym at.same_asked) in (
+        let is_asked = at.asked_is ∙ sym at.same_asked in (
           next_broken {T = Unit} {E = Unit} config packet.moment packet.number (state x).link (state x').link (carried_in packet.link packet.frame)
-              before.held (out x).held (out x').held first (held x) (held x') tt r at.same_config at.link_is changes at.passed step.puts,
+              before.held (out x).held (out x').held first (held x) (held x') tt r at.same_config at.link_is is_asked at.passed step.puts,
           step.failed ∙ ap (λ (b : Bool). b || true) at.failed,
         )
     stepped_at packet r x x' (Err (answer.Gap number)) at step = absurd step
@@ -145,10 +145,10 @@ module _ {X : Type 0} (state : X → ReplayState) where
     abbrev Is : Replayed → X → Type 0
     Is r x = IsReplayedAt config asked before first r x
 
-    here : Is (at_the_start config asked.changes) (inner y)
+    here : Is (at_the_start config asked) (inner y)
     here = record {
       link_is = sym starts;
-      changes_are = refl;
+      asked_is = refl;
       same_asked = refl;
       same_config = refl;
       passed = nothing_passed _ _;
@@ -171,16 +171,16 @@ module _ {X : Type 0} (state : X → ReplayState) where
 
       -- the end was put
       pub replayed_well : (after : Option (List ℕ)) (left : List ℕ) (it : Result Counters CaptureFault)
-          → IsRestPut (rest_at (λ end. ended_at (state (inner y')).link.config end (begun_with (state (inner y')).asked.changes (state (inner y')).link.state))
+          → IsRestPut (rest_at (λ end. ended_at (state (inner y')).link.config end (begun_with (state (inner y')).asked (state (inner y')).link.state))
           (end_of (state (inner y')).asked.until w.last (w.packets + 1))) (out (inner y')).held after (held (inner y')) left it
           → PutsReport (replay_of config asked) old new before.held after first left it
       replayed_well after left it put =
-          let rest = rest_at (λ end. ended_at (state (inner y')).link.config end (begun_with (state (inner y')).asked.changes (state (inner y')).link.state))
+          let rest = rest_at (λ end. ended_at (state (inner y')).link.config end (begun_with (state (inner y')).asked (state (inner y')).link.state))
           (end_of (state (inner y')).asked.until w.last (w.packets + 1)) in
           reported_well (replay_of config asked) Is out held before first inner takes (passed_at config asked before first)
           (stepped_at config asked before first) y here old new y' w walks after left it rest
           (λ r at. rest_joined (replay_of config asked) w.last (w.packets + 1) r
-          (λ end. ended_at config end (begun_with r.changes r.link)) (λ moment. end_behind config moment r)
+          (λ end. ended_at config end (begun_with r.asked r.link)) (λ moment. end_behind config moment r)
           ∙ (λ i. report_behind r.text (rest_at (λ end. ended_at (sym at.same_config i) end
-          (begun_with ((at.changes_are ∙ ap (λ (a : Asked). a.changes) (sym at.same_asked)) i) (at.link_is i)))
+          (begun_with ((at.asked_is ∙ sym at.same_asked) i) (at.link_is i)))
           (end_of (sym at.same_asked i).until w.last (w.packets + 1))))) put

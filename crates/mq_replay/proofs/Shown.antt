@@ -36,15 +36,16 @@ by_failure (Err (answer.Waiting number)) before after left text is put = absurd 
 by_failure (Err answer.Memory) before after left text is put = absurd (cc)
 
 -- the listing was put, and then the rest of it was written unless a write failed
-pub shown : (old new : InputState) (before : Option (List ℕ)) (mid after : OutputState) (held left rest : List ℕ) (r r' : Result ℕ CaptureFault) → held ≡ [] →
-    PutsListing old new before mid.held held left r → Finishes r mid after left rest r' → Shows old new before after.held r'
-shown old new before mid after held left rest r r' none puts ends = by_kind (is_failed_write r) refl ends
+pub shown : (json : Bool) (old new : InputState) (before : Option (List ℕ)) (mid after : OutputState) (held left rest : List ℕ)
+    (r r' : Result ℕ CaptureFault) → held ≡ [] →
+    PutsListing json old new before mid.held held left r → Finishes r mid after left rest r' → Shows json old new before after.held r'
+shown json old new before mid after held left rest r r' none puts ends = by_kind (is_failed_write r) refl ends
   where
     put : IsPut before mid.held [] left puts.text r
     put = subst (λ (h : List ℕ). IsPut before mid.held h left puts.text r) none puts.put
 
     shows : (x : Result ℕ CaptureFault) → IsEndedBy puts.header puts.packets puts.end puts.bytes old new x → IsWritten before after.held puts.text x →
-        Shows old new before after.held x
+        Shows json old new before after.held x
     shows x ended written = record {
       bytes = puts.bytes;
       header = puts.header;
@@ -58,7 +59,7 @@ shown old new before mid after held left rest r r' none puts ends = by_kind (is_
       written = written;
     }
 
-    by_kind : (b : Bool) → is_failed_write r ≡ b → FinishesBy b r mid after left rest r' → Shows old new before after.held r'
+    by_kind : (b : Bool) → is_failed_write r ≡ b → FinishesBy b r mid after left rest r' → Shows json old new before after.held r'
     by_kind true is (same, unwritten, _) =
         rw same (shows r puts.ended (subst (λ (o : OutputState). IsWritten before o.held puts.text r) (sym unwritten)
         (by_failure r before mid.held left puts.text is put)))
@@ -70,8 +71,8 @@ shown old new before mid after held left rest r r' none puts ends = by_kind (is_
         rw fails (shows (Err answer.Write) tt (begun_text before mid.held after.held left puts.text whole.0 begun))
 
 -- nothing was taken and nothing written
-pub nothing_shown : (s : InputState) (before : Option (List ℕ)) → Shows s s before before (Err answer.Memory)
-nothing_shown s before =
+pub nothing_shown : (json : Bool) (s : InputState) (before : Option (List ℕ)) → Shows json s s before before (Err answer.Memory)
+nothing_shown json s before =
     record {
       bytes = [];
       header = Err (fault.CutHeader 0);

@@ -5,30 +5,31 @@ use Rattle.mq_link.specs.Configuration.{Configuration}
 use Rattle.mq_link.specs.State.{LinkState}
 use Rattle.mq_link.specs.Tick.{tick_of, next_of}
 use Rattle.mq_text.proofs.Passing.{broken_within, nothing_passed, then_put}
+use Rattle.mq_replay.specs.declared.asked.Asked.{Asked}
 use Rattle.mq_replay.specs.Report.{Replayed, ticked_at}
 use Rattle.mq_replay.specs.Steps.{ReplayState, ReplaysTick, ReplaysTo, begun_with}
 use Rattle.mq_replay.specs.Ticks.{TicksInTurn, ticked_within}
-use Rattle.mq_replay.proofs.Growing.{as_behind, behind, next_in, tick_in, ticked_changes, within_behind}
+use Rattle.mq_replay.proofs.Growing.{as_behind, behind, next_in, tick_in, ticked_asked, within_behind}
 use Rattle.mq_replay.proofs.Ticking.{none_within, one_within}
 
 -- after a tick the next moment is later
-pub comes_later : {T E : Type 0} (changes : Bool) (config : Configuration) (before after : LinkState) (moment : ℕ) (r : Result T E) →
+pub comes_later : {T E : Type 0} (asked : Asked) (config : Configuration) (before after : LinkState) (moment : ℕ) (r : Result T E) →
     ((m : ℕ) → m < next_of (tick_of config m before).state)
-    → IfOk r (λ _. after ≡ (ticked_at config moment (begun_with changes before)).link) → IfOk r (λ _. moment < next_of after)
+    → IfOk r (λ _. after ≡ (ticked_at config moment (begun_with asked before)).link) → IfOk r (λ _. moment < next_of after)
 unfolding ticked_at
-comes_later changes config before after moment (Ok x) later same = subst (λ (s : LinkState). moment < next_of s) (sym same) (later moment)
-comes_later changes config before after moment (Err e) later same = tt
+comes_later asked config before after moment (Ok x) later same = subst (λ (s : LinkState). moment < next_of s) (sym same) (later moment)
+comes_later asked config before after moment (Err e) later same = tt
 
 -- a tick, and then the others behind its text
 abbrev rest_of : (most : ℕ) → Configuration → (limit : ℕ) → Replayed → Replayed
-rest_of most config limit r = ticked_within next_in (tick_in config) most limit (begun_with r.changes r.link)
+rest_of most config limit r = ticked_within next_in (tick_in config) most limit (begun_with r.asked r.link)
 
 one_ticked : (most : ℕ) (config : Configuration) (limit : ℕ) (r : Replayed) → next_in r < limit →
     ticked_within next_in (tick_in config) (suc most) limit r ≡ behind (tick_in config r).text (rest_of most config limit (tick_in config r))
 one_ticked most config limit r due =
     let next = tick_in config r in
     one_within next_in (tick_in config) most limit r due ∙ ap (ticked_within next_in (tick_in config) most limit) (sym (as_behind next))
-    ∙ within_behind most config limit next.text (begun_with next.changes next.link)
+    ∙ within_behind most config limit next.text (begun_with next.asked next.link)
 
 module _ {X : Type 0} (state : X → ReplayState) where
   abbrev next_at : X → ℕ
@@ -38,7 +39,7 @@ module _ {X : Type 0} (state : X → ReplayState) where
   ticks moment x x' r = ReplaysTick moment (state x) (state x') r
 
   abbrev start : X → Replayed
-  start x = begun_with (state x).asked.changes (state x).link.state
+  start x = begun_with (state x).asked (state x).link.state
 
   abbrev all : (most limit : ℕ) → X → Replayed
   all most limit x = ticked_within next_in (tick_in (state x).link.config) most limit (start x)
@@ -72,9 +73,9 @@ module _ {X : Type 0} (state : X → ReplayState) where
       let config = (state x).link.config in
       let next = tick_in config (start x) in
       let there = ticks_put limit n most mid x' r (omega (arith, enough, later)) rest in
-      let changes = ticked_changes config (next_at x) (start x) ∙ ap (λ a. a.changes) (sym step.same_asked) in
+      let asked = ticked_asked config (next_at x) (start x) ∙ sym step.same_asked in
       let same : rest_of most config limit next ≡ all most limit mid =
-      λ i. ticked_within next_in (tick_in (sym step.puts.same_config i)) most limit (begun_with (changes i) (sym step.puts.link i)) in
+      λ i. ticked_within next_in (tick_in (sym step.puts.same_config i)) most limit (begun_with (asked i) (sym step.puts.link i)) in
       subst (λ (p : Replayed). ReplaysTo {E = E} p (state x) (state x') r)
       (sym (one_ticked most config limit (start x) due ∙ ap (behind next.text) same))
       (record {

@@ -5,7 +5,7 @@ use Rattle.mq_replay.specs.Report.{Replayed, with_packet}
 use Rattle.mq_replay.specs.Steps.{PutsReplayed, ReplayState, ReplaysTo, begun_with}
 
 abbrev packet_of : (number moment : ℕ) → Carried → ReplayState → Replayed
-packet_of number moment frame old = with_packet old.link.config moment number frame (begun_with old.asked.changes old.link.state)
+packet_of number moment frame old = with_packet old.link.config moment number frame (begun_with old.asked old.link.state)
 
 abbrev Puts : {T E : Type 0} → Replayed → (old new : ReplayState) → Result T E → Type 0
 Puts replayed old new r = PutsReplayed old.link new.link replayed old.output.held new.output.held old.held new.held r

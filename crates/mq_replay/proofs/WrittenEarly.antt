@@ -6,7 +6,7 @@ use Rattle.mq_link.specs.Link.{LinkValue}
 use Rattle.mq_pcap.specs.Frame.{Carried}
 use Rattle.mq_text.specs.Printing.{Passes, Puts}
 use Rattle.mq_text.proofs.Passing.{put_as, then_put}
-use Rattle.mq_replay.specs.Listing.{place_text}
+use Rattle.mq_replay.specs.Listing.{place_in}
 use Rattle.mq_replay.specs.Putting.{PutsPacket}
 use Rattle.mq_replay.specs.Report.{Replayed}
 use Rattle.mq_replay.specs.Steps.{PutsReplayed}
@@ -18,13 +18,14 @@ then_nothing T E a b c held mid left text r passed put =
     put_as a c held left (text ++ []) text r (append-nil text) (then_put a b c held mid left text [] r passed put)
 
 -- this fact for the line of a packet
-pub packet_then_nothing : (T E : Type 0) (a b c : Option (List ℕ)) (held mid left : List ℕ) (number moment : ℕ) (carried : Carried) (x : T) (r : Result T E)
-    → PutsPacket {T = T} {E = E} a b held mid number moment carried (Ok x) → Puts b c mid left [] r → PutsPacket a c held left number moment carried r
-packet_then_nothing T E a b c held mid left number moment carried x r line put =
+pub packet_then_nothing : (json : Bool) (T E : Type 0) (a b c : Option (List ℕ)) (held mid left : List ℕ) (number moment : ℕ) (carried : Carried)
+    (x : T) (r : Result T E)
+    → PutsPacket {T = T} {E = E} json a b held mid number moment carried (Ok x) → Puts b c mid left [] r → PutsPacket json a c held left number moment carried r
+packet_then_nothing json T E a b c held mid left number moment carried x r line put =
     record {
       said = line.said;
       is_said = line.is_said;
-      put = then_nothing T E a b c held mid left (place_text number moment ++ line.said) r line.put put;
+      put = then_nothing T E a b c held mid left (place_in json number moment ++ line.said) r line.put put;
     }
 
 still_linked : {T E : Type 0} (after : LinkValue) (replayed : Replayed) (r : Result T E) → after.state ≡ replayed.link →

@@ -1,4 +1,4 @@
--- The lines of the groups that an event of a replay has changed.
+-- The line of a group that an event of a replay has changed.
 use Rattle.std.specs.Prelude.{ℕ, Bool, true, false, List, [], ◌∷◌, ◌++◌, codes, filter}
 use Rattle.std.specs.List.{flat_map}
 use Rattle.std.specs.Fmt.{decimal}
@@ -6,7 +6,6 @@ use Rattle.std.specs.FinMap as map
 use Rattle.mq_wire.specs.Family.{Family}
 use Rattle.mq_table.specs.Filter.{names}
 use Rattle.mq_table.specs.Group.{GroupState, is_include, timer_at}
-use Rattle.mq_held.specs.Groups.{Groups, group_at}
 use Rattle.mq_lines.specs.Text.{address_text, line_of}
 
 -- The filter of a group: nothing is forwarded, only what some sources send, or all but what some send.
@@ -34,13 +33,3 @@ change_start family moment group = decimal moment ++ codes " change " ++ address
 abbrev pub change_line : Family → (moment group : ℕ) → GroupState → List ℕ
 change_line family moment group g =
     change_start family moment group ++ line_of (filter_text family (is_include g.mode) (named_sources g))
-
--- the lines of groups, in order; a group that isn't held forwards nothing
-abbrev pub change_lines : Family → (moment : ℕ) → Groups → (addresses : List ℕ) → List ℕ
-change_lines family moment groups addresses =
-    flat_map (λ address. change_line family moment address (group_at groups address).group) addresses
-
--- lines that are written if they are requested
-abbrev pub lines_asked : (asked : Bool) → List ℕ → List ℕ
-lines_asked true lines = lines
-lines_asked false lines = []

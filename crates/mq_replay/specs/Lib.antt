@@ -1,6 +1,7 @@
 pub mod ChangeLines
 pub mod Courses
 pub mod Datagrams
+pub mod Events
 pub mod Faults
 pub mod Finishing
 pub mod Listing
@@ -10,6 +11,7 @@ pub mod Putting
 pub mod PuttingReports
 pub mod QueryLines
 pub mod ReplayLines
+pub mod ReplayObjects
 pub mod Replaying
 pub mod Report
 pub mod Reports

@@ -1,5 +1,5 @@
--- The listing of a capture: a line for each of its packets.
-use Rattle.std.specs.Prelude.{◌≡◌, ◌⊎◌, ℕ, ◌+◌, ◌-◌, max, nat_lt, Bool, true, List, [], ◌∷◌, ◌++◌, length, Option, None, Some, Result, Ok, Err, unwrap_or, codes}
+-- The listing of a capture: a line for each of its packets, as text or as an object of JSON.
+use Rattle.std.specs.Prelude.{◌≡◌, ◌⊎◌, ℕ, ◌+◌, ◌-◌, max, nat_lt, Bool, true, false, List, [], ◌∷◌, ◌++◌, length, Option, None, Some, Result, Ok, Err, unwrap_or, codes}
 use Rattle.std.specs.Fmt.{decimal}
 use Rattle.std.specs.Io.KnownBytes.{Appends, IsAtEnd}
 use Rattle.mq_pcap.specs.declared.fault.PcapFault.{PcapFault}
@@ -10,17 +10,19 @@ use Rattle.mq_pcap.specs.Capture.{Captured, Captures}
 use Rattle.mq_pcap.specs.Filling.{InputState, Takes}
 use Rattle.mq_pcap.specs.Frame.{Carried, Igmp, Mld, Other, Cut, Fragment, carried_in}
 use Rattle.mq_pcap.specs.Reading.{IsKnownThere}
+use Rattle.mq_wire.specs.Family.{Family}
 use Rattle.mq_wire.specs.Family as family
 use Rattle.mq_wire.specs.PseudoHeader.{pseudo_header}
 use Rattle.mq_text.specs.Printing.{GrowsByBeginning}
-use Rattle.mq_lines.specs.Line.{IsLineOf}
+use Rattle.mq_lines.specs.Line.{IsLineOf, IsObjectOf}
+use Rattle.mq_lines.specs.Objects.{address_object, protocol_text, truth_object}
 use Rattle.mq_lines.specs.Text.{address_text}
 use Rattle.mq_replay.specs.declared.capture_fault.CaptureFault.{CaptureFault}
 use Rattle.mq_replay.specs.declared.capture_fault.CaptureFault.TheVariants as answer
 
 -- the text of the message of a packet, or of the reason why there is none; it ends the line
 abbrev pub IsSaid : Carried → List ℕ → Type 0
-IsSaid (Igmp source body) text =
+IsSaid (Igmp source destination ttl alert body) text =
     (flag : Bool) × (line : List ℕ) × IsLineOf family.Igmp [] body flag line
     × (text ≡ address_text family.Igmp source ++ codes " igmp " ++ line)
 IsSaid (Mld source destination hop_limit alert body) text =
@@ -31,14 +33,52 @@ IsSaid Other text = text ≡ codes "other\n"
 IsSaid Cut text = text ≡ codes "cut\n"
 IsSaid Fragment text = text ≡ codes "fragment\n"
 
--- the number and the moment of a packet, each before a space
+-- the fields of a packet's headers, up to its message
+abbrev pub address_fields : Family → (source destination : ℕ) → List ℕ
+address_fields family source destination =
+    codes ",\"family\":\"" ++ protocol_text family ++ codes "\",\"source\":" ++ address_object family source
+    ++ codes ",\"destination\":" ++ address_object family destination
+
+abbrev pub header_fields : (ttl : ℕ) → (alert : Bool) → List ℕ
+header_fields ttl alert =
+    codes ",\"ttl\":" ++ decimal ttl ++ codes ",\"alert\":" ++ truth_object alert ++ codes ",\"message\":"
+
+abbrev pub packet_fields : Family → (source destination ttl : ℕ) → (alert : Bool) → List ℕ
+packet_fields family source destination ttl alert = address_fields family source destination ++ header_fields ttl alert
+
+-- the fields of a packet with the object of its message, or with the reason why there is none; they end the line
+abbrev pub IsObjectSaid : Carried → List ℕ → Type 0
+IsObjectSaid (Igmp source destination ttl alert body) text =
+    (flag : Bool) × (object : List ℕ) × IsObjectOf family.Igmp [] body flag object
+    × (text ≡ packet_fields family.Igmp source destination ttl alert ++ (object ++ codes "}\n"))
+IsObjectSaid (Mld source destination hop_limit alert body) text =
+    (flag : Bool) × (object : List ℕ)
+    × IsObjectOf family.Mld (pseudo_header source destination (length body)) body flag object
+    × (text ≡ packet_fields family.Mld source destination hop_limit alert ++ (object ++ codes "}\n"))
+IsObjectSaid Other text = text ≡ codes ",\"skipped\":\"other\"}\n"
+IsObjectSaid Cut text = text ≡ codes ",\"skipped\":\"cut\"}\n"
+IsObjectSaid Fragment text = text ≡ codes ",\"skipped\":\"fragment\"}\n"
+
+-- the number and the moment of a packet: each before a space, or in the first fields of its object
 abbrev pub place_text : (number moment : ℕ) → List ℕ
 place_text number moment = decimal number ++ codes " " ++ decimal moment ++ codes " "
 
+abbrev pub place_fields : (number moment : ℕ) → List ℕ
+place_fields number moment = codes "{\"packet\":" ++ decimal number ++ codes ",\"time\":" ++ decimal moment
+
+-- the same in both forms of lines
+abbrev pub place_in : (json : Bool) → (number moment : ℕ) → List ℕ
+place_in true = place_fields
+place_in false = place_text
+
+abbrev pub IsSaidIn : (json : Bool) → Carried → List ℕ → Type 0
+IsSaidIn true = IsObjectSaid
+IsSaidIn false = IsSaid
+
 -- the line of a packet
-abbrev pub IsPacketLine : LinkType → (number moment : ℕ) → (frame line : List ℕ) → Type 0
-IsPacketLine link number moment frame line =
-    (said : List ℕ) × IsSaid (carried_in link frame) said × (line ≡ place_text number moment ++ said)
+abbrev pub IsPacketLine : (json : Bool) → LinkType → (number moment : ℕ) → (frame line : List ℕ) → Type 0
+IsPacketLine json link number moment frame line =
+    (said : List ℕ) × IsSaidIn json (carried_in link frame) said × (line ≡ place_in json number moment ++ said)
 
 -- The moment of a packet: its stamp less that of the capture's first packet. If the moment of the packet before is
 -- greater, it is that moment. The moment of the first packet is 0.
@@ -52,17 +92,17 @@ goes_back first before stamp = nat_lt stamp (unwrap_or first stamp + before)
 
 -- The lines of packets, one after the other. `number` is that of the next packet, and its moment is counted from
 -- `first` and `before`.
-abbrev pub AreLines : LinkType → (first : Option ℕ) (before number : ℕ) → List Captured → List ℕ → Type 0
-AreLines link first before number [] text = text ≡ []
-AreLines link first before number (packet ∷ packets) text =
+abbrev pub AreLines : (json : Bool) → LinkType → (first : Option ℕ) (before number : ℕ) → List Captured → List ℕ → Type 0
+AreLines json link first before number [] text = text ≡ []
+AreLines json link first before number (packet ∷ packets) text =
     let moment = moment_of first before packet.stamp in
-    (line : List ℕ) × (rest : List ℕ) × (text ≡ line ++ rest) × IsPacketLine link number moment packet.bytes line
-    × AreLines link (Some (unwrap_or first packet.stamp)) moment (number + 1) packets rest
+    (line : List ℕ) × (rest : List ℕ) × (text ≡ line ++ rest) × IsPacketLine json link number moment packet.bytes line
+    × AreLines json link (Some (unwrap_or first packet.stamp)) moment (number + 1) packets rest
 
 -- The listing of a capture: the lines of its packets, numbered from 1. A capture with a fault in its header has none.
-abbrev pub IsListing : Result Form PcapFault → List Captured → List ℕ → Type 0
-IsListing (Ok form) packets text = AreLines form.link None 0 1 packets text
-IsListing (Err f) packets text = text ≡ []
+abbrev pub IsListing : (json : Bool) → Result Form PcapFault → List Captured → List ℕ → Type 0
+IsListing json (Ok form) packets text = AreLines json form.link None 0 1 packets text
+IsListing json (Err f) packets text = text ≡ []
 
 -- A fault of the bytes that were read is a fault of the whole file. They end the file, or the fault doesn't depend on
 -- what follows.
@@ -90,7 +130,7 @@ IsWritten old new text r = Appends old new text
 -- A capture was shown. Some bytes were read from the input. As a whole file they are a capture, and its listing was
 -- written. They are the whole file, or its prefix up to a fault that later bytes don't change, unless a read or a write
 -- failed.
-pub record Shows (old new : InputState) (before after : Option (List ℕ)) (r : Result ℕ CaptureFault) : Type 0 where
+pub record Shows (json : Bool) (old new : InputState) (before after : Option (List ℕ)) (r : Result ℕ CaptureFault) : Type 0 where
   pub bytes : List ℕ
   pub header : Result Form PcapFault
   pub packets : List Captured
@@ -98,6 +138,6 @@ pub record Shows (old new : InputState) (before after : Option (List ℕ)) (r : 
   pub text : List ℕ
   pub takes : Takes old new bytes
   pub capture : Captures bytes header packets end
-  pub listing : IsListing header packets text
+  pub listing : IsListing json header packets text
   pub ended : IsEndedBy header packets end bytes old new r
   pub written : IsWritten before after text r

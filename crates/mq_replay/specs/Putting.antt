@@ -1,5 +1,5 @@
 -- The results of the parts of a listing that go to a writer through a buffer.
-use Rattle.std.specs.Prelude.{◌≡◌, ℕ, ◌||◌, List, ◌++◌, Option, Result, Ok, Err, is_err}
+use Rattle.std.specs.Prelude.{◌≡◌, ℕ, Bool, ◌||◌, List, ◌++◌, Option, Result, Ok, Err, is_err}
 use Rattle.mq_pcap.specs.declared.fault.PcapFault.{PcapFault}
 use Rattle.mq_pcap.specs.declared.form.Form.{Form}
 use Rattle.mq_pcap.specs.Capture.{Captured, Captures}
@@ -8,34 +8,36 @@ use Rattle.mq_pcap.specs.Frame.{Carried, carried_in}
 use Rattle.mq_text.specs.Printing.{GrowsByBeginning, OutputState, Passes, Puts}
 use Rattle.mq_replay.specs.declared.capture_fault.CaptureFault.{CaptureFault}
 use Rattle.mq_replay.specs.declared.capture_fault.CaptureFault.TheVariants as answer
-use Rattle.mq_replay.specs.Listing.{IsSaid, place_text, IsListing, IsEndedBy}
+use Rattle.mq_replay.specs.Listing.{IsSaidIn, place_in, IsListing, IsEndedBy}
 use Rattle.mq_replay.specs.PlacedPackets.{PlacedPacket}
 
 -- the text of a packet was put
-pub record PutsSaid {T E : Type 0} (old new : Option (List ℕ)) (held left : List ℕ) (carried : Carried) (r : Result T E) : Type 0 where
+pub record PutsSaid {T E : Type 0} (json : Bool) (old new : Option (List ℕ)) (held left : List ℕ) (carried : Carried) (r : Result T E) : Type 0 where
   pub said : List ℕ
-  pub is_said : IsSaid carried said
+  pub is_said : IsSaidIn json carried said
   pub put : Puts old new held left said r
 
 -- the line of a packet was put
-pub record PutsPacket {T E : Type 0} (old new : Option (List ℕ)) (held left : List ℕ) (number moment : ℕ) (carried : Carried) (r : Result T E) : Type 0 where
+pub record PutsPacket {T E : Type 0} (json : Bool) (old new : Option (List ℕ)) (held left : List ℕ) (number moment : ℕ) (carried : Carried) (r : Result T E) : Type 0 where
   pub said : List ℕ
-  pub is_said : IsSaid carried said
-  pub put : Puts old new held left (place_text number moment ++ said) r
+  pub is_said : IsSaidIn json carried said
+  pub put : Puts old new held left (place_in json number moment ++ said) r
 
 -- a listing was put, or a prefix of it was written if a write failed
 abbrev pub IsPut : (old new : Option (List ℕ)) → (held left text : List ℕ) → Result ℕ CaptureFault → Type 0
 IsPut old new held left text (Err answer.Write) = GrowsByBeginning old new (held ++ text)
 IsPut old new held left text r = Passes old new held left text
 
--- a listing in the code: the text that isn't written yet, and the output
+-- a listing in the code: whether its lines are objects, the text that isn't written yet, and the output
 pub record ListingState : Type 0 where
+  pub json : Bool
   pub held : List ℕ
   pub output : OutputState
 
 -- the line of a packet was put, unless a write failed
 pub record ListsPacket {E : Type 0} (packet : PlacedPacket) (old new : ListingState) (r : Result Unit E) : Type 0 where
-  pub puts : PutsPacket old.output.held new.output.held old.held new.held packet.number packet.moment (carried_in packet.link packet.frame) r
+  pub same_json : new.json ≡ old.json
+  pub puts : PutsPacket old.json old.output.held new.output.held old.held new.held packet.number packet.moment (carried_in packet.link packet.frame) r
   pub failed : new.output.failed ≡ old.output.failed || is_err r
 
 -- the effect of a packet on a listing
@@ -48,7 +50,7 @@ TakesListed packet old new (Err (answer.Waiting number)) = ⊥
 TakesListed packet old new (Err answer.Memory) = ⊥
 
 -- the lines of a capture were put
-pub record PutsListing (old new : InputState) (before after : Option (List ℕ)) (held left : List ℕ) (r : Result ℕ CaptureFault) : Type 0 where
+pub record PutsListing (json : Bool) (old new : InputState) (before after : Option (List ℕ)) (held left : List ℕ) (r : Result ℕ CaptureFault) : Type 0 where
   pub bytes : List ℕ
   pub header : Result Form PcapFault
   pub packets : List Captured
@@ -56,6 +58,6 @@ pub record PutsListing (old new : InputState) (before after : Option (List ℕ))
   pub text : List ℕ
   pub takes : Takes old new bytes
   pub capture : Captures bytes header packets end
-  pub listing : IsListing header packets text
+  pub listing : IsListing json header packets text
   pub ended : IsEndedBy header packets end bytes old new r
   pub put : IsPut before after held left text r

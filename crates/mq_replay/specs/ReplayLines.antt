@@ -11,12 +11,9 @@ use Rattle.mq_table.specs.declared.timers.SourceTimer.{SourceTimer}
 use Rattle.mq_table.specs.declared.timers.SourceTimer.TheVariants.{Stopped, Running}
 use Rattle.mq_table.specs.Group.{GroupState}
 use Rattle.mq_pcap.specs.Frame.{Carried, Igmp, Mld, Other, Cut, Fragment}
-use Rattle.mq_held.specs.Groups.{Groups}
-use Rattle.mq_sched.specs.Schedule.{ScheduledGroup}
 use Rattle.mq_link.specs.declared.answers.Received.{Received}
 use Rattle.mq_link.specs.declared.answers.Received.TheVariants.{Taken, Dropped}
 use Rattle.mq_link.specs.Counters.{Counters, reason_number}
-use Rattle.mq_link.specs.Sent.{Outgoing}
 use Rattle.mq_lines.specs.Text.{address_text, line_of}
 
 -- a query as it is sent at a moment: its destination, and its bytes in lower-case hexadecimal
@@ -25,10 +22,6 @@ query_start family moment to = decimal moment ++ codes " send " ++ address_text 
 
 abbrev pub query_line : Family → (moment to : ℕ) → (bytes : List ℕ) → List ℕ
 query_line family moment to bytes = line_of (query_start family moment to ++ encode_lower bytes)
-
--- the queries of one moment, in order
-abbrev pub query_lines : Family → (moment : ℕ) → List Outgoing → List ℕ
-query_lines family moment queries = flat_map (λ query. query_line family moment query.to query.bytes) queries
 
 -- the numbers of applied, ignored and refused records of a datagram, or the number of the reason to drop it
 abbrev pub received_text : Received → List ℕ
@@ -47,7 +40,7 @@ receipt_line family moment number source answer =
 
 -- the reason why a packet isn't for the link; a message is of the other family
 abbrev pub skipped_text : Carried → List ℕ
-skipped_text (Igmp source body) = codes "other"
+skipped_text (Igmp source destination ttl alert body) = codes "other"
 skipped_text (Mld source destination hop_limit alert body) = codes "other"
 skipped_text Other = codes "other"
 skipped_text Cut = codes "cut"
@@ -95,10 +88,6 @@ abbrev pub group_line : Family → (group : ℕ) → GroupState → List ℕ
 group_line family group g =
     group_start family group g.mode ++ (timers_text family g ++ line_of (older_hosts_text g.v1 g.v2))
 
--- groups, in the order of their addresses
-abbrev pub group_lines : Family → Groups → List ℕ
-group_lines family groups = flat_map (λ (e : ℕ × ScheduledGroup). group_line family e.0 e.1.group) (map.entries groups)
-
 -- the counters of datagrams, of records, and of queries
 abbrev pub datagram_counts_text : Counters → List ℕ
 datagram_counts_text c = codes "received " ++ decimal c.received ++ codes " dropped " ++ decimal c.dropped
@@ -112,8 +101,3 @@ query_counts_text c = codes " sent " ++ decimal c.sent ++ codes " unsent " ++ de
 
 abbrev pub counts_line : Counters → List ℕ
 counts_line c = line_of (codes "counts " ++ datagram_counts_text c ++ record_counts_text c ++ query_counts_text c)
-
--- a link at the end of a replay: its role, its groups and its counters
-abbrev pub end_lines : Family → (moment : ℕ) (is_querier : Bool) → Groups → Counters → List ℕ
-end_lines family moment is_querier groups counters =
-    end_line moment is_querier ++ (group_lines family groups ++ counts_line counters)

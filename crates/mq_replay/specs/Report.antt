@@ -1,5 +1,6 @@
--- The text of a replay: a line for each query that the link sends and for each packet. If they are requested, there are
--- lines for the groups that each event changes. At the end are lines for the state of the link.
+-- The text of a replay: an event for each query that the link sends and for each packet. If they are requested, there are
+-- events for the groups that each of these changes. At the end are events for the state of the link. Each is a line of text
+-- or an object of JSON.
 use Rattle.std.specs.Prelude.{ℕ, ◌+◌, Bool, true, false, List, [], ◌∷◌, ◌++◌, filter, map as list_map, Option, None, Some, Result, Ok, Err}
 use Rattle.std.specs.Ordering.{nat_cmp}
 use Rattle.std.specs.FinMap as map
@@ -19,30 +20,29 @@ use Rattle.mq_link.specs.Sent.{Outgoing, outgoing_of}
 use Rattle.mq_link.specs.State.{LinkState, link_at}
 use Rattle.mq_link.specs.Tick.{Step, tick_of, next_of}
 use Rattle.mq_replay.specs.declared.asked.Asked.{Asked}
-use Rattle.mq_replay.specs.ChangeLines.{change_lines, lines_asked}
 use Rattle.mq_replay.specs.Courses.{Report, Work}
-use Rattle.mq_replay.specs.ReplayLines.{query_lines, receipt_line, skip_line, end_lines}
+use Rattle.mq_replay.specs.Events.{Receives, Skips, change_events, end_events, event_in, if_asked, query_events}
 use Rattle.mq_replay.specs.Ticks as ticks
 
--- A replay under way: the link, the text so far, and whether the lines of changed groups are requested.
+-- A replay under way: the link, the text so far, and what is requested of it.
 pub record Replayed : Type 0 where
   pub link : LinkState
   pub text : List ℕ
-  pub changes : Bool
+  pub asked : Asked
 
 -- the replay at the start: the link starts at 0, and nothing is written
-abbrev pub at_the_start : Configuration → (changes : Bool) → Replayed
-at_the_start config changes = record { link = link_at config 0; text = []; changes = changes }
+abbrev pub at_the_start : Configuration → Asked → Replayed
+at_the_start config asked = record { link = link_at config 0; text = []; asked = asked }
 
 -- the answers of a replay's outlet: each message is sent
 abbrev pub all_sent : List Outgoing → List Bool
 all_sent messages = list_map (λ message. true) messages
 
--- the replay after a step of the link at a moment, with a line for each message
+-- the replay after a step of the link at a moment, with an event for each message
 abbrev pub after_step : Configuration → (moment : ℕ) → Step → Replayed → Replayed
 after_step config moment step r =
     let messages = outgoing_of config step in
-    record r { link = answered (all_sent messages) step; text = r.text ++ query_lines config.family moment messages }
+    record r { link = answered (all_sent messages) step; text = r.text ++ query_events r.asked.json config.family moment messages }
 
 -- these addresses in ascending order, each once
 abbrev pub in_order : List ℕ → List ℕ
@@ -52,10 +52,10 @@ in_order addresses = map.keys (map.from_entries {R = nat_cmp} (list_map (λ addr
 abbrev pub those_among : (test : ℕ → Bool) → (addresses : List ℕ) → List ℕ
 those_among test addresses = filter test (in_order addresses)
 
--- the replay with the lines of the groups that were changed at a moment, after all other lines of the event
+-- the replay with the events of the groups that were changed at a moment, after all others of that moment's event
 abbrev pub with_changes : Family → (moment : ℕ) → (changed : List ℕ) → Replayed → Replayed
 with_changes family moment changed r =
-    record r { text = r.text ++ lines_asked r.changes (change_lines family moment r.link.groups changed) }
+    record r { text = r.text ++ if_asked r.asked.changes (change_events r.asked.json family moment r.link.groups changed) }
 
 -- the replay after a tick at a moment, which only changes groups that are held
 unfoldable pub ticked_at : Configuration → (moment : ℕ) → Replayed → Replayed
@@ -74,7 +74,7 @@ pub record Datagram : Type 0 where
 
 -- the datagram of a packet that carries a message of the family; for IGMP only the source is looked at
 abbrev pub datagram_of : Family → Carried → Option Datagram
-datagram_of family.Igmp (Igmp source body) =
+datagram_of family.Igmp (Igmp source destination ttl alert body) =
     Some (record { envelope = record { source = source; destination = 0; hop_limit = 0; alert = false }; body = body })
 datagram_of family.Igmp carried = None
 datagram_of family.Mld (Mld source destination hop_limit alert body) = Some (record {
@@ -104,14 +104,14 @@ received_at config moment number datagram r =
     let after = after_step config moment receipt.step r in
     with_changes config.family moment (changed_at config moment datagram r.link)
     (record after {
-      text = after.text ++ receipt_line config.family moment number datagram.envelope.source receipt.answer;
+      text = after.text ++ event_in r.asked.json config.family moment (Receives number datagram.envelope.source receipt.answer);
     })
 
 -- the replay after a packet that has a datagram for the link, or is skipped
 abbrev pub taken_or_skipped : Configuration → (moment number : ℕ) → Carried → Option Datagram → Replayed → Replayed
 taken_or_skipped config moment number carried (Some datagram) r = received_at config moment number datagram r
 taken_or_skipped config moment number carried None r =
-    record r { text = r.text ++ skip_line moment number carried }
+    record r { text = r.text ++ event_in r.asked.json config.family moment (Skips number carried) }
 
 -- the replay after packet `number` at its moment, and after the ticks before it
 unfoldable pub with_packet : Configuration → (moment number : ℕ) → Carried → Replayed → Replayed
@@ -125,14 +125,14 @@ ended_at config moment r =
     record {
       text =
           done.text
-          ++ end_lines config.family moment (is_querier done.link.election.role) done.link.groups done.link.counters;
+          ++ end_events done.asked.json config.family moment (is_querier done.link.election.role) done.link.groups done.link.counters;
       answer = Ok done.link.counters;
     }
 
 -- the replay of a capture, as work over its packets
 abbrev pub replay_of : Configuration → Asked → Work Replayed Counters
 replay_of config asked = record {
-  start = at_the_start config asked.changes;
+  start = at_the_start config asked;
   step = λ packet r. with_packet config packet.moment packet.number (carried_in packet.link packet.frame) r;
   is_full = λ r. false;
   text = λ r. r.text;

@@ -1,5 +1,5 @@
 -- The effects of the parts of a replay on a link and on the text.
-use Rattle.std.specs.Prelude.{◌≡◌, ℕ, Bool, ◌||◌, List, [], Option, Result, Ok, Err, IfOk, is_err}
+use Rattle.std.specs.Prelude.{◌≡◌, ℕ, ◌||◌, List, [], Option, Result, Ok, Err, IfOk, is_err}
 use Rattle.mq_pcap.specs.Frame.{carried_in}
 use Rattle.mq_link.specs.Link.{LinkValue}
 use Rattle.mq_link.specs.State.{LinkState}
@@ -11,8 +11,8 @@ use Rattle.mq_replay.specs.PlacedPackets.{PlacedPacket}
 use Rattle.mq_replay.specs.Report.{Replayed, ticked_at, with_packet}
 
 -- a replay of a link in this state, with nothing written
-abbrev pub begun_with : (changes : Bool) → LinkState → Replayed
-begun_with changes link = record { link = link; text = []; changes = changes }
+abbrev pub begun_with : Asked → LinkState → Replayed
+begun_with asked link = record { link = link; text = []; asked = asked }
 
 -- A link is in the state of a replay, and the text of the replay was put, unless a write failed.
 pub record PutsReplayed {T E : Type 0} (before after : LinkValue) (replayed : Replayed) (old new : Option (List ℕ)) (held left : List ℕ)
@@ -38,11 +38,11 @@ pub record ReplaysTo {E : Type 0} (replayed : Replayed) (old new : ReplayState) 
 abbrev pub ReplaysPacket : {E : Type 0} → PlacedPacket → (old new : ReplayState) → Result Unit E → Type 0
 ReplaysPacket packet old new r =
     ReplaysTo (with_packet old.link.config packet.moment packet.number (carried_in packet.link packet.frame)
-    (begun_with old.asked.changes old.link.state)) old new r
+    (begun_with old.asked old.link.state)) old new r
 
 -- the effect of a tick at a moment
 abbrev pub ReplaysTick : {E : Type 0} → (moment : ℕ) → (old new : ReplayState) → Result Unit E → Type 0
-ReplaysTick moment old new r = ReplaysTo (ticked_at old.link.config moment (begun_with old.asked.changes old.link.state)) old new r
+ReplaysTick moment old new r = ReplaysTo (ticked_at old.link.config moment (begun_with old.asked old.link.state)) old new r
 
 -- the effect of a packet without a gap before it on a replay
 abbrev pub TakesReplayed : PlacedPacket → ReplayState → ReplayState → Result Unit CaptureFault → Type 0

@@ -5,6 +5,8 @@
 pub struct Asked {
     /// The moment until which it runs at least, in milliseconds, if one is given.
     pub until: Option<u64>,
-    /// True if each event has lines for the groups that it changed.
+    /// True if it tells the groups that each event changes.
     pub changes: bool,
+    /// True if it writes objects of JSON in place of lines.
+    pub json: bool,
 }

@@ -18,13 +18,13 @@ pub enum CaptureFault {
     #[error("write failed")]
     Write,
     /// A moment more than a day after the one before it. A listing never fails with it.
-    #[error("gap before record {number}")]
+    #[error("record {number}: more than a day lies between the packet before and this one, or the end")]
     Gap {
         /// The number of the packet after the gap. If the gap is before the requested end, it is the packet count plus 1.
         number: u64,
     },
     /// More than 65536 pending entries. Only a check fails with it.
-    #[error("too many queries wait at record {number}")]
+    #[error("record {number}: more than 65536 queries wait for those that they go with")]
     Waiting {
         /// The number of the packet at which the limit was exceeded. At the end of a check, it is the packet count plus 1.
         number: u64,

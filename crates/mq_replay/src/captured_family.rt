@@ -35,7 +35,7 @@ impl CapturedFamily for Igmp {
 
     fn datagram<'a>(inner: &Inner<'a>) -> Option<CapturedDatagram<'a, IgmpEnvelope>> {
         match inner {
-            Inner::Igmp { source, body } => Some(CapturedDatagram {
+            Inner::Igmp { source, body, .. } => Some(CapturedDatagram {
                 envelope: IgmpEnvelope { source: *source },
                 body,
             }),

@@ -5,7 +5,7 @@ ghost use Rattle.mq_count.specs.Streams.{inner_of, has_failed};
 ghost use Rattle.mq_text.specs.Printing.{Puts};
 ghost use Rattle.mq_replay.specs.Courses.{last_moment};
 ghost use Rattle.mq_replay.specs.PlacedPackets.{is_gap};
-ghost use Rattle.mq_replay.specs.ReplayLines.{group_lines};
+ghost use Rattle.mq_replay.specs.Events.{group_events};
 ghost use Rattle.mq_replay.specs.Report.{ended_at};
 ghost use Rattle.mq_replay.specs.Steps.{begun_with};
 
@@ -56,21 +56,25 @@ where
     ensures text { Puts
         (W.contents (inner_of writer.old)) (W.contents (inner_of writer.new))
         replay.old.buffer.items replay.new.buffer.items
-        (ended_at replay.old.link.config end (begun_with replay.old.asked.changes replay.old.link.state)).text result }
+        (ended_at replay.old.link.config end (begun_with replay.old.asked replay.old.link.state)).text result }
     ensures answer { IfOk result (λ _.
-        (ended_at replay.old.link.config end (begun_with replay.old.asked.changes replay.old.link.state)).answer
+        (ended_at replay.old.link.config end (begun_with replay.old.asked replay.old.link.state)).answer
         ≡ Ok replay.new.link.state.counters) }
     ensures failed { has_failed writer.new ≡ has_failed writer.old || is_err result }
 {
     replay.link.config().is_faultless();
+    let json = replay.asked.json;
     replay.put_ticks(end.after(Span::from_ms(1)), writer)?;
-    put_role(end, replay.link.is_querier(), &mut replay.buffer, writer)?;
-    put_groups(&replay.link, &mut replay.buffer, writer)?;
-    put_counts(replay.link.counts(), &mut replay.buffer, writer)
+    let is_querier = replay.link.is_querier();
+    put_role(json, end, is_querier, &mut replay.buffer, writer)?;
+    put_groups(json, end, &replay.link, &mut replay.buffer, writer)?;
+    put_counts(json, replay.link.counts(), &mut replay.buffer, writer)
 }
 
-/// Puts the lines of the groups that a link holds.
+/// Puts the groups that a link holds.
 fn put_groups<F: CapturedFamily, A: Allocator, W: Write>(
+    json: bool,
+    moment: Moment,
     link: &Link<F, A>,
     buffer: &mut Text,
     writer: &mut Watched<W>,
@@ -79,11 +83,11 @@ where
     F::Address: LineKey,
     ensures text { Puts
         (W.contents (inner_of writer.old)) (W.contents (inner_of writer.new))
-        buffer.old.items buffer.new.items (group_lines F.FAMILY link.now.state.groups) result }
+        buffer.old.items buffer.new.items (group_events json F.FAMILY moment link.now.state.groups) result }
     ensures failed { has_failed writer.new ≡ has_failed writer.old || is_err result }
 {
     for place in 0..link.len() {
-        put_group(link.entry(place), buffer, writer)?;
+        put_group(json, moment, link.entry(place), buffer, writer)?;
     }
     Ok(())
 }

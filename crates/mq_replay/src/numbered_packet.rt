@@ -1,6 +1,6 @@
 //! Packets of a capture with their places in it.
 
-ghost use Rattle.std.specs.Prelude.{◌≡◌};
+ghost use Rattle.std.specs.Prelude.{◌≡◌, ◌+◌};
 ghost use Rattle.mq_replay.specs.PlacedPackets as spec;
 
 use crate::ending::is_gap;
@@ -24,6 +24,9 @@ pub struct NumberedPacket<'a> {
     pub frame: &'a [u8],
     /// True if a read of the next packet may wait.
     pub may_wait: bool,
+    /// The number of the packet whose read may wait.
+    pub waits_for: u64,
+    ghost waits_for_next: { waits_for ≡ number + 1 },
 }
 
 impl NumberedPacket<'_> {

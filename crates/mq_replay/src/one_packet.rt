@@ -6,6 +6,7 @@ ghost use Rattle.mq_pcap.specs.Frame.{carried_of};
 ghost use Rattle.mq_replay.specs.Report.{received_at, with_packet};
 ghost use Rattle.mq_replay.specs.Steps.{PutsReplayed, begun_with};
 
+use crate::asked::Asked;
 use crate::captured_family::{CapturedDatagram, CapturedFamily};
 use crate::change_lines::put_changes;
 use crate::replay_lines::{put_receipt, put_skip};
@@ -19,7 +20,7 @@ use mq_text::{LineFault, Text};
 use std::alloc::Allocator;
 use std::io::Write;
 
-/// Ticks before a packet, then gives its datagram to the link or skips it, and puts the lines of all this.
+/// Ticks before a packet, then gives its datagram to the link or skips it, and puts the events of all this.
 pub(crate) fn replay_packet<F: CapturedFamily, A: Allocator, W: Write>(
     replay: &mut Replay<F, A>,
     moment: Moment,
@@ -32,35 +33,36 @@ where
     requires { moment ≤ 2 ^ 53 }
     ensures asked { replay.new.asked ≡ replay.old.asked }
     ensures puts { PutsReplayed replay.old.link replay.new.link
-        (with_packet replay.old.link.config moment number (carried_of inner.now) (begun_with replay.old.asked.changes replay.old.link.state))
+        (with_packet replay.old.link.config moment number (carried_of inner.now) (begun_with replay.old.asked replay.old.link.state))
         (W.contents (inner_of writer.old)) (W.contents (inner_of writer.new))
         replay.old.buffer.items replay.new.buffer.items result }
     ensures failed { has_failed writer.new ≡ has_failed writer.old || is_err result }
 {
     replay.link.config().is_faultless();
-    let changes = replay.asked.changes;
+    let asked = replay.asked;
+    let json = asked.json;
     replay.put_ticks(moment, writer)?;
     match F::datagram(inner) {
         Some(datagram) => hand_over(
             &mut replay.link,
             moment,
             number,
-            changes,
+            asked,
             datagram,
             &mut replay.buffer,
             writer,
         ),
-        None => put_skip(moment, number, inner, &mut replay.buffer, writer),
+        None => put_skip(json, moment, number, inner, &mut replay.buffer, writer),
     }
 }
 
-/// Gives a datagram to a link, and puts the lines of the queries that it sends and of its answer. Then it puts the
-/// lines of the groups that it changes, if they are requested.
+/// Gives a datagram to a link, and puts the queries that it sends and its answer. Then it puts the groups that it
+/// changes, if they are requested.
 fn hand_over<F: CapturedFamily, A: Allocator, W: Write>(
     link: &mut Link<F, A>,
     moment: Moment,
     number: u64,
-    changes: bool,
+    asked: Asked,
     datagram: CapturedDatagram<'_, F::Envelope>,
     buffer: &mut Text,
     writer: &mut Watched<W>,
@@ -69,7 +71,7 @@ where
     F::Address: LineKey,
     requires { moment ≤ 2 ^ 53 }
     ensures puts { PutsReplayed link.old link.new
-        (received_at link.old.config moment number (record { envelope = F.envelope_of datagram.entry.envelope; body = datagram.entry.body.now }) (begun_with changes link.old.state))
+        (received_at link.old.config moment number (record { envelope = F.envelope_of datagram.entry.envelope; body = datagram.entry.body.now }) (begun_with asked link.old.state))
         (W.contents (inner_of writer.old)) (W.contents (inner_of writer.new))
         buffer.old.items buffer.new.items result }
     ensures failed { has_failed writer.new ≡ has_failed writer.old || is_err result }
@@ -80,10 +82,12 @@ where
         &datagram.envelope,
         datagram.body,
         moment,
+        asked.json,
         buffer,
         writer,
     )?;
     put_receipt(
+        asked.json,
         moment,
         number,
         F::source(&datagram.envelope),
@@ -91,5 +95,5 @@ where
         buffer,
         writer,
     )?;
-    put_changes(link, moment, changes, buffer, writer)
+    put_changes(link, moment, asked, buffer, writer)
 }

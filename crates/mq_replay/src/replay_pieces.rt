@@ -104,7 +104,7 @@ pub(crate) fn put_skip_line(buffer: &mut Text, moment: Moment, number: u64, inne
 }
 
 /// Puts the reason to skip a packet at the end.
-fn put_skipped(buffer: &mut Text, inner: &Inner<'_>)
+pub(crate) fn put_skipped(buffer: &mut Text, inner: &Inner<'_>)
     requires { array_vec_len buffer.old + 8 ≤ 4096 }
     ensures text { buffer.new.items ≡ buffer.old.items ++ spec.skipped_text (carried_of inner.now) }
     ensures room { array_vec_len buffer.new ≤ array_vec_len buffer.old + 8 }
@@ -243,7 +243,7 @@ fn put_query_counts(buffer: &mut Text, counts: &Counts)
 }
 
 /// Puts a number at the end after its name.
-fn put_count(buffer: &mut Text, name: &[u8], count: u64)
+pub(crate) fn put_count(buffer: &mut Text, name: &[u8], count: u64)
     requires { array_vec_len buffer.old + 20 + length name.now ≤ 4096 }
     ensures text { buffer.new.items ≡ buffer.old.items ++ (name.now ++ decimal count) }
     ensures room { array_vec_len buffer.new ≤ array_vec_len buffer.old + 20 + length name.now }

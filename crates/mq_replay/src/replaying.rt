@@ -35,9 +35,9 @@ use std::io::{Read, Write};
 /// Replays a capture on a link with this configuration, and returns its counters.
 ///
 /// The link starts at 0, and receives the datagrams of the capture at their moments, with a tick at each of its next
-/// moments between. The replay writes a line for each query that is sent and for each packet. If they are requested, it
-/// writes lines for the groups that each event changes. At the end it writes the state of the link. The end is the
-/// moment of the last packet, or the requested one if it is later.
+/// moments between. The replay writes a line, or an object of JSON, for each query that is sent and for each packet. If
+/// they are requested, it writes the groups that each event changes. At the end it writes the state of the link. The end is
+/// the moment of the last packet, or the requested one if it is later.
 ///
 /// All memory is allocated before anything is read or written. If the capture has a fault or a gap, the lines of all
 /// that comes before it are written first. Before a read that may wait by the stream's `supply`, the lines so far are
@@ -90,7 +90,7 @@ where
     ensures failed { has_failed writer.new ≡ has_failed writer.old || spec.is_failed_write result }
     ensures memory { result ≡ Err CaptureFault.Memory → (reader.new ≡ reader.old) × (writer.new ≡ writer.old) }
     ensures takes { Takes
-        (bytes_for 1 most_bytes + (bytes_of_workspace F.Address.row config.limits + bytes_of_link (page.the_row u16 A.row ⟦<A as Allocator>⟧) F.Address.row config.limits))
+        (bytes_for 1 most_bytes + (bytes_of_workspace F.Address.row config.room + bytes_of_link (page.the_row u16 A.row ⟦<A as Allocator>⟧) F.Address.row config.room))
         (M.less_than memory.old) (M.less_than memory.new) (spec.is_granted result) }
 {
     let packet: Result<Vec<u8, A>, AllocError> = filled(memory, 0, GREATEST_PACKET);
@@ -103,8 +103,21 @@ where
     let mut replay = UpToGap {
         steps: Replay::new(link, asked),
     };
-    replay_on(&mut replay, packet.as_mut_slice(), supply, reader, writer)?;
-    Ok(replay.steps.link.into_counts())
+    let answer = replay_on(&mut replay, packet.as_mut_slice(), supply, reader, writer);
+    counters_of(replay.steps.link, answer)
+}
+
+/// Returns the counters of a link after a replay with this result, or its fault.
+fn counters_of<F: CapturedFamily, A: Allocator>(
+    link: Link<F, A>,
+    answer: Result<(), CaptureFault>,
+) -> Result<Counts, CaptureFault>
+where
+    F::Address: LineKey,
+    ensures { result ≡ counted link.state.counters answer }
+{
+    answer?;
+    Ok(link.into_counts())
 }
 
 /// Replays a capture on a link at its start, with memory of the caller for a packet.
@@ -167,7 +180,7 @@ where
     F::Address: LineKey,
     requires { IfSome replay.old.asked.until (λ moment. moment ≤ 2 ^ 53) }
     ensures rest { IsRestPut
-        (rest_at (λ end. ended_at replay.old.link.config end (begun_with replay.old.asked.changes replay.old.link.state))
+        (rest_at (λ end. ended_at replay.old.link.config end (begun_with replay.old.asked replay.old.link.state))
         (end_of replay.old.asked.until walked.last (walked.packets + 1)))
         (W.contents (inner_of writer.old)) (W.contents (inner_of writer.new))
         replay.old.buffer.items replay.new.buffer.items (counted replay.new.link.state.counters result) }

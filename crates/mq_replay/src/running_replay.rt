@@ -51,7 +51,7 @@ where
         }
     }
 
-    /// Ticks the link at its next moments, while these are before `limit`, and puts their lines.
+    /// Ticks the link at its next moments, while these are before `limit`, and puts their events.
     pub(crate) fn put_ticks<W: Write>(
         &mut self,
         limit: Moment,
@@ -60,7 +60,7 @@ where
         requires { limit ≤ 2 ^ 53 + 1 }
         ensures asked { self.new.asked ≡ self.old.asked }
         ensures puts { PutsReplayed self.old.link self.new.link
-            (ticked_before self.old.link.config limit (begun_with self.old.asked.changes self.old.link.state))
+            (ticked_before self.old.link.config limit (begun_with self.old.asked self.old.link.state))
             (W.contents (inner_of writer.old)) (W.contents (inner_of writer.new))
             self.old.buffer.items self.new.buffer.items result }
         ensures failed { has_failed writer.new ≡ has_failed writer.old || is_err result }
@@ -90,14 +90,9 @@ where
     fn tick_at(&mut self, moment: Moment, output: &mut Watched<W>) -> Result<(), LineFault> {
         self.link.config().is_faultless();
         self.link.is_well_formed();
-        tick(&mut self.link, moment, &mut self.buffer, output)?;
-        put_changes(
-            &self.link,
-            moment,
-            self.asked.changes,
-            &mut self.buffer,
-            output,
-        )
+        let asked = self.asked;
+        tick(&mut self.link, moment, asked.json, &mut self.buffer, output)?;
+        put_changes(&self.link, moment, asked, &mut self.buffer, output)
     }
 }
 
@@ -105,12 +100,15 @@ impl<F: CapturedFamily, A: Allocator, W: Write> GaplessStep<Watched<W>> for Repl
 where
     F::Address: LineKey,
 {
+    ghost use Rattle.std.specs.Prelude.{◌≡◌, []};
     ghost use Rattle.mq_text.specs.Printing.{output_of};
     ghost use Rattle.mq_replay.specs.Steps.{TakesReplayed};
 
     ghost takes = { λ packet old new r. TakesReplayed packet
         (record { link = old.0.link; asked = old.0.asked; held = old.0.buffer.items; output = output_of W.contents old.1 })
         (record { link = new.0.link; asked = new.0.asked; held = new.0.buffer.items; output = output_of W.contents new.1 }) r };
+
+    ghost is_written = { λ state. state.0.buffer.items ≡ [] };
 
     fn packet(
         &mut self,

@@ -1,6 +1,6 @@
 //! The writing of known lines before a read that may wait.
 
-ghost use Rattle.std.specs.Prelude.{◌≡◌, ◌||◌, [], is_err};
+ghost use Rattle.std.specs.Prelude.{◌≡◌, ◌||◌, [], IfOk, is_err, true};
 ghost use Rattle.mq_count.specs.Streams.{inner_of, has_failed};
 ghost use Rattle.mq_text.specs.Printing.{Puts};
 
@@ -17,6 +17,7 @@ pub(crate) fn write_before_wait<W: Write>(
     ensures text { Puts
         (W.contents (inner_of writer.old)) (W.contents (inner_of writer.new))
         buffer.old.items buffer.new.items [] result }
+    ensures written { may_wait ≡ true → IfOk result (λ _. buffer.new.items ≡ []) }
     ensures failed { has_failed writer.new ≡ has_failed writer.old || is_err result }
 {
     if may_wait {

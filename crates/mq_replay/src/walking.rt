@@ -18,7 +18,7 @@ use std::io::Read;
 
 /// A receiver of the packets of a capture, in order, with an output.
 pub trait Step<O> {
-    ghost use Rattle.std.specs.Prelude.{Result};
+    ghost use Rattle.std.specs.Prelude.{◌≡◌, Result, IfOk, true};
     ghost use Rattle.mq_replay.specs.PlacedPackets.{PlacedPacket};
 
     /// The reason why a walk ends early.
@@ -27,37 +27,45 @@ pub trait Step<O> {
     // The effect of one packet: the states before, the states afterwards, and the result.
     ghost takes: { PlacedPacket → Self × O → Self × O → Result Unit Self.Fault → Type 0 };
 
-    /// Takes a packet. The walk ends if this fails.
+    // The states in which no known text is held back.
+    ghost is_written: { Self × O → Type 0 };
+
+    /// Takes a packet. The walk ends if this fails. If a read of the next packet may wait, all known text is then written.
     fn packet(&mut self, packet: &NumberedPacket<'_>, output: &mut O) -> Result<(), Self::Fault>
-        ensures { takes (record {
+        ensures taken { takes (record {
           number = packet.now.number;
           before = packet.now.before;
           moment = packet.now.moment;
           goes_back = packet.now.goes_back;
           link = packet.now.link;
           frame = packet.now.frame.now;
-        }) (self.old, output.old) (self.new, output.new) result };
+        }) (self.old, output.old) (self.new, output.new) result }
+        ensures written { packet.now.may_wait ≡ true → IfOk result (λ _. is_written (self.new, output.new)) };
 }
 
 /// A receiver of the packets of a capture up to its first gap, with an output.
 pub trait GaplessStep<O> {
-    ghost use Rattle.std.specs.Prelude.{Result};
+    ghost use Rattle.std.specs.Prelude.{◌≡◌, Result, IfOk, true};
     ghost use Rattle.mq_replay.specs.PlacedPackets.{PlacedPacket};
     ghost use Rattle.mq_replay.specs.declared.capture_fault.CaptureFault.{CaptureFault};
 
     // The effect of one packet, as for a `Step`.
     ghost takes: { PlacedPacket → Self × O → Self × O → Result Unit CaptureFault → Type 0 };
 
-    /// Takes a packet without a gap before it. The walk ends if this fails.
+    // The states in which no known text is held back, as for a `Step`.
+    ghost is_written: { Self × O → Type 0 };
+
+    /// Takes a packet without a gap before it. The walk ends if this fails. All known text is then written, as for a `Step`.
     fn packet(&mut self, packet: &NumberedPacket<'_>, output: &mut O) -> Result<(), CaptureFault>
-        ensures { takes (record {
+        ensures taken { takes (record {
           number = packet.now.number;
           before = packet.now.before;
           moment = packet.now.moment;
           goes_back = packet.now.goes_back;
           link = packet.now.link;
           frame = packet.now.frame.now;
-        }) (self.old, output.old) (self.new, output.new) result };
+        }) (self.old, output.old) (self.new, output.new) result }
+        ensures written { packet.now.may_wait ≡ true → IfOk result (λ _. is_written (self.new, output.new)) };
 }
 
 /// A step that a gap ends, before the packet after the gap.
@@ -73,6 +81,8 @@ impl<O, T: GaplessStep<O>> Step<O> for UpToGap<T> {
     type Fault = CaptureFault;
 
     ghost takes = { λ packet old new r. TakesUpToGap T.takes packet (old.0.steps, old.1) (new.0.steps, new.1) r };
+
+    ghost is_written = { λ state. T.is_written (state.0.steps, state.1) };
 
     fn packet(&mut self, packet: &NumberedPacket<'_>, output: &mut O) -> Result<(), CaptureFault> {
         if packet.follows_gap() {
@@ -125,6 +135,7 @@ fn walk_packets<O, T: Step<O>, S: Supply, R: Read>(
         packets += 1;
         let goes_back = stamps.goes_back(read.stamp_ms);
         let moment = Stamp::of(stamps.moment_of_next(read.stamp_ms));
+        let next_read = capture.next_read(supply);
         let next = NumberedPacket {
             number: packets,
             before: last,
@@ -132,7 +143,8 @@ fn walk_packets<O, T: Step<O>, S: Supply, R: Read>(
             goes_back,
             link: capture.link(),
             frame: &packet[..read.length],
-            may_wait: capture.may_wait(supply),
+            may_wait: next_read.may_wait,
+            waits_for: next_read.number,
         };
         last = moment;
         steps.packet(&next, output)?;

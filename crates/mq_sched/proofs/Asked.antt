@@ -1,19 +1,9 @@
 -- The timers that asking for a group or for sources lowers. The schedule still fits its group.
-use Rattle.std.proofs.Common.{◌≡◌, ℕ, Bool, true, cond, List, [], ◌∷◌, IsSome, refl, sym, ap, ◌∙◌, inl, inr, eqb, arith}
-use Rattle.std.proofs.lemmas.Bool.{false≢true, or_left, or_right, or_cases, eqb-true, eq-eqb}
-use Rattle.std.specs.List.{list_any}
-use Rattle.std.specs.Option.{option_map}
+use Rattle.mq_sched.proofs.Common.{◌≡◌, ℕ, Bool, true, cond, List, [], ◌∷◌, IsSome, refl, sym, ap, ◌∙◌, inl, inr, eqb, arith, false≢true, or_left, or_right}
+use Rattle.mq_sched.proofs.Common.{or_cases, eqb-true, eq-eqb, list_any, option_map, Timing, Set, GroupState, timer_at, last_member_count, lowered_to, get-kept}
+use Rattle.mq_sched.proofs.Common.{some_source, source_asked, ScheduledGroup, sources_asked}
 use Rattle.std.specs.FinMap as map
-use Rattle.mq_table.specs.declared.timing.Timing.{Timing}
-use Rattle.mq_table.specs.Sets.{Set}
-use Rattle.mq_table.specs.Group.{GroupState, timer_at}
-use Rattle.mq_table.specs.Timing.{last_member_count}
-use Rattle.mq_table.specs.Lowering.{lowered_to}
-use Rattle.mq_table.proofs.Maps.{get-kept}
-use Rattle.mq_table.specs.Sendings.{some_source, source_asked}
-use Rattle.mq_sched.specs.Schedule.{ScheduledGroup}
 use Rattle.mq_sched.proofs.Rounds.{among-keys}
-use Rattle.mq_sched.specs.Sending.{sources_asked}
 
 -- the timer of a source after sources were asked for
 pub timer_at-sources_asked : (timing : Timing) (now : ℕ) (asked : Set) (e : ScheduledGroup) (s : ℕ) →

@@ -1,11 +1,8 @@
 -- Sums over the leaves at or below a node of a tree.
-use Rattle.std.proofs.Common.{ℕ, zero, suc, ◌+◌, ◌*◌, ◌/◌, ◌<◌, ◌≤◌, ◌≡◌, ◌==◌, Bool, true, false, arith, refl, List, length, get_or, sym, ap, ◌∙◌, ⊎_elim}
-use Rattle.std.specs.Prelude.{nat_le, if◌then◌else◌}
-use Rattle.std.proofs.lemmas.Bool.{cases_lt, lt-ltb, le-ltb, lt-leb, and_right}
-use Rattle.mq_sets.specs.Search.{bitlen}
-use Rattle.mq_sets.proofs.Bitlen.{bitlen-half}
+use Rattle.mq_sched.proofs.Common.{ℕ, zero, suc, ◌+◌, ◌*◌, ◌/◌, ◌<◌, ◌≤◌, ◌≡◌, ◌==◌, Bool, true, false, arith, refl, List, length, get_or, sym, ap, ◌∙◌, ⊎_elim}
+use Rattle.mq_sched.proofs.Common.{nat_le, if◌then◌else◌, cases_lt, lt-ltb, le-ltb, lt-leb, and_right, bitlen, bitlen-half, HasEarlier, IsTreeBut, sum_to_depth}
+use Rattle.mq_sched.proofs.Common.{sum_below, one_if_due, first_below, second_below}
 use Rattle.mq_sched.proofs.DeadlineTree.{no_earlier}
-use Rattle.mq_sched.specs.DeadlineTree.{HasEarlier, IsTreeBut, sum_to_depth, sum_below, one_if_due, first_below, second_below}
 
 module _ (f : ℕ → ℕ) (n : ℕ) where
   to_depth-node : (depth node : ℕ) → node < n → sum_to_depth f n (suc depth) node ≡ sum_to_depth f n depth (2 * node) + sum_to_depth f n depth (2 * node + 1)

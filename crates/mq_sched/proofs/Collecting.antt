@@ -1,25 +1,12 @@
 -- Sources that are collected for messages, and what a sink gets of them.
-use Rattle.std.proofs.Common.{◌≡◌, ℕ, ◌+◌, ◌-◌, ◌<◌, Bool, true, false, not, ◌&&◌, cond, ltb, List, [], ◌∷◌, ◌++◌, filter, length, take, drop, get_or}
-use Rattle.std.proofs.Common.{Some, refl, arith, sym, ap, ◌∙◌, subst}
-use Rattle.std.specs.Prelude.{map as list_map, slice_range}
-use Rattle.std.specs.List.{list_any}
-use Rattle.std.proofs.lemmas.List.{append_assoc, append-nil, drop-drop, take-append-drop, map-append, length-map, length_push, drop_more}
-use Rattle.std.proofs.lemmas.List.Elements.{filter-append}
+use Rattle.mq_sched.proofs.Common.{◌≡◌, ℕ, ◌+◌, ◌-◌, ◌<◌, Bool, true, false, not, ◌&&◌, cond, ltb, List, [], ◌∷◌, ◌++◌, filter, length, take, drop, get_or}
+use Rattle.mq_sched.proofs.Common.{Some, refl, arith, sym, ap, ◌∙◌, subst, list_map, slice_range, list_any, append_assoc, append-nil, drop-drop}
+use Rattle.mq_sched.proofs.Common.{take-append-drop, map-append, length-map, length_push, drop_more, filter-append, Timing, ◌∩◌, ◌∖◌, GroupState, is_ahead}
+use Rattle.mq_sched.proofs.Common.{deadline_of, sendings_of, lowered_to, has_sendings, above, or_none, filter_in_row, SentQuery, SourcesQuery, sources_where}
+use Rattle.mq_sched.proofs.Common.{sources_queries, waiting_messages, Sends, SendsOn, goes_with, going_with}
 use Rattle.std.specs.FinMap as map
 use Rattle.mq_sets.specs.Ascending.{IsAscending}
-use Rattle.mq_table.specs.declared.sources.Source.{Source}
-use Rattle.mq_table.specs.declared.timing.Timing.{Timing}
-use Rattle.mq_table.specs.Sets.{◌∩◌, ◌∖◌}
-use Rattle.mq_table.specs.Group.{GroupState, is_ahead, deadline_of, sendings_of}
-use Rattle.mq_table.specs.Lowering.{lowered_to}
-use Rattle.mq_table.specs.Sendings.{has_sendings, above}
-use Rattle.mq_table.specs.SendingPlaces.{item_has_sendings, PassesBetween}
-use Rattle.mq_table.specs.Stored.{number_in, timers_in}
-use Rattle.mq_table.proofs.Places.{or_none}
-use Rattle.mq_table.proofs.Rows.{filter_in_row}
-use Rattle.mq_sched.specs.Sending.{SentQuery, SourcesQuery, sources_where, sources_queries, waiting_messages}
-use Rattle.mq_sched.specs.Sink.{Sends, SendsOn}
-use Rattle.mq_sched.specs.Collected.{goes_with, going_with}
+use Rattle.mq_table.specs.{declared.sources.Source.Source, SendingPlaces.item_has_sendings, SendingPlaces.PassesBetween, Stored.number_in, Stored.timers_in}
 use Rattle.mq_sched.proofs.InPortions.{first_portion}
 
 -- some queries, and then others

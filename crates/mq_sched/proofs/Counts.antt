@@ -1,9 +1,6 @@
 -- The number of a list's items that pass a test.
-use Rattle.std.proofs.Common.{ℕ, ◌+◌, ◌<◌, ◌≤◌, ◌≡◌, Bool, true, false, cond, arith, refl, List, [], ◌∷◌, length, get_or, map, ap}
-use Rattle.std.specs.List.{All, count_by}
-use Rattle.std.proofs.lemmas.List.Elements.{All-head, All-tail}
-use Rattle.std.proofs.lemmas.List.Folds.{fold-map}
-use Rattle.std.proofs.lemmas.List.Sums.{sum_by-le, sum_by-cons, get_or-le-sum_by}
+use Rattle.mq_sched.proofs.Common.{ℕ, ◌+◌, ◌<◌, ◌≤◌, ◌≡◌, Bool, true, false, cond, arith, refl, List, [], ◌∷◌, length, get_or, map, ap, All, count_by, All-head}
+use Rattle.mq_sched.proofs.Common.{All-tail, fold-map, sum_by-le, sum_by-cons, get_or-le-sum_by}
 
 module _ (p : ℕ → Bool) where
   -- an item that passes counts, and where none does nothing counts

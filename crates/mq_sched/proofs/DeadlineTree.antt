@@ -1,10 +1,7 @@
 -- A tree of deadlines, and what it says of its leaves.
-use Rattle.std.proofs.Common.{ℕ, zero, suc, ◌+◌, ◌*◌, ◌/◌, ◌<◌, ◌≤◌, ◌≡◌, Bool, true, false, cond, arith, refl, List, length, get_or, set, sym, ◌∙◌}
-use Rattle.std.proofs.Common.{⊎_elim, ◌⊎◌, inl, inr, ap, length-set}
-use Rattle.std.specs.Prelude.{if◌then◌else◌}
-use Rattle.std.proofs.lemmas.Bool.{cases_lt, cases_eq}
-use Rattle.std.proofs.lemmas.List.{get_or-set_same, get_or-set_other}
-use Rattle.mq_sched.specs.DeadlineTree.{HasEarlier, IsTreeBut, IsEarliestLeaf, KeepsOther}
+use Rattle.mq_sched.proofs.Common.{ℕ, zero, suc, ◌+◌, ◌*◌, ◌/◌, ◌<◌, ◌≤◌, ◌≡◌, Bool, true, false, cond, arith, refl, List, length, get_or, set, sym, ◌∙◌}
+use Rattle.mq_sched.proofs.Common.{⊎_elim, ◌⊎◌, inl, inr, ap, length-set, if◌then◌else◌, cases_lt, cases_eq, get_or-set_same, get_or-set_other, HasEarlier}
+use Rattle.mq_sched.proofs.Common.{IsTreeBut, IsEarliestLeaf, KeepsOther}
 
 -- a node has the earlier deadline in two lists that agree there and below
 pub earlier-agree : (nodes other : List ℕ) (i : ℕ) (b : Bool) → get_or other i 0 ≡ get_or nodes i 0 → get_or other (2 * i) 0 ≡ get_or nodes (2 * i) 0
@@ -19,10 +16,10 @@ earlier-written : (nodes : List ℕ) (i : ℕ) (b : Bool) → 1 ≤ i → i < le
 earlier-written nodes i b some within here there = grind (arith, get_or-set_same, get_or-set_other, cases_lt)
 
 -- one node comes to be in order, and the node above it may be out of it
-pub settled_one : (nodes : List ℕ) (lefts : List Bool) (i : ℕ) (b : Bool) → 1 ≤ i → i < length lefts →
+pub repaired_one : (nodes : List ℕ) (lefts : List Bool) (i : ℕ) (b : Bool) → 1 ≤ i → i < length lefts →
     (get_or nodes (2 * i) 0 ≤ get_or nodes (2 * i + 1) 0 → b ≡ true) → (b ≡ true → get_or nodes (2 * i) 0 ≤ get_or nodes (2 * i + 1) 0)
     → IsTreeBut nodes lefts i → IsTreeBut (set nodes i (cond b (get_or nodes (2 * i) 0) (get_or nodes (2 * i + 1) 0))) (set lefts i b) (i / 2)
-settled_one nodes lefts i b some within here there known =
+repaired_one nodes lefts i b some within here there known =
     grind (arith, length-set, get_or-set_same, earlier-written, get_or-set_other, earlier-agree, cases_eq)
 
 -- a node has the deadline of the first of the two below it, and none of the two is earlier

@@ -1,13 +1,7 @@
 -- The leaves that are due, one after another, and what finding them spends.
-use Rattle.std.proofs.Common.{ℕ, ◌+◌, ◌-◌, ◌*◌, ◌<◌, ◌≤◌, ◌≡◌, ◌==◌, min, arith, List, length, get_or, set, take}
-use Rattle.std.specs.List.{count_by}
-use Rattle.std.proofs.lemmas.Bool.{le-leb}
+use Rattle.mq_sched.proofs.Common.{ℕ, ◌+◌, ◌-◌, ◌*◌, ◌<◌, ◌≤◌, ◌≡◌, ◌==◌, min, arith, List, length, get_or, set, take, count_by, le-leb, take_more_set}
+use Rattle.mq_sched.proofs.Common.{sum_by_push, Spends, Spends-join, Spends-join_within, sum_below, one_if_due}
 use Rattle.std.proofs.Math.Bool.{and-true}
-use Rattle.std.proofs.lemmas.List.{take_more_set}
-use Rattle.std.proofs.lemmas.List.Sums.{sum_by_push}
-use Rattle.mq_count.specs.Spending.{Spends}
-use Rattle.mq_count.proofs.Spent.{Spends-join, Spends-join_within}
-use Rattle.mq_sched.specs.DeadlineTree.{sum_below, one_if_due}
 use Rattle.mq_sched.proofs.Below.{sum_below-leaf}
 
 -- a leaf is written that is due

@@ -1,8 +1,5 @@
 -- A tick leaves nothing for the election to do at or before its moment.
-use Rattle.std.proofs.Common.{◌≡◌, ℕ, ◌+◌, ◌<◌, Bool, true, false, cond, arith, ltb}
-use Rattle.std.proofs.lemmas.Bool.{leb-false}
-use Rattle.mq_table.specs.declared.timing.Timing.{Timing}
-use Rattle.mq_table.specs.Timing.{query_interval, startup_interval}
+use Rattle.mq_sched.proofs.Common.{◌≡◌, ℕ, ◌+◌, ◌<◌, Bool, true, false, cond, arith, ltb, leb-false, Timing, query_interval, startup_interval}
 use Rattle.mq_sched.specs.Election.{Role, Querier, Other, ElectionState, deadline_ended, general_is_due, after_general, ticked, next_moment}
 
 later_general : (timing : Timing) (now : ℕ) (b : Bool) → 0 < timing.query_seconds → now < now + cond b (startup_interval timing) (query_interval timing)

@@ -1,30 +1,15 @@
 -- A schedule that still fits its group.
-use Rattle.std.proofs.Common.{◌≡◌, ℕ, ◌+◌, ◌-◌, ◌<◌, Bool, true, false, cond, ◌&&◌, Option, None, Some, IsSome, IfSome, refl, sym, ap, ◌∙◌, arith, ltb, leb}
-use Rattle.std.proofs.lemmas.Bool.{false≢true, true≢false, ltb-true, lt-ltb, false_from_ne_true}
-use Rattle.std.specs.List.{list_any}
-use Rattle.std.specs.Option.{option_and_then, option_map, is_some}
-use Rattle.std.specs.Ordering.{nat_cmp}
+use Rattle.mq_sched.proofs.Common.{◌≡◌, ℕ, ◌+◌, ◌-◌, ◌<◌, Bool, true, false, cond, ◌&&◌, Option, None, Some, IsSome, IfSome, refl, sym, ap, ◌∙◌, arith, ltb}
+use Rattle.mq_sched.proofs.Common.{leb, false≢true, true≢false, ltb-true, lt-ltb, false_from_ne_true, list_any, option_and_then, option_map, is_some, nat_cmp}
+use Rattle.mq_sched.proofs.Common.{FinMap, Timing, Set, ◌∩◌, kept, SourceTimer, Stopped, Running, GroupState, is_include, is_vacant, vacant, timer_at}
+use Rattle.mq_sched.proofs.Common.{deadline_of, sendings_of, is_ahead, last_member_count, lowered_to, mode_lowered, get-kept, some_source, has_sendings}
+use Rattle.mq_sched.proofs.Common.{source_cleared, above, source_asked, sendings_counted, QuerySchedule, ScheduleState, ScheduledGroup, IsScheduleOf, settled}
+use Rattle.mq_sched.proofs.Common.{cleared, group_asked, sources_asked, acted, is_due, group_counted, sources_due_next, after_round}
 use Rattle.std.specs.FinMap as map
-use Rattle.std.specs.FinMap.{FinMap}
-use Rattle.mq_table.specs.declared.kind.Kind.{Kind}
-use Rattle.mq_table.specs.declared.timing.Timing.{Timing}
-use Rattle.mq_table.specs.Sets.{Set, ◌∩◌}
-use Rattle.mq_table.specs.Maps.{kept}
-use Rattle.mq_table.specs.declared.timers.FilterMode.{FilterMode}
-use Rattle.mq_table.specs.declared.timers.FilterMode.TheVariants.{Include, Exclude}
-use Rattle.mq_table.specs.declared.timers.SourceTimer.{SourceTimer}
-use Rattle.mq_table.specs.declared.timers.SourceTimer.TheVariants.{Stopped, Running}
-use Rattle.mq_table.specs.Group.{GroupState, is_include, is_vacant, vacant, timer_at, deadline_of, sendings_of, is_ahead}
-use Rattle.mq_table.specs.Timing.{last_member_count}
-use Rattle.mq_table.specs.Table.{NamedSources, table_row_met, change_of}
-use Rattle.mq_table.specs.Expiry.{ahead, mode_expired, at_zero, source_expired, expired}
-use Rattle.mq_table.specs.Lowering.{lowered_to, mode_lowered}
-use Rattle.mq_table.proofs.Maps.{get-kept}
-use Rattle.mq_table.proofs.Groups.{same_sources}
-use Rattle.mq_table.proofs.TableRows.{timer_at-change_of}
-use Rattle.mq_table.specs.Sendings.{some_source, has_sendings, source_cleared, above, source_asked, sendings_counted}
-use Rattle.mq_sched.specs.Schedule.{QuerySchedule, ScheduleState, ScheduledGroup, IsScheduleOf, settled, cleared}
-use Rattle.mq_sched.specs.Sending.{group_asked, sources_asked, acted, is_due, group_counted, sources_due_next, after_round}
+use Rattle.mq_table.specs.{declared.kind.Kind.Kind, declared.timers.FilterMode.FilterMode, declared.timers.FilterMode.TheVariants.Include}
+use Rattle.mq_table.specs.{declared.timers.FilterMode.TheVariants.Exclude, Table.NamedSources, Table.table_row_met, Table.change_of, Expiry.ahead}
+use Rattle.mq_table.specs.{Expiry.mode_expired, Expiry.at_zero, Expiry.source_expired, Expiry.expired}
+use Rattle.mq_table.proofs.{Groups.same_sources, TableRows.timer_at-change_of}
 use Rattle.mq_sched.proofs.Asked.{some_source-from, some_source-gives, timer_at-sources_asked}
 
 some_if : {X : Type 0} (b : Bool) (x : X) → is_some (cond b (Some x) None) ≡ b
@@ -167,19 +152,15 @@ fits_group_asked timing now e positive fits = record {
 -- a source that is asked for and above the limit gets sendings
 gets_sendings : (limit count : ℕ) (b : Bool) (t : Option SourceTimer) → 0 < count → (b && is_ahead limit (deadline_of t)) ≡ true →
     (ltb 0 (sendings_of (cond b (option_map (source_asked limit count) t) t)) ≡ true) × IsSome (cond b (option_map (source_asked limit count) t) t)
-gets_sendings limit count false t positive e = absurd (false≢true e)
-gets_sendings limit count true None positive e = absurd (false≢true e)
-gets_sendings limit count true (Some Stopped) positive e = absurd (false≢true e)
 gets_sendings limit count true (Some (Running d n)) positive e =
     (ap (λ b. ltb 0 (sendings_of (Some (cond b (Running limit count) (Running d n))))) e ∙ lt-ltb 0 count positive, refl)
+gets_sendings limit count _ _ positive e = absurd (false≢true e)
 
 -- and any other stays as it is
 not_asked : (limit count : ℕ) (b : Bool) (t : Option SourceTimer) → (b && is_ahead limit (deadline_of t)) ≡ false →
     cond b (option_map (source_asked limit count) t) t ≡ t
-not_asked limit count false t e = refl
-not_asked limit count true None e = refl
-not_asked limit count true (Some Stopped) e = refl
 not_asked limit count true (Some (Running d n)) e = ap (λ b. Some (cond b (Running limit count) (Running d n))) e
+not_asked limit count _ _ e = refl
 
 held_if_above : (limit : ℕ) (b : Bool) (t : Option SourceTimer) → (b && is_ahead limit (deadline_of t)) ≡ true → IsSome t
 held_if_above limit true None e = absurd (false≢true e)

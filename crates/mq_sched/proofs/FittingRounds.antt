@@ -1,12 +1,6 @@
 -- The queries of a round, each with at most the sources that one message holds.
-use Rattle.std.proofs.Common.{ℕ, zero, suc, Bool, List, [], ◌∷◌, ◌++◌, length, drop, arith}
-use Rattle.std.specs.Prelude.{map as list_map}
-use Rattle.std.proofs.lemmas.List.{length-take}
-use Rattle.mq_table.specs.declared.timing.Timing.{Timing}
-use Rattle.mq_sched.specs.Rounds.{AllFit}
-use Rattle.mq_sched.specs.Portions.{portions_within}
-use Rattle.mq_sched.specs.Schedule.{ScheduledGroup}
-use Rattle.mq_sched.specs.Sending.{SentQuery, GeneralQuery, GroupQuery, SourcesQuery, sources_queries, messages_due}
+use Rattle.mq_sched.proofs.Common.{ℕ, zero, suc, Bool, List, [], ◌∷◌, ◌++◌, length, drop, arith, list_map, length-take, Timing, AllFit, portions_within}
+use Rattle.mq_sched.proofs.Common.{ScheduledGroup, SentQuery, GeneralQuery, GroupQuery, SourcesQuery, sources_queries, messages_due}
 
 fits_within : (most n group : ℕ) (flag : Bool) (xs : List ℕ) → AllFit n (list_map (SourcesQuery group flag) (portions_within most n xs))
 fits_within most n group flag [] = tt

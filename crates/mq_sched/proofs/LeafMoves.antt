@@ -1,7 +1,5 @@
 -- The new leaves of a tree once one is removed.
-use Rattle.std.proofs.Common.{ℕ, ◌+◌, ◌*◌, ◌<◌, ◌≤◌, ◌≡◌, arith}
-use Rattle.std.proofs.lemmas.Bool.Decides.{nat_tests}
-use Rattle.mq_sched.specs.DeadlineTree.{leaf_before, leaf_after}
+use Rattle.mq_sched.proofs.Common.{ℕ, ◌+◌, ◌*◌, ◌<◌, ◌≤◌, ◌≡◌, arith, nat_tests, leaf_before, leaf_after}
 
 -- each other leaf is among those left, and keeps its deadline
 pub after_given_up : (last given_up later leaf : ℕ) → last + 1 ≤ given_up → given_up < 2 * last + 2 → 2 * last ≤ later → later < 2 * last + 2 →

@@ -1,8 +1,7 @@
 -- The sum over all leaves of a tree, which is that below its top node.
-use Rattle.std.proofs.Common.{ℕ, zero, suc, ◌+◌, ◌-◌, ◌*◌, ◌<◌, ◌≤◌, ◌≡◌, ◌==◌, arith, refl, List, get_or, sym, ap, ◌∙◌, ⊎_elim, ◌⊎◌, inl, inr}
-use Rattle.std.specs.Prelude.{nat_le, if◌then◌else◌}
-use Rattle.std.proofs.lemmas.Bool.{cases_lt, cases_eq, lt-ltb, le-ltb, le-leb, lt-leb, eq-eqb, ne_eqb, and_left}
-use Rattle.mq_sched.specs.DeadlineTree.{sum_below, one_if_due, is_leaf_due}
+use Rattle.mq_sched.proofs.Common.{ℕ, zero, suc, ◌+◌, ◌-◌, ◌*◌, ◌<◌, ◌≤◌, ◌≡◌, ◌==◌, arith, refl, List, get_or, sym, ap, ◌∙◌, ⊎_elim, ◌⊎◌, inl, inr, nat_le}
+use Rattle.mq_sched.proofs.Common.{if◌then◌else◌, cases_lt, cases_eq, lt-ltb, le-ltb, le-leb, lt-leb, eq-eqb, ne_eqb, and_left, sum_below, one_if_due}
+use Rattle.mq_sched.proofs.Common.{is_leaf_due}
 use Rattle.mq_sched.proofs.Below.{sum_below-leaf, sum_below-node}
 
 -- a sum of consecutive items

@@ -1,18 +1,18 @@
+pub mod Asked
 pub mod Below
+pub mod Collecting
+mod Common
 pub mod Counts
 pub mod DeadlineTree
 pub mod DueLeaves
+pub mod Electing
+pub mod Fits
+pub mod FittingRounds
+pub mod InPortions
 pub mod LeafMoves
 pub mod Leaves
 pub mod NumbersAtLeaves
-pub mod InPortions
 pub mod Rounds
-pub mod Asked
-pub mod Fits
-pub mod Electing
-pub mod StayHeld
-pub mod Collecting
-pub mod Room
 pub mod Shrinking
+pub mod StayHeld
 pub mod WrittenAbove
-pub mod FittingRounds

@@ -1,25 +1,15 @@
 -- The moments of numbers, at the leaves of a tree.
-use Rattle.std.proofs.Common.{ℕ, suc, ◌+◌, ◌-◌, ◌*◌, ◌<◌, ◌≤◌, ◌≡◌, ◌==◌, Bool, true, false, cond, arith, refl, List, [], ◌∷◌, ◌++◌, length, get_or}
+use Rattle.mq_sched.proofs.Common.{ℕ, suc, ◌+◌, ◌-◌, ◌*◌, ◌<◌, ◌≤◌, ◌≡◌, ◌==◌, Bool, true, false, cond, arith, refl, List, [], ◌∷◌, ◌++◌, length, get_or}
+use Rattle.mq_sched.proofs.Common.{MatchOption, if◌then◌else◌, slice_index, nat_le, All, count_by, nat_cmp, eq_by_cmp, nat_cmp_total, cases_lt, cases_eq}
+use Rattle.mq_sched.proofs.Common.{eq-eqb, ne_eqb, lt-ltb, le-ltb, le-leb, lt-leb, false≢true, nat_tests, get_or_read, get_or-drop, length-drop, get_or_default}
+use Rattle.mq_sched.proofs.Common.{get_or_past, get_or-set_same, get_or-set_other, get_or_append_left, get_or_push, list_any_at, sum_by-cons, entries_by}
+use Rattle.mq_sched.proofs.Common.{find-entries_by, DeadlinesState, moment_at, moments_at, AreNumbered, IsEarliestMoment, has_come, is_number_due}
+use Rattle.mq_sched.proofs.Common.{IsEarliestLeaf, is_leaf_due, leaf_before, leaf_after}
 use Rattle.std.proofs.Common.{set, map as list_map, drop, Option, None, Some, is_some, sym, ap, ◌∙◌, ⊎_elim, ◌⊎◌, length-append, length-set}
-use Rattle.std.specs.Prelude.{MatchOption, if◌then◌else◌, slice_index, nat_le}
-use Rattle.std.specs.List.{All, count_by}
-use Rattle.std.specs.Ordering.{nat_cmp, eq_by_cmp}
-use Rattle.std.specs.Cmp.{nat_cmp_total}
 use Rattle.std.specs.FinMap as map
-use Rattle.std.proofs.lemmas.Bool.{cases_lt, cases_eq, eq-eqb, ne_eqb, lt-ltb, le-ltb, le-leb, lt-leb, false≢true}
-use Rattle.std.proofs.lemmas.Bool.Decides.{nat_tests}
-use Rattle.std.proofs.lemmas.List.{get_or_read, get_or-drop, length-drop, get_or_default, get_or_past, get_or-set_same, get_or-set_other}
-use Rattle.std.proofs.lemmas.List.{get_or_append_left, get_or_push}
-use Rattle.std.proofs.lemmas.List.Folds.{list_any_at}
-use Rattle.std.proofs.lemmas.List.Sums.{sum_by-cons}
 use Rattle.std.proofs.lemmas.Option.{same_Some}
 use Rattle.mq_sets.specs.Slots.{times}
-use Rattle.mq_table.specs.Maps.{entries_by}
-use Rattle.mq_table.proofs.Maps.{find-entries_by}
-use Rattle.mq_sched.specs.Deadlines.{DeadlinesState, moment_at, moments_at, AreNumbered, IsEarliestMoment, has_come, is_number_due}
-use Rattle.mq_sched.specs.DeadlineTree.{IsEarliestLeaf, is_leaf_due, leaf_before, leaf_after}
-use Rattle.mq_sched.proofs.Counts.{count-some, count-none, count-map, count-agree}
-use Rattle.mq_sched.proofs.LeafMoves.{after_given_up, before_given_up}
+use Rattle.mq_sched.proofs.{Counts.count-some, Counts.count-none, Counts.count-map, Counts.count-agree, LeafMoves.after_given_up, LeafMoves.before_given_up}
 
 same-key : (q k : ℕ) → q ≡ k → eq_by_cmp nat_cmp q k ≡ true
 same-key q k is = grind (arith, nat_tests)

@@ -1,27 +1,13 @@
 -- The sources that a round asks for, counts down and leaves.
-use Rattle.std.proofs.Common.{◌≡◌, ℕ, ◌+◌, ◌-◌, ◌<◌, Bool, true, false, cond, not, ◌&&◌, ◌||◌, List, [], ◌∷◌, ◌++◌, filter, Option, None, Some}
-use Rattle.std.proofs.Common.{IfSome, refl, sym, ap, ◌∙◌, arith, eqb, ltb}
-use Rattle.std.proofs.lemmas.Bool.{false≢true, true≢false, and_parts, eqb-true, ltb-true, ltb-false, leb-false, lt-leb}
-use Rattle.std.specs.Prelude.{map as list_map}
-use Rattle.std.specs.List.{list_any, concat}
-use Rattle.std.specs.Option.{option_map, is_some}
-use Rattle.std.specs.Ordering.{nat_cmp}
-use Rattle.std.specs.Cmp.{unsigned_ties}
+use Rattle.mq_sched.proofs.Common.{◌≡◌, ℕ, ◌+◌, ◌-◌, ◌<◌, Bool, true, false, cond, not, ◌&&◌, ◌||◌, List, [], ◌∷◌, ◌++◌, filter, Option, None, Some, IfSome}
+use Rattle.mq_sched.proofs.Common.{refl, sym, ap, ◌∙◌, arith, eqb, ltb, false≢true, true≢false, and_parts, eqb-true, ltb-true, ltb-false, leb-false, lt-leb}
+use Rattle.mq_sched.proofs.Common.{list_map, list_any, concat, option_map, is_some, nat_cmp, unsigned_ties, FinMap, Timing, Set, SourceTimer, GroupState}
+use Rattle.mq_sched.proofs.Common.{timer_at, deadline_of, sendings_of, get-kept, or_none, has_sendings, source_counted, sendings_counted, QuerySchedule}
+use Rattle.mq_sched.proofs.Common.{query_sendings, ScheduleState, ScheduledGroup, IsScheduleOf, SentQuery, GeneralQuery, GroupQuery, SourcesQuery, is_due}
+use Rattle.mq_sched.proofs.Common.{group_due, sources_where, sources_queries, group_messages, source_messages, messages_due, group_counted, after_round}
+use Rattle.mq_sched.proofs.Common.{portions_of, asked_in, asks_group, is_due_at, IsQuietAt}
 use Rattle.std.specs.FinMap as map
-use Rattle.std.specs.FinMap.{FinMap}
-use Rattle.mq_table.specs.declared.timing.Timing.{Timing}
-use Rattle.mq_table.specs.Sets.{Set}
-use Rattle.mq_table.specs.declared.timers.SourceTimer.{SourceTimer}
-use Rattle.mq_table.specs.Group.{GroupState, timer_at, deadline_of, sendings_of}
-use Rattle.mq_table.proofs.Maps.{get-kept}
-use Rattle.mq_table.proofs.Places.{or_none}
-use Rattle.mq_table.specs.Sendings.{has_sendings, source_counted, sendings_counted}
-use Rattle.mq_sched.specs.Schedule.{QuerySchedule, query_sendings, ScheduleState, ScheduledGroup, IsScheduleOf}
-use Rattle.mq_sched.specs.Sending.{SentQuery, GeneralQuery, GroupQuery, SourcesQuery, is_due, group_due, sources_where, sources_queries}
-use Rattle.mq_sched.specs.Sending.{group_messages, source_messages, messages_due, group_counted, after_round}
-use Rattle.mq_sched.specs.Portions.{portions_of}
 use Rattle.mq_sched.proofs.InPortions.{together}
-use Rattle.mq_sched.specs.Rounds.{asked_in, asks_group, is_due_at, IsQuietAt}
 
 or-false : (b : Bool) → (b || false) ≡ b
 or-false true = refl

@@ -1,9 +1,7 @@
 -- A tree that loses a leaf.
-use Rattle.std.proofs.Common.{ℕ, ◌+◌, ◌-◌, ◌*◌, ◌/◌, ◌<◌, ◌≤◌, ◌≡◌, ◌==◌, Bool, arith, List, length, get_or, set, take, ◌⊎◌, length-set}
-use Rattle.std.specs.Prelude.{if◌then◌else◌}
-use Rattle.std.proofs.lemmas.Bool.{cases_eq, eq-eqb, ne_eqb}
-use Rattle.std.proofs.lemmas.List.{get_or-set_same, get_or-set_other, get_or-take, length-take-le}
-use Rattle.mq_sched.specs.DeadlineTree.{IsTreeBut, first_below, second_below, leaf_before}
+use Rattle.mq_sched.proofs.Common.{ℕ, ◌+◌, ◌-◌, ◌*◌, ◌/◌, ◌<◌, ◌≤◌, ◌≡◌, ◌==◌, Bool, arith, List, length, get_or, set, take, ◌⊎◌, length-set, if◌then◌else◌}
+use Rattle.mq_sched.proofs.Common.{cases_eq, eq-eqb, ne_eqb, get_or-set_same, get_or-set_other, get_or-take, length-take-le, IsTreeBut, first_below}
+use Rattle.mq_sched.proofs.Common.{second_below, leaf_before}
 use Rattle.mq_sched.proofs.DeadlineTree.{earlier-agree, first_has}
 
 -- the deadline of the later one of the last two leaves goes to a leaf, and then that of the earlier one to the node above

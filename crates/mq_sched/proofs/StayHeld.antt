@@ -1,16 +1,8 @@
 -- A group that is held stays held, whatever is asked, sent or dropped.
-use Rattle.std.proofs.Common.{◌≡◌, ℕ, Bool, true, false, cond, Some, refl, arith}
-use Rattle.mq_table.specs.declared.timing.Timing.{Timing}
-use Rattle.mq_table.specs.Sets.{Set}
-use Rattle.mq_table.specs.declared.timers.SourceTimer.{SourceTimer}
-use Rattle.mq_table.specs.declared.timers.SourceTimer.TheVariants.{Stopped, Running}
-use Rattle.mq_table.specs.Group.{is_running, IsWellFormed}
-use Rattle.mq_table.specs.Timing.{last_member_count}
-use Rattle.mq_table.specs.Lowering.{lowered_to}
+use Rattle.mq_sched.proofs.Common.{◌≡◌, ℕ, Bool, true, false, cond, Some, refl, arith, Timing, Set, SourceTimer, Stopped, Running, is_running, IsWellFormed}
+use Rattle.mq_sched.proofs.Common.{last_member_count, lowered_to, source_cleared, source_asked, source_counted, sendings_counted, ScheduledGroup, cleared}
+use Rattle.mq_sched.proofs.Common.{sources_asked, acted, is_due, after_round}
 use Rattle.mq_table.proofs.Held.{IsWellFormed-replaced, IsWellFormed-group_lowered}
-use Rattle.mq_table.specs.Sendings.{source_cleared, source_asked, source_counted, sendings_counted}
-use Rattle.mq_sched.specs.Schedule.{ScheduledGroup, cleared}
-use Rattle.mq_sched.specs.Sending.{sources_asked, acted, is_due, after_round}
 
 asked_runs : (limit count : ℕ) (b : Bool) (t : SourceTimer) → is_running (Some (cond b (source_asked limit count t) t)) ≡ is_running (Some t)
 asked_runs limit count b t = grind arith

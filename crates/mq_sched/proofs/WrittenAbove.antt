@@ -1,12 +1,8 @@
 -- The number of nodes written above a node whose deadline changed.
-use Rattle.std.proofs.Common.{ℕ, zero, suc, ◌+◌, ◌-◌, ◌*◌, ◌/◌, ◌%◌, ◌<◌, ◌≤◌, ◌≡◌, ◌&&◌, Bool, true, false, cond, eqb, leb, not, refl, arith, sym}
-use Rattle.std.proofs.Common.{ap, ◌∙◌, List, length, get_or, set, ⊎_elim}
+use Rattle.mq_sched.proofs.Common.{ℕ, zero, suc, ◌+◌, ◌*◌, ◌/◌, ◌%◌, ◌<◌, ◌≤◌, ◌≡◌, ◌&&◌, Bool, true, false, cond, eqb, leb, not, refl, arith, sym, ap}
+use Rattle.mq_sched.proofs.Common.{◌∙◌, List, length, get_or, set, ⊎_elim, cases_lt, cond-false, cond-true, eq-eqb, eqb-false, eqb-true, le-leb, false≢true}
+use Rattle.mq_sched.proofs.Common.{lt-leb, ne_eqb, get_or-set_other, get_or-set_same, bitlen, bitlen-half, keeps_other, written_above}
 use Rattle.std.specs.Bool.{beq}
-use Rattle.std.proofs.lemmas.Bool.{cases_lt, cond-false, cond-true, eq-eqb, eqb-false, eqb-true, le-leb, false≢true, lt-leb, ne_eqb}
-use Rattle.std.proofs.lemmas.List.{get_or-set_other, get_or-set_same}
-use Rattle.mq_sets.specs.Search.{bitlen}
-use Rattle.mq_sets.proofs.Bitlen.{bitlen-half}
-use Rattle.mq_sched.specs.DeadlineTree.{keeps_other, written_above}
 
 one_more : (b : Bool) (more : ℕ) → cond b 0 (1 + more) ≤ 1 + more
 one_more true more = omega arith

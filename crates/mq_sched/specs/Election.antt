@@ -1,7 +1,7 @@
 -- The election of a link's querier. The router with the lowest address is querier (RFC 3376 section 6.6.2, RFC 3810
 -- section 7.6.2), as long as it is heard (sections 8.5 and 9.5). The S flag of a query does not suppress the election
 -- (sections 4.1.5 and 5.1.7).
-use Rattle.std.specs.Prelude.{ℕ, ◌+◌, ◌-◌, Bool, true, false, not, ◌&&◌, ◌||◌, if◌then◌else◌, nat_lt, nat_le, ◌==◌, List, [], ◌∷◌, Option, None, Some}
+use Rattle.std.specs.Prelude.{ℕ, ◌+◌, ◌-◌, min, Bool, true, false, not, ◌&&◌, ◌||◌, if◌then◌else◌, nat_lt, nat_le, ◌==◌, List, [], ◌∷◌, Option, None, Some}
 use Rattle.mq_table.specs.declared.timing.Timing.{Timing}
 use Rattle.mq_table.specs.Timing.{query_interval, other_querier_present, startup_interval, startup_count}
 use Rattle.mq_sched.specs.declared.announced.Announced.{Announced}
@@ -97,6 +97,40 @@ ticked configured now e =
 abbrev pub general_messages : (configured : Timing) → ℕ → ElectionState → List SentQuery
 general_messages configured now e =
     if general_is_due now (returned configured now e).role then GeneralQuery ∷ [] else []
+
+-- A variable in force after another configuration. If its configured value changes, the new one is in force at once.
+-- Otherwise it stays, as configured or as adopted.
+abbrev pub reconfigured_value : (before configured in_force : ℕ) → ℕ
+reconfigured_value before configured in_force = if configured == before then in_force else configured
+
+abbrev pub timing_reconfigured : (before configured : Timing) → Timing → Timing
+timing_reconfigured before configured timing = record {
+  robustness = reconfigured_value before.robustness configured.robustness timing.robustness;
+  query_seconds = reconfigured_value before.query_seconds configured.query_seconds timing.query_seconds;
+  response_interval = configured.response_interval;
+  last_member_interval = configured.last_member_interval;
+}
+
+-- the other querier has no lower address than the router
+abbrev pub outranks : (own : ℕ) → Role → Bool
+outranks own (Querier due startup_queries) = false
+outranks own (Other address deadline) = not (nat_lt address own)
+
+-- The role under another timing. The next general query is due at most one query interval from now, as group timers of
+-- this timing need it.
+abbrev pub role_reconfigured : Timing → ℕ → Role → Role
+role_reconfigured timing now (Querier due startup_queries) = Querier (min due (now + query_interval timing)) startup_queries
+role_reconfigured timing now (Other address deadline) = Other address deadline
+
+-- The state after another own address and other variables are configured. A querier stays querier. Another router stays
+-- querier, until its deadline, if its address is lower than the own one. Otherwise this router is querier at once, as
+-- after that deadline.
+abbrev pub reconfigured : (before configured : Timing) → (own now : ℕ) → ElectionState → ElectionState
+reconfigured before configured own now e =
+    let timing = timing_reconfigured before configured e.timing in
+    if outranks own e.role
+    then record { role = Querier now 0; timing = configured }
+    else record { role = role_reconfigured timing now e.role; timing = timing }
 
 -- the next moment of the election: the general query, or the end of the other querier's deadline
 abbrev pub next_moment : Role → ℕ

@@ -9,7 +9,7 @@ use std::marker::Model;
 /// The Robustness Variable and the Query Interval in whole seconds; 0 stands for none. A query of IGMPv3 or MLDv2
 /// announces them in QRV and QQIC (RFC 3376 sections 4.1.6 and 4.1.7, RFC 3810 sections 5.1.8 and 5.1.9). A contract
 /// sees these two numbers.
-#[derive(Clone, Copy, PartialEq, Eq)]
+#[derive(Clone, Copy)]
 pub struct Announced {
     robustness: u32,
     query_seconds: u32,

@@ -10,7 +10,7 @@ ghost use Rattle.mq_sched.specs.Sizes.{bytes_of_tree};
 
 use crate::due_leaves::collect;
 use crate::node_pairs::nodes_below;
-use crate::settling::settle;
+use crate::repair::repair_above;
 use mq_arena::{VectorSource, both_sizes, vector_size};
 use mq_count::{Meter, Moment, Moves};
 use mq_sets::Memory;
@@ -112,7 +112,7 @@ impl<A: Allocator> DeadlineTree<A> {
         self.nodes.push(due).unwrap();
         self.lefts.push(true).unwrap();
         moves.count(2);
-        settle(&mut self.nodes, &mut self.lefts, 2 * count + 1, m, moves);
+        repair_above(&mut self.nodes, &mut self.lefts, 2 * count + 1, m, moves);
     }
 
     /// Changes the deadline of a leaf.
@@ -130,7 +130,7 @@ impl<A: Allocator> DeadlineTree<A> {
     {
         self.nodes[leaf] = due;
         moves.count(1);
-        settle(&mut self.nodes, &mut self.lefts, leaf, m, moves);
+        repair_above(&mut self.nodes, &mut self.lefts, leaf, m, moves);
     }
 
     /// Removes a leaf's deadline, and with it the last two leaves. The later deadline of these two, whose leaf is
@@ -156,7 +156,7 @@ impl<A: Allocator> DeadlineTree<A> {
         self.nodes.truncate(2 * last);
         self.lefts.truncate(last);
         let changed = if leaf < 2 * last { leaf } else { last };
-        settle(&mut self.nodes, &mut self.lefts, changed, m, moves);
+        repair_above(&mut self.nodes, &mut self.lefts, changed, m, moves);
         moves.count(2);
         later
     }

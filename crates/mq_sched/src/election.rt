@@ -3,7 +3,8 @@
 ghost use Rattle.std.specs.Prelude.{◌≡◌, ◌^◌, ◌≤◌, ◌<◌, Bool, nat_lt, [], ◌∷◌, if◌then◌else◌};
 ghost use Rattle.mq_count.specs.Spending.{Spends};
 ghost use Rattle.mq_sched.specs.Sending.{GeneralQuery};
-ghost use Rattle.mq_sched.specs.Election.{is_querier, election_at, heard_or, adopted, loses_role, heard, ticked, general_messages, next_moment};
+ghost use Rattle.mq_sched.specs.Election.{is_querier, election_at, heard_or, adopted, loses_role, heard, ticked, general_messages, next_moment, outranks, reconfigured, reconfigured_value, role_reconfigured, timing_reconfigured};
+ghost use Rattle.mq_sched.specs.StoredElection.{role_in};
 ghost use Rattle.mq_sched.specs.StoredElection.{IsOtherOf};
 
 use crate::announced::Announced;
@@ -70,6 +71,55 @@ fn adopted(
             };
             in_force.adopting(robustness, query_seconds).unwrap()
         }
+    }
+}
+
+/// Returns a variable in force after another configuration: the configured value if that has changed.
+fn reconfigured_value(before: u32, configured: u32, in_force: u32) -> u32
+    ensures { result ≡ reconfigured_value before configured in_force }
+{
+    if configured == before {
+        in_force
+    } else {
+        configured
+    }
+}
+
+/// Returns the timing in force after another configuration. Each variable that changes is in force at once.
+fn timing_reconfigured(before: Timing, configured: Timing, in_force: Timing) -> Timing
+    ensures { result ≡ timing_reconfigured before configured in_force }
+{
+    configured.is_in_range();
+    in_force.is_in_range();
+    let robustness = reconfigured_value(
+        before.robustness(),
+        configured.robustness(),
+        in_force.robustness(),
+    );
+    let query_seconds = reconfigured_value(
+        before.query_seconds(),
+        configured.query_seconds(),
+        in_force.query_seconds(),
+    );
+    configured.adopting(robustness, query_seconds).unwrap()
+}
+
+/// Returns the role under another timing: the general query is due at most one query interval from now.
+fn role_reconfigured<K: Key>(
+    timing: Timing,
+    now: Moment,
+    role: &StoredRole<K>,
+    m: &mut Meter,
+) -> StoredRole<K>
+    requires in_range { now ≤ 2 ^ 53 }
+    ensures { role_in K.number result ≡ role_reconfigured timing now (role_in K.number role.now) }
+{
+    match role {
+        StoredRole::Querier(due, startup_queries) => {
+            let latest = now.after(timing.query_interval());
+            StoredRole::Querier(m.earlier(*due, latest), *startup_queries)
+        }
+        StoredRole::NonQuerier(other) => StoredRole::NonQuerier(*other),
     }
 }
 
@@ -148,6 +198,35 @@ impl<K: Key> Election<K> {
         };
         self.role = StoredRole::Querier(now.after(interval), startup_queries.saturating_sub(1));
         true
+    }
+
+    /// Sets another own address and other configured variables at `now`. A variable that changes is in force at once,
+    /// and the next general query is due at most one query interval later. If the other querier's address is not lower
+    /// than the new one, this router is querier at once. It compares on a meter of its own.
+    pub fn configure(&mut self, own: K, configured: Timing, now: Moment)
+        requires in_range { now ≤ 2 ^ 53 }
+        ensures { self.new ≡ record { own = K.number own; configured = configured; state = reconfigured self.old.configured configured (K.number own) now self.old.state } }
+    {
+        let mut m = Meter::new();
+        if self.is_outranked(own, &mut m) {
+            self.in_force = configured;
+            self.role = StoredRole::Querier(now, 0);
+        } else {
+            self.in_force = timing_reconfigured(self.configured, configured, self.in_force);
+            self.role = role_reconfigured(self.in_force, now, &self.role, &mut m);
+        }
+        self.own = own;
+        self.configured = configured;
+    }
+
+    /// Returns whether there is another querier, whose address is not lower than this one.
+    fn is_outranked(&self, own: K, m: &mut Meter) -> bool
+        ensures { result ≡ outranks (K.number own) self.now.state.role }
+    {
+        match self.role {
+            StoredRole::Querier(_, _) => false,
+            StoredRole::NonQuerier(other) => !is_lower(other.address, own, m),
+        }
     }
 
     /// Returns whether the router is querier.

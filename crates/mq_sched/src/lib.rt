@@ -14,10 +14,10 @@ mod leaf_numbers;
 mod node_pairs;
 mod portions;
 pub mod queries;
+mod repair;
 pub mod roles;
 pub mod schedules;
 pub mod sending;
-mod settling;
 pub mod sinks;
 
 pub use announced::Announced;

@@ -25,21 +25,6 @@ struct Collected<K: Key> {
 }
 
 impl<K: Key> Collected<K> {
-    /// Returns an empty collection.
-    fn new(group: K, s: bool, per_query: usize) -> Collected<K>
-        ensures group { result.group ≡ group }
-        ensures flag { result.s ≡ s }
-        ensures per_query { result.per_query ≡ per_query }
-        ensures empty { result.sources.items ≡ [] }
-    {
-        Collected {
-            group,
-            s,
-            per_query,
-            sources: ArrayVec::new(),
-        }
-    }
-
     /// Sends what is collected, and starts the next message.
     fn send<S: Sink<K>>(&mut self, sink: &mut S)
         ensures sent { let query = SourcesQuery (K.number self.old.group) self.old.s (map K.number self.old.sources.items) in
@@ -109,7 +94,12 @@ pub(crate) fn send_sources<K: Key, S: Sink<K>>(
     ensures spent { Spends 0 (length row.now) m.old m.new }
 {
     K::is_small();
-    let mut collected = Collected::new(group, s, per_query);
+    let mut collected = Collected {
+        group,
+        s,
+        per_query,
+        sources: ArrayVec::new(),
+    };
     for source in row {
         if goes(source, s, limit, m) {
             collected.push(source.address, sink);

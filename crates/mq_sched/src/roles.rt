@@ -1,9 +1,11 @@
 //! The querier of a link.
 
+ghost use Rattle.std.specs.Prelude.{◌≡◌, ⊤};
+
 use mq_count::{Key, Moment};
+use std::alloc::AllocError;
 
 /// Another router that is querier of the link.
-#[derive_where(Clone, Copy)]
 pub struct OtherQuerier<K: Key> {
     /// The source address of the last query that set the deadline.
     pub address: K,
@@ -11,8 +13,20 @@ pub struct OtherQuerier<K: Key> {
     pub deadline: Moment,
 }
 
+impl<K: Key> Clone for OtherQuerier<K> {
+    ghost is_clone = { λ x y. y ≡ x };
+
+    ghost is_infallible = { λ _. ⊤ };
+
+    fn clone(&self) -> Result<Self, AllocError> {
+        Ok(*self)
+    }
+}
+
+impl<K: Key> Copy for OtherQuerier<K> {}
+
 /// The role of a router on its link, as an `Election` keeps it.
-#[derive_where(Clone, Copy)]
+#[derive(Drop)]
 pub enum StoredRole<K: Key> {
     /// The querier itself: the moment of its general query, and the number of startup queries to go.
     Querier(Moment, u32),

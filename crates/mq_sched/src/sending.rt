@@ -1,6 +1,6 @@
 //! The queries that are sent for a group at one moment.
 
-ghost use Rattle.std.specs.Prelude.{◌≡◌, ◌+◌, ◌-◌, ◌*◌, ◌^◌, ◌<◌, ◌≤◌, if◌then◌else◌, nat_lt, length, slice_range};
+ghost use Rattle.std.specs.Prelude.{◌≡◌, ◌+◌, ◌-◌, ◌*◌, ◌^◌, ◌<◌, ◌≤◌, if◌then◌else◌, nat_lt, length};
 ghost use Rattle.mq_count.specs.Spending.{Spends};
 ghost use Rattle.mq_sets.specs.Ascending.{IsAscending};
 ghost use Rattle.mq_table.specs.Group.{GroupState};
@@ -36,15 +36,6 @@ fn counted(query: &QuerySchedule, now: Moment, timing: &Timing) -> Option<QueryS
     }
 }
 
-/// Returns the sources of a list at some places.
-fn part_of<K: Key>(row: &[Source<K>], places: SendingPlaces) -> &[Source<K>]
-    requires ordered { places.first ≤ places.end }
-    requires within { places.end ≤ length row.now }
-    ensures { result.now ≡ slice_range row.now places.first places.end }
-{
-    &row[places.first..places.end]
-}
-
 /// Sends the queries for the sources of a group that have sendings to go; `row` has its sources. Those whose timers are
 /// above the last member query time go with S set, and then the others with S clear. Returns their places. RFC 3376
 /// section 6.6.3.2, RFC 3810 section 7.6.3.2.
@@ -68,7 +59,7 @@ pub fn send_waiting<K: Key, S: Sink<K>>(
 {
     let limit = now.after(timing.last_member_time());
     let places = places_of_sendings(row);
-    let part = part_of(row, places);
+    let part = &row[places.first..places.end];
     send_sources(address, true, part, limit, per_query, m, sink);
     send_sources(address, false, part, limit, per_query, m, sink);
     places

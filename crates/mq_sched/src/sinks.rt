@@ -4,7 +4,7 @@ use mq_count::Key;
 
 /// The parts in which queries of one kind differ. The response time, the robustness variable and the query interval are
 /// the same for each query of a kind (RFC 3376 section 4.1, RFC 3810 section 5.1).
-#[derive(Clone, Copy, Drop)]
+#[derive(Drop)]
 pub enum QueryParts<'a, K: Key> {
     /// A general query.
     General,

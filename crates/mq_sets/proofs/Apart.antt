@@ -1,9 +1,6 @@
 -- Rows that have no cell in common: what edits of their extents leave.
-use Rattle.std.proofs.Common.{◌≡◌, ℕ, zero, suc, ◌<◌, ◌≤◌, List, [], ◌∷◌, length, set, get_or, sym, ap, subst, arith, inl, inr}
-use Rattle.std.specs.List.{All}
-use Rattle.std.proofs.lemmas.List.Elements.{All-head, All-tail, All-weaker, All-set}
-use Rattle.mq_sets.specs.Pools.{IsWithin, IsApart, AreApart}
-use Rattle.mq_sets.specs.declared.extents.Extent.{Extent}
+use Rattle.mq_sets.proofs.Common.{◌≡◌, ℕ, zero, suc, ◌<◌, ◌≤◌, List, [], ◌∷◌, length, set, get_or, sym, ap, subst, arith, inl, inr, All, All-head, All-tail}
+use Rattle.mq_sets.proofs.Common.{All-weaker, All-set, IsWithin, IsApart, AreApart, Extent}
 
 pub apart-turned : (a b : Extent) → IsApart a b → IsApart b a
 apart-turned a b (inl before) = inr before

@@ -1,10 +1,6 @@
 -- Ascending lists, taken apart and put together, and what a number finds in them.
-use Rattle.std.proofs.Common.{ℕ, suc, ◌<◌, ◌≤◌, ◌≡◌, Bool, true, false, ◌==◌, arith, refl, List, [], ◌∷◌, ◌++◌, map, None, ap, ⊎_elim}
-use Rattle.std.specs.List.{All, filter}
-use Rattle.std.proofs.lemmas.Bool.Decides.{eqb_tells}
-use Rattle.std.proofs.lemmas.List.Elements.{All-head, All-tail, All-append, All-map, All-weaker}
-use Rattle.std.proofs.lemmas.List.Kept.{AllPairs-cons}
-use Rattle.mq_sets.specs.Ascending.{IsAscending, item_with}
+use Rattle.mq_sets.proofs.Common.{ℕ, suc, ◌<◌, ◌≤◌, ◌≡◌, Bool, true, false, ◌==◌, arith, refl, List, [], ◌∷◌, ◌++◌, map, None, ap, ⊎_elim, All, filter}
+use Rattle.mq_sets.proofs.Common.{eqb_tells, All-head, All-tail, All-append, All-map, All-weaker, AllPairs-cons, IsAscending, item_with}
 
 -- two numbers, one below the other, do not test as equal
 pub below-eqb : (a b : ℕ) → a < b → (a == b) ≡ false

@@ -1,9 +1,8 @@
 -- Laws of `bitlen`.
-use Rattle.std.proofs.Common.{ℕ, zero, suc, ◌+◌, ◌/◌, ◌^◌, ◌<◌, ◌≤◌, ◌≡◌, arith, refl, subst}
+use Rattle.mq_sets.proofs.Common.{ℕ, zero, suc, ◌+◌, ◌/◌, ◌^◌, ◌<◌, ◌≤◌, ◌≡◌, arith, refl, subst, bitlen, BitlenIsLeast}
 use Rattle.std.specs.Int.Digits.{digits_of}
 use Rattle.std.proofs.lemmas.Int.Digits.{length-digits_of_step, length-digits_of-le, number_lt, number_digits_of, all_below_base_digits_of}
 use Rattle.std.proofs.Math.Pow.{pow_mono}
-use Rattle.mq_sets.specs.Search.{bitlen, BitlenIsLeast}
 
 pub bitlen-zero : bitlen 0 ≡ 0
 unfolding bitlen

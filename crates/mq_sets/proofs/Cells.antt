@@ -1,15 +1,9 @@
 -- Items in cells: what a write, an append, an insert and a remove leave of them.
-use Rattle.std.proofs.Common.{ℕ, zero, suc, ◌+◌, ◌<◌, ◌≤◌, ◌≡◌, ◌==◌, Bool, cond, arith, refl, List, [], ◌∷◌, ◌++◌, length, map, take, drop, set}
-use Rattle.std.proofs.Common.{get_or, sym, ap, ◌∙◌, subst, ⊎_elim, length-append}
-use Rattle.std.specs.List.{All, insert, remove}
-use Rattle.std.proofs.lemmas.Bool.{eq-eqb}
-use Rattle.std.proofs.lemmas.Bool.Decides.{eqb_tells}
-use Rattle.std.proofs.lemmas.List.{get_or_append_left, get_or_push, get_or-set_same, get_or-set_other, length-set}
-use Rattle.std.proofs.lemmas.List.Concat.{flat_map-cons}
-use Rattle.std.proofs.lemmas.List.Elements.{All-head, All-tail, All-weaker, All-append, All-nil, All-cons, All-take, All-drop}
-use Rattle.std.proofs.lemmas.List.Sums.{sum_by-cons, sum_by-append, sum_by-insert, sum_by-remove, sum_by-le, get_or-le-sum_by}
-use Rattle.std.proofs.lemmas.List.Edits.{length-insert, length-remove}
-use Rattle.mq_sets.specs.Slots.{item_in, items_in, times, IsCell, AreSlots}
+use Rattle.mq_sets.proofs.Common.{ℕ, zero, suc, ◌+◌, ◌<◌, ◌≤◌, ◌≡◌, ◌==◌, Bool, cond, arith, refl, List, [], ◌∷◌, ◌++◌, length, map, take, drop, set, get_or}
+use Rattle.mq_sets.proofs.Common.{sym, ap, ◌∙◌, subst, ⊎_elim, length-append, All, insert, remove, eq-eqb, eqb_tells, get_or_append_left, get_or_push}
+use Rattle.mq_sets.proofs.Common.{get_or-set_same, get_or-set_other, length-set, flat_map-cons, All-head, All-tail, All-weaker, All-append, All-nil, All-cons}
+use Rattle.mq_sets.proofs.Common.{All-take, All-drop, sum_by-cons, sum_by-append, sum_by-insert, sum_by-remove, sum_by-le, get_or-le-sum_by, length-insert}
+use Rattle.mq_sets.proofs.Common.{length-remove, item_in, items_in, times, IsCell, AreSlots}
 
 -- two functions that agree at each element
 pub map-agree : {X Y : Type 0} (f g : X → Y) (xs : List X) → All (λ x. f x ≡ g x) xs → map f xs ≡ map g xs

@@ -1,6 +1,5 @@
 -- Worked examples of the definitions.
-use Rattle.std.proofs.Common.{ℕ, ◌≡◌, [], ◌∷◌, None, Some, refl}
-use Rattle.mq_sets.specs.Merging.{merged_lists, comparisons_along}
+use Rattle.mq_sets.proofs.Common.{ℕ, ◌≡◌, [], ◌∷◌, None, Some, refl, merged_lists, comparisons_along}
 
 -- {1, 3, 5} and {2, 3, 6}: left 1, right 2, both 3, left 5, right 6
 merged_example : merged_lists (λ (n : ℕ). n) (λ (n : ℕ). n) (1 ∷ 3 ∷ 5 ∷ []) (2 ∷ 3 ∷ 6 ∷ []) ≡ (Some 1, None) ∷ (None, Some 2) ∷ (Some 3, Some 3) ∷

@@ -1,12 +1,8 @@
 -- The item of a list that a number finds.
-use Rattle.std.proofs.Common.{ℕ, ◌≡◌, ◌==◌, arith, refl, List, [], ◌∷◌, map, ◌∙◌, ⊎_elim}
-use Rattle.std.specs.Option.{option_map}
-use Rattle.std.specs.Ordering.{nat_cmp, eq_by_cmp}
+use Rattle.mq_sets.proofs.Common.{ℕ, ◌≡◌, ◌==◌, arith, refl, List, [], ◌∷◌, map, ◌∙◌, ⊎_elim, option_map, nat_cmp, eq_by_cmp, cases_lt, eq-eqb, lt-ltb, le-ltb}
+use Rattle.mq_sets.proofs.Common.{eqb_tells, item_with, FoundWhereMember, FoundHasNumber, MapsEachNumber}
 use Rattle.std.specs.FinMap as map_of
-use Rattle.std.proofs.lemmas.Bool.{cases_lt, eq-eqb, lt-ltb, le-ltb}
-use Rattle.std.proofs.lemmas.Bool.Decides.{eqb_tells}
 use Rattle.std.proofs.lemmas.Cmp.{nat_cmp_total}
-use Rattle.mq_sets.specs.Ascending.{item_with, FoundWhereMember, FoundHasNumber, MapsEachNumber}
 use Rattle.mq_sets.proofs.Ascents.{above-eqb, below-eqb}
 
 module _ {X : Type 0} (number : X → ℕ) where

@@ -1,11 +1,6 @@
 -- The one ascending list of a set.
-use Rattle.std.proofs.Common.{ℕ, ◌<◌, ◌≤◌, ◌≡◌, true, false, ◌==◌, arith, refl, List, [], ◌∷◌, sym, ◌∙◌, ⊎_elim}
-use Rattle.std.specs.List.{All}
-use Rattle.std.proofs.lemmas.Bool.{cases_lt, eq-eqb, false≢true}
-use Rattle.std.proofs.lemmas.Bool.Decides.{eqb_tells}
-use Rattle.std.proofs.lemmas.List.Elements.{All-weaker, All-cons}
-use Rattle.std.proofs.lemmas.List.Folds.{list_any_none}
-use Rattle.mq_sets.specs.Ascending.{IsAscending, set_of, KnownBySet}
+use Rattle.mq_sets.proofs.Common.{ℕ, ◌<◌, ◌≤◌, ◌≡◌, true, false, ◌==◌, arith, refl, List, [], ◌∷◌, sym, ◌∙◌, ⊎_elim, All, cases_lt, eq-eqb, false≢true}
+use Rattle.mq_sets.proofs.Common.{eqb_tells, All-weaker, All-cons, list_any_none, IsAscending, set_of, KnownBySet}
 use Rattle.mq_sets.proofs.Ascents.{IsAscending-head, IsAscending-tail, above-eqb}
 
 module _ {X : Type 0} (number : X → ℕ) where

@@ -2,6 +2,7 @@ pub mod Apart
 pub mod Ascents
 pub mod Bitlen
 pub mod Cells
+mod Common
 pub mod Counted
 pub mod Examples
 pub mod Found

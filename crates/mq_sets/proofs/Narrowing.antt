@@ -1,15 +1,6 @@
 -- The binary search: what its loop keeps.
-use Rattle.std.proofs.Common.{ℕ, ◌+◌, ◌-◌, ◌/◌, ◌<◌, ◌≤◌, ◌≡◌, min, arith, List, length, get_or, subst, ⊎_elim}
-use Rattle.std.proofs.lemmas.Bool.{cases_lt}
-use Rattle.std.proofs.lemmas.List.Elements.{at_read}
-use Rattle.std.specs.Ordering.{nat_cmp}
-use Rattle.std.specs.Cmp.{ranked}
-use Rattle.std.specs.declared.cmp.Ordering.TheVariants.{Less, Greater}
-use Rattle.mq_sets.specs.Ascending.{IsAscending}
-use Rattle.std.specs.List.{AllWithin}
-use Rattle.mq_count.specs.Spending.{Spends}
-use Rattle.mq_count.proofs.Spent.{Spends-join_within}
-use Rattle.mq_sets.specs.Search.{bitlen, IsPlaceFor}
+use Rattle.mq_sets.proofs.Common.{ℕ, ◌+◌, ◌-◌, ◌/◌, ◌<◌, ◌≤◌, ◌≡◌, min, arith, List, length, get_or, subst, ⊎_elim, cases_lt, at_read, nat_cmp, ranked, Less}
+use Rattle.mq_sets.proofs.Common.{Greater, IsAscending, AllWithin, Spends, Spends-join_within, bitlen, IsPlaceFor}
 use Rattle.mq_sets.proofs.Bitlen.{bitlen-half, bitlen-mono}
 
 -- the item of number n lies from low on and below high, if it is there

@@ -1,9 +1,6 @@
 -- One cell of a row that stands among others, once it is another.
-use Rattle.std.proofs.Common.{◌≡◌, ℕ, zero, suc, ◌+◌, ◌<◌, ◌≤◌, List, [], ◌∷◌, ◌++◌, length, take, drop, set, get_or, refl, sym, ap, ◌∙◌, subst, arith}
-use Rattle.std.specs.List.{All}
-use Rattle.std.proofs.lemmas.List.{length-set, take-append-drop, get_or-map}
-use Rattle.mq_sets.specs.Pools.{cells_of, rows_of, IsWithin, AreApart}
-use Rattle.mq_sets.specs.declared.extents.Extent.{Extent}
+use Rattle.mq_sets.proofs.Common.{◌≡◌, ℕ, zero, suc, ◌+◌, ◌<◌, ◌≤◌, List, [], ◌∷◌, ◌++◌, length, take, drop, set, get_or, refl, sym, ap, ◌∙◌, subst, arith, All}
+use Rattle.mq_sets.proofs.Common.{length-set, take-append-drop, get_or-map, cells_of, rows_of, IsWithin, AreApart, Extent}
 use Rattle.mq_sets.proofs.Stored.{length-cells_of}
 use Rattle.mq_sets.proofs.WrittenOver.{rows-written}
 

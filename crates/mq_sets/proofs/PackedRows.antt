@@ -1,15 +1,8 @@
 -- Rows that are packed in the order in which a list names them.
-use Rattle.std.proofs.Common.{ℕ, suc, ◌+◌, ◌<◌, ◌≤◌, ◌≡◌, arith, refl, List, [], ◌∷◌, ◌++◌, length, map, take, set, get_or, sym, ap, ◌∙◌, subst}
-use Rattle.std.proofs.Common.{⊎_elim, length-append}
-use Rattle.std.specs.List.{All, sum_by}
-use Rattle.std.proofs.lemmas.Bool.{cases_lt, cases_eq}
-use Rattle.std.proofs.Math.Seq.{map-set_same}
-use Rattle.std.proofs.lemmas.List.{same_lists, get_or_default, get_or_past, get_or-map, get_or-set_same, get_or-set_other, length-set, length-map}
-use Rattle.std.proofs.lemmas.List.Elements.{All-head, All-tail, All-set}
-use Rattle.std.proofs.lemmas.List.Sums.{sum_by-cons, sum_by-le, sum_by-set, sum_by_push, sum_by_more_le}
-use Rattle.mq_sets.specs.Pools.{cells_of, rows_of, IsWithin, IsApart, AreApart, cells_said, NamesRows, IsPlaced}
-use Rattle.mq_sets.specs.Slots.{times}
-use Rattle.mq_sets.specs.declared.extents.Extent.{Extent}
+use Rattle.mq_sets.proofs.Common.{ℕ, suc, ◌+◌, ◌<◌, ◌≤◌, ◌≡◌, arith, refl, List, [], ◌∷◌, ◌++◌, length, map, take, set, get_or, sym, ap, ◌∙◌, subst, ⊎_elim}
+use Rattle.mq_sets.proofs.Common.{length-append, All, sum_by, cases_lt, cases_eq, map-set_same, same_lists, get_or_default, get_or_past, get_or-map}
+use Rattle.mq_sets.proofs.Common.{get_or-set_same, get_or-set_other, length-set, length-map, All-head, All-tail, All-set, sum_by-cons, sum_by-le, sum_by-set}
+use Rattle.mq_sets.proofs.Common.{sum_by_push, sum_by_more_le, cells_of, rows_of, IsWithin, IsApart, AreApart, cells_said, NamesRows, IsPlaced, times, Extent}
 use Rattle.mq_sets.proofs.Apart.{apart-none, apart-turned}
 use Rattle.mq_sets.proofs.Cells.{is_cell, is_cell-same, is_cell-other}
 use Rattle.mq_sets.proofs.Stored.{cells_of-append, cells_of-end, cells_of-empty, length-cells_of}

@@ -1,13 +1,9 @@
 -- Numbers in pages, as one list: what an edit of a page is there.
-use Rattle.std.proofs.Common.{ℕ, suc, ◌+◌, ◌-◌, ◌*◌, ◌<◌, ◌≤◌, ◌≡◌, List, [], ◌∷◌, ◌++◌, length, map, take, drop, set, get_or, refl, sym, ap, ◌∙◌}
-use Rattle.std.proofs.Common.{subst, arith, sum, add-one, append_assoc, length-append, length-take, length-drop}
-use Rattle.std.specs.List.{insert}
-use Rattle.std.proofs.lemmas.List.{set_split, set-get_or, take-map, take-append-drop, map-set, take_more_set, drop-set-lt, get_or-map, drop-map}
-use Rattle.std.proofs.lemmas.List.{length-map, map-append, take_at, get_or_at}
-use Rattle.std.proofs.lemmas.List.Sums.{sum-map, sum_by_more}
-use Rattle.std.proofs.lemmas.List.Concat.{flat_map-append, length-flat_map, get_or-flat_map}
-use Rattle.std.proofs.lemmas.List.Edits.{insert-append_left, insert-append_right, length-insert}
-use Rattle.mq_sets.specs.NumberedKeys.{PagesState, numbers_in, AreFilled}
+use Rattle.mq_sets.proofs.Common.{ℕ, suc, ◌+◌, ◌-◌, ◌*◌, ◌<◌, ◌≤◌, ◌≡◌, List, [], ◌∷◌, ◌++◌, length, map, take, drop, set, get_or, refl, sym, ap, ◌∙◌, subst}
+use Rattle.mq_sets.proofs.Common.{arith, sum, add-one, append_assoc, length-append, length-take, length-drop, insert, set_split, set-get_or, take-map}
+use Rattle.mq_sets.proofs.Common.{take-append-drop, map-set, take_more_set, drop-set-lt, get_or-map, drop-map, length-map, map-append, take_at, get_or_at}
+use Rattle.mq_sets.proofs.Common.{sum-map, sum_by_more, flat_map-append, length-flat_map, get_or-flat_map, insert-append_left, insert-append_right}
+use Rattle.mq_sets.proofs.Common.{length-insert, PagesState, numbers_in, AreFilled}
 use Rattle.mq_sets.proofs.PageSizes.{AreFilled-grown, AreFilled-halved, few_pages}
 
 -- the state of pages with this limit

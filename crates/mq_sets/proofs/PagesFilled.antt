@@ -1,12 +1,7 @@
 -- Pages that are filled one after the other with the numbers of a list.
-use Rattle.std.proofs.Common.{ℕ, ◌+◌, ◌-◌, ◌*◌, ◌<◌, ◌≤◌, ◌≡◌, min, refl, arith, List, [], ◌∷◌, ◌++◌, length, map, take, drop, sym, ap, ◌∙◌, subst}
-use Rattle.std.proofs.Common.{length-append, length-take, length-drop}
-use Rattle.std.specs.List.{All}
-use Rattle.std.proofs.Math.Seq.{take-add}
-use Rattle.std.proofs.lemmas.List.{append-nil, map-append, length-map}
-use Rattle.std.proofs.lemmas.List.Concat.{flat_map-append}
-use Rattle.std.proofs.lemmas.List.Elements.{All-head, All-tail, All-append, All-cons, All-nil, All-weaker}
-use Rattle.mq_sets.specs.NumberedKeys.{small_pairs, AreFilled, numbers_in}
+use Rattle.mq_sets.proofs.Common.{ℕ, ◌+◌, ◌-◌, ◌*◌, ◌<◌, ◌≤◌, ◌≡◌, min, refl, arith, List, [], ◌∷◌, ◌++◌, length, map, take, drop, sym, ap, ◌∙◌, subst}
+use Rattle.mq_sets.proofs.Common.{length-append, length-take, length-drop, All, take-add, append-nil, map-append, length-map, flat_map-append, All-head}
+use Rattle.mq_sets.proofs.Common.{All-tail, All-append, All-cons, All-nil, All-weaker, small_pairs, AreFilled, numbers_in}
 
 -- a page behind others that are three quarters full
 small_pairs-behind : (xs : List ℕ) (a : ℕ) → All (λ n. n ≡ 384) xs → small_pairs (xs ++ a ∷ []) ≡ 0

@@ -1,12 +1,7 @@
 -- The moved items if a number leaves its page.
-use Rattle.std.proofs.Common.{ℕ, ◌+◌, ◌-◌, ◌<◌, ◌≤◌, ◌≡◌, min, List, [], length, map, set, get_or, arith, ⊎_elim}
+use Rattle.mq_sets.proofs.Common.{ℕ, ◌+◌, ◌-◌, ◌<◌, ◌≤◌, ◌≡◌, min, List, [], length, map, set, get_or, arith, ⊎_elim, remove, cases_lt, lt-ltb, le-ltb, map-set}
+use Rattle.mq_sets.proofs.Common.{get_or-map, length-map, length-remove, above_least, moved_by_join, moved_by_joins, moved_by_remove, have_to_join, Spot}
 use Rattle.std.specs.Prelude.{cond}
-use Rattle.std.specs.List.{remove}
-use Rattle.std.proofs.lemmas.Bool.{cases_lt, lt-ltb, le-ltb}
-use Rattle.std.proofs.lemmas.List.{map-set, get_or-map, length-map}
-use Rattle.std.proofs.lemmas.List.Edits.{length-remove}
-use Rattle.mq_sets.specs.NumberedKeys.{above_least, moved_by_join, moved_by_joins, moved_by_remove, have_to_join}
-use Rattle.mq_sets.specs.declared.spots.Spot.{Spot}
 
 module _ (pages : List ℕ) (i : ℕ) where
   neither : (i + 1 < length pages → 1 ≤ above_least pages i) → min 1 (length pages - 1 - i) ≤ above_least pages i

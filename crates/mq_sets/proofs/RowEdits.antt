@@ -1,15 +1,9 @@
 -- Rows that are kept by number: what an edit leaves.
-use Rattle.std.proofs.Common.{ℕ, zero, suc, ◌+◌, ◌-◌, ◌*◌, ◌/◌, ◌<◌, ◌≤◌, ◌≡◌, arith, refl, List, [], ◌∷◌, length, map, set, get_or, ap, ◌∙◌, min}
+use Rattle.mq_sets.proofs.Common.{ℕ, zero, suc, ◌+◌, ◌-◌, ◌*◌, ◌/◌, ◌<◌, ◌≤◌, ◌≡◌, arith, refl, List, [], ◌∷◌, length, map, set, get_or, ap, ◌∙◌, min, All}
+use Rattle.mq_sets.proofs.Common.{cases_eq, cases_lt, le-leb, lt-leb, nat_tests, get_or-replicate, length-replicate, get_or-set_same, get_or-set_other, map-set}
+use Rattle.mq_sets.proofs.Common.{length-set, length-map, All-head, All-tail, All-set, sum_by-replicate, sum_by-set, cells_of, rows_of, cells_said, IsWithin}
+use Rattle.mq_sets.proofs.Common.{AreApart, IsStored, PoolState, NamesRows, IsPlaced, MovesArePaid, Extent}
 use Rattle.std.specs.Prelude.{replicate, nat_le, if◌then◌else◌}
-use Rattle.std.specs.List.{All}
-use Rattle.std.proofs.lemmas.Bool.{cases_eq, cases_lt, le-leb, lt-leb}
-use Rattle.std.proofs.lemmas.Bool.Decides.{nat_tests}
-use Rattle.std.proofs.lemmas.List.{get_or-replicate, length-replicate, get_or-set_same, get_or-set_other, map-set, length-set, length-map}
-use Rattle.std.proofs.lemmas.List.Elements.{All-head, All-tail, All-set}
-use Rattle.std.proofs.lemmas.List.Folds.{sum_by-replicate}
-use Rattle.std.proofs.lemmas.List.Sums.{sum_by-set}
-use Rattle.mq_sets.specs.Pools.{cells_of, rows_of, cells_said, IsWithin, AreApart, IsStored, PoolState, NamesRows, IsPlaced, MovesArePaid}
-use Rattle.mq_sets.specs.declared.extents.Extent.{Extent}
 use Rattle.mq_sets.proofs.Apart.{apart-none, apart-set}
 use Rattle.mq_sets.proofs.PackedRows.{none, AreApart-from_pairs}
 use Rattle.mq_sets.proofs.Stored.{cells_of-empty, length-cells_of}

@@ -1,11 +1,7 @@
 -- The results of a rule for each item of an ascending list, number by number.
-use Rattle.std.proofs.Common.{ℕ, ◌<◌, ◌≡◌, arith, refl, List, [], ◌∷◌, Option, None, Some, sym, ap, subst, ◌∙◌, ⊎_elim}
-use Rattle.std.specs.List.{All, filter_map, cons_option}
-use Rattle.std.specs.Option.{option_and_then}
-use Rattle.std.proofs.lemmas.Bool.Decides.{eqb_tells}
-use Rattle.std.proofs.lemmas.List.Elements.{All-nil, All-cons, All-head, All-tail, All-weaker}
-use Rattle.mq_sets.specs.Ascending.{IsAscending, item_with}
-use Rattle.mq_sets.specs.Merging.{merged_lists, number_of}
+use Rattle.mq_sets.proofs.Common.{ℕ, ◌<◌, ◌≡◌, arith, refl, List, [], ◌∷◌, Option, None, Some, sym, ap, subst, ◌∙◌, ⊎_elim, All, filter_map, cons_option}
+use Rattle.mq_sets.proofs.Common.{option_and_then, eqb_tells, All-nil, All-cons, All-head, All-tail, All-weaker, IsAscending, item_with, merged_lists}
+use Rattle.mq_sets.proofs.Common.{number_of}
 use Rattle.mq_sets.specs.Rules.{KeepsNumbers, RulesKeepOrder, RulesActAtEachNumber}
 use Rattle.mq_sets.proofs.WholeMerge.{merged-ascending, merged-at}
 use Rattle.mq_sets.proofs.Ascents.{IsAscending-head, IsAscending-tail, IsAscending-cons, item_with-above}

@@ -1,12 +1,7 @@
 -- The comparisons of a search among pages.
-use Rattle.std.proofs.Common.{ℕ, zero, suc, ◌+◌, ◌-◌, ◌*◌, ◌/◌, ◌<◌, ◌≤◌, ◌≡◌, min, List, [], ◌∷◌, length, map, get_or, sym, ap, ◌∙◌, ⊎_elim, arith}
-use Rattle.std.proofs.lemmas.Bool.{cases_lt}
-use Rattle.std.proofs.lemmas.List.{append-nil, get_or-map, length-map}
-use Rattle.std.proofs.lemmas.List.Sums.{get_or-le-sum_by}
-use Rattle.mq_count.specs.Spending.{Spends}
-use Rattle.mq_count.proofs.Spent.{Spends-join_within, Spends-within}
-use Rattle.mq_sets.specs.NumberedKeys.{numbers_in, AreFilled}
-use Rattle.mq_sets.specs.Search.{bitlen}
+use Rattle.mq_sets.proofs.Common.{ℕ, zero, suc, ◌+◌, ◌-◌, ◌*◌, ◌/◌, ◌<◌, ◌≤◌, ◌≡◌, min, List, [], ◌∷◌, length, map, get_or, sym, ap, ◌∙◌, ⊎_elim, arith}
+use Rattle.mq_sets.proofs.Common.{cases_lt, append-nil, get_or-map, length-map, get_or-le-sum_by, Spends, Spends-join_within, Spends-within, numbers_in}
+use Rattle.mq_sets.proofs.Common.{AreFilled, bitlen}
 use Rattle.mq_sets.proofs.Bitlen.{bitlen-half, bitlen-le, bitlen-mono, bitlen-zero}
 use Rattle.mq_sets.proofs.PageSizes.{few_pages, two_pages}
 use Rattle.mq_sets.proofs.PagedNumbers.{length-numbers}

@@ -1,15 +1,8 @@
 -- A search among the first numbers of pages and one in a page: together a search among all numbers.
-use Rattle.std.proofs.Common.{ℕ, zero, suc, ◌+◌, ◌-◌, ◌<◌, ◌≤◌, ◌≡◌, List, [], ◌∷◌, ◌++◌, length, map, take, drop, get_or, sum, sym, ap, ◌∙◌, subst}
-use Rattle.std.proofs.Common.{arith, append_assoc, length-append, length-take, length-drop}
-use Rattle.std.specs.List.{All, HoldsAt}
-use Rattle.std.specs.Prelude.{slice_index}
-use Rattle.std.proofs.lemmas.List.Concat.{flat_map-append}
-use Rattle.std.proofs.lemmas.List.{get_or_append_left, get_or-append_right, get_or-take, get_or-drop, get_or-map, length-map, take-append-drop}
-use Rattle.std.proofs.lemmas.List.{take_rest, drop-map}
-use Rattle.std.proofs.lemmas.List.Elements.{All-nil, All-cons, All-head, All-tail, All-append, All-weaker, All-drop}
-use Rattle.mq_sets.specs.Ascending.{IsAscending}
-use Rattle.mq_sets.specs.NumberedKeys.{numbers_in, first_key, AreFilled}
-use Rattle.mq_sets.specs.Search.{IsPlaceFor}
+use Rattle.mq_sets.proofs.Common.{ℕ, zero, suc, ◌+◌, ◌-◌, ◌<◌, ◌≤◌, ◌≡◌, List, [], ◌∷◌, ◌++◌, length, map, take, drop, get_or, sum, sym, ap, ◌∙◌, subst, arith}
+use Rattle.mq_sets.proofs.Common.{append_assoc, length-append, length-take, length-drop, All, HoldsAt, slice_index, flat_map-append, get_or_append_left}
+use Rattle.mq_sets.proofs.Common.{get_or-append_right, get_or-take, get_or-drop, get_or-map, length-map, take-append-drop, take_rest, drop-map, All-nil}
+use Rattle.mq_sets.proofs.Common.{All-cons, All-head, All-tail, All-append, All-weaker, All-drop, IsAscending, numbers_in, first_key, AreFilled, IsPlaceFor}
 use Rattle.mq_sets.proofs.Ascents.{IsAscending-cons, IsAscending-head, IsAscending-tail}
 use Rattle.mq_sets.proofs.PagedNumbers.{numbers-parts, length-numbers-take}
 

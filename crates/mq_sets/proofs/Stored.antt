@@ -1,13 +1,9 @@
 -- Rows in a list of cells: what an append, an edit of the rows and a copy leave.
-use Rattle.std.proofs.Common.{ℕ, suc, ◌+◌, ◌-◌, ◌<◌, ◌≤◌, ◌≡◌, arith, refl, List, [], ◌∷◌, ◌++◌, length, map, take, drop, set, get_or, sym, ap, ◌∙◌, subst}
-use Rattle.std.proofs.Common.{length-append, length-take, length-drop}
-use Rattle.std.specs.List.{All, sum_by, insert, remove}
-use Rattle.std.proofs.lemmas.List.{append-nil, drop_all, drop-append-le, take-append-le, drop_at, take_all, map-append, take-map, drop-map, get_or-map}
-use Rattle.std.proofs.lemmas.List.{length-map, map-set, set-set}
-use Rattle.std.proofs.lemmas.List.Elements.{All-head, All-tail, All-weaker, All-set}
-use Rattle.std.proofs.lemmas.List.Sums.{sum_by-cons, sum_by-set, get_or-le-sum_by, sum-map}
-use Rattle.mq_sets.specs.Pools.{PoolState, cells_of, rows_of, IsWithin, AreApart, cells_in, cells_said, IsStored}
-use Rattle.mq_sets.specs.declared.extents.Extent.{Extent}
+use Rattle.mq_sets.proofs.Common.{ℕ, suc, ◌+◌, ◌-◌, ◌<◌, ◌≤◌, ◌≡◌, arith, refl, List, [], ◌∷◌, ◌++◌, length, map, take, drop, set, get_or, sym, ap, ◌∙◌, subst}
+use Rattle.mq_sets.proofs.Common.{length-append, length-take, length-drop, All, sum_by, insert, remove, append-nil, drop_all, drop-append-le, take-append-le}
+use Rattle.mq_sets.proofs.Common.{drop_at, take_all, map-append, take-map, drop-map, get_or-map, length-map, map-set, set-set, All-head, All-tail, All-weaker}
+use Rattle.mq_sets.proofs.Common.{All-set, sum_by-cons, sum_by-set, get_or-le-sum_by, sum-map, PoolState, cells_of, rows_of, IsWithin, AreApart, cells_in}
+use Rattle.mq_sets.proofs.Common.{cells_said, IsStored, Extent}
 use Rattle.mq_sets.proofs.Apart.{apart-set, apart-behind}
 
 module _ {T : Type 0} where

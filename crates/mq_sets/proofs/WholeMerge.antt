@@ -1,14 +1,8 @@
 -- The items of a whole merge.
-use Rattle.std.proofs.Common.{ℕ, ◌<◌, ◌≤◌, ◌≡◌, Bool, true, false, cond, ◌==◌, ltb, arith, refl, List, [], ◌∷◌, map, Option, None, Some, ◌∙◌, ⊎_elim}
-use Rattle.std.specs.List.{All, filter}
-use Rattle.std.specs.Option.{option_or}
-use Rattle.std.proofs.lemmas.Bool.{cases_lt, eq-eqb, lt-ltb, le-ltb, ltb-true}
-use Rattle.std.proofs.lemmas.Bool.Decides.{eqb_tells}
-use Rattle.std.proofs.lemmas.List.Elements.{All-cons, All-append, All-map, All-weaker, All-filter, All-head, All-tail, filter_passes}
-use Rattle.std.proofs.lemmas.List.Folds.{find-append}
-use Rattle.std.proofs.lemmas.List.Kept.{AllPairs-filter}
-use Rattle.mq_sets.specs.Ascending.{IsAscending, item_with}
-use Rattle.mq_sets.specs.Merging.{merged_lists, number_of, paired}
+use Rattle.mq_sets.proofs.Common.{ℕ, ◌<◌, ◌≤◌, ◌≡◌, Bool, true, false, cond, ◌==◌, ltb, arith, refl, List, [], ◌∷◌, map, Option, None, Some, ◌∙◌, ⊎_elim, All}
+use Rattle.mq_sets.proofs.Common.{filter, option_or, cases_lt, eq-eqb, lt-ltb, le-ltb, ltb-true, eqb_tells, All-cons, All-append, All-map, All-weaker}
+use Rattle.mq_sets.proofs.Common.{All-filter, All-head, All-tail, filter_passes, find-append, AllPairs-filter, IsAscending, item_with, merged_lists, number_of}
+use Rattle.mq_sets.proofs.Common.{paired}
 use Rattle.mq_sets.proofs.Ascents.{IsAscending-head, IsAscending-tail, IsAscending-cons, IsAscending-append, IsAscending-map, item_with-above}
 use Rattle.mq_sets.proofs.Ascents.{below-eqb, above-eqb}
 

@@ -1,12 +1,7 @@
 -- A write over the front of a row that has no cell in common with another.
-use Rattle.std.proofs.Common.{◌≡◌, ℕ, zero, suc, ◌+◌, ◌-◌, ◌<◌, ◌≤◌, List, [], ◌∷◌, ◌++◌, length, take, drop, set, get_or, refl, sym, ap, ◌∙◌, subst}
-use Rattle.std.proofs.Common.{arith, inl, inr, append_assoc, length-append, length-take}
-use Rattle.std.specs.List.{All, splice}
-use Rattle.std.proofs.Math.Seq.{drop-append-add}
-use Rattle.std.proofs.lemmas.List.{drop-drop, take-append-drop}
-use Rattle.std.proofs.lemmas.List.Elements.{All-head, All-tail}
-use Rattle.mq_sets.specs.Pools.{cells_of, rows_of, IsWithin, IsApart, AreApart}
-use Rattle.mq_sets.specs.declared.extents.Extent.{Extent}
+use Rattle.mq_sets.proofs.Common.{◌≡◌, ℕ, zero, suc, ◌+◌, ◌-◌, ◌<◌, ◌≤◌, List, [], ◌∷◌, ◌++◌, length, take, drop, set, get_or, refl, sym, ap, ◌∙◌, subst, arith}
+use Rattle.mq_sets.proofs.Common.{inl, inr, append_assoc, length-append, length-take, All, splice, drop-append-add, drop-drop, take-append-drop, All-head}
+use Rattle.mq_sets.proofs.Common.{All-tail, cells_of, rows_of, IsWithin, IsApart, AreApart, Extent}
 use Rattle.mq_sets.proofs.Apart.{apart-turned}
 use Rattle.mq_sets.proofs.Stored.{cells_of-append, cells_of-end}
 

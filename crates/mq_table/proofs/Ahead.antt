@@ -1,14 +1,9 @@
 -- The end of timers leaves only what is still ahead.
-use Rattle.std.proofs.Common.{ℕ, ◌<◌, Bool, true, false, cond, Option, IfSome, sym, subst, arith}
-use Rattle.std.proofs.lemmas.Bool.{ltb-true}
-use Rattle.std.specs.Option.{option_and_then}
-use Rattle.std.specs.Ordering.{nat_cmp}
+use Rattle.mq_table.proofs.Common.{ℕ, ◌<◌, Bool, true, false, cond, Option, IfSome, sym, subst, arith, ltb-true, option_and_then, nat_cmp, GroupState}
+use Rattle.mq_table.proofs.Common.{FilterMode, Include, Exclude, SourceTimer, is_vacant, vacant, deadline_of, group_deadline, ahead, mode_expired, at_zero}
+use Rattle.mq_table.proofs.Common.{source_expired, expired, AllAhead}
 use Rattle.std.specs.FinMap as map
-use Rattle.mq_table.specs.Group.{GroupState, FilterMode, Include, Exclude, SourceTimer, is_vacant, vacant, deadline_of, group_deadline}
-use Rattle.mq_table.specs.Expiry.{ahead, mode_expired, at_zero, source_expired, expired}
-use Rattle.mq_table.specs.Expiry.{AllAhead}
-use Rattle.mq_table.proofs.Maps.{get-kept}
-use Rattle.mq_table.proofs.Composed.{ended_at}
+use Rattle.mq_table.proofs.{Maps.get-kept, Composed.ended_at}
 
 ahead_of : (now : ℕ) (o : Option ℕ) → IfSome (option_and_then (ahead now) o) (λ d. now < d)
 ahead_of now o = grind (arith, ltb-true)

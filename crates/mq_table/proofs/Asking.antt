@@ -1,15 +1,9 @@
 -- One step of asking for the sources of a list.
-use Rattle.std.proofs.Common.{◌≡◌, ℕ, ◌+◌, ◌<◌, Bool, true, false, cond, ◌||◌, ◌&&◌, List, [], ◌∷◌, ◌++◌, length, map, set, get_or, take, drop}
-use Rattle.std.proofs.Common.{Option, Some, refl, sym, ap, ◌∙◌, arith}
-use Rattle.std.specs.List.{filter_map, list_any}
-use Rattle.std.proofs.Math.Bool.{or-false}
-use Rattle.std.proofs.lemmas.List.{drop_more, drop-drop, set-get_or, map-append, take-append-drop}
-use Rattle.std.proofs.lemmas.List.Folds.{list_any_more, list_any-append}
-use Rattle.mq_sets.specs.Ascending.{set_of}
-use Rattle.mq_table.specs.declared.sources.Source.{Source}
-use Rattle.mq_table.specs.Group.{SourceTimer, Stopped, Running, is_ahead, deadline_of}
+use Rattle.mq_table.proofs.Common.{◌≡◌, ℕ, ◌+◌, ◌<◌, Bool, true, false, cond, ◌||◌, ◌&&◌, List, [], ◌∷◌, ◌++◌, length, map, set, get_or, take, drop, Option}
+use Rattle.mq_table.proofs.Common.{Some, refl, sym, ap, ◌∙◌, arith, filter_map, list_any, or-false, drop_more, drop-drop, set-get_or, map-append}
+use Rattle.mq_table.proofs.Common.{take-append-drop, list_any_more, list_any-append, set_of, Source, SourceTimer, Stopped, Running, is_ahead, deadline_of}
+use Rattle.mq_table.proofs.Common.{is_first, source_if_asked, is_asked_above}
 use Rattle.mq_table.specs.Sendings.{source_asked}
-use Rattle.mq_table.specs.AskedSources.{is_first, source_if_asked, is_asked_above}
 use Rattle.mq_table.proofs.InOrder.{found_in_order, are_asked, one_on}
 use Rattle.mq_table.proofs.MadeLists.{as_they_were, passed_some, rest_after_some, made_of_all}
 

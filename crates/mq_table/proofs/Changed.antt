@@ -1,34 +1,16 @@
 -- A record that is merged with its group changes it as the tables say.
-use Rattle.std.proofs.Common.{◌≡◌, ℕ, ◌+◌, ◌==◌, Bool, true, false, cond, List, [], ◌∷◌, Option, None, Some, is_some, refl, sym, ap, ◌∙◌, ◌||◌, arith}
+use Rattle.mq_table.proofs.Common.{◌≡◌, ℕ, ◌+◌, ◌==◌, Bool, true, false, cond, List, [], ◌∷◌, Option, None, Some, is_some, refl, sym, ap, ◌∙◌, ◌||◌, arith, beq}
+use Rattle.mq_table.proofs.Common.{filter_map, cons_option, list_any, true≢false, or_parts, nat_tests, option_map, option_and_then, IsAscending, set_of}
+use Rattle.mq_table.proofs.Common.{item_with, merged_lists, number_of, paired, KeepsNumbers, found_where_member, rules_keep_order, rules_act_at_each_number}
+use Rattle.mq_table.proofs.Common.{Kind, Rule, Source, Timing, Set, GroupState, FilterMode, Include, Exclude, SourceTimer, running, stopped, timer_at}
+use Rattle.mq_table.proofs.Common.{is_include, membership_interval, table_row, timer_by, change_of, timer_after, is_asked_after, mode_after, changes_mode}
+use Rattle.mq_table.proofs.Common.{asks_group_after, timers_in, named_in, number_in, names, changes_filter, source_with, source_made, source_asked, turns}
+use Rattle.mq_table.proofs.Common.{source_turned}
 use Rattle.std.specs.Prelude.{not, map as list_map}
-use Rattle.std.specs.Bool.{beq}
-use Rattle.std.specs.List.{filter_map, cons_option, list_any}
-use Rattle.std.proofs.lemmas.Bool.{true≢false, or_parts}
-use Rattle.std.proofs.lemmas.Bool.Decides.{nat_tests}
-use Rattle.std.specs.Option.{option_map, option_and_then}
 use Rattle.std.specs.FinMap as map
 use Rattle.std.specs.FinSet as set
-use Rattle.mq_sets.specs.Ascending.{IsAscending, set_of, item_with}
-use Rattle.mq_sets.specs.Merging.{merged_lists, number_of, paired}
-use Rattle.mq_sets.specs.Rules.{KeepsNumbers}
-use Rattle.mq_sets.proofs.Found.{found_where_member}
-use Rattle.mq_sets.proofs.Rules.{rules_keep_order, rules_act_at_each_number}
-use Rattle.mq_table.specs.declared.kind.Kind.{Kind}
-use Rattle.mq_table.specs.declared.rules.Rule.{Rule}
-use Rattle.mq_table.specs.declared.sources.Source.{Source}
-use Rattle.mq_table.specs.declared.timing.Timing.{Timing}
-use Rattle.mq_table.specs.Sets.{Set}
-use Rattle.mq_table.specs.Group.{GroupState, FilterMode, Include, Exclude, SourceTimer, running, stopped, timer_at, is_include}
-use Rattle.mq_table.specs.Timing.{membership_interval}
-use Rattle.mq_table.specs.Table.{table_row, timer_by, change_of}
-use Rattle.mq_table.specs.AtSource.{timer_after, is_asked_after, mode_after, changes_mode, asks_group_after}
-use Rattle.mq_table.specs.Stored.{timers_in, named_in, number_in}
-use Rattle.mq_table.specs.Filter.{names, changes_filter}
-use Rattle.mq_table.specs.MergedRecord.{source_with, source_made, source_asked, turns, source_turned}
-use Rattle.mq_table.proofs.Filters.{changes-by, named_alike, not_unlike}
-use Rattle.mq_table.proofs.Groups.{same_sources}
-use Rattle.mq_table.proofs.TableRows.{timer_by-nothing, timer_at-change_of}
-use Rattle.mq_table.proofs.SourceLists.{get-timers_in}
+use Rattle.mq_table.proofs.{Filters.changes-by, Filters.named_alike, Filters.not_unlike, Groups.same_sources, TableRows.timer_by-nothing}
+use Rattle.mq_table.proofs.{TableRows.timer_at-change_of, SourceLists.get-timers_in}
 
 -- A row of the tables depends, for each source, on its timer before and on whether it is named.
 row-timer : (gmi : ℕ) (mode : FilterMode) (kind : Kind) (g : GroupState) (A : Set) (s : ℕ) →

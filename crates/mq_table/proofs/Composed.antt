@@ -1,17 +1,9 @@
 -- The end of timers at one moment, and then at a later one.
-use Rattle.std.proofs.Common.{◌≡◌, ℕ, ◌≤◌, true, false, cond, Option, None, Some, refl, sym, ap, ◌∙◌, arith, eqb}
-use Rattle.std.proofs.lemmas.Bool.{and_parts}
-use Rattle.std.proofs.lemmas.Bool.Decides.{nat_tests}
-use Rattle.std.specs.Option.{option_and_then}
-use Rattle.std.specs.Ordering.{nat_cmp}
+use Rattle.mq_table.proofs.Common.{◌≡◌, ℕ, ◌≤◌, true, false, cond, Option, None, Some, refl, sym, ap, ◌∙◌, arith, eqb, and_parts, nat_tests, option_and_then}
+use Rattle.mq_table.proofs.Common.{nat_cmp, FinMap, kept, GroupState, FilterMode, Include, Exclude, SourceTimer, is_include, vacant, is_vacant, ahead}
+use Rattle.mq_table.proofs.Common.{mode_expired, source_expired, held_or_vacant, expired}
 use Rattle.std.specs.FinMap as map
-use Rattle.std.specs.FinMap.{FinMap}
-use Rattle.mq_table.specs.Maps.{kept}
-use Rattle.mq_table.specs.Group.{GroupState, FilterMode, Include, Exclude, SourceTimer, is_include, vacant, is_vacant}
-use Rattle.mq_table.specs.Expiry.{ahead, mode_expired, source_expired, held_or_vacant, expired}
-use Rattle.mq_table.proofs.Maps.{get-kept}
-use Rattle.mq_table.proofs.Groups.{same_sources}
-use Rattle.mq_table.proofs.Held.{nothing_held, get_of_empty}
+use Rattle.mq_table.proofs.{Maps.get-kept, Groups.same_sources, Held.nothing_held, Held.get_of_empty}
 
 -- the rest after the end of timers, before it is known whether the group is held
 abbrev pub ended_at : ℕ → GroupState → GroupState

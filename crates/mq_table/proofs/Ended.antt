@@ -1,17 +1,7 @@
 -- The sources of a list that the end of timers leaves.
-use Rattle.std.proofs.Common.{◌≡◌, ℕ, List, Option, ap, arith}
-use Rattle.std.specs.List.{filter_map}
-use Rattle.std.specs.Option.{option_and_then}
-use Rattle.mq_sets.specs.Ascending.{IsAscending}
-use Rattle.mq_sets.specs.Rules.{KeepsNumbers}
-use Rattle.mq_table.specs.declared.sources.Source.{Source}
-use Rattle.mq_table.specs.Group.{GroupState, FilterMode}
-use Rattle.mq_table.specs.Maps.{kept}
-use Rattle.mq_table.specs.Expiry.{ahead, mode_expired, source_expired, held_or_vacant, expired}
-use Rattle.mq_table.specs.MadeSources.{source_left}
-use Rattle.mq_table.specs.Stored.{number_in, timers_in}
-use Rattle.mq_table.proofs.Changed.{address-source_with, timer-source_with}
-use Rattle.mq_table.proofs.MadeLists.{timers_in-filter_map}
+use Rattle.mq_table.proofs.Common.{◌≡◌, ℕ, List, Option, ap, arith, filter_map, option_and_then, IsAscending, KeepsNumbers, Source, GroupState, FilterMode}
+use Rattle.mq_table.proofs.Common.{kept, ahead, mode_expired, source_expired, held_or_vacant, expired, source_left, number_in, timers_in}
+use Rattle.mq_table.proofs.{Changed.address-source_with, Changed.timer-source_with, MadeLists.timers_in-filter_map}
 
 module _ {K : Type 0} (number : K → ℕ) (mode : FilterMode) (now : ℕ) where
   pub left_keeps : KeepsNumbers (number_in number) (number_in number) (source_left mode now)

@@ -1,27 +1,12 @@
 -- The end of timers changes a filter where a timer of a source runs out, or that of the group.
-use Rattle.std.proofs.Common.{◌≡◌, ℕ, ◌==◌, Bool, true, false, not, cond, ◌||◌, List, [], ◌∷◌, Option, None, Some, is_some, refl, sym, ap, ◌∙◌, arith}
-use Rattle.std.specs.Bool.{beq}
-use Rattle.std.specs.List.{filter_map, cons_option, list_any}
-use Rattle.std.specs.Option.{option_map, option_and_then}
-use Rattle.std.specs.Ordering.{nat_cmp}
+use Rattle.mq_table.proofs.Common.{◌≡◌, ℕ, ◌==◌, Bool, true, false, not, cond, ◌||◌, List, [], ◌∷◌, Option, None, Some, is_some, refl, sym, ap, ◌∙◌, arith, beq}
+use Rattle.mq_table.proofs.Common.{filter_map, cons_option, list_any, option_map, option_and_then, nat_cmp, true≢false, and_parts, or_parts, nat_tests}
+use Rattle.mq_table.proofs.Common.{IsAscending, item_with, KeepsNumbers, item_with-filter_map, Source, GroupState, FilterMode, Include, Exclude, SourceTimer}
+use Rattle.mq_table.proofs.Common.{is_include, timer_at, vacant, is_vacant, filter_of, names, changes_filter, mode_expired, source_expired, held_or_vacant}
+use Rattle.mq_table.proofs.Common.{expired, runs_out, timer_runs_out, number_in, timers_in}
 use Rattle.std.specs.FinMap as map
-use Rattle.std.proofs.lemmas.Bool.{true≢false, and_parts, or_parts}
-use Rattle.std.proofs.lemmas.Bool.Decides.{nat_tests}
-use Rattle.mq_sets.specs.Ascending.{IsAscending, item_with}
-use Rattle.mq_sets.specs.Rules.{KeepsNumbers}
-use Rattle.mq_sets.proofs.Rules.{item_with-filter_map}
-use Rattle.mq_table.specs.declared.sources.Source.{Source}
-use Rattle.mq_table.specs.Group.{GroupState, FilterMode, Include, Exclude, SourceTimer, is_include, timer_at, vacant, is_vacant}
-use Rattle.mq_table.specs.Filter.{filter_of, names, changes_filter}
-use Rattle.mq_table.specs.Expiry.{mode_expired, source_expired, held_or_vacant, expired}
-use Rattle.mq_table.specs.MadeSources.{runs_out, timer_runs_out}
-use Rattle.mq_table.specs.Stored.{number_in, timers_in}
-use Rattle.mq_table.proofs.Changed.{address-if, some-if}
-use Rattle.mq_table.proofs.Composed.{ended_at}
-use Rattle.mq_table.proofs.Filters.{changes-by, not_unlike, same_filter}
-use Rattle.mq_table.proofs.Held.{get_of_empty}
-use Rattle.mq_table.proofs.Maps.{get-kept}
-use Rattle.mq_table.proofs.SourceLists.{get-timers_in}
+use Rattle.mq_table.proofs.{Changed.address-if, Changed.some-if, Composed.ended_at, Filters.changes-by, Filters.not_unlike, Filters.same_filter}
+use Rattle.mq_table.proofs.{Held.get_of_empty, Maps.get-kept, SourceLists.get-timers_in}
 
 -- INCLUDE({}) has the filter of a group that isn't held
 none_named : (mode : FilterMode) → names mode None ≡ false

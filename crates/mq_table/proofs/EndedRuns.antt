@@ -1,20 +1,10 @@
 -- Runs of sources whose timers run on, in a pass over a list that leaves what the end of timers leaves.
-use Rattle.std.proofs.Common.{◌≡◌, ℕ, zero, suc, ◌+◌, ◌<◌, ◌≤◌, Bool, true, false, ◌||◌, refl, List, [], ◌∷◌, ◌++◌, length, length-append, get_or}
-use Rattle.std.proofs.Common.{take, drop, Option, None, Some, sym, ap, subst, ◌∙◌, arith}
-use Rattle.std.specs.List.{AllWithin, filter_map, list_any}
-use Rattle.std.proofs.lemmas.Bool.{true≢false}
-use Rattle.std.proofs.lemmas.List.Elements.{filter_map-append}
-use Rattle.std.proofs.lemmas.List.Folds.{list_any-append, list_any_more}
-use Rattle.std.proofs.lemmas.List.{drop-drop, get_or-drop}
+use Rattle.mq_table.proofs.Common.{◌≡◌, ℕ, zero, suc, ◌+◌, ◌<◌, ◌≤◌, Bool, true, false, ◌||◌, refl, List, [], ◌∷◌, ◌++◌, length, length-append, get_or, take}
+use Rattle.mq_table.proofs.Common.{drop, Option, None, Some, sym, ap, subst, ◌∙◌, arith, AllWithin, filter_map, list_any, true≢false, filter_map-append}
+use Rattle.mq_table.proofs.Common.{list_any-append, list_any_more, drop-drop, get_or-drop, compared, lies_ahead, moments_by, moments-more, Source, FilterMode}
+use Rattle.mq_table.proofs.Common.{SourceTimer, Stopped, Running, deadline_of, at_zero, source_with, running_among, runs_out, source_left}
 use Rattle.std.proofs.lemmas.List.Concat.{flat_map-append}
 use Rattle.std.specs.Option.{option_to_list, is_some}
-use Rattle.mq_count.specs.Timed.{compared, lies_ahead, moments_by}
-use Rattle.mq_count.proofs.TimedMoments.{moments-more}
-use Rattle.mq_table.specs.declared.sources.Source.{Source}
-use Rattle.mq_table.specs.Group.{FilterMode, SourceTimer, Stopped, Running, deadline_of}
-use Rattle.mq_table.specs.Expiry.{at_zero}
-use Rattle.mq_table.specs.MergedRecord.{source_with}
-use Rattle.mq_table.specs.MadeSources.{running_among, runs_out, source_left}
 
 take_none : {X : Type 0} (n : ℕ) → take {A = X} n [] ≡ []
 take_none zero = refl

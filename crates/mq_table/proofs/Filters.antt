@@ -1,15 +1,9 @@
 -- The sources that a group's filter names, and the states of a group that have equal filters.
-use Rattle.std.proofs.Common.{◌≡◌, ℕ, Bool, true, false, not, cond, ◌&&◌, ◌||◌, List, [], ◌∷◌, Option, is_some, refl, sym, ap, ◌∙◌, arith}
-use Rattle.std.specs.Prelude.{filter}
-use Rattle.std.specs.Bool.{beq}
-use Rattle.std.specs.List.{list_any}
-use Rattle.std.specs.Ordering.{nat_cmp, eq_by_cmp}
-use Rattle.std.specs.Cmp.{nat_cmp_total}
+use Rattle.mq_table.proofs.Common.{◌≡◌, ℕ, Bool, true, false, not, cond, ◌&&◌, ◌||◌, List, [], ◌∷◌, Option, is_some, refl, sym, ap, ◌∙◌, arith, filter, beq}
+use Rattle.mq_table.proofs.Common.{list_any, nat_cmp, eq_by_cmp, nat_cmp_total, true≢false, and_parts, GroupState, FilterMode, SourceTimer, is_include}
+use Rattle.mq_table.proofs.Common.{timer_at, forwards_in, Filter, names, filter_of, forwards_by, are_same, changes_filter}
 use Rattle.std.specs.FinMap as map
 use Rattle.std.specs.FinSet as set
-use Rattle.std.proofs.lemmas.Bool.{true≢false, and_parts}
-use Rattle.mq_table.specs.Group.{GroupState, FilterMode, SourceTimer, is_include, timer_at, forwards_in}
-use Rattle.mq_table.specs.Filter.{Filter, names, filter_of, forwards_by, are_same, changes_filter}
 use Rattle.mq_table.proofs.Maps.{tied}
 
 -- among the keys that pass a test are those that are there and pass it

@@ -1,10 +1,6 @@
 -- Conditions for two equal groups.
-use Rattle.std.proofs.Common.{◌≡◌, ℕ, Option}
-use Rattle.std.specs.Ordering.{nat_cmp}
-use Rattle.std.specs.Cmp.{nat_cmp_total}
+use Rattle.mq_table.proofs.Common.{◌≡◌, ℕ, Option, nat_cmp, nat_cmp_total, FinMap, same_map, nat_cmp-IsAntisymmetric, GroupState, FilterMode, SourceTimer}
 use Rattle.std.specs.FinMap as map
-use Rattle.std.specs.FinMap.{FinMap, same_map, nat_cmp-IsAntisymmetric}
-use Rattle.mq_table.specs.Group.{GroupState, FilterMode, SourceTimer}
 
 -- two maps that answer alike at each source are one
 pub same_sources : {X : Type 0} (m n : FinMap nat_cmp X) → ((s : ℕ) → map.get m s ≡ map.get n s) → m ≡ n

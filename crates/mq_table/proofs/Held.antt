@@ -1,33 +1,16 @@
 -- Conditions for a held group. Records and the end of timers leave such a group, or nothing.
-use Rattle.std.proofs.Common.{◌≡◌, ◌≢◌, ℕ, ◌+◌, Bool, true, false, cond, not, inl, inr, List, [], ◌∷◌, length, Option, None, Some, IsSome, refl, sym}
-use Rattle.std.proofs.Common.{ap, ◌∙◌, arith, eqb}
-use Rattle.std.proofs.lemmas.Option.{none-some}
-use Rattle.std.proofs.lemmas.Bool.{not-true, not-false, true_from_ne_false, false≢true, true≢false, eqb-true, cases_Bool, or_left}
-use Rattle.std.proofs.lemmas.Bool.Decides.{nat_tests}
-use Rattle.std.proofs.lemmas.List.{length-map}
-use Rattle.std.specs.List.{list_any}
-use Rattle.std.specs.Option.{option_and_then}
-use Rattle.std.specs.Ordering.{nat_cmp, eq_by_cmp}
+use Rattle.mq_table.proofs.Common.{◌≡◌, ◌≢◌, ℕ, ◌+◌, Bool, true, false, cond, inl, inr, List, [], ◌∷◌, length, Option, None, Some, IsSome, refl, sym, ap, ◌∙◌}
+use Rattle.mq_table.proofs.Common.{arith, eqb, none-some, not-true, not-false, true_from_ne_false, false≢true, true≢false, eqb-true, cases_Bool, or_left}
+use Rattle.mq_table.proofs.Common.{nat_tests, length-map, list_any, option_and_then, nat_cmp, eq_by_cmp, FinMap, Kind, IsIn, IsEx, ToIn, ToEx, Allow, Block}
+use Rattle.mq_table.proofs.Common.{Timing, GroupState, FilterMode, Include, Exclude, running, SourceTimer, is_running, is_stopped, stopped, vacant, is_vacant}
+use Rattle.mq_table.proofs.Common.{IsWellFormed, IsAnyGroup, Set, kept, membership_interval, NamedSources, table_row, change_of, lowered_to, mode_lowered}
+use Rattle.mq_table.proofs.Common.{source_lowered, group_lowered, sources_lowered, source_expired, held_or_vacant, expired}
 use Rattle.std.specs.FinMap as map
 use Rattle.std.specs.FinSet as set
-use Rattle.std.specs.FinMap.{FinMap}
-use Rattle.mq_table.specs.declared.kind.Kind.{Kind}
-use Rattle.mq_table.specs.declared.kind.Kind.TheVariants.{IsIn, IsEx, ToIn, ToEx, Allow, Block}
-use Rattle.mq_table.specs.declared.timing.Timing.{Timing}
-use Rattle.mq_table.specs.Group.{GroupState, FilterMode, Include, Exclude, running, SourceTimer, is_running, is_stopped, stopped, vacant, is_vacant}
-use Rattle.mq_table.specs.Group.{IsWellFormed, IsAnyGroup}
 use Rattle.mq_count.specs.declared.versions.OlderVersion.{OlderVersion}
 use Rattle.mq_count.specs.declared.versions.OlderVersion.TheVariants.{V1, V2}
-use Rattle.mq_table.specs.Sets.{Set}
-use Rattle.mq_table.specs.Maps.{kept}
-use Rattle.mq_table.specs.Timing.{membership_interval}
-use Rattle.mq_table.specs.Table.{NamedSources, table_row, change_of}
 use Rattle.mq_table.specs.OlderHosts.{older_report}
-use Rattle.mq_table.specs.Lowering.{lowered_to, mode_lowered, source_lowered, group_lowered, sources_lowered}
-use Rattle.mq_table.specs.Expiry.{source_expired, held_or_vacant, expired}
-use Rattle.mq_table.proofs.Maps.{get-kept}
-use Rattle.mq_table.proofs.Groups.{same_sources}
-use Rattle.mq_table.proofs.TableRows.{none_stopped_of, was_included, runs_on}
+use Rattle.mq_table.proofs.{Maps.get-kept, Groups.same_sources, TableRows.none_stopped_of, TableRows.was_included, TableRows.runs_on}
 
 ties_itself : (k : ℕ) → eq_by_cmp nat_cmp k k ≡ true
 ties_itself k = grind (arith, nat_tests)

@@ -1,16 +1,7 @@
 -- Addresses that are looked for in their order among ascending sources that hold them all are found.
-use Rattle.std.proofs.Common.{◌≡◌, ℕ, min, length, ◌<◌, ◌≤◌, ◌==◌, Bool, true, false, cond, ◌||◌, List, [], ◌∷◌, drop, refl, sym, ap, ◌∙◌, inl, inr}
-use Rattle.std.proofs.Common.{⊎_elim, arith}
-use Rattle.std.specs.Prelude.{map as list_map}
-use Rattle.std.specs.List.{All}
-use Rattle.std.proofs.lemmas.Bool.{false≢true, or_cases, or_left, eqb-true, eq-eqb}
-use Rattle.std.proofs.lemmas.Bool.Decides.{eqb_tells}
-use Rattle.std.proofs.lemmas.List.Elements.{All-head, All-tail}
-use Rattle.mq_sets.specs.Ascending.{IsAscending, set_of}
-use Rattle.mq_sets.proofs.Ascents.{IsAscending-head, IsAscending-tail, below-eqb}
-use Rattle.mq_table.specs.declared.sources.Source.{Source}
-use Rattle.mq_table.specs.Stored.{number_in}
-use Rattle.mq_table.specs.AskedSources.{is_first}
+use Rattle.mq_table.proofs.Common.{◌≡◌, ℕ, min, length, ◌<◌, ◌≤◌, ◌==◌, Bool, true, false, cond, ◌||◌, List, [], ◌∷◌, drop, refl, sym, ap, ◌∙◌, inl, inr}
+use Rattle.mq_table.proofs.Common.{⊎_elim, arith, list_map, All, false≢true, or_cases, or_left, eqb-true, eq-eqb, eqb_tells, All-head, All-tail, IsAscending}
+use Rattle.mq_table.proofs.Common.{set_of, IsAscending-head, IsAscending-tail, below-eqb, Source, number_in, is_first}
 
 -- a member of a list whose items are above a number is above it
 member_above : {X : Type 0} (number : X → ℕ) (n s : ℕ) (xs : List X) → All (λ x. n < number x) xs → set_of number xs s ≡ true → n < s

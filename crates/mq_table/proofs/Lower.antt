@@ -1,12 +1,7 @@
 -- The timer of a source once sources were lowered.
-use Rattle.std.proofs.Common.{◌≡◌, ℕ, Bool, cond, ◌||◌, Option, sym, ap, ◌∙◌, arith}
-use Rattle.std.specs.Option.{option_map}
-use Rattle.mq_table.specs.declared.timing.Timing.{Timing}
-use Rattle.mq_table.specs.Sets.{Set, ◌∪◌}
-use Rattle.mq_table.specs.Group.{GroupState, SourceTimer, timer_at}
-use Rattle.mq_table.specs.Lowering.{lowered_to, source_lowered, sources_lowered}
-use Rattle.mq_table.proofs.Maps.{get-kept}
-use Rattle.mq_table.proofs.Groups.{same_group}
+use Rattle.mq_table.proofs.Common.{◌≡◌, ℕ, Bool, cond, ◌||◌, Option, sym, ap, ◌∙◌, arith, option_map, Timing, Set, ◌∪◌, GroupState, SourceTimer, timer_at}
+use Rattle.mq_table.proofs.Common.{lowered_to, source_lowered, sources_lowered}
+use Rattle.mq_table.proofs.{Maps.get-kept, Groups.same_group}
 
 -- the timer of a source after the sources asked for were lowered
 pub timer_at-sources_lowered : (timing : Timing) (now : ℕ) (asked : Set) (g : GroupState) (s : ℕ) → timer_at (sources_lowered timing now asked g) s

@@ -1,29 +1,12 @@
 -- Lists of sources that are made of other lists, source by source.
-use Rattle.std.proofs.Common.{◌≡◌, ℕ, zero, suc, ◌+◌, ◌≤◌, ◌<◌, ◌==◌, false, cond, List, [], ◌∷◌, ◌++◌, length, set, get_or, take, drop, Option, None}
-use Rattle.std.proofs.Common.{Some, refl, sym, ap, ◌∙◌, arith, ⊎_elim}
-use Rattle.std.specs.Prelude.{map as list_map}
-use Rattle.std.specs.List.{All, filter_map, cons_option}
-use Rattle.std.proofs.lemmas.List.{append-nil, take_all, take_more, take_more_set, drop_more, drop-set-lt}
+use Rattle.mq_table.proofs.Common.{◌≡◌, ℕ, zero, suc, ◌+◌, ◌≤◌, ◌<◌, ◌==◌, false, cond, List, [], ◌∷◌, ◌++◌, length, set, get_or, take, drop, Option, None}
+use Rattle.mq_table.proofs.Common.{Some, refl, sym, ap, ◌∙◌, arith, ⊎_elim, list_map, All, filter_map, cons_option, append-nil, take_all, take_more}
+use Rattle.mq_table.proofs.Common.{take_more_set, drop_more, drop-set-lt, eq-eqb, eqb_tells, none-some, All-head, All-tail, filter_map-append, IsAscending}
+use Rattle.mq_table.proofs.Common.{item_with, KeepsNumbers, IsAscending-tail, below-eqb, above-eqb, found_has_number, item_with-filter_map, Source, Timing}
+use Rattle.mq_table.proofs.Common.{GroupState, FilterMode, SourceTimer, timer_at, kept, number_in, timers_in, lowered_to, source_lowered, sources_lowered}
+use Rattle.mq_table.proofs.Common.{source_lowered_at}
 use Rattle.std.specs.Option.{option_map, option_and_then, option_to_list, IfSome}
-use Rattle.std.proofs.lemmas.Bool.{eq-eqb}
-use Rattle.std.proofs.lemmas.Bool.Decides.{eqb_tells}
-use Rattle.std.proofs.lemmas.Option.{none-some}
-use Rattle.std.proofs.lemmas.List.Elements.{All-head, All-tail, filter_map-append}
-use Rattle.mq_sets.specs.Ascending.{IsAscending, item_with}
-use Rattle.mq_sets.specs.Rules.{KeepsNumbers}
-use Rattle.mq_sets.proofs.Ascents.{IsAscending-tail, below-eqb, above-eqb}
-use Rattle.mq_sets.proofs.Found.{found_has_number}
-use Rattle.mq_sets.proofs.Rules.{item_with-filter_map}
-use Rattle.mq_table.specs.declared.sources.Source.{Source}
-use Rattle.mq_table.specs.declared.timing.Timing.{Timing}
-use Rattle.mq_table.specs.Group.{GroupState, FilterMode, SourceTimer, timer_at}
-use Rattle.mq_table.specs.Maps.{kept}
-use Rattle.mq_table.specs.Stored.{number_in, timers_in}
-use Rattle.mq_table.specs.Lowering.{lowered_to, source_lowered, sources_lowered}
-use Rattle.mq_table.specs.MadeSources.{source_lowered_at}
-use Rattle.mq_table.proofs.Maps.{get-kept}
-use Rattle.mq_table.proofs.Groups.{same_sources}
-use Rattle.mq_table.proofs.SourceLists.{get-timers_in}
+use Rattle.mq_table.proofs.{Maps.get-kept, Groups.same_sources, SourceLists.get-timers_in}
 
 -- The timers of a list that a rule makes of another are those that the rule's part for timers makes.
 module _ {K : Type 0} (number : K → ℕ) (rule : Source K → Option (Source K)) (timer_rule : ℕ → SourceTimer → Option SourceTimer)

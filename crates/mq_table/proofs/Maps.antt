@@ -1,17 +1,10 @@
 -- The value at each key of a map that is given key by key.
-use Rattle.std.proofs.Common.{◌≡◌, ℕ, Bool, true, false, cond, ◌||◌, List, [], ◌∷◌, ◌++◌, Option, None, Some, refl, sym, ap, ◌∙◌, arith}
-use Rattle.std.specs.Prelude.{map as list_map}
-use lib.Dec.{T}
-use Rattle.std.specs.List.{list_any}
-use Rattle.std.specs.Option.{option_and_then}
-use Rattle.std.specs.Ordering.{nat_cmp, eq_by_cmp}
-use Rattle.std.specs.Cmp.{nat_cmp_total}
+use Rattle.mq_table.proofs.Common.{◌≡◌, ℕ, Bool, true, false, cond, ◌||◌, List, [], ◌∷◌, ◌++◌, Option, None, Some, refl, sym, ap, ◌∙◌, arith, list_map, T}
+use Rattle.mq_table.proofs.Common.{list_any, option_and_then, nat_cmp, eq_by_cmp, nat_cmp_total, FinMap, find, is_sorted, nat_tests, with_entry, entries_by}
+use Rattle.mq_table.proofs.Common.{by_rule, kept}
 use Rattle.std.specs.FinMap as map
 use Rattle.std.specs.FinSet as set
-use Rattle.std.specs.FinMap.{FinMap, find, is_sorted}
 use Rattle.std.specs.FinSet.{FinSet}
-use Rattle.std.proofs.lemmas.Bool.Decides.{nat_tests}
-use Rattle.mq_table.specs.Maps.{with_entry, entries_by, by_rule, kept}
 
 -- numbers that tie are equal
 pub tied : (q k : ℕ) → eq_by_cmp nat_cmp q k ≡ true → q ≡ k

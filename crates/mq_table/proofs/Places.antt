@@ -1,25 +1,12 @@
 -- Sources without sendings left, and the places that all others have.
-use Rattle.std.proofs.Common.{◌≡◌, ◌++◌, ℕ, ◌+◌, ◌-◌, ◌<◌, Bool, true, false, ltb, ◌||◌, List, [], ◌∷◌, length, take, drop, set, get_or, Some, refl}
-use Rattle.std.proofs.Common.{sym, ap, ◌∙◌, arith}
-use Rattle.std.specs.Prelude.{map as list_map}
+use Rattle.mq_table.proofs.Common.{◌≡◌, ◌++◌, ℕ, ◌+◌, ◌<◌, Bool, true, false, ltb, ◌||◌, List, [], ◌∷◌, length, take, drop, set, get_or, Some, refl, sym, ap}
+use Rattle.mq_table.proofs.Common.{◌∙◌, arith, list_map, filter_map, list_any, IsAscending, has_sendings, true≢false, ltb-false, or-false, drop_all, drop-drop}
+use Rattle.mq_table.proofs.Common.{length-map, take-append-drop, take_more_set, take-add, list_any-append, list_any_more, Source, OneFewer, GroupState}
+use Rattle.mq_table.proofs.Common.{SourceTimer, sendings_of, item_has_sendings, PassesBetween, SendsBetween, number_in, timers_in, item_counted}
+use Rattle.mq_table.proofs.Common.{timer_recounted, source_recounted}
 use Rattle.std.specs.FinMap as map
-use Rattle.std.specs.List.{filter_map, list_any}
-use Rattle.mq_sets.specs.Ascending.{IsAscending}
-use Rattle.mq_table.specs.Sendings.{has_sendings}
-use Rattle.std.proofs.lemmas.Bool.{true≢false, ltb-false}
-use Rattle.std.proofs.Math.Bool.{or-false}
-use Rattle.std.proofs.lemmas.List.{drop_all, drop-drop, length-map, take-append-drop, take_more_set}
-use Rattle.std.proofs.Math.Seq.{take-add}
-use Rattle.std.proofs.lemmas.List.Folds.{list_any-append, list_any_more}
-use Rattle.mq_table.specs.declared.sources.Source.{Source}
 use Rattle.mq_table.specs.declared.sendings.Recount.{Recount}
-use Rattle.mq_table.specs.declared.sendings.Recount.TheVariants.{OneFewer}
-use Rattle.mq_table.specs.Group.{GroupState, SourceTimer, sendings_of}
-use Rattle.mq_table.specs.SendingPlaces.{item_has_sendings, PassesBetween, SendsBetween}
-use Rattle.mq_table.specs.Stored.{number_in, timers_in}
-use Rattle.mq_table.specs.MadeSources.{item_counted, timer_recounted, source_recounted}
-use Rattle.mq_table.proofs.Rows.{keys-timers_in, any_before, any_behind}
-use Rattle.mq_table.proofs.MadeLists.{made_of_all}
+use Rattle.mq_table.proofs.{Rows.keys-timers_in, Rows.any_before, Rows.any_behind, MadeLists.made_of_all}
 
 -- without a sending, a timer stays as its sendings are counted anew
 timer_stays : (recount : Recount) (t : SourceTimer) → ltb 0 (sendings_of (Some t)) ≡ false → timer_recounted recount t ≡ t

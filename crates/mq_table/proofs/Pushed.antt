@@ -1,10 +1,7 @@
 -- A list to which a rule's results for the pairs of a merge are pushed, one after another.
-use Rattle.std.proofs.Common.{◌≡◌, ℕ, ◌+◌, ◌≤◌, Bool, true, false, ◌||◌, refl, List, [], ◌∷◌, ◌++◌, length, Option, None, Some, sym, ap, ◌∙◌, arith}
-use Rattle.std.proofs.Common.{append_assoc, length-append}
-use Rattle.std.specs.List.{filter_map, cons_option, list_any}
-use Rattle.std.specs.Option.{option_to_list}
+use Rattle.mq_table.proofs.Common.{◌≡◌, ℕ, ◌+◌, ◌≤◌, Bool, true, false, ◌||◌, refl, List, [], ◌∷◌, ◌++◌, length, Option, None, Some, sym, ap, ◌∙◌, arith}
+use Rattle.mq_table.proofs.Common.{append_assoc, length-append, filter_map, cons_option, list_any, option_to_list, left_of, right_of}
 use Rattle.mq_sets.specs.declared.merge_state.Merged.{Merged}
-use Rattle.mq_sets.specs.Merging.{left_of, right_of}
 
 -- the result for the first pair is pushed; those for the others are still ahead
 cons_pushed : {X : Type 0} (xs : List X) (made : Option X) (rest : List X) → (xs ++ option_to_list made) ++ rest ≡ xs ++ cons_option made rest

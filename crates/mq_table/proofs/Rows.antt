@@ -1,27 +1,12 @@
 -- The state of a group, by the list of its sources.
 use Rattle.std.proofs.Common.{◌≡◌, ℕ, ◌<◌, Bool, true, false, cond, ◌||◌, List, [], ◌∷◌, take, drop, filter, Option, None, Some, is_some, IsSome}
-use Rattle.std.proofs.Common.{refl, sym, ap, ◌∙◌, subst, arith}
-use lib.Dec.{T}
-use Rattle.std.proofs.lemmas.Bool.{lt-ltb}
-use Rattle.std.specs.Prelude.{map as list_map}
-use Rattle.std.specs.List.{All, list_any}
-use Rattle.std.specs.Ordering.{nat_cmp}
+use Rattle.mq_table.proofs.Common.{refl, sym, ap, ◌∙◌, subst, arith, T, lt-ltb, list_map, All, list_any, nat_cmp, is_sorted, take-map, drop-map, All-head}
+use Rattle.mq_table.proofs.Common.{All-tail, All-take, All-drop, option_map, IsAscending, set_of, item_with, found_where_member, IsAscending-head}
+use Rattle.mq_table.proofs.Common.{IsAscending-tail, Source, GroupState, FilterMode, SourceTimer, kept, number_in, timers_in}
 use Rattle.std.specs.FinMap as map
-use Rattle.std.specs.FinMap.{is_sorted}
 use Rattle.std.specs.FinMap.Entries.{below_all}
 use Rattle.std.proofs.lemmas.Simd.{map-map}
-use Rattle.std.proofs.lemmas.List.{take-map, drop-map}
-use Rattle.std.proofs.lemmas.List.Elements.{All-head, All-tail, All-take, All-drop}
-use Rattle.std.specs.Option.{option_map}
-use Rattle.mq_sets.specs.Ascending.{IsAscending, set_of, item_with}
-use Rattle.mq_sets.proofs.Found.{found_where_member}
-use Rattle.mq_sets.proofs.Ascents.{IsAscending-head, IsAscending-tail}
-use Rattle.mq_table.specs.declared.sources.Source.{Source}
-use Rattle.mq_table.specs.Group.{GroupState, FilterMode, SourceTimer}
-use Rattle.mq_table.specs.Maps.{kept}
-use Rattle.mq_table.specs.Stored.{number_in, timers_in}
-use Rattle.mq_table.proofs.Maps.{keys-from_entries, kept-from_entries}
-use Rattle.mq_table.proofs.SourceLists.{get-timers_in, get-found}
+use Rattle.mq_table.proofs.{Maps.keys-from_entries, Maps.kept-from_entries, SourceLists.get-timers_in, SourceLists.get-found}
 
 -- tests of the numbers of a list's items are tests of the items
 module _ {X : Type 0} (number : X → ℕ) (t : ℕ → Bool) (u : X → Bool) where

@@ -1,17 +1,9 @@
 -- Lists of sources, as the finite maps from their numbers to their timers.
-use Rattle.std.proofs.Common.{◌≡◌, ℕ, zero, suc, ◌<◌, ◌==◌, ◌&&◌, true, false, List, [], ◌∷◌, length, get_or, Option, None, Some, is_some, refl, sym}
-use Rattle.std.proofs.Common.{ap, ◌∙◌, arith}
-use Rattle.std.proofs.lemmas.Bool.{eq-eqb, eqb-true, true≢false}
-use Rattle.std.specs.Option.{option_map}
-use Rattle.std.specs.Ordering.{nat_cmp}
-use Rattle.std.specs.Cmp.{nat_cmp_total}
+use Rattle.mq_table.proofs.Common.{◌≡◌, ℕ, zero, suc, ◌<◌, ◌==◌, ◌&&◌, true, false, List, [], ◌∷◌, length, get_or, Option, None, Some, is_some, refl, sym, ap}
+use Rattle.mq_table.proofs.Common.{◌∙◌, arith, eq-eqb, eqb-true, true≢false, option_map, nat_cmp, nat_cmp_total, IsAscending, set_of, item_with, below-eqb}
+use Rattle.mq_table.proofs.Common.{IsAscending-head, IsAscending-tail, item_with-above, maps_each_number, found_where_member, Source, GroupState, FilterMode}
+use Rattle.mq_table.proofs.Common.{Include, Exclude, SourceTimer, is_include, vacant, is_vacant, timers_in, number_in}
 use Rattle.std.specs.FinMap as map
-use Rattle.mq_sets.specs.Ascending.{IsAscending, set_of, item_with}
-use Rattle.mq_sets.proofs.Ascents.{below-eqb, IsAscending-head, IsAscending-tail, item_with-above}
-use Rattle.mq_sets.proofs.Found.{maps_each_number, found_where_member}
-use Rattle.mq_table.specs.declared.sources.Source.{Source}
-use Rattle.mq_table.specs.Group.{GroupState, FilterMode, Include, Exclude, SourceTimer, is_include, vacant, is_vacant}
-use Rattle.mq_table.specs.Stored.{timers_in, number_in}
 
 module _ {K : Type 0} (number : K → ℕ) where
   -- the timer of a source is that of the item which has its number

@@ -1,14 +1,8 @@
 -- The effect of a row of the tables on one source.
-use Rattle.std.proofs.Common.{◌≡◌, ℕ, ◌+◌, Bool, true, false, Option, None, Some, IsSome, sym, subst, arith}
-use Rattle.std.proofs.lemmas.Bool.{false≢true}
+use Rattle.mq_table.proofs.Common.{◌≡◌, ℕ, ◌+◌, Bool, true, false, Option, None, Some, IsSome, sym, subst, arith, false≢true, Kind, IsIn, IsEx, ToIn, ToEx}
+use Rattle.mq_table.proofs.Common.{Allow, Block, Timing, Set, GroupState, FilterMode, Include, Exclude, SourceTimer, Stopped, Running, is_running, is_stopped}
+use Rattle.mq_table.proofs.Common.{running, stopped, timer_at, membership_interval, NamedSources, TableRow, table_row, timer_by, table_row_met, change_of}
 use Rattle.std.specs.FinSet as set
-use Rattle.mq_table.specs.declared.kind.Kind.{Kind}
-use Rattle.mq_table.specs.declared.kind.Kind.TheVariants.{IsIn, IsEx, ToIn, ToEx, Allow, Block}
-use Rattle.mq_table.specs.declared.timing.Timing.{Timing}
-use Rattle.mq_table.specs.Sets.{Set}
-use Rattle.mq_table.specs.Group.{GroupState, FilterMode, Include, Exclude, SourceTimer, Stopped, Running, is_running, is_stopped, running, stopped, timer_at}
-use Rattle.mq_table.specs.Timing.{membership_interval}
-use Rattle.mq_table.specs.Table.{NamedSources, TableRow, table_row, timer_by, table_row_met, change_of}
 use Rattle.mq_table.proofs.Maps.{get-by_rule_everywhere}
 
 -- the row for one source, from its timer before and whether the record names it
@@ -46,17 +40,8 @@ pub at_source : (P : Bool → Bool → Bool → FilterMode → Option SourceTime
     → (let l = table_row_at gmi mode kind (timer_at g s) (A s) in P (l.restart s) (l.copy s) (l.query s) l.mode (timer_by l gmi mode s (timer_at g s)))
     → (let l = table_row gmi mode kind (running g) (stopped g) A in P (l.restart s) (l.copy s) (l.query s) l.mode (timer_by l gmi mode s (timer_at g s)))
 at_source P gmi Include IsIn g A s p = p
-at_source P gmi Include IsEx g A s p = p
-at_source P gmi Include Allow g A s p = p
-at_source P gmi Include Block g A s p = p
-at_source P gmi Include ToEx g A s p = p
-at_source P gmi Include ToIn g A s p = p
 at_source P gmi (Exclude d) IsIn g A s p = p
-at_source P gmi (Exclude d) IsEx g A s p = p
-at_source P gmi (Exclude d) Allow g A s p = p
-at_source P gmi (Exclude d) Block g A s p = p
-at_source P gmi (Exclude d) ToEx g A s p = p
-at_source P gmi (Exclude d) ToIn g A s p = p
+at_source P gmi _ _ g A s p = p
 
 -- this fact for the new group
 pub at_source_of : (P : Bool → Bool → Bool → FilterMode → Option SourceTimer → Type 0) → (timing : Timing) (now : ℕ) (g : GroupState) (kind : Kind)

@@ -1,7 +1,7 @@
 //! The kinds of records (RFC 3376 section 4.2.12, RFC 3810 section 5.2.12).
 
 /// The type of a group record: the host's filter for one group (RFC 3376 section 4.2.12, RFC 3810 section 5.2.12).
-#[derive(Clone, Copy, PartialEq, Eq)]
+#[derive(Clone, Copy)]
 pub enum Kind {
     /// MODE_IS_INCLUDE: the host currently wants these sources alone.
     IsIn,

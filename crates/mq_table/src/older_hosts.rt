@@ -19,7 +19,7 @@ use std::alloc::Allocator;
 
 /// The older versions that have hosts in a group, as far as the router knows. MLD has version 1 alone. RFC 3376 section
 /// 7.3.2, RFC 3810 section 8.3.2.
-#[derive(Clone, Copy, PartialEq, Eq)]
+#[derive(Clone, Copy)]
 pub struct Hosts {
     pub v1: bool,
     pub v2: bool,

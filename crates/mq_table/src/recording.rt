@@ -77,7 +77,7 @@ impl<K: Key, A: Allocator> Group<K, A> {
         self.v2 = head.v2;
         Loaded {
             asks_group: rule.asks_group(),
-            changes_filter: turned | rule.changes_mode(),
+            changes_filter: turned | rule.mode.is_unlike(&self.mode),
         }
     }
 

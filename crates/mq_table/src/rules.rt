@@ -2,7 +2,7 @@
 
 ghost use Rattle.std.specs.Prelude.{◌≡◌, true, false};
 ghost use Rattle.mq_table.specs.Group.{Include, Exclude, sendings_of};
-ghost use Rattle.mq_table.specs.AtSource.{timer_after, is_asked_after, mode_after, changes_mode, asks_group_after};
+ghost use Rattle.mq_table.specs.AtSource.{timer_after, is_asked_after, mode_after, asks_group_after};
 ghost use Rattle.mq_table.specs.MergedRecord.{turns};
 
 use crate::kind::Kind;
@@ -63,17 +63,6 @@ impl Rule {
         }
     }
 
-    /// Returns the timer of a source that the record names.
-    fn timer_if_named(&self, before: Option<SourceTimer>) -> Option<SourceTimer>
-        ensures { result ≡ timer_after self.now.interval_end self.now.mode self.now.kind before true }
-    {
-        let mode = self.mode;
-        match &mode {
-            FilterMode::Include => self.named_in_include(before),
-            FilterMode::Exclude(group) => self.named_in_exclude(*group, before),
-        }
-    }
-
     /// Returns the timer of a source that the record doesn't name.
     fn timer_if_unnamed(&self, before: Option<SourceTimer>) -> Option<SourceTimer>
         ensures { result ≡ timer_after self.now.interval_end self.now.mode self.now.kind before false }
@@ -94,10 +83,13 @@ impl Rule {
     ) -> Option<SourceTimer>
         ensures { result ≡ timer_after self.now.interval_end self.now.mode self.now.kind before is_named }
     {
-        if is_named {
-            self.timer_if_named(before)
-        } else {
-            self.timer_if_unnamed(before)
+        if !is_named {
+            return self.timer_if_unnamed(before);
+        }
+        let mode = self.mode;
+        match &mode {
+            FilterMode::Include => self.named_in_include(before),
+            FilterMode::Exclude(group) => self.named_in_exclude(*group, before),
         }
     }
 
@@ -131,13 +123,6 @@ impl Rule {
             Kind::IsEx | Kind::ToEx => FilterMode::Exclude(self.interval_end),
             _ => self.mode,
         }
-    }
-
-    /// Returns whether one of the modes before and after the record is INCLUDE and the other EXCLUDE.
-    pub(crate) fn changes_mode(&self) -> bool
-        ensures { result ≡ changes_mode self.now.interval_end self.now.mode self.now.kind }
-    {
-        self.mode.is_unlike(&self.mode_after())
     }
 
     /// Returns whether the record sends a query to the group.

@@ -210,16 +210,6 @@ impl<K: Key, A: Allocator> Group<K, A> {
         )
     }
 
-    /// Returns all places of the group's sources.
-    fn all_places(&self) -> SendingPlaces
-        ensures { SendsBetween result.first result.end self.now.state }
-    {
-        SendingPlaces {
-            first: 0,
-            end: self.sources.len(),
-        }
-    }
-
     /// Leaves each source one sending fewer, if it has one. Outside of the places none has one. Returns whether a
     /// source has one left. No comparison.
     pub fn count_sendings_between(&mut self, places: SendingPlaces) -> bool
@@ -236,7 +226,8 @@ impl<K: Key, A: Allocator> Group<K, A> {
         ensures state { self.new.state ≡ sendings_cleared self.old.state }
         ensures room { self.new.room ≡ self.old.room }
     {
-        let places = self.all_places();
+        let end = self.sources.len();
+        let places = SendingPlaces { first: 0, end };
         recount_each(&mut self.sources, places, Recount::NoneLeft);
     }
 }

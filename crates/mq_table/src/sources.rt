@@ -1,6 +1,6 @@
 //! A source of a group, with its timer.
 
-ghost use Rattle.std.specs.Prelude.{◌≡◌, ◌≤◌, Some, length, drop, min};
+ghost use Rattle.std.specs.Prelude.{◌≡◌, ◌≤◌, ⊤, Some, length, drop, min};
 ghost use Rattle.std.specs.FinMap as map;
 ghost use Rattle.mq_count.specs.Spending.{Spends};
 ghost use Rattle.mq_sets.specs.Ascending.{IsAscending};
@@ -11,15 +11,27 @@ ghost use Rattle.mq_table.specs.Stored.{number_in, timers_in};
 use crate::timers::SourceTimer;
 use mq_count::{Key, Meter, Moment, Timed};
 use mq_sets::{Keyed, find};
+use std::alloc::AllocError;
 
 /// A source that a group holds. Slices of sources ascend by their addresses.
-#[derive_where(Clone, Copy)]
 pub struct Source<K: Key> {
     /// The source's address.
     pub address: K,
     /// Its timer in the group.
     pub timer: SourceTimer,
 }
+
+impl<K: Key> Clone for Source<K> {
+    ghost is_clone = { λ x y. y ≡ x };
+
+    ghost is_infallible = { λ _. ⊤ };
+
+    fn clone(&self) -> Result<Self, AllocError> {
+        Ok(*self)
+    }
+}
+
+impl<K: Key> Copy for Source<K> {}
 
 impl<K: Key> Keyed<K> for Source<K> {
     ghost key_number = { λ x. K.number x.address };

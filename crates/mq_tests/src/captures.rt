@@ -1,5 +1,5 @@
-//! Captures that are read in pieces, to their end or to a fault. Rows of `tools/refuse.cases` have captures truncated
-//! at each length, other headers and moments.
+//! Captures that are read in pieces, to their end or to a fault, also after as many records as a capture may have. Rows
+//! of `tools/refuse.cases` have captures truncated at each length, other headers and moments.
 
 use crate::facts::expect_none_wrong_at;
 use crate::faulty::Faulty;
@@ -17,6 +17,10 @@ const CAPTURE: &[u8] =
 const TOO_LONG: &[u8] =
     b"\xd4\xc3\xb2\xa1\x02\x00\x04\x00\x00\x00\x00\x00\x00\x00\x00\x00\x00\x00\x04\x00\x01\x00\x00\x00\x00\x00\x00\x00\x00\x00\x00\x00\x01\x00\x04\x00\x3c\x00\x00\x00";
 
+/// The headers of a capture and of two packets without bytes.
+const EMPTY: &[u8] =
+    b"\xd4\xc3\xb2\xa1\x02\x00\x04\x00\x00\x00\x00\x00\x00\x00\x00\x00\x00\x00\x04\x00\x01\x00\x00\x00\x00\x00\x00\x00\x00\x00\x00\x00\x00\x00\x00\x00\x00\x00\x00\x00\x00\x00\x00\x00\x00\x00\x00\x00\x00\x00\x00\x00\x00\x00\x00\x00";
+
 fn new_buffer(rt: &impl Abort, alloc: Global) -> Vec<u8> {
     vec![in alloc; 0; GREATEST_PACKET].expect(rt, "memory for a buffer")
 }
@@ -29,42 +33,68 @@ const PACKET: Answer = Ok(Some(Packet {
     length: 60,
 }));
 
+const PACKET_OF_NO_BYTES: Answer = Ok(Some(Packet {
+    stamp_ms: 0,
+    length: 0,
+}));
+
 const NEVER: u64 = u64::MAX;
+
+/// The most records of a capture.
+const MOST: u32 = u32::MAX;
 
 /// The name of a result.
 #[derive(Clone, Copy)]
 enum Name {
     Packet,
+    Empty,
     End,
     CutHeader,
     CutData,
     TooLong,
+    Endless,
     Failed,
 }
 
-fn answer_of(name: Name) -> Answer {
+/// Returns the result of this name for the record of a number.
+fn answer_of(name: Name, number: u64) -> Answer {
     match name {
         Name::Packet => PACKET,
+        Name::Empty => PACKET_OF_NO_BYTES,
         Name::End => Ok(None),
-        Name::CutHeader => Err(PcapFault::CutHeader { number: 1 }),
-        Name::CutData => Err(PcapFault::CutData { number: 1 }),
-        Name::TooLong => Err(PcapFault::TooLong { number: 1 }),
+        Name::CutHeader => Err(PcapFault::CutHeader { number }),
+        Name::CutData => Err(PcapFault::CutData { number }),
+        Name::TooLong => Err(PcapFault::TooLong { number }),
+        Name::Endless => Err(PcapFault::Endless),
         Name::Failed => Err(PcapFault::Read),
     }
 }
 
-/// A reading of a capture: its bytes, their number, the size of the pieces, and the call of its reader that fails. Then
-/// come the first result, and the result that is returned again and again.
-type Row = (&'static [u8], usize, usize, u64, Name, Name);
+/// A reading of a capture: its bytes, their number, the records before them, the size of the pieces, and the call of
+/// its reader that fails. Then come the first result, and the result that is returned again and again.
+type Row = (&'static [u8], usize, u32, usize, u64, Name, Name);
 
-static ROWS: [Row; 7] = [
-    (CAPTURE, 100, 1, NEVER, Name::Packet, Name::End),
-    (CAPTURE, 100, 7, NEVER, Name::Packet, Name::End),
-    (CAPTURE, 100, 100, NEVER, Name::Packet, Name::End),
-    (CAPTURE, 24, 100, NEVER, Name::End, Name::End),
-    (CAPTURE, 39, 100, NEVER, Name::CutHeader, Name::CutHeader),
-    (CAPTURE, 99, 100, NEVER, Name::CutData, Name::CutData),
-    (TOO_LONG, 40, 100, NEVER, Name::TooLong, Name::TooLong),
+static ROWS: [Row; 12] = [
+    (CAPTURE, 100, 0, 1, NEVER, Name::Packet, Name::End),
+    (CAPTURE, 100, 0, 7, NEVER, Name::Packet, Name::End),
+    (CAPTURE, 100, 0, 100, NEVER, Name::Packet, Name::End),
+    (CAPTURE, 24, 0, 100, NEVER, Name::End, Name::End),
+    (CAPTURE, 39, 0, 100, NEVER, Name::CutHeader, Name::CutHeader),
+    (CAPTURE, 99, 0, 100, NEVER, Name::CutData, Name::CutData),
+    (TOO_LONG, 40, 0, 100, NEVER, Name::TooLong, Name::TooLong),
+    (EMPTY, 40, MOST - 1, 100, NEVER, Name::Empty, Name::End),
+    (EMPTY, 41, MOST - 1, 100, NEVER, Name::Empty, Name::Endless),
+    (
+        EMPTY,
+        39,
+        MOST - 1,
+        100,
+        NEVER,
+        Name::CutHeader,
+        Name::CutHeader,
+    ),
+    (EMPTY, 25, MOST, 100, NEVER, Name::Endless, Name::Endless),
+    (EMPTY, 24, MOST, 100, NEVER, Name::End, Name::End),
 ];
 
 /// Returns whether the next result has this name, in a buffer that is long enough.
@@ -72,28 +102,30 @@ fn is_next<R: Read>(
     pcap: &mut PcapReader,
     reader: &mut Watched<R>,
     buffer: &mut [u8],
-    name: Name,
+    want: Answer,
 ) -> bool {
-    GREATEST_PACKET <= buffer.len() && pcap.next(reader, buffer) == answer_of(name)
+    GREATEST_PACKET <= buffer.len() && pcap.next(reader, buffer) == want
 }
 
 /// Returns what is wrong with a capture that is read.
 fn wrong_capture(row: &Row, buffer: &mut [u8]) -> Option<&'static str> {
-    let (capture, length, piece, fails_at, first, then) = *row;
+    let (capture, length, before, piece, fails_at, first, then) = *row;
     let Some(bytes) = capture.get(..length) else {
         return Some("so many bytes");
     };
     let mut reader = Watched::new(Faulty::new(bytes, piece, fails_at));
-    let Ok(mut pcap) = PcapReader::open(&mut reader) else {
+    let Ok(opened) = PcapReader::open(&mut reader) else {
         return Some("it is opened");
     };
-    if !is_next(&mut pcap, &mut reader, buffer, first) {
+    let mut pcap = opened.after(before);
+    let number = u64::from(before) + 1;
+    if !is_next(&mut pcap, &mut reader, buffer, answer_of(first, number)) {
         return Some("what comes first");
     }
-    if !is_next(&mut pcap, &mut reader, buffer, then) {
+    if !is_next(&mut pcap, &mut reader, buffer, answer_of(then, number)) {
         return Some("what comes then");
     }
-    if !is_next(&mut pcap, &mut reader, buffer, then) {
+    if !is_next(&mut pcap, &mut reader, buffer, answer_of(then, number)) {
         return Some("what comes again");
     }
     if reader.failed() != matches!(then, Name::Failed) {
@@ -126,7 +158,7 @@ fn wrong_failing(call: u64, buffer: &mut [u8]) -> Option<&'static str> {
     } else {
         Name::Packet
     };
-    wrong_capture(&(CAPTURE, 100, 1, call, first, Name::Failed), buffer)
+    wrong_capture(&(CAPTURE, 100, 0, 1, call, first, Name::Failed), buffer)
 }
 
 #[test]

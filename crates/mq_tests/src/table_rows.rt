@@ -1,144 +1,284 @@
-//! The effect of a record on a group in each row of the tables, and its queries. RFC 3376 section 6.4, RFC 3810 section
-//! 7.4.
+//! The effect of a record on a group in each row of the tables: its sources with their sendings to go, and its queries.
+//! RFC 3376 section 6.4, RFC 3810 section 7.4.
 
-ghost use Rattle.std.specs.Prelude.{◌≤◌};
+ghost use Rattle.std.specs.Prelude.{◌≡◌, ◌≤◌, ◌^◌};
 
 use crate::facts::expect_none_wrong_at;
 use crate::groups::are_equal;
-use mq_count::{Addr4, Key, Meter, Moment};
+use mq_count::{Addr4, Meter, Moment};
 use mq_sets::SourceSet;
-use mq_table::{Change, Group, Kind, Timing};
+use mq_table::{Change, Group, Kind, SourceTimer, Timing};
 use std::alloc::Global;
 
-/// A record of sources: a letter for each.
-type Record = (Kind, &'static [u8]);
+/// A source: its letter, with the deadline of its timer and its sendings to go, or None if the timer is stopped.
+type Listed = (u8, Option<(u64, u32)>);
 
-/// A row: the records before, the record, the group after it, and the queries. The records before come a second apart
-/// from 0 on, and the record at 3000 ms. The group has its mode, with the deadline of EXCLUDE, and two letters for each
-/// source: itself and its deadline. A deadline is the digit of the second whose membership interval ends then, and `-`
-/// if the timer is stopped. The queries are the sources that are asked for, and whether the group is.
-type Row = (
-    &'static [Record],
-    Record,
-    &'static [u8],
-    &'static [u8],
-    &'static [u8],
-    bool,
-);
+/// A group: the deadline of EXCLUDE, and its sources in ascending order.
+type State = (Option<u64>, &'static [Listed]);
+
+/// A record of sources, a letter for each, and its moment.
+type Record = (u64, Kind, &'static [u8]);
+
+/// A row: the group before the record, the record at 1000 ms, the group after it, the sources to query, and whether the
+/// group is to query.
+type Row = (State, Record, State, &'static [u8], bool);
 
 /// INCLUDE of a and b.
-const INCLUDE: &[Record] = &[(Kind::Allow, b"a"), (Kind::Allow, b"b")];
+const INCLUDE: State = (
+    None,
+    &[(b'a', Some((260000, 2))), (b'b', Some((260000, 2)))],
+);
 
-/// EXCLUDE in which the timers of a and b run, and those of c and d are stopped.
-const EXCLUDE: &[Record] = &[
-    (Kind::ToEx, b"cd"),
-    (Kind::Allow, b"a"),
-    (Kind::Allow, b"b"),
-];
+/// EXCLUDE in which the timers of a and d run, and that of b is stopped.
+const EXCLUDE: State = (
+    Some(260000),
+    &[
+        (b'a', Some((260500, 2))),
+        (b'b', None),
+        (b'd', Some((260500, 2))),
+    ],
+);
+
+/// INCLUDE with the sources of a record added.
+const INCLUDE_AND_ADDED: State = (
+    None,
+    &[
+        (b'a', Some((260000, 2))),
+        (b'b', Some((261000, 2))),
+        (b'c', Some((261000, 0))),
+    ],
+);
+
+/// EXCLUDE with the sources of a record added.
+const EXCLUDE_AND_ADDED: State = (
+    Some(260000),
+    &[
+        (b'a', Some((260500, 2))),
+        (b'b', Some((261000, 0))),
+        (b'c', Some((261000, 0))),
+        (b'd', Some((261000, 2))),
+    ],
+);
+
+/// INCLUDE after an EXCLUDE record of b and c.
+const EXCLUDE_OF_INCLUDE: State = (Some(261000), &[(b'b', Some((260000, 2))), (b'c', None)]);
 
 static ROWS: [Row; 12] = [
-    (INCLUDE, (Kind::IsIn, b"bc"), b"i", b"a0b3c3", b"", false),
-    (INCLUDE, (Kind::IsEx, b"bc"), b"3", b"b1c-", b"", false),
-    (INCLUDE, (Kind::ToIn, b"bc"), b"i", b"a0b3c3", b"a", false),
-    (INCLUDE, (Kind::ToEx, b"bc"), b"3", b"b1c-", b"b", false),
-    (INCLUDE, (Kind::Allow, b"bc"), b"i", b"a0b3c3", b"", false),
-    (INCLUDE, (Kind::Block, b"bc"), b"i", b"a0b1", b"b", false),
     (
-        EXCLUDE,
-        (Kind::IsIn, b"bde"),
-        b"0",
-        b"a1b3c-d3e3",
+        INCLUDE,
+        (1000, Kind::IsIn, b"bc"),
+        INCLUDE_AND_ADDED,
         b"",
         false,
     ),
-    (EXCLUDE, (Kind::IsEx, b"bde"), b"3", b"b2d-e3", b"", false),
+    (
+        INCLUDE,
+        (1000, Kind::IsEx, b"bc"),
+        EXCLUDE_OF_INCLUDE,
+        b"",
+        false,
+    ),
+    (
+        INCLUDE,
+        (1000, Kind::Allow, b"bc"),
+        INCLUDE_AND_ADDED,
+        b"",
+        false,
+    ),
+    (INCLUDE, (1000, Kind::Block, b"bc"), INCLUDE, b"b", false),
+    (
+        INCLUDE,
+        (1000, Kind::ToEx, b"bc"),
+        EXCLUDE_OF_INCLUDE,
+        b"b",
+        false,
+    ),
+    (
+        INCLUDE,
+        (1000, Kind::ToIn, b"bc"),
+        INCLUDE_AND_ADDED,
+        b"a",
+        false,
+    ),
     (
         EXCLUDE,
-        (Kind::ToIn, b"bde"),
-        b"0",
-        b"a1b3c-d3e3",
+        (1000, Kind::IsIn, b"bcd"),
+        EXCLUDE_AND_ADDED,
+        b"",
+        false,
+    ),
+    (
+        EXCLUDE,
+        (1000, Kind::IsEx, b"bcd"),
+        (
+            Some(261000),
+            &[
+                (b'b', None),
+                (b'c', Some((261000, 0))),
+                (b'd', Some((260500, 2))),
+            ],
+        ),
+        b"",
+        false,
+    ),
+    (
+        EXCLUDE,
+        (1000, Kind::Allow, b"bcd"),
+        EXCLUDE_AND_ADDED,
+        b"",
+        false,
+    ),
+    (
+        EXCLUDE,
+        (1000, Kind::Block, b"bcd"),
+        (
+            Some(260000),
+            &[
+                (b'a', Some((260500, 2))),
+                (b'b', None),
+                (b'c', Some((260000, 0))),
+                (b'd', Some((260500, 2))),
+            ],
+        ),
+        b"cd",
+        false,
+    ),
+    (
+        EXCLUDE,
+        (1000, Kind::ToEx, b"bcd"),
+        (
+            Some(261000),
+            &[
+                (b'b', None),
+                (b'c', Some((260000, 0))),
+                (b'd', Some((260500, 2))),
+            ],
+        ),
+        b"cd",
+        false,
+    ),
+    (
+        EXCLUDE,
+        (1000, Kind::ToIn, b"bcd"),
+        EXCLUDE_AND_ADDED,
         b"a",
         true,
     ),
-    (EXCLUDE, (Kind::ToEx, b"bde"), b"3", b"b2d-e0", b"be", false),
-    (
-        EXCLUDE,
-        (Kind::Allow, b"bde"),
-        b"0",
-        b"a1b3c-d3e3",
-        b"",
-        false,
-    ),
-    (
-        EXCLUDE,
-        (Kind::Block, b"bde"),
-        b"0",
-        b"a1b2c-d-e0",
-        b"be",
-        false,
-    ),
 ];
 
-/// Returns the group after a record at this second.
-fn recorded(
-    alloc: Global,
-    group: &Group<Addr4>,
-    record: Record,
-    second: u64,
-) -> Result<Change<Addr4>, &'static str>
-    requires { second ≤ 3 }
-{
-    let mut m = Meter::new();
-    let mut named = SourceSet::empty(alloc);
-    for letter in record.1 {
-        if named.insert(source_of(*letter), 8, &mut m).is_err() {
-            return Err("memory for a set");
-        }
-    }
-    let timing = Timing::new(2, 125, 10000, 1000).unwrap();
-    let now = Moment::from_ms(1000 * second).unwrap();
-    group
-        .apply(alloc, record.0, &named, now, &timing, &mut m)
-        .map_err(|_| "memory for a group")
-}
+/// The records that make the groups before, and the moment when two queries are asked of their running sources: then
+/// their timers are lowered to the deadlines of the row.
+type Before = (&'static [Record], u64);
+
+/// For INCLUDE.
+static BEFORE_INCLUDE: Before = (&[(1000, Kind::Allow, b"ab")], 258000);
+
+/// For EXCLUDE.
+static BEFORE_EXCLUDE: Before = (
+    &[(0, Kind::ToEx, b"ab"), (1000, Kind::Allow, b"ad")],
+    258500,
+);
 
 fn source_of(letter: u8) -> Addr4 {
     Addr4::from_octets([10, 0, 0, letter])
 }
 
-/// Returns the end of the membership interval that began at the second of a digit.
-fn deadline_of(digit: u8) -> Option<Moment> {
-    if digit.is_ascii_digit() {
-        Moment::from_ms(260000 + 1000 * u64::from(digit - b'0'))
-    } else {
-        None
-    }
-}
-
-/// Returns what of a change differs from its row.
-fn wrong_change(change: &Change<Addr4>, row: &Row) -> Option<&'static str> {
-    let (_, _, mode, sources, asked, asks_group) = *row;
-    let wanted = mode.first().and_then(|digit| deadline_of(*digit));
-    if !are_equal(change.group.mode().deadline(), wanted) {
-        return Some("the mode");
-    }
-    if !are_equal(change.group.v1(), None) || !are_equal(change.group.v2(), None) {
-        return Some("an older host");
-    }
-    if 2 * change.group.sources().len() != sources.len() {
-        return Some("the count of sources");
-    }
-    for (source, pair) in change.group.sources().iter().zip(sources.chunks_exact(2)) {
-        if source.address.octets() != source_of(pair[0]).octets()
-            || !are_equal(source.timer.deadline(), deadline_of(pair[1]))
-        {
-            return Some("a source");
+/// Returns the change of a group by a record.
+fn recorded(
+    alloc: Global,
+    group: &Group<Addr4>,
+    record: &Record,
+) -> Result<Change<Addr4>, &'static str> {
+    let mut m = Meter::new();
+    let mut named = SourceSet::empty(alloc);
+    for letter in record.2 {
+        if named.insert(source_of(*letter), 8, &mut m).is_err() {
+            return Err("memory for a set");
         }
     }
-    if change.query.len() != asked.len() || change.query_group != asks_group {
+    let timing = Timing::new(2, 125, 10000, 1000).unwrap();
+    let Some(now) = Moment::from_ms(record.0) else {
+        return Err("the moment");
+    };
+    group
+        .apply(alloc, record.1, &named, now, &timing, &mut m)
+        .map_err(|_| "memory for a group")
+}
+
+/// Returns the group with two queries asked of each running source at a moment.
+fn asked(alloc: Global, group: &Group<Addr4>, at: u64) -> Result<Group<Addr4>, &'static str> {
+    let timing = Timing::new(2, 125, 10000, 1000).unwrap();
+    let Some(now) = Moment::from_ms(at) else {
+        return Err("the moment");
+    };
+    // A record of no source, after which each running source is to query.
+    let (none, mut m) = (SourceSet::empty(alloc), Meter::new());
+    let Ok(change) = group.apply(alloc, Kind::ToIn, &none, now, &timing, &mut m) else {
+        return Err("memory for a group");
+    };
+    let Change {
+        group: mut asked,
+        query,
+        ..
+    } = change;
+    asked.start_sendings(query.as_slice(), now, &timing, &mut m);
+    Ok(asked)
+}
+
+/// Returns the group before the record of a row.
+fn before(alloc: Global, row: &Row) -> Result<Group<Addr4>, &'static str> {
+    let (records, at) = match row.0.0 {
+        None => BEFORE_INCLUDE,
+        Some(_) => BEFORE_EXCLUDE,
+    };
+    let mut group = Group::vacant(alloc);
+    for record in records {
+        group = recorded(alloc, &group, record)?.group;
+    }
+    asked(alloc, &group, at)
+}
+
+/// Returns whether a timer is that of a listed source, with its sendings to go.
+fn is_timer(timer: SourceTimer, listed: Option<(u64, u32)>) -> bool {
+    let Some((deadline, left)) = listed else {
+        return timer.deadline().is_none();
+    };
+    let sendings = match timer {
+        SourceTimer::Stopped => 0,
+        SourceTimer::Running(_, sendings) => sendings,
+    };
+    are_equal(timer.deadline(), Moment::from_ms(deadline)) && sendings == left
+}
+
+/// Returns what of a group differs from the state of a row.
+fn wrong_group(group: &Group<Addr4>, state: &State) -> Option<&'static str> {
+    let (deadline, sources) = *state;
+    if !are_equal(group.mode().deadline(), deadline.and_then(Moment::from_ms)) {
+        return Some("the mode");
+    }
+    if !are_equal(group.v1(), None) || !are_equal(group.v2(), None) {
+        return Some("an older host");
+    }
+    if group.sources().len() != sources.len() {
+        return Some("the count of sources");
+    }
+    for (source, listed) in group.sources().iter().zip(sources) {
+        if source.address.octets() != source_of(listed.0).octets() {
+            return Some("a source");
+        }
+        if !is_timer(source.timer, listed.1) {
+            return Some("a timer or its sendings");
+        }
+    }
+    None
+}
+
+/// Returns what of the queries of a change differs from its row.
+fn wrong_queries(change: &Change<Addr4>, row: &Row) -> Option<&'static str> {
+    if change.query.len() != row.3.len() || change.query_group != row.4 {
         return Some("what is asked for");
     }
-    for (key, letter) in change.query.iter().zip(asked) {
+    for (key, letter) in change.query.iter().zip(row.3) {
         if key.octets() != source_of(*letter).octets() {
             return Some("a source that is asked for");
         }
@@ -148,15 +288,15 @@ fn wrong_change(change: &Change<Addr4>, row: &Row) -> Option<&'static str> {
 
 /// Returns what is wrong with the change of a group by the record of a row.
 fn wrong_row(alloc: Global, row: &Row) -> Option<&'static str> {
-    let mut group = Group::vacant(alloc);
-    for (second, record) in row.0.iter().enumerate() {
-        match recorded(alloc, &group, *record, second.min(3) as u64) {
-            Ok(change) => group = change.group,
-            Err(fault) => return Some(fault),
-        }
+    let group = match before(alloc, row) {
+        Ok(group) => group,
+        Err(fault) => return Some(fault),
+    };
+    if wrong_group(&group, &row.0).is_some() {
+        return Some("the group before");
     }
-    match recorded(alloc, &group, row.1, 3) {
-        Ok(change) => wrong_change(&change, row),
+    match recorded(alloc, &group, &row.1) {
+        Ok(change) => wrong_group(&change.group, &row.2).or(wrong_queries(&change, row)),
         Err(fault) => Some(fault),
     }
 }

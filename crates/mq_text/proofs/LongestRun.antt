@@ -1,11 +1,8 @@
 -- The longest run of zero groups.
-use Rattle.std.proofs.Common.{◌≡◌, ℕ, zero, suc, ◌+◌, ◌-◌, ◌*◌, ◌<◌, ◌≤◌, ◌==◌, nat_lt, Bool, true, false, List, [], ◌∷◌, length, drop, inl, inr}
-use Rattle.std.proofs.Common.{refl, ap, sym, ◌∙◌, arith, add-one, length-drop, if◌then◌else◌}
-use Rattle.std.proofs.lemmas.Bool.{cases_lt}
-use Rattle.std.proofs.lemmas.Bool.Decides.{nat_tests}
-use Rattle.std.proofs.lemmas.List.{drop-drop}
-use Rattle.mq_text.specs.declared.address_v6.ZeroGroups.{ZeroGroups}
-use Rattle.mq_text.specs.AddressV6.{zeros_ahead, longest_zeros, IsFirstLongest}
+use Rattle.std.proofs.Common.{◌≡◌, ℕ, zero, suc, ◌+◌, ◌-◌, ◌*◌, ◌<◌, ◌≤◌, ◌==◌, nat_lt, Bool, true, false, List, [], ◌∷◌, length, drop, inl, inr, refl, ap, sym}
+use Rattle.std.proofs.Common.{◌∙◌, arith, add-one, length-drop, if◌then◌else◌}
+use Rattle.std.proofs.{lemmas.Bool.cases_lt, lemmas.Bool.Decides.nat_tests, lemmas.List.drop-drop}
+use Rattle.mq_text.specs.{declared.address_v6.ZeroGroups.ZeroGroups, AddressV6.zeros_ahead, AddressV6.longest_zeros, AddressV6.IsFirstLongest}
 
 none_in_nothing : (place : ℕ) → zeros_ahead (drop place []) ≤ 0
 none_in_nothing zero = omega arith

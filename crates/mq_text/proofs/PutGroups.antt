@@ -1,9 +1,7 @@
 -- Groups that were put one part after another.
 use Rattle.std.proofs.Common.{◌≡◌, ℕ, ◌+◌, ◌-◌, ◌≤◌, nat_le, true, List, [], ◌∷◌, ◌++◌, length, take, drop, append_assoc, ap, ◌∙◌, arith}
-use Rattle.std.proofs.lemmas.Bool.Decides.{nat_tests}
-use Rattle.std.proofs.lemmas.List.{take_all, length-drop}
-use Rattle.mq_text.specs.declared.address_v6.ZeroGroups.{ZeroGroups}
-use Rattle.mq_text.specs.AddressV6.{with_colons, shortened}
+use Rattle.std.proofs.{lemmas.Bool.Decides.nat_tests, lemmas.List.take_all, lemmas.List.length-drop}
+use Rattle.mq_text.specs.{declared.address_v6.ZeroGroups.ZeroGroups, AddressV6.with_colons, AddressV6.shortened}
 
 -- the groups before a run, two colons, and the later groups
 pub put_shortened : (old first second third groups : List ℕ) (run : ZeroGroups) → length groups ≡ 8 → 2 ≤ run.count → first ≡ old ++

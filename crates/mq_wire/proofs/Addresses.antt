@@ -1,8 +1,6 @@
 -- Addresses that stand one after the other.
-use Rattle.std.proofs.Common.{◌≡◌, ◌<◌, ◌≤◌, ◌-◌, ◌+◌, ℕ, zero, suc, List, ◌∷◌, length, take, drop, refl, arith}
-use Rattle.byteorder.specs.Endian.{big_from, big_number}
-use Rattle.std.proofs.lemmas.List.{get_or-take, length-drop, take_all}
-use Rattle.mq_wire.specs.Fields.{addresses}
+use Rattle.mq_wire.proofs.Common.{◌≡◌, ◌<◌, ◌≤◌, ◌-◌, ◌+◌, ℕ, zero, suc, List, ◌∷◌, length, take, drop, refl, arith, big_from, big_number, get_or-take}
+use Rattle.mq_wire.proofs.Common.{length-drop, take_all, addresses}
 
 -- a number of n bytes reads no byte past them
 big_from-take : (i n m : ℕ) (bytes : List ℕ) → i + n ≤ m → big_from i n (take m bytes) ≡ big_from i n bytes

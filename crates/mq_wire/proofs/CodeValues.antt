@@ -1,11 +1,8 @@
 -- The values of codes: a code with a greater exponent has a greater value, and so has one with a greater
 -- mantissa and the same exponent.
-use Rattle.std.proofs.Common.{◌≡◌, ℕ, ◌+◌, ◌-◌, ◌*◌, ◌/◌, ◌%◌, ◌^◌, ◌<◌, ◌≤◌, ◌⊎◌, inl, inr, nat_lt, true, false, ap, refl, arith}
-use Rattle.std.proofs.Math.Nat.{mul-le-mul_left, mul-le-mul_right, pow-le-pow_right, mod-lt}
-use Rattle.std.proofs.lemmas.Nat.{pow-add, shr_high, mod_low, pow_pos}
+use Rattle.mq_wire.proofs.Common.{◌≡◌, ℕ, ◌+◌, ◌-◌, ◌*◌, ◌/◌, ◌%◌, ◌^◌, ◌<◌, ◌≤◌, ◌⊎◌, inl, inr, nat_lt, true, false, ap, refl, arith, mul-le-mul_left}
+use Rattle.mq_wire.proofs.Common.{mul-le-mul_right, pow-le-pow_right, mod-lt, pow-add, shr_high, mod_low, pow_pos, nat_tests, leb_tells, value_of, IsCodeFor}
 use Rattle.std.proofs.lemmas.Bool.{cases_order}
-use Rattle.std.proofs.lemmas.Bool.Decides.{nat_tests, leb_tells}
-use Rattle.mq_wire.specs.Codes.{value_of, IsCodeFor}
 
 -- a power of two is at most half of a greater one
 pub half_of : (e f : ℕ) → e < f → 2 * 2 ^ (e + 3) ≤ 2 ^ (f + 3)

@@ -1,13 +1,7 @@
 -- The whole spans of a message.
-use Rattle.std.proofs.Common.{◌≡◌, ℕ, zero, suc, ◌+◌, ◌<◌, ◌≤◌, List, [], ◌∷◌, ◌++◌, length, None, inl, inr, ap, ◌∙◌, arith}
-use Rattle.std.proofs.lemmas.Bool.Decides.{nat_tests, leb_tells, eqb_tells}
-use Rattle.mq_wire.specs.declared.message.MessageType.{MessageType}
-use Rattle.mq_wire.specs.declared.message.MessageType.TheVariants.{Query, OlderReport, Leave, Report}
-use Rattle.mq_wire.specs.Family.{Family, Igmp, Mld, group_end, address_width}
-use Rattle.mq_wire.specs.Fields.{first_cut}
-use Rattle.mq_wire.specs.Queries.{older_spans, query_spans, source_spans}
-use Rattle.mq_wire.specs.Records.{spans_of_records, record_count}
-use Rattle.mq_wire.specs.Spelling.{spans_of}
+use Rattle.mq_wire.proofs.Common.{◌≡◌, ℕ, zero, suc, ◌+◌, ◌<◌, ◌≤◌, List, [], ◌∷◌, ◌++◌, length, None, inl, inr, ap, ◌∙◌, arith, nat_tests, leb_tells}
+use Rattle.mq_wire.proofs.Common.{eqb_tells, MessageType, Query, OlderReport, Leave, Report, Family, Igmp, Mld, group_end, address_width, first_cut}
+use Rattle.mq_wire.proofs.Common.{older_spans, query_spans, source_spans, spans_of_records, record_count, spans_of}
 use Rattle.mq_wire.proofs.Spans.{step}
 
 -- the fields of a message of one group, before others

@@ -1,12 +1,7 @@
 -- The fault of bytes, case by case in the order of the tests.
-use Rattle.std.proofs.Common.{◌≡◌, ℕ, ◌<◌, ◌≤◌, ◌⊎◌, min, List, [], ◌∷◌, ◌++◌, length, Option, Some, None, ◌%◌, inl, inr, arith, refl, true, false}
-use Rattle.std.proofs.lemmas.Bool.Decides.{nat_tests, leb_tells, eqb_tells}
-use Rattle.mq_wire.specs.declared.message.MessageType.{MessageType}
-use Rattle.mq_wire.specs.declared.message.WireFault.{WireFault}
-use Rattle.mq_wire.specs.declared.message.WireFault.TheVariants.{Truncated, Checksum, UnknownType}
-use Rattle.mq_wire.specs.Checksum.{IsRight, is_right, sum_of_words}
-use Rattle.mq_wire.specs.Family.{Family}
-use Rattle.mq_wire.specs.Spelling.{fault_of, fault_within, first_of, cut_in, type_of, type_named}
+use Rattle.mq_wire.proofs.Common.{◌≡◌, ℕ, ◌<◌, ◌≤◌, ◌⊎◌, min, List, [], ◌∷◌, ◌++◌, length, Option, Some, None, ◌%◌, inl, inr, arith, refl, true, false}
+use Rattle.mq_wire.proofs.Common.{nat_tests, leb_tells, eqb_tells, MessageType, WireFault, Truncated, Checksum, UnknownType, IsRight, is_right, sum_of_words}
+use Rattle.mq_wire.proofs.Common.{Family, fault_of, fault_within, first_of, cut_in, type_of, type_named}
 
 is_right-true : (covered : List ℕ) → IsRight covered → is_right covered ≡ true
 is_right-true covered right = grind (arith, nat_tests, right.some, right.divisible)

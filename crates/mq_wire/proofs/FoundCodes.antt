@@ -1,9 +1,7 @@
 -- The code that is found for a value is the one whose value is the greatest not above it.
-use Rattle.std.proofs.Common.{◌≡◌, ℕ, zero, suc, ◌+◌, ◌-◌, ◌*◌, ◌/◌, ◌%◌, ◌^◌, ◌<◌, ◌≤◌, inl, inr, nat_lt, true, false, refl, arith, subst}
-use Rattle.std.proofs.Math.Nat.{pow-le-pow_right, mod-lt, mod-eq_of_lt, div-add-mod}
-use Rattle.std.proofs.lemmas.Nat.{pow-add, pow_pos, le-div, div_below, mul-le}
-use Rattle.std.proofs.lemmas.Bool.Decides.{nat_tests, leb_tells}
-use Rattle.mq_wire.specs.Codes.{value_of, code_of, composed_for, IsCodeFor}
+use Rattle.mq_wire.proofs.Common.{◌≡◌, ℕ, zero, suc, ◌+◌, ◌-◌, ◌*◌, ◌/◌, ◌%◌, ◌^◌, ◌<◌, ◌≤◌, inl, inr, nat_lt, true, false, refl, arith, subst}
+use Rattle.mq_wire.proofs.Common.{pow-le-pow_right, mod-lt, mod-eq_of_lt, div-add-mod, pow-add, pow_pos, le-div, div_below, mul-le, nat_tests, leb_tells}
+use Rattle.mq_wire.proofs.Common.{value_of, code_of, composed_for, IsCodeFor}
 use Rattle.mq_wire.proofs.CodeValues.{composed_code, own_code}
 
 -- the mantissa of a value, with its leading one

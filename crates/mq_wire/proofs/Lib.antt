@@ -1,5 +1,6 @@
 pub mod Addresses
 pub mod CodeValues
+mod Common
 pub mod Cuts
 pub mod Faults
 pub mod FoundCodes

@@ -1,22 +1,9 @@
 -- The fields of a query, as the code reads its bytes.
-use Rattle.std.proofs.Common.{◌≡◌, ◌+◌, ◌-◌, ◌%◌, ◌≤◌, ℕ, List, ◌==◌, nat_lt, if◌then◌else◌, length, slice_index, take, drop, replicate, false, inr}
-use Rattle.std.proofs.Common.{Ok, None, ap, sym, ◌∙◌, refl, arith, ne_eqb}
-use Rattle.byteorder.specs.Endian.{big_number}
-use Rattle.mq_wire.specs.declared.message.MessageType.TheVariants.{Query}
-use Rattle.mq_wire.specs.declared.query.QuerierFields.{QuerierFields}
-use Rattle.mq_wire.specs.declared.query.Query.{Query as QueryOf}
-use Rattle.mq_wire.specs.declared.query.QueryVersion.{QueryVersion}
-use Rattle.mq_wire.specs.declared.query.QueryVersion.TheVariants.{Current}
-use Rattle.mq_wire.specs.Family.{Family, address_width, group_end, group_place}
-use Rattle.std.proofs.lemmas.Bool.Decides.{nat_tests}
-use Rattle.mq_wire.specs.Codes.{value8}
-use Rattle.mq_wire.specs.Fields.{addresses, first_cut, number_at}
-use Rattle.mq_wire.specs.Numbered.{numbered_version}
-use Rattle.mq_wire.specs.Queries.{FieldsAt, current_query, current_response, query_of, suppress_of}
-use Rattle.mq_wire.specs.Spelling.{ReadsQuery, group_of, spans_of}
-use Rattle.mq_wire.proofs.Addresses.{all_behind}
-use Rattle.mq_wire.proofs.Cuts.{behind_count}
-use Rattle.mq_wire.proofs.Spelled.{no_fault_within}
+use Rattle.mq_wire.proofs.Common.{◌≡◌, ◌+◌, ◌-◌, ◌%◌, ◌≤◌, ℕ, List, ◌==◌, nat_lt, if◌then◌else◌, length, slice_index, take, drop, replicate, false, inr, Ok}
+use Rattle.mq_wire.proofs.Common.{None, ap, sym, ◌∙◌, refl, arith, ne_eqb, big_number, Query, QuerierFields, QueryOf, QueryVersion, Current, Family}
+use Rattle.mq_wire.proofs.Common.{address_width, group_end, group_place, nat_tests, value8, addresses, first_cut, number_at, numbered_version, FieldsAt}
+use Rattle.mq_wire.proofs.Common.{current_query, current_response, query_of, suppress_of, ReadsQuery, group_of, spans_of}
+use Rattle.mq_wire.proofs.{Addresses.all_behind, Cuts.behind_count, Spelled.no_fault_within}
 
 -- the fields after the group of a query of IGMPv3 or MLDv2, by the values read
 pub fields_read : {K : Type 0} (place width : ℕ) (bytes : List ℕ) (robustness interval count : ℕ) (sources : List ℕ) →

@@ -1,13 +1,8 @@
 -- Records one after the other.
-use Rattle.std.proofs.Common.{◌≡◌, ℕ, zero, suc, ◌+◌, ◌*◌, ◌-◌, ◌<◌, ◌≤◌, List, [], ◌∷◌, ◌++◌, length, Some, None, Result, Ok, Err, replicate}
-use Rattle.std.proofs.Common.{slice_index, sum, ap, sym, ◌∙◌, refl, arith}
-use Rattle.std.specs.Option.{option_map}
-use Rattle.std.proofs.Math.Nat.{sub-zero}
-use Rattle.mq_wire.specs.declared.message.WireFault.{WireFault}
-use Rattle.mq_wire.specs.declared.message.WireFault.TheVariants.{Truncated}
+use Rattle.mq_wire.proofs.Common.{◌≡◌, ℕ, zero, suc, ◌+◌, ◌*◌, ◌-◌, ◌<◌, ◌≤◌, List, [], ◌∷◌, ◌++◌, length, Some, None, Result, Ok, Err, replicate, slice_index}
+use Rattle.mq_wire.proofs.Common.{sum, ap, sym, ◌∙◌, refl, arith, option_map, sub-zero, WireFault, Truncated, first_cut, cut_from, EndsAt, record_spans}
+use Rattle.mq_wire.proofs.Common.{record_end, record_at, records_at, spans_of_records, record_source_count, auxiliary_length}
 use Rattle.mq_wire.specs.declared.records.RecordView.{RecordView}
-use Rattle.mq_wire.specs.Fields.{first_cut, cut_from, EndsAt}
-use Rattle.mq_wire.specs.Records.{record_spans, record_end, record_at, records_at, spans_of_records, record_source_count, auxiliary_length}
 use Rattle.mq_wire.proofs.Spans.{cut_behind_whole, ends_on, ends_within, fault_before, first_whole, sum-append, sum-replicate, whole_parts}
 
 pub length_records : (width count place : ℕ) (bytes : List ℕ) → length (records_at width count place bytes) ≡ count

@@ -1,15 +1,8 @@
 -- Spans one after the other: where the first that isn't whole begins, and where they end.
-use Rattle.std.proofs.Common.{◌≡◌, ℕ, zero, suc, ◌+◌, ◌*◌, ◌-◌, ◌/◌, ◌%◌, ◌<◌, ◌≤◌, nat_le, false, List, [], ◌∷◌, ◌++◌, Option, Some, None, Result}
-use Rattle.std.proofs.Common.{Ok, Err, replicate, sum, inl, inr, ◌⊎◌, ap, sym, ◌∙◌, refl, arith, add-zero}
-use Rattle.std.specs.Option.{option_map}
-use Rattle.std.proofs.Math.Nat.{mul-le-mul_right}
-use Rattle.std.proofs.lemmas.Nat.{div-add-mod', mod_below}
-use Rattle.std.proofs.lemmas.Bool.Decides.{nat_tests, leb_tells}
-use Rattle.std.proofs.lemmas.List.Folds.{sum_by-replicate}
-use Rattle.std.proofs.lemmas.List.Sums.{sum_by-append}
-use Rattle.mq_wire.specs.declared.message.WireFault.{WireFault}
-use Rattle.mq_wire.specs.declared.message.WireFault.TheVariants.{Truncated}
-use Rattle.mq_wire.specs.Fields.{first_cut, cut_from, EndsAt}
+use Rattle.mq_wire.proofs.Common.{◌≡◌, ℕ, zero, suc, ◌+◌, ◌*◌, ◌-◌, ◌/◌, ◌%◌, ◌<◌, ◌≤◌, nat_le, false, List, [], ◌∷◌, ◌++◌, Option, Some, None, Result, Ok, Err}
+use Rattle.mq_wire.proofs.Common.{replicate, sum, inl, inr, ◌⊎◌, ap, sym, ◌∙◌, refl, arith, add-zero, option_map, mul-le-mul_right, div-add-mod', mod_below}
+use Rattle.mq_wire.proofs.Common.{nat_tests, leb_tells, WireFault, Truncated, first_cut, cut_from, EndsAt}
+use Rattle.std.proofs.{lemmas.List.Folds.sum_by-replicate, lemmas.List.Sums.sum_by-append}
 
 -- one span that is whole
 pub step : (len at width : ℕ) (widths : List ℕ) → at + width ≤ len → first_cut len at (width ∷ widths) ≡ first_cut len (at + width) widths

@@ -1,24 +1,11 @@
 -- The one message that bytes encode, if they have no fault.
-use Rattle.std.proofs.Common.{◌≡◌, ◌+◌, ◌≤◌, ◌⊎◌, inl, inr, ℕ, ◌↔◌, List, [], ◌∷◌, ◌++◌, length, Option, Result, Ok, Err, Some, None, arith, ap}
-use Rattle.std.proofs.Common.{subst, sym, ◌∙◌, refl}
-use Rattle.std.specs.Option.{option_map}
-use Rattle.std.proofs.lemmas.Bool.Decides.{nat_tests, leb_tells, eqb_tells}
+use Rattle.mq_wire.proofs.Common.{◌≡◌, ◌+◌, ◌≤◌, ◌⊎◌, inl, inr, ℕ, ◌↔◌, List, [], ◌∷◌, ◌++◌, length, Option, Result, Ok, Err, Some, None, arith, ap, subst, sym}
+use Rattle.mq_wire.proofs.Common.{◌∙◌, refl, option_map, nat_tests, leb_tells, eqb_tells, AQuery, OldReport, ALeave, AReport, MessageType, Query, OlderReport}
+use Rattle.mq_wire.proofs.Common.{Leave, Report, WireFault, Truncated, QueryLength, QueryVersion, Older, Current, IsRight, Family, group_end, first_cut}
+use Rattle.mq_wire.proofs.Common.{numbered_message, numbered_version, Spells, ReadsAs, ReadsWithin, HasLength, fault_of, fault_within, first_of, wrong_length}
+use Rattle.mq_wire.proofs.Common.{cut_in, spans_of, type_of, type_named, message_of}
 use Rattle.mq_wire.specs.declared.message.Message.{Message}
-use Rattle.mq_wire.specs.declared.message.Message.TheVariants.{Query as AQuery, OldReport, Leave as ALeave, Report as AReport}
-use Rattle.mq_wire.specs.declared.message.MessageType.{MessageType}
-use Rattle.mq_wire.specs.declared.message.MessageType.TheVariants.{Query, OlderReport, Leave, Report}
-use Rattle.mq_wire.specs.declared.message.WireFault.{WireFault}
-use Rattle.mq_wire.specs.declared.message.WireFault.TheVariants.{Truncated, QueryLength}
-use Rattle.mq_wire.specs.declared.query.QueryVersion.{QueryVersion}
-use Rattle.mq_wire.specs.declared.query.QueryVersion.TheVariants.{Older, Current}
-use Rattle.mq_wire.specs.Checksum.{IsRight}
-use Rattle.mq_wire.specs.Family.{Family, group_end}
-use Rattle.mq_wire.specs.Fields.{first_cut}
-use Rattle.mq_wire.specs.Numbered.{numbered_message, numbered_version}
-use Rattle.mq_wire.specs.Spelling.{Spells, ReadsAs, ReadsWithin, HasLength, fault_of, fault_within, first_of, wrong_length, cut_in, spans_of, type_of}
-use Rattle.mq_wire.specs.Spelling.{type_named, message_of}
-use Rattle.mq_wire.proofs.Cuts.{long_enough}
-use Rattle.mq_wire.proofs.Faults.{short, wrong, unknown, within, right_or_not}
+use Rattle.mq_wire.proofs.{Cuts.long_enough, Faults.short, Faults.wrong, Faults.unknown, Faults.within, Faults.right_or_not}
 
 same_message : (family : Family) (pseudo bytes : List ℕ) (a b : Message ℕ) → Spells family pseudo bytes a → Spells family pseudo bytes b → a ≡ b
 same_message family pseudo bytes a b first second =
@@ -56,9 +43,7 @@ has_length family Query len none =
         | inr short ↦ (let some : Some QueryLength ≡ None = rw (other.0, short.0) at none in absurd (cc))
       ]
     ]
-has_length family (OlderReport version) len none = tt
-has_length family Leave len none = tt
-has_length family Report len none = tt
+has_length family _ len none = tt
 
 -- neither of two faults holds
 neither : (a b : Option WireFault) → first_of (a ∷ b ∷ []) ≡ None → (a ≡ None) × (b ≡ None)

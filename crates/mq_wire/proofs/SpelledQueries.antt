@@ -1,16 +1,9 @@
 -- Bytes of a query encode it.
-use Rattle.std.proofs.Common.{◌≡◌, ℕ, ◌+◌, ◌*◌, ◌≤◌, false, ◌==◌, inr, List, ◌++◌, length, replicate, None, Some, ap, sym, ◌∙◌, arith}
-use Rattle.std.proofs.lemmas.Bool.Decides.{nat_tests}
+use Rattle.mq_wire.proofs.Common.{◌≡◌, ℕ, ◌+◌, ◌*◌, ◌≤◌, false, ◌==◌, inr, List, ◌++◌, length, replicate, None, Some, ap, sym, ◌∙◌, arith, nat_tests}
+use Rattle.mq_wire.proofs.Common.{QueryMessage, QueryType, IsRight, Family, group_end, address_width, number_at, first_cut, source_spans, current_query, Spells}
+use Rattle.mq_wire.proofs.Common.{type_named, type_of}
 use Rattle.mq_wire.specs.declared.query.Query.{Query}
-use Rattle.mq_wire.specs.declared.message.Message.TheVariants.{Query as QueryMessage}
-use Rattle.mq_wire.specs.declared.message.MessageType.TheVariants.{Query as QueryType}
-use Rattle.mq_wire.specs.Checksum.{IsRight}
-use Rattle.mq_wire.specs.Family.{Family, group_end, address_width}
-use Rattle.mq_wire.specs.Fields.{number_at, first_cut}
-use Rattle.mq_wire.specs.Queries.{source_spans, current_query}
-use Rattle.mq_wire.specs.Spelling.{Spells, type_named, type_of}
-use Rattle.mq_wire.proofs.Cuts.{behind_count}
-use Rattle.mq_wire.proofs.Spans.{whole_at}
+use Rattle.mq_wire.proofs.{Cuts.behind_count, Spans.whole_at}
 
 -- They have as many bytes as they name sources, and the checksum is right.
 pub spells_query : (family : Family) (pseudo bytes : List ℕ) (count : ℕ) (query : Query ℕ) → type_named family (type_of bytes) ≡ Some QueryType →

@@ -1,7 +1,5 @@
 -- One's complement sums of words add up.
-use Rattle.std.proofs.Common.{◌≡◌, ℕ, ◌+◌, ◌%◌, List, [], ◌∷◌, ◌++◌, length, ap, sym, ◌∙◌, arith}
-use Rattle.std.proofs.lemmas.Bool.Decides.{nat_tests}
-use Rattle.mq_wire.specs.Checksum.{sum_of_words, ones_complement}
+use Rattle.mq_wire.proofs.Common.{◌≡◌, ℕ, ◌+◌, ◌%◌, List, [], ◌∷◌, ◌++◌, length, ap, sym, ◌∙◌, arith, nat_tests, sum_of_words, ones_complement}
 
 -- the sum of words of bytes before others, so many that a word ends where the others begin
 pub sum_of_both : (before bytes : List ℕ) → length before % 2 ≡ 0 → sum_of_words (before ++ bytes) ≡ sum_of_words before + sum_of_words bytes

@@ -1,12 +1,7 @@
 -- The one encoding of a query, as the code writes it.
-use Rattle.std.proofs.Common.{◌≡◌, ℕ, ◌+◌, ◌*◌, List, ◌++◌, length, ap, sym, ◌∙◌, refl}
-use Rattle.byteorder.specs.Endian.{big_bytes}
-use Rattle.mq_wire.specs.declared.query.Query.{Query}
-use Rattle.mq_wire.specs.declared.query.QuerierFields.{QuerierFields}
-use Rattle.mq_wire.specs.declared.query.QueryVersion.TheVariants.{Current}
-use Rattle.mq_wire.specs.Family.{Mld}
-use Rattle.mq_wire.specs.PseudoHeader.{pseudo_header}
-use Rattle.mq_wire.specs.Canon.{first_bytes, fields_bytes, with_checksum, mld_destination, covered_before, canon, without_checksum}
+use Rattle.mq_wire.proofs.Common.{◌≡◌, ℕ, ◌+◌, ◌*◌, List, ◌++◌, length, ap, sym, ◌∙◌, refl, big_bytes, QuerierFields, Current, Mld, first_bytes, fields_bytes}
+use Rattle.mq_wire.proofs.Common.{with_checksum, mld_destination, covered_before, canon, without_checksum}
+use Rattle.mq_wire.specs.{declared.query.Query.Query, PseudoHeader.pseudo_header}
 use Rattle.mq_wire.proofs.WrittenParts.{length_query}
 
 -- an MLD query behind its pseudo-header, from what was computed

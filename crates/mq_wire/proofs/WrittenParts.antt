@@ -1,14 +1,10 @@
 -- Bytes that are written one part after another at the front of a list.
-use Rattle.std.proofs.Common.{◌≡◌, ℕ, ◌+◌, ◌*◌, ◌/◌, ◌%◌, ◌≤◌, List, ◌∷◌, ◌++◌, length, take, drop, [], ◌-◌, ap, sym, ◌∙◌, arith, append_assoc, length-append}
+use Rattle.mq_wire.proofs.Common.{◌≡◌, ℕ, ◌+◌, ◌*◌, ◌/◌, ◌%◌, ◌≤◌, List, ◌∷◌, ◌++◌, length, take, drop, [], ◌-◌, ap, sym, ◌∙◌, arith, append_assoc}
+use Rattle.mq_wire.proofs.Common.{length-append, drop-drop, length-take-le, drop_all, take_all, length-drop, append-nil, big_bytes, QuerierFields, fields_bytes}
+use Rattle.mq_wire.proofs.Common.{with_checksum, checksum_behind, length-bytes_high_first}
 use Rattle.std.proofs.Math.Seq.{take-append_seam, drop-append_seam}
-use Rattle.std.proofs.lemmas.List.{drop-drop, length-take-le, drop_all, take_all, length-drop, append-nil}
 use borrow.Rule.Slice.PartMut.{put_mid}
 use Rattle.std.specs.List.{flat_map}
-use Rattle.byteorder.specs.Endian.{big_bytes}
-use Rattle.mq_wire.specs.declared.query.QuerierFields.{QuerierFields}
-use Rattle.mq_wire.specs.Canon.{fields_bytes, with_checksum}
-use Rattle.mq_wire.specs.Checksum.{checksum_behind}
-use Rattle.byteorder.specs.Numbers.{length-bytes_high_first}
 
 -- these are written before the place, the rest is unchanged, and the sources of a width are left
 pub record IsWritten (width place : ℕ) (sources left first out : List ℕ) : Type 0 where

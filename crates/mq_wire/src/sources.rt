@@ -1,10 +1,11 @@
 //! The sources of a query or of a record.
 
-ghost use Rattle.std.specs.Prelude.{◌≡◌, ◌*◌, ◌≤◌, nat_eq, length, map};
+ghost use Rattle.std.specs.Prelude.{◌≡◌, ⊤, ◌*◌, ◌≤◌, nat_eq, length, map};
 ghost use Rattle.std.specs.Iterator.{YieldsFirstBy, item_count};
 ghost use Rattle.mq_wire.specs.Fields.{addresses};
 
 use crate::wire_key::WireKey;
+use std::alloc::AllocError;
 use std::marker::Model;
 
 /// A list of addresses in order: bytes of a message, parsed in place, or a borrowed slice. A contract sees the list of
@@ -15,12 +16,23 @@ pub struct Sources<'a, K: WireKey> {
 }
 
 /// The place of the addresses.
-#[derive(Clone, Copy, Drop)]
 enum Held<'a, K: WireKey> {
     /// Consecutive addresses in the bytes, which may have more: their number, and the bytes.
     InPlace(u16, &'a [u8]),
     Lent(&'a [K]),
 }
+
+impl<K: WireKey> Clone for Held<'_, K> {
+    ghost is_clone = { λ x y. y ≡ x };
+
+    ghost is_infallible = { λ _. ⊤ };
+
+    fn clone(&self) -> Result<Self, AllocError> {
+        Ok(*self)
+    }
+}
+
+impl<K: WireKey> Copy for Held<'_, K> {}
 
 impl<'a, K: WireKey> Model for Sources<'a, K> {
     ghost use Rattle.std.specs.Prelude.{ℕ, List};

@@ -34,9 +34,9 @@ reports_kept work old new before mid after r unlike reports kept = record {
       (subst (λ (b : Bool). IsWrittenBy b work reports.read new before mid r) unlike reports.written) kept);
 }
 
-pub shown_kept : (old new : InputState) (before mid after : Option (List ℕ)) (r : Result ℕ CaptureFault) → is_failed_write r ≡ false
-    → Shows old new before mid r → Keeps mid after → Shows old new before after r
-shown_kept old new before mid after r unlike shows kept = record {
+pub shown_kept : (json : Bool) (old new : InputState) (before mid after : Option (List ℕ)) (r : Result ℕ CaptureFault) → is_failed_write r ≡ false
+    → Shows json old new before mid r → Keeps mid after → Shows json old new before after r
+shown_kept json old new before mid after r unlike shows kept = record {
   bytes = shows.bytes;
   header = shows.header;
   packets = shows.packets;
@@ -155,11 +155,11 @@ pub reports_ended : {S T : Type 0} (work : Work S T) (input : Input) (old mid ne
 reports_ended work input old mid new =
     work_ended (λ after r. Reports work input.old input.new old.held after r) (reports_kept work input.old input.new old.held) input old mid new
 
-pub listing_ended : (input : Input) (old mid new : OutputState) (r : Result ℕ CaptureFault) (r' : Result ℕ Failure)
-    → IsEndOf r input old mid new r' → Shows input.old input.new old.held mid.held r
-    → Ends (λ r. Shows input.old input.new old.held new.held r) input (record { old = old; new = new }) r'
-listing_ended input old mid new =
-    work_ended (λ after r. Shows input.old input.new old.held after r) (shown_kept input.old input.new old.held) input old mid new
+pub listing_ended : (json : Bool) (input : Input) (old mid new : OutputState) (r : Result ℕ CaptureFault) (r' : Result ℕ Failure)
+    → IsEndOf r input old mid new r' → Shows json input.old input.new old.held mid.held r
+    → Ends (λ r. Shows json input.old input.new old.held new.held r) input (record { old = old; new = new }) r'
+listing_ended json input old mid new =
+    work_ended (λ after r. Shows json input.old input.new old.held after r) (shown_kept json input.old input.new old.held) input old mid new
 
 -- only an allocation failure comes before anything is written
 unwritten_by : (X : Type 0) (fault : CaptureFault) (failure : Failure) (old new : Bool) → IsBrokenBy fault old new failure →

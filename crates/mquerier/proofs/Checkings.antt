@@ -1,5 +1,5 @@
 -- The result of a check once it is flushed, and as a performed request.
-use Rattle.std.proofs.Common.{◌≡◌, ◌≤◌, ◌^◌, ◌⊎◌, ◌∙◌, subst, sym, refl, arith, false, ℕ, Bool, Bor, List, Option, None, Some, Result, Ok, Err, inl}
+use Rattle.std.proofs.Common.{◌≡◌, ◌≤◌, ◌^◌, ◌⊎◌, ◌∙◌, subst, sym, refl, arith, false, true, ℕ, Bool, Bor, List, Option, None, Some, Result, Ok, Err, inl}
 use Rattle.std.proofs.Common.{inr, ⊎_elim}
 use Rattle.std.proofs.lemmas.Bool.{ltb-false}
 use Rattle.std.specs.Prelude.{IfSome}
@@ -9,7 +9,9 @@ use Rattle.mq_check.specs.declared.totals.Totals.{Totals}
 use Rattle.mq_check.specs.Check.{check_of}
 use Rattle.mq_check.specs.CheckedCaptures.{Checks}
 use Rattle.mq_command.specs.declared.Protocol.{Protocol}
-use Rattle.mq_command.specs.declared.Request.TheVariants.{Check}
+use Rattle.mq_command.specs.declared.Request.{Request}
+use Rattle.mq_command.specs.declared.Request.TheVariants.{Message, Convert, Show, Replay, Check}
+use Rattle.mq_command.specs.declared.check.CheckFlags.{CheckFlags}
 use Rattle.mq_command.specs.declared.replay.Settings.{Settings}
 use Rattle.mq_link.specs.Configuration.{Configuration}
 use Rattle.mq_text.specs.Printing.{OutputState}
@@ -21,9 +23,9 @@ use Rattle.mquerier.specs.declared.failure.Failure.TheVariants.{Capture, Gap, Wa
 use Rattle.mquerier.specs.Changes.{Input, Output}
 use Rattle.mquerier.specs.CheckRuns.{IsCheckedAt, WritesVerdict, asked_options}
 use Rattle.mquerier.specs.Replays.{SpellsAddress, asked_configuration, family_of, is_too_large}
-use Rattle.mquerier.specs.Failures.{status_of}
-use Rattle.mquerier.specs.Status.{Concludes, Performs, PerformsCheck, Told}
-use Rattle.mquerier.specs.Working.{ChecksAt, IsConfigured, IsUnwritten, WorksOnCheck}
+use Rattle.mquerier.specs.Failures.{check_line, failure_line, status_of}
+use Rattle.mquerier.specs.Status.{Concludes, IsCheck, IsConversion, IsOfMessage, IsTold, Performs, PerformsCheck, Told, request_line}
+use Rattle.mquerier.specs.Working.{ChecksAt, IsConfigured, IsRefusal, IsUnwritten, Works, WorksOnCheck}
 use Rattle.mquerier.proofs.Breakings.{Ends, IsEndOf, reports_ended}
 use Rattle.mquerier.proofs.Replayed.{refused_for}
 
@@ -54,11 +56,11 @@ checked_for protocol querier address settings terms input output (Ok totals) spe
 checked_for protocol querier address settings terms input output (Err failure) spelled works =
     (λ two. refused_for protocol querier address settings terms.until failure spelled (works.0 two), λ one. (address, spelled, works.1 one))
 
-pub check_performed : (protocol : Protocol) (querier : Bor (List ℕ)) (settings : Settings) (within : Option ℕ) (cite packets strict : Bool)
+pub check_performed : (protocol : Protocol) (querier : Bor (List ℕ)) (settings : Settings) (within : Option ℕ) (flags : CheckFlags)
     (until : Option ℕ) (file : Option (Bor (List ℕ))) (in_words : Bool) (input : Input) (output errors : Output) (status : ℕ)
-    → PerformsCheck (asked_options protocol settings within until cite packets false strict) querier.now in_words input output errors status →
-    Performs (Check protocol querier settings within cite packets strict until file) in_words input output errors status
-check_performed protocol querier settings within cite packets strict until file in_words input output errors status performs =
+    → PerformsCheck (asked_options protocol settings within until flags false) querier.now input output errors status →
+    Performs (Check protocol querier settings within flags until file) in_words input output errors status
+check_performed protocol querier settings within flags until file in_words input output errors status performs =
     record {
       at_most_four = performs.at_most_four;
       done = performs.done;
@@ -91,25 +93,25 @@ status_is Memory = inl refl
 status_is Write = inl refl
 
 -- before a failure whose status is 2 nothing was written
-unwritten_of : (failure : Failure) → status_of failure ≡ 2 → IsUnwritten {X = Totals} (Err failure)
-unwritten_of NoAddresses two = two
-unwritten_of NotAnAddress two = two
-unwritten_of NotHex two = two
-unwritten_of UntilTooLarge two = two
-unwritten_of (Unconfigured f query_seconds response_interval) two = two
-unwritten_of (Capture f) two = two
-unwritten_of (Gap number) two = two
-unwritten_of (Waiting number) two = two
-unwritten_of (Conversion number f) two = two
-unwritten_of ConversionRead two = two
-unwritten_of Memory two = tt
-unwritten_of Write two = two
+unwritten_of : (X : Type 0) (failure : Failure) → status_of failure ≡ 2 → IsUnwritten {X = X} (Err failure)
+unwritten_of X NoAddresses two = two
+unwritten_of X NotAnAddress two = two
+unwritten_of X NotHex two = two
+unwritten_of X UntilTooLarge two = two
+unwritten_of X (Unconfigured f query_seconds response_interval) two = two
+unwritten_of X (Capture f) two = two
+unwritten_of X (Gap number) two = two
+unwritten_of X (Waiting number) two = two
+unwritten_of X (Conversion number f) two = two
+unwritten_of X ConversionRead two = two
+unwritten_of X Memory two = tt
+unwritten_of X Write two = two
 
 -- a check that reached its end
-pub check_concluded : (options : CheckOptions) (querier : List ℕ) (in_words : Bool) (input : Input) (output errors : Output) (totals : Totals) (status : ℕ)
+pub check_concluded : (options : CheckOptions) (querier : List ℕ) (input : Input) (output errors : Output) (totals : Totals) (status : ℕ)
     → WritesVerdict options.protocol querier options.settings options.terms input output totals → Concludes totals errors status
-    → PerformsCheck options querier in_words input output errors status
-check_concluded options querier in_words input output errors totals status works concludes =
+    → PerformsCheck options querier input output errors status
+check_concluded options querier input output errors totals status works concludes =
     record {
       at_most_four = ⊎_elim (λ (e : status ≡ 0). omega (arith, e))
           (⊎_elim (λ (e : status ≡ 3). omega (arith, e)) (λ (e : status ≡ 4). omega (arith, e))) concludes.one_of;
@@ -123,13 +125,13 @@ check_concluded options querier in_words input output errors totals status works
     }
 
 -- a check that fails, and is reported
-pub check_failed : (options : CheckOptions) (querier : List ℕ) (in_words : Bool) (input : Input) (output errors : Output) (failure : Failure) (status : ℕ)
+pub check_failed : (options : CheckOptions) (querier : List ℕ) (input : Input) (output errors : Output) (failure : Failure) (status : ℕ)
     → WorksOnCheck options.protocol querier options.settings options.terms input output (Err failure)
     → (IsUnwritten {X = Totals} (Err failure) → input.new ≡ input.old)
     → (IsUnwritten {X = Totals} (Err failure) → output.new ≡ output.old)
-    → status ≡ status_of failure → Told in_words errors failure
-    → PerformsCheck options querier in_words input output errors status
-check_failed options querier in_words input output errors failure status works unread unwritten is told =
+    → status ≡ status_of failure → IsTold errors (check_line querier failure)
+    → PerformsCheck options querier input output errors status
+check_failed options querier input output errors failure status works unread unwritten is told =
     record {
       at_most_four = ⊎_elim (λ (one : status_of failure ≡ 1). omega (arith, is, one)) (λ (two : status_of failure ≡ 2). omega (arith, is, two))
           (status_is failure);
@@ -137,7 +139,13 @@ check_failed options querier in_words input output errors failure status works u
           (⊎_elim (λ (one : status_of failure ≡ 1). omega (arith, is, one, zero)) (λ (two : status_of failure ≡ 2). omega (arith, is, two, zero))
           (status_is failure));
       faulty = λ one. (failure, works.1 (sym is ∙ one), told);
-      refused = λ two. (unread (unwritten_of failure (sym is ∙ two)), unwritten (unwritten_of failure (sym is ∙ two)), failure, works.0 (sym is ∙ two), told);
+      refused = λ two. (
+        unread (unwritten_of Totals failure (sym is ∙ two)),
+        unwritten (unwritten_of Totals failure (sym is ∙ two)),
+        failure,
+        works.0 (sym is ∙ two),
+        told,
+      );
       found = λ three. absurd
           (⊎_elim (λ (one : status_of failure ≡ 1). omega (arith, is, one, three)) (λ (two : status_of failure ≡ 2). omega (arith, is, two, three))
           (status_is failure));
@@ -145,3 +153,52 @@ check_failed options querier in_words input output errors failure status works u
           (⊎_elim (λ (one : status_of failure ≡ 1). omega (arith, is, one, four)) (λ (two : status_of failure ≡ 2). omega (arith, is, two, four))
           (status_is failure));
     }
+
+-- the line of a request that is neither a conversion nor a check
+plain_line : (in_words : Bool) (request : Request) (failure : Failure) → (IsConversion request → ⊥) → (IsCheck request → ⊥) →
+    failure_line in_words failure ≡ request_line in_words request failure
+plain_line in_words (Message protocol hex from to json) failure converts checks = refl
+plain_line in_words (Convert interface vlan once json file) failure converts checks = absurd (converts tt)
+plain_line in_words (Show json file) failure converts checks = refl
+plain_line in_words (Replay protocol own settings until changes json file) failure converts checks = refl
+plain_line in_words (Check protocol querier settings within flags until file) failure converts checks = absurd (checks tt)
+
+-- work that fails, and is reported
+pub work_failed : (request : Request) (in_words : Bool) (input : Input) (output errors : Output) (failure : Failure) (status : ℕ)
+    → (IsConversion request → ⊥) → (IsCheck request → ⊥) → Works request input output (Err failure)
+    → (IsUnwritten {X = Bool} (Err failure) → output.new ≡ output.old) → (IsOfMessage request → input.new ≡ input.old)
+    → (IsRefusal {X = Bool} (Err failure) → input.new ≡ input.old)
+    → status ≡ status_of failure → Told in_words errors failure → Performs request in_words input output errors status
+work_failed request in_words input output errors failure status converts checks works unwritten unread refused is told =
+    let line = subst (λ (t : List ℕ). IsTold errors t) (plain_line in_words request failure converts checks) told in
+    record {
+      at_most_four = ⊎_elim (λ (one : status_of failure ≡ 1). omega (arith, is, one)) (λ (two : status_of failure ≡ 2). omega (arith, is, two))
+          (status_is failure);
+      done = λ zero. absurd
+          (⊎_elim (λ (one : status_of failure ≡ 1). omega (arith, is, one, zero)) (λ (two : status_of failure ≡ 2). omega (arith, is, two, zero))
+          (status_is failure));
+      faulty = λ one. inr (failure, works.1 (sym is ∙ one), line);
+      refused = λ two. (refused (sym is ∙ two), unwritten (unwritten_of Bool failure (sym is ∙ two)), failure, works.0 (sym is ∙ two), line);
+      found = λ three. absurd
+          (⊎_elim (λ (one : status_of failure ≡ 1). omega (arith, is, one, three)) (λ (two : status_of failure ≡ 2). omega (arith, is, two, three))
+          (status_is failure));
+      unjudged = λ four. absurd
+          (⊎_elim (λ (one : status_of failure ≡ 1). omega (arith, is, one, four)) (λ (two : status_of failure ≡ 2). omega (arith, is, two, four))
+          (status_is failure));
+      unread = unread;
+    }
+
+-- the lines of a failure of a check other than a word that is no address
+pub explained : (querier : List ℕ) (failure : Failure) → (failure ≡ NotAnAddress → ⊥) → failure_line true failure ≡ check_line querier failure
+explained querier NoAddresses other = refl
+explained querier NotAnAddress other = absurd (other refl)
+explained querier NotHex other = refl
+explained querier UntilTooLarge other = refl
+explained querier (Unconfigured f query_seconds response_interval) other = refl
+explained querier (Capture f) other = refl
+explained querier (Gap number) other = refl
+explained querier (Waiting number) other = refl
+explained querier (Conversion number f) other = refl
+explained querier ConversionRead other = refl
+explained querier Memory other = refl
+explained querier Write other = refl

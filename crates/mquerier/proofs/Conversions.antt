@@ -15,11 +15,11 @@ use Rattle.mquerier.specs.Changes.{Input, Output}
 use Rattle.mquerier.specs.Choosing.{choice_of}
 use Rattle.mquerier.specs.Status.{Performs, PerformsConversion}
 
-pub conversion_performed : (interface : Option Interface) (vlan : Option ℕ) (once : Bool) (file : Option (Bor (List ℕ))) (in_words : Bool)
+pub conversion_performed : (interface : Option Interface) (vlan : Option ℕ) (once json : Bool) (file : Option (Bor (List ℕ))) (in_words : Bool)
     (input : Input) (output errors : Output) (status : ℕ)
-    → PerformsConversion (choice_of interface vlan once) in_words input output errors status →
-    Performs (Convert interface vlan once file) in_words input output errors status
-conversion_performed interface vlan once file in_words input output errors status performs =
+    → PerformsConversion (choice_of interface vlan once) json input output errors status →
+    Performs (Convert interface vlan once json file) in_words input output errors status
+conversion_performed interface vlan once json file in_words input output errors status performs =
     let few = performs.at_most_one in
     record {
       at_most_four = omega (arith, few);

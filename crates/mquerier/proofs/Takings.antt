@@ -1,5 +1,5 @@
 -- The result of a check of the querier that the capture names.
-use Rattle.std.proofs.Common.{◌≡◌, ◌⊎◌, ◌∙◌, ap, subst, sym, refl, arith, ℕ, Bool, List, Option, None, Some, Result, Ok, Err, inl, inr, ⊎_elim}
+use Rattle.std.proofs.Common.{◌≡◌, ◌⊎◌, ◌∙◌, ap, subst, sym, refl, arith, ℕ, Bool, true, List, Option, None, Some, Result, Ok, Err, inl, inr, ⊎_elim}
 use Rattle.mq_check.specs.declared.announced.Announced.{Announced}
 use Rattle.mq_replay.specs.declared.capture_fault.CaptureFault.{CaptureFault}
 use Rattle.mq_replay.specs.declared.capture_fault.CaptureFault.TheVariants as answer
@@ -26,7 +26,7 @@ use Rattle.mquerier.proofs.Checkings.{status_is}
 -- the check was done, and the line was not written
 pub found_unwritten : (family : Family) (options : CheckOptions) (found : Announced ℕ) (settings : Settings) (input : Input) (output : Output)
     (mid : OutputState) (text : List ℕ) (totals : Totals) (failure : Failure) → settings ≡ with_variables options.settings found
-    → text ≡ taken_line family options.settings found →
+    → text ≡ taken_line options.terms.additions.json family options.settings found →
     ChecksAt family found.querier settings options.terms input (record { old = output.old; new = mid }) (Ok totals)
     → (failure ≡ Write) × BreaksOff (record { old = mid; new = output.new }) text → ChecksFound family options found input output (Err failure)
 found_unwritten family options found settings input output mid text totals failure is is_line works why =
@@ -38,7 +38,7 @@ found_unwritten family options found settings input output mid text totals failu
 -- both were done
 pub found_done : (family : Family) (options : CheckOptions) (found : Announced ℕ) (settings : Settings) (input : Input) (output : Output)
     (mid : OutputState) (text : List ℕ) (totals : Totals) → settings ≡ with_variables options.settings found
-    → text ≡ taken_line family options.settings found →
+    → text ≡ taken_line options.terms.additions.json family options.settings found →
     ChecksAt family found.querier settings options.terms input (record { old = output.old; new = mid }) (Ok totals)
     → Writes (record { old = mid; new = output.new }) text → ChecksFound family options found input output (Ok totals)
 found_done family options found settings input output mid text totals is is_line works wrote =
@@ -55,11 +55,11 @@ never failure status is at = absurd (⊎_elim
     (status_is failure))
 
 -- a check of the found querier failed, and this was reported
-failed_by : (family : Family) (options : CheckOptions) (found : Announced ℕ) (in_words : Bool) (input : Input) (output errors : Output)
+failed_by : (family : Family) (options : CheckOptions) (found : Announced ℕ) (input : Input) (output errors : Output)
     (failure : Failure) (status : ℕ)
-    → ChecksFound family options found input output (Err failure) → status ≡ status_of failure → Told in_words errors failure →
-    PerformsFound family options found in_words input output errors status
-failed_by family options found in_words input output errors failure status checks is told = record {
+    → ChecksFound family options found input output (Err failure) → status ≡ status_of failure → Told true errors failure →
+    PerformsFound family options found input output errors status
+failed_by family options found input output errors failure status checks is told = record {
   at_most_four = ⊎_elim (λ (one : status_of failure ≡ 1). omega (arith, is, one)) (λ (two : status_of failure ≡ 2). omega (arith, is, two)) (status_is failure);
   done = λ e. never failure status is (inl e);
   faulty = λ one. (failure, checks.1 (sym is ∙ one), told);
@@ -80,25 +80,25 @@ abbrev failure_in : Result (Option Totals) Failure → Failure
 failure_in (Ok x) = Memory
 failure_in (Err e) = e
 
-pub taking_failed : (options : CheckOptions) (in_words : Bool) (first input : Input) (output errors : Output) (failure : Failure) (status : ℕ)
-    → ChecksTaking (family_of options.protocol) options first input output (Err failure) → status ≡ status_of failure → Told in_words errors failure
-    → PerformsTaking options in_words first input output errors status
-taking_failed options in_words first input output errors failure status checks is told =
+pub taking_failed : (options : CheckOptions) (first input : Input) (output errors : Output) (failure : Failure) (status : ℕ)
+    → ChecksTaking (family_of options.protocol) options first input output (Err failure) → status ≡ status_of failure → Told true errors failure
+    → PerformsTaking options first input output errors status
+taking_failed options first input output errors failure status checks is told =
     record { found = checks.found; announces = checks.announces; performs = by_found checks.found checks.checks }
   where
     by_found : (found : Result (Option (Announced ℕ)) CaptureFault) → ChecksBy (family_of options.protocol) options input output found (Err failure)
-        → PerformsBy (family_of options.protocol) options in_words input output errors status found
-    by_found (Ok (Some found)) checks = failed_by (family_of options.protocol) options found in_words input output errors failure status checks is told
+        → PerformsBy (family_of options.protocol) options input output errors status found
+    by_found (Ok (Some found)) checks = failed_by (family_of options.protocol) options found input output errors failure status checks is told
     by_found (Ok None) checks = absurd (cc checks.0)
     by_found (Err fault) checks =
-        let same = ap failure_in checks.0 in (is ∙ ap status_of same ∙ is_one fault, checks.1, subst (λ (g : Failure). Told in_words errors g) same told)
+        let same = ap failure_in checks.0 in (is ∙ ap status_of same ∙ is_one fault, checks.1, subst (λ (g : Failure). Told true errors g) same told)
 
 -- a check of the querier that was found reached its end
-done_by : (family : Family) (options : CheckOptions) (found : Announced ℕ) (in_words : Bool) (input : Input) (output errors : Output)
+done_by : (family : Family) (options : CheckOptions) (found : Announced ℕ) (input : Input) (output errors : Output)
     (totals : Totals) (status : ℕ)
     → IsFoundDone family options found input output totals → Concludes totals errors status →
-    PerformsFound family options found in_words input output errors status
-done_by family options found in_words input output errors totals status done concludes = record {
+    PerformsFound family options found input output errors status
+done_by family options found input output errors totals status done concludes = record {
   at_most_four = ⊎_elim (λ (e : status ≡ 0). omega (arith, e)) (⊎_elim (λ (e : status ≡ 3). omega (arith, e)) (λ (e : status ≡ 4). omega (arith, e)))
       concludes.one_of;
   done = λ zero. let it = concludes.done zero in (totals, it.0, it.1, done, it.2);
@@ -112,26 +112,26 @@ done_by family options found in_words input output errors totals status done con
   unjudged = λ four. let it = concludes.unjudged four in (totals, it.0, it.1, done, it.2);
 }
 
-pub taking_done : (options : CheckOptions) (in_words : Bool) (first input : Input) (output errors : Output) (totals : Totals) (status : ℕ)
+pub taking_done : (options : CheckOptions) (first input : Input) (output errors : Output) (totals : Totals) (status : ℕ)
     → ChecksTaking (family_of options.protocol) options first input output (Ok (Some totals)) → Concludes totals errors status
-    → PerformsTaking options in_words first input output errors status
-taking_done options in_words first input output errors totals status checks concludes =
+    → PerformsTaking options first input output errors status
+taking_done options first input output errors totals status checks concludes =
     record { found = checks.found; announces = checks.announces; performs = by_found checks.found checks.checks }
   where
     by_found : (found : Result (Option (Announced ℕ)) CaptureFault) → ChecksBy (family_of options.protocol) options input output found (Ok (Some totals))
-        → PerformsBy (family_of options.protocol) options in_words input output errors status found
-    by_found (Ok (Some found)) checks = done_by (family_of options.protocol) options found in_words input output errors totals status checks concludes
+        → PerformsBy (family_of options.protocol) options input output errors status found
+    by_found (Ok (Some found)) checks = done_by (family_of options.protocol) options found input output errors totals status checks concludes
     by_found (Ok None) checks = absurd (cc checks.0)
     by_found (Err fault) checks = absurd (cc checks.0)
 
-pub taking_nothing : (options : CheckOptions) (in_words : Bool) (first input : Input) (output errors : Output)
+pub taking_nothing : (options : CheckOptions) (first input : Input) (output errors : Output)
     → ChecksTaking (family_of options.protocol) options first input output (Ok None) → IsTold errors no_querier_line
-    → PerformsTaking options in_words first input output errors 4
-taking_nothing options in_words first input output errors checks told =
+    → PerformsTaking options first input output errors 4
+taking_nothing options first input output errors checks told =
     record { found = checks.found; announces = checks.announces; performs = by_found checks.found checks.checks }
   where
     by_found : (found : Result (Option (Announced ℕ)) CaptureFault) → ChecksBy (family_of options.protocol) options input output found (Ok None)
-        → PerformsBy (family_of options.protocol) options in_words input output errors 4 found
+        → PerformsBy (family_of options.protocol) options input output errors 4 found
     by_found (Ok (Some found)) checks = absurd checks
     by_found (Ok None) checks = (refl, checks.1, told)
     by_found (Err fault) checks = absurd (cc checks.0)

@@ -1,12 +1,15 @@
 -- The result of printing on standard error.
-use Rattle.std.proofs.Common.{◌≡◌, ◌||◌, ◌++◌, codes, Bool, List, ℕ, Option, Result, Ok, Err, is_err, inl, inr, ap, subst, ◌∙◌}
+use Rattle.std.proofs.Common.{◌≡◌, ◌||◌, ◌++◌, codes, take, Bool, true, List, ℕ, Option, Result, Ok, Err, is_err, inl, inr, ap, subst, ◌∙◌}
 use Rattle.std.proofs.Math.Bool.{or-false, or-true}
 use Rattle.mq_text.specs.Printing.{Prints}
 use Rattle.mquerier.specs.declared.failure.Failure.{Failure}
-use Rattle.mquerier.specs.declared.failure.Failure.TheVariants.{Write}
+use Rattle.mq_command.specs.declared.Request.{Request}
+use Rattle.mq_command.specs.declared.Request.TheVariants.{Message, Convert, Show, Replay, Check}
+use Rattle.mquerier.specs.declared.failure.Failure.TheVariants.{NoAddresses, NotAnAddress, NotHex, UntilTooLarge, Configuration}
+use Rattle.mquerier.specs.declared.failure.Failure.TheVariants.{Capture, Gap, Waiting, Conversion, ConversionRead, Memory, Write}
 use Rattle.mquerier.specs.Changes.{BreaksOff, Output}
-use Rattle.mquerier.specs.Failures.{failure_text, status_of, version_line, wanted_words}
-use Rattle.mquerier.specs.Status.{IsTold, PrintsVersion, Told, TellsLines}
+use Rattle.mquerier.specs.Failures.{check_line, failure_text, status_of, version_line, wanted_words}
+use Rattle.mquerier.specs.Status.{IsTold, PrintsVersion, Told, TellsLines, request_line}
 
 pub told_by_printing : {T E : Type 0} (old new : Option (List ℕ)) (text line : List ℕ) (before after : Bool) (r : Result T E) →
     Prints old new text r → after ≡ (before || is_err r) → text ≡ line
@@ -19,6 +22,31 @@ pub failure_told : (in_words : Bool) (errors : Output) (failure : Failure) → T
 failure_told in_words errors failure told =
     let front = codes "mquerier: " in
     (front ++ failure_text failure ++ wanted_words in_words failure, told)
+
+-- so do the lines of a failure of a check, and those of a request
+check_told : (querier : List ℕ) (errors : Output) (failure : Failure) → IsTold errors (check_line querier failure) → TellsLines errors
+check_told querier errors NoAddresses told = failure_told true errors NoAddresses told
+check_told querier errors NotAnAddress told =
+    (codes "mquerier: not an address\n  " ++ take 3000 querier ++ codes " is no address of the family; auto takes the querier from the capture", told)
+check_told querier errors NotHex told = failure_told true errors NotHex told
+check_told querier errors UntilTooLarge told = failure_told true errors UntilTooLarge told
+check_told querier errors (Configuration f query_seconds response_interval) told =
+    failure_told true errors (Configuration f query_seconds response_interval) told
+check_told querier errors (Capture f) told = failure_told true errors (Capture f) told
+check_told querier errors (Gap number) told = failure_told true errors (Gap number) told
+check_told querier errors (Waiting number) told = failure_told true errors (Waiting number) told
+check_told querier errors (Conversion number f) told = failure_told true errors (Conversion number f) told
+check_told querier errors ConversionRead told = failure_told true errors ConversionRead told
+check_told querier errors Memory told = failure_told true errors Memory told
+check_told querier errors Write told = failure_told true errors Write told
+
+pub request_told : (in_words : Bool) (request : Request) (errors : Output) (failure : Failure) → IsTold errors (request_line in_words request failure)
+    → TellsLines errors
+request_told in_words (Message protocol hex from to json) errors failure told = failure_told in_words errors failure told
+request_told in_words (Convert interface vlan once json file) errors failure told = failure_told true errors failure told
+request_told in_words (Show json file) errors failure told = failure_told in_words errors failure told
+request_told in_words (Replay protocol own settings until changes json file) errors failure told = failure_told in_words errors failure told
+request_told in_words (Check protocol querier settings within flags until file) errors failure told = check_told querier.now errors failure told
 
 -- the version's line was printed in part or not passed on, and this was reported
 pub version_failed : (version : List ℕ) (in_words : Bool) (output errors : Output) (text : List ℕ) (failure : Failure) (status : ℕ)

@@ -9,7 +9,7 @@ use Rattle.mq_command.specs.declared.Protocol.TheVariants.{Mld}
 use Rattle.mq_command.specs.declared.Request.TheVariants.{Message}
 use Rattle.mq_text.specs.Printing.{GrowsByBeginning}
 use Rattle.mq_text.specs.Reading.{SpellsV6}
-use Rattle.mq_lines.specs.Line.{PrintsLine}
+use Rattle.mq_lines.specs.Line.{PrintsLineIn}
 use Rattle.mq_wire.specs.Family.{Family}
 use Rattle.mquerier.specs.declared.failure.Failure.{Failure}
 use Rattle.mquerier.specs.declared.failure.Failure.TheVariants.{NoAddresses, NotAnAddress, NotHex, UntilTooLarge, Configuration, Capture, Gap}
@@ -18,18 +18,19 @@ use Rattle.mquerier.specs.Changes.{Input, Output}
 use Rattle.mquerier.specs.HexLine.{IsHexLine}
 use Rattle.mquerier.specs.Working.{IsUndecoded, Works, WorksOnMessage}
 
-pub worked : (protocol : Protocol) (hex : Bor (List ℕ)) (from to : Option (Bor (List ℕ))) (input : Input) (output : Output) (r : Result Bool Failure)
-    → WorksOnMessage protocol (option_copied from) (option_copied to) hex.now output r → Works (Message protocol hex from to) input output r
-worked protocol hex from to input output (Ok flag) works = works
-worked protocol hex from to input output (Err failure) works = works
+pub worked : (json : Bool) (protocol : Protocol) (hex : Bor (List ℕ)) (from to : Option (Bor (List ℕ))) (input : Input) (output : Output)
+    (r : Result Bool Failure)
+    → WorksOnMessage json protocol (option_copied from) (option_copied to) hex.now output r → Works (Message protocol hex from to json) input output r
+worked json protocol hex from to input output (Ok flag) works = works
+worked json protocol hex from to input output (Err failure) works = works
 
 -- both addresses are given, and the text is not decoded
-pub undecoded : (from to : Option (List ℕ)) (hex front back : List ℕ) (output : Output) (failure : Failure) (source destination : ℕ)
+pub undecoded : (json : Bool) (from to : Option (List ℕ)) (hex front back : List ℕ) (output : Output) (failure : Failure) (source destination : ℕ)
     → from ≡ Some front → to ≡ Some back → SpellsV6 front source → SpellsV6 back destination → output.new ≡ output.old → IsUndecoded hex failure
-    → WorksOnMessage Mld from to hex output (Err failure)
-undecoded from to hex front back output NoAddresses source destination first second spelled spelled' same why = absurd why
-undecoded from to hex front back output NotAnAddress source destination first second spelled spelled' same why = absurd why
-undecoded from to hex front back output NotHex source destination first second spelled spelled' same why =
+    → WorksOnMessage json Mld from to hex output (Err failure)
+undecoded json from to hex front back output NoAddresses source destination first second spelled spelled' same why = absurd why
+undecoded json from to hex front back output NotAnAddress source destination first second spelled spelled' same why = absurd why
+undecoded json from to hex front back output NotHex source destination first second spelled spelled' same why =
     rw (first, second) (
       λ e. (
         λ missing. elim missing [ inl h ↦ absurd (cc h) | inr h ↦ absurd (cc h) ],
@@ -39,32 +40,33 @@ undecoded from to hex front back output NotHex source destination first second s
       ),
       λ e. absurd (omega (arith, e)),
     )
-undecoded from to hex front back output UntilTooLarge source destination first second spelled spelled' same why = absurd why
-undecoded from to hex front back output (Configuration f query_seconds response_interval) source destination first second spelled spelled' same why = absurd why
-undecoded from to hex front back output (Gap number) source destination first second spelled spelled' same why = absurd why
-undecoded from to hex front back output (Waiting number) source destination first second spelled spelled' same why = absurd why
-undecoded from to hex front back output (Conversion number f) source destination first second spelled spelled' same why = absurd why
-undecoded from to hex front back output ConversionRead source destination first second spelled spelled' same why = absurd why
-undecoded from to hex front back output (Capture f) source destination first second spelled spelled' same why = absurd why
-undecoded from to hex front back output Memory source destination first second spelled spelled' same why = (λ e. absurd (omega (arith, e)), λ e. same)
-undecoded from to hex front back output Write source destination first second spelled spelled' same why = absurd why
+undecoded json from to hex front back output UntilTooLarge source destination first second spelled spelled' same why = absurd why
+undecoded json from to hex front back output (Configuration f query_seconds response_interval) source destination first second spelled spelled' same why =
+    absurd why
+undecoded json from to hex front back output (Gap number) source destination first second spelled spelled' same why = absurd why
+undecoded json from to hex front back output (Waiting number) source destination first second spelled spelled' same why = absurd why
+undecoded json from to hex front back output (Conversion number f) source destination first second spelled spelled' same why = absurd why
+undecoded json from to hex front back output ConversionRead source destination first second spelled spelled' same why = absurd why
+undecoded json from to hex front back output (Capture f) source destination first second spelled spelled' same why = absurd why
+undecoded json from to hex front back output Memory source destination first second spelled spelled' same why = (λ e. absurd (omega (arith, e)), λ e. same)
+undecoded json from to hex front back output Write source destination first second spelled spelled' same why = absurd why
 
 -- the line of the bytes that a text is the hexadecimal of was written, and then the output was flushed
-pub line_written : {E : Type 0} (old mid new : Option (List ℕ)) (family : Family) (pseudo : ℕ → List ℕ) (hex bytes : List ℕ) (flag : Bool) →
+pub line_written : {E : Type 0} (json : Bool) (old mid new : Option (List ℕ)) (family : Family) (pseudo : ℕ → List ℕ) (hex bytes : List ℕ) (flag : Bool) →
     decode_of hex ≡ Ok bytes
-    → PrintsLine {E = E} old mid family (pseudo (length bytes)) bytes (Ok flag) → Keeps mid new
-    → (line : List ℕ) × IsHexLine family pseudo hex flag line × Appends old new line
-line_written old mid new family pseudo hex bytes flag decoded printed kept = (
+    → PrintsLineIn {E = E} json old mid family (pseudo (length bytes)) bytes (Ok flag) → Keeps mid new
+    → (line : List ℕ) × IsHexLine json family pseudo hex flag line × Appends old new line
+line_written json old mid new family pseudo hex bytes flag decoded printed kept = (
   printed.line,
   record { bytes = bytes; decoded = decoded; is_line = rw printed.printed.0 printed.is_line },
   Appends-kept old mid new printed.line printed.printed.1 kept,
 )
 
 -- a prefix of that line was written
-pub line_begun : {E : Type 0} (old new : Option (List ℕ)) (family : Family) (pseudo : ℕ → List ℕ) (hex bytes : List ℕ) (e : E) → decode_of hex ≡ Ok bytes
-    → PrintsLine old new family (pseudo (length bytes)) bytes (Err e)
-    → (flag : Bool) × (line : List ℕ) × IsHexLine family pseudo hex flag line × GrowsByBeginning old new line
-line_begun old new family pseudo hex bytes e decoded printed = (
+pub line_begun : {E : Type 0} (json : Bool) (old new : Option (List ℕ)) (family : Family) (pseudo : ℕ → List ℕ) (hex bytes : List ℕ) (e : E)
+    → decode_of hex ≡ Ok bytes → PrintsLineIn json old new family (pseudo (length bytes)) bytes (Err e)
+    → (flag : Bool) × (line : List ℕ) × IsHexLine json family pseudo hex flag line × GrowsByBeginning old new line
+line_begun json old new family pseudo hex bytes e decoded printed = (
   printed.flag,
   printed.line,
   record { bytes = bytes; decoded = decoded; is_line = printed.is_line },

@@ -1,10 +1,12 @@
 -- The requested check, and the program's runs of it.
-use Rattle.std.specs.Prelude.{◌≡◌, ℕ, Bool, List, Option, Result, Ok, unwrap_or}
+use Rattle.std.specs.Prelude.{◌≡◌, ℕ, Bool, List, Option, Some, Result, Ok, unwrap_or}
+use Rattle.std.specs.Option.{option_or}
 use Rattle.mq_replay.specs.declared.capture_fault.CaptureFault.{CaptureFault}
 use Rattle.mq_check.specs.declared.check_terms.CheckTerms.{CheckTerms}
 use Rattle.mq_check.specs.declared.totals.Totals.{Totals}
 use Rattle.mq_check.specs.CheckedCaptures.{Checks}
 use Rattle.mq_command.specs.declared.Protocol.{Protocol}
+use Rattle.mq_command.specs.declared.check.CheckFlags.{CheckFlags}
 use Rattle.mq_command.specs.declared.replay.Settings.{Settings}
 use Rattle.mq_wire.specs.Family.{Family}
 use Rattle.mquerier.specs.declared.checking.CheckOptions.{CheckOptions}
@@ -13,19 +15,29 @@ use Rattle.mquerier.specs.Breaking.{IsBrokenOff}
 use Rattle.mquerier.specs.Changes.{Input, Output}
 use Rattle.mquerier.specs.Replays.{SpellsAddress, IsAcceptedAt, asked_configuration, family_of}
 
--- The requested tolerance, end, additions to lines and readings. The default tolerance is 100 milliseconds. With `once` a
--- changed variable of the querier is reported once.
-abbrev pub asked_terms : (within until : Option ℕ) → (cite packets once strict : Bool) → CheckTerms
-asked_terms within until cite packets once strict = record {
+-- The requested tolerance, end, lines and readings. The default tolerance is 100 milliseconds. With `once` a changed
+-- variable of the querier is reported once.
+abbrev pub asked_terms : (within until : Option ℕ) → CheckFlags → (once : Bool) → CheckTerms
+asked_terms within until flags once = record {
   within = unwrap_or within 100;
   until = until;
-  additions = record { packets = packets; cite = cite; once = once };
-  strict = strict;
+  additions = record { packets = flags.packets; cite = flags.cite; once = once; possible = flags.possible; json = flags.json };
+  flags = record { began = flags.began; strict = flags.strict };
 }
 
-abbrev pub asked_options : Protocol → Settings → (within until : Option ℕ) → (cite packets once strict : Bool) → CheckOptions
-asked_options protocol settings within until cite packets once strict =
-    record { protocol = protocol; settings = settings; terms = asked_terms within until cite packets once strict }
+-- The settings of a check. A limit that isn't given is the greatest: the link stands for a querier whose limits are not
+-- known.
+abbrev pub checked_settings : Settings → Settings
+checked_settings s = record s {
+  groups = option_or s.groups (Some 65535);
+  group_sources = option_or s.group_sources (Some 1024);
+  sources = option_or s.sources (Some 65535);
+  scheduled = option_or s.scheduled (Some 65535);
+}
+
+abbrev pub asked_options : Protocol → Settings → (within until : Option ℕ) → CheckFlags → (once : Bool) → CheckOptions
+asked_options protocol settings within until flags once =
+    record { protocol = protocol; settings = checked_settings settings; terms = asked_terms within until flags once }
 
 -- the capture was checked as requested, with this result
 abbrev pub IsCheckedAt : Family → (querier : ℕ) → Settings → CheckTerms → Input → Output → Result Totals CaptureFault → Type 0

@@ -3,12 +3,13 @@ use Rattle.std.specs.Prelude.{ℕ, zero, suc, ◌-◌, ◌==◌, Bool, true, fal
 use Rattle.std.specs.List.{flat_map}
 use Rattle.std.specs.Fmt.{decimal}
 use Rattle.mq_check.specs.declared.unjudged.Unjudged.{Unjudged}
-use Rattle.mq_check.specs.declared.unjudged.Unjudged.TheVariants.{NotUnderstood, OutOfOrder, NoMessage, NoQuery}
+use Rattle.mq_check.specs.declared.unjudged.Unjudged.TheVariants.{NotUnderstood, OutOfOrder, NoMessage, NoQuery, LimitsExceeded}
 use Rattle.mq_convert.specs.declared.counts.ConvertCounts.{ConvertCounts}
 use Rattle.mq_convert.specs.declared.fault.BlockFault.{BlockFault}
 use Rattle.mq_convert.specs.declared.fault.BlockFault.TheVariants as block
 use Rattle.mq_convert.specs.declared.unread.LinkCount.{LinkCount}
 use Rattle.mq_convert.specs.declared.unread.Unread.{Unread}
+use Rattle.mq_lines.specs.Objects.{comma_before, items_from}
 use Rattle.mq_link.specs.declared.configuration.ConfigFault.{ConfigFault}
 use Rattle.mq_link.specs.declared.configuration.ConfigFault.TheVariants as config
 use Rattle.mq_link.specs.declared.configuration.LimitName.{LimitName}
@@ -97,6 +98,22 @@ dropped_line (suc n) = codes "mquerier: the file records " ++ decimal (suc n) ++
 abbrev pub unread_part : Unread → List ℕ
 unread_part unread = if unread.count == 0 then [] else unread_line unread
 
+-- the same as an object
+unfoldable pub count_field : (name : List ℕ) → ℕ → List ℕ
+count_field name count = name ++ decimal count
+
+abbrev pub link_item : (is_first : Bool) → LinkCount → List ℕ
+link_item is_first row =
+    comma_before is_first ++ count_field (codes "{\"link\":") row.link ++ count_field (codes ",\"packets\":") row.count ++ codes "}"
+
+abbrev pub counts_start : ConvertCounts → List ℕ
+counts_start counts =
+    count_field (codes "{\"converted\":{\"repeated\":") counts.repeated ++ count_field (codes ",\"dropped\":") counts.dropped
+    ++ count_field (codes ",\"unread\":") counts.unread.count ++ codes ",\"links\":["
+
+abbrev pub counts_object : ConvertCounts → List ℕ
+counts_object counts = counts_start counts ++ (items_from link_item true counts.unread.links.items ++ codes "]}}\n")
+
 abbrev pub counts_lines : ConvertCounts → List ℕ
 counts_lines counts = (repeated_line counts.repeated ++ dropped_line counts.dropped) ++ unread_part counts.unread
 
@@ -107,16 +124,18 @@ unjudged_line NotUnderstood =
 unjudged_line OutOfOrder =
     codes "mquerier: nothing judged: every second packet or more has a stamp that goes back\n"
 unjudged_line NoMessage = codes "mquerier: nothing judged: there is no message of this family\n"
-unjudged_line NoQuery =
-    codes "mquerier: nothing judged: no query from this address was seen, and none is missing\n"
+unjudged_line NoQuery = codes "mquerier: nothing judged: no query from this address was seen\n"
+unjudged_line LimitsExceeded =
+    codes "mquerier: nothing judged: the limits refuse records, and may cause what is found\n"
 
 -- the line of a check that found no querier in the capture
 abbrev pub no_querier_line : List ℕ
 no_querier_line = codes "mquerier: nothing judged: there is no general query of this family\n"
 
--- the line of a check that can't take its querier from standard input
-abbrev pub unnamed_line : List ℕ
-unnamed_line = codes "mquerier: --querier auto needs a FILE, which is read twice\n"
+-- the line of a check that found no querier in the kept bytes of standard input
+abbrev pub late_line : List ℕ
+late_line =
+    codes "mquerier: nothing judged: there is no general query in the first 67108864 bytes of standard input; name a FILE\n"
 
 abbrev pub failure_text : Failure → List ℕ
 failure_text NoAddresses = codes "--from and --to are needed for mld"
@@ -195,6 +214,17 @@ wanted_words false failure = []
 -- the line of a failure, and a second line if words are requested
 abbrev pub failure_line : (in_words : Bool) → Failure → List ℕ
 failure_line in_words failure = codes "mquerier: " ++ failure_text failure ++ wanted_words in_words failure ++ codes "\n"
+
+-- the line of a check whose querier is no address, with the word
+abbrev pub no_address_line : (word : List ℕ) → List ℕ
+no_address_line word =
+    codes "mquerier: not an address\n  " ++ take 3000 word
+    ++ codes " is no address of the family; auto takes the querier from the capture" ++ codes "\n"
+
+-- the lines of a failure of a check, always with an explanation
+abbrev pub check_line : (querier : List ℕ) → Failure → List ℕ
+check_line querier NotAnAddress = no_address_line querier
+check_line querier failure = failure_line true failure
 
 -- the line of a file that can't be opened: its name and the system's reason, or prefixes of them
 abbrev pub unopened_line : (name reason : List ℕ) → List ℕ

@@ -30,8 +30,8 @@ use Rattle.mquerier.specs.declared.failure.Failure.TheVariants.{NoAddresses, Not
 use Rattle.mquerier.specs.Breaking.{IsBrokenOff, IsConversionBroken}
 use Rattle.mquerier.specs.Changes.{Input, Output, Writes, BreaksOff}
 use Rattle.mquerier.specs.Choosing.{choice_of}
-use Rattle.mquerier.specs.CheckRuns.{IsBrokenCheck, WritesVerdict, asked_options, asked_terms}
-use Rattle.mquerier.specs.Failures.{counts_lines, failure_line, unjudged_line, version_line}
+use Rattle.mquerier.specs.CheckRuns.{IsBrokenCheck, WritesVerdict, asked_options, asked_terms, checked_settings}
+use Rattle.mquerier.specs.Failures.{counts_lines, counts_object, check_line, failure_line, unjudged_line, version_line}
 use Rattle.mquerier.specs.HexLine.{IsHexLine}
 use Rattle.mquerier.specs.Replays.{SpellsAddress, IsRefusedAt, IsDoneAt, IsBrokenAt, family_of}
 
@@ -42,6 +42,15 @@ IsTold errors text = Writes errors text ⊎ BreaksOff errors text
 -- the line of the failure was reported so, with an explanation for a person
 abbrev pub Told : (in_words : Bool) → (errors : Output) → Failure → Type 0
 Told in_words errors failure = IsTold errors (failure_line in_words failure)
+
+-- The lines of a failure of this request. A conversion and a check always explain it, the others do so for a person.
+abbrev pub request_line : (in_words : Bool) → Request → Failure → List ℕ
+request_line in_words (Message protocol hex from to json) failure = failure_line in_words failure
+request_line in_words (Convert interface vlan once json file) failure = failure_line true failure
+request_line in_words (Show json file) failure = failure_line in_words failure
+request_line in_words (Replay protocol own settings until changes json file) failure = failure_line in_words failure
+request_line in_words (Check protocol querier settings within flags until file) failure =
+    check_line querier.now failure
 
 -- an MLD message lacks an address
 abbrev pub AreMissing : Protocol → (from to : Option (List ℕ)) → Type 0
@@ -71,13 +80,13 @@ IsRefusedReplay protocol own settings until failure =
     × IsRefusedAt (family_of protocol) address settings until failure
 
 abbrev pub IsRefused : Request → Failure → Type 0
-IsRefused (Message protocol hex from to) failure =
+IsRefused (Message protocol hex from to json) failure =
     IsRefusedMessage protocol (option_copied from) (option_copied to) hex.now failure
-IsRefused (Convert interface vlan once file) failure = ⊥
-IsRefused (Show file) failure = ⊥
-IsRefused (Replay protocol own settings until changes file) failure = IsRefusedReplay protocol own.now settings until failure
-IsRefused (Check protocol querier settings within cite packets strict until file) failure =
-    IsRefusedReplay protocol querier.now settings until failure
+IsRefused (Convert interface vlan once json file) failure = ⊥
+IsRefused (Show json file) failure = ⊥
+IsRefused (Replay protocol own settings until changes json file) failure = IsRefusedReplay protocol own.now settings until failure
+IsRefused (Check protocol querier settings within flags until file) failure =
+    IsRefusedReplay protocol querier.now (checked_settings settings) until failure
 
 -- a given text is parsed as this IPv6 address
 abbrev pub IsAddress : Option (List ℕ) → ℕ → Type 0
@@ -85,22 +94,22 @@ IsAddress None address = ⊥
 IsAddress (Some text) address = SpellsV6 text address
 
 -- the line of the requested message or of its fault, by the flag
-abbrev pub IsAskedLine : Protocol → (from to : Option (List ℕ)) → (hex : List ℕ) → (flag : Bool) → (line : List ℕ) → Type 0
-IsAskedLine Igmp from to hex flag line =
+abbrev pub IsAskedLine : (json : Bool) → Protocol → (from to : Option (List ℕ)) → (hex : List ℕ) → (flag : Bool) → (line : List ℕ) → Type 0
+IsAskedLine json Igmp from to hex flag line =
     (IsNoAddress Igmp from → ⊥) × (IsNoAddress Igmp to → ⊥)
-    × IsHexLine family.Igmp (λ len. []) hex flag line
-IsAskedLine Mld from to hex flag line =
+    × IsHexLine json family.Igmp (λ len. []) hex flag line
+IsAskedLine json Mld from to hex flag line =
     (source : ℕ) × (destination : ℕ) × IsAddress from source × IsAddress to destination
-    × IsHexLine family.Mld (pseudo_header source destination) hex flag line
+    × IsHexLine json family.Mld (pseudo_header source destination) hex flag line
 
 -- the line of the requested message was written, and it has this flag
-abbrev pub WritesMessage : Protocol → (from to : Option (List ℕ)) → (hex : List ℕ) → Output → (flag : Bool) → Type 0
-WritesMessage protocol from to hex output flag =
-    (line : List ℕ) × IsAskedLine protocol from to hex flag line × Writes output line
+abbrev pub WritesMessage : (json : Bool) → Protocol → (from to : Option (List ℕ)) → (hex : List ℕ) → Output → (flag : Bool) → Type 0
+WritesMessage json protocol from to hex output flag =
+    (line : List ℕ) × IsAskedLine json protocol from to hex flag line × Writes output line
 
 -- a capture was shown, with this result
-abbrev pub WritesListing : Input → Output → Result ℕ CaptureFault → Type 0
-WritesListing input output answer = Shows input.old input.new output.old.held output.new.held answer
+abbrev pub WritesListing : (json : Bool) → Input → Output → Result ℕ CaptureFault → Type 0
+WritesListing json input output answer = Shows json input.old input.new output.old.held output.new.held answer
 
 -- a capture was converted with this selection of packets, with this result
 abbrev pub WritesConversion : Choice → Input → Output → Result ConvertCounts ConvertFault → Type 0
@@ -115,26 +124,26 @@ WritesReport protocol own settings asked input output flag =
 -- The request was done. The line of a message (true) or of its fault (false) was written, or a capture was shown,
 -- converted, replayed or checked to its end. A check may have findings.
 abbrev pub IsDone : Request → Input → Output → (flag : Bool) → Type 0
-IsDone (Message protocol hex from to) input output flag =
-    WritesMessage protocol (option_copied from) (option_copied to) hex.now output flag
-IsDone (Convert interface vlan once file) input output flag =
+IsDone (Message protocol hex from to json) input output flag =
+    WritesMessage json protocol (option_copied from) (option_copied to) hex.now output flag
+IsDone (Convert interface vlan once json file) input output flag =
     (flag ≡ true) × (output.new.failed ≡ output.old.failed) × (counts : ConvertCounts)
     × WritesConversion (choice_of interface vlan once) input output (Ok counts)
-IsDone (Show file) input output flag =
-    (flag ≡ true) × (output.new.failed ≡ output.old.failed) × (count : ℕ) × WritesListing input output (Ok count)
-IsDone (Replay protocol own settings until changes file) input output flag =
-    WritesReport protocol own.now settings (record { until = until; changes = changes }) input output flag
-IsDone (Check protocol querier settings within cite packets strict until file) input output flag =
+IsDone (Show json file) input output flag =
+    (flag ≡ true) × (output.new.failed ≡ output.old.failed) × (count : ℕ) × WritesListing json input output (Ok count)
+IsDone (Replay protocol own settings until changes json file) input output flag =
+    WritesReport protocol own.now settings (record { until = until; changes = changes; json = json }) input output flag
+IsDone (Check protocol querier settings within flags until file) input output flag =
     (flag ≡ true) × (totals : Totals)
-    × WritesVerdict protocol querier.now settings (asked_terms within until cite packets false strict) input output totals
+    × WritesVerdict protocol querier.now (checked_settings settings) (asked_terms within until flags false) input output totals
 
 -- The line of a message was not written. Either an allocation failed before any of it, or the output failed after a
 -- prefix.
-abbrev pub IsBrokenMessage : Protocol → (from to : Option (List ℕ)) → (hex : List ℕ) → Output → Failure → Type 0
-IsBrokenMessage protocol from to hex output Memory = output.new ≡ output.old
-IsBrokenMessage protocol from to hex output Write =
-    (flag : Bool) × (line : List ℕ) × IsAskedLine protocol from to hex flag line × BreaksOff output line
-IsBrokenMessage protocol from to hex output failure = ⊥
+abbrev pub IsBrokenMessage : (json : Bool) → Protocol → (from to : Option (List ℕ)) → (hex : List ℕ) → Output → Failure → Type 0
+IsBrokenMessage json protocol from to hex output Memory = output.new ≡ output.old
+IsBrokenMessage json protocol from to hex output Write =
+    (flag : Bool) × (line : List ℕ) × IsAskedLine json protocol from to hex flag line × BreaksOff output line
+IsBrokenMessage json protocol from to hex output failure = ⊥
 
 -- the reason why a capture was not replayed to its end
 abbrev pub IsBrokenReplay : Protocol → (own : List ℕ) → Settings → Asked → Input → Output → Failure → Type 0
@@ -144,55 +153,56 @@ IsBrokenReplay protocol own settings asked input output failure =
 
 -- the reason for status 1, other than a faulty message
 abbrev pub IsBroken : Request → Input → Output → Failure → Type 0
-IsBroken (Message protocol hex from to) input output failure =
-    IsBrokenMessage protocol (option_copied from) (option_copied to) hex.now output failure
-IsBroken (Convert interface vlan once file) input output failure =
+IsBroken (Message protocol hex from to json) input output failure =
+    IsBrokenMessage json protocol (option_copied from) (option_copied to) hex.now output failure
+IsBroken (Convert interface vlan once json file) input output failure =
     IsConversionBroken (WritesConversion (choice_of interface vlan once) input output) input output failure
-IsBroken (Show file) input output failure = IsBrokenOff (WritesListing input output) input output failure
-IsBroken (Replay protocol own settings until changes file) input output failure =
-    IsBrokenReplay protocol own.now settings (record { until = until; changes = changes }) input output failure
-IsBroken (Check protocol querier settings within cite packets strict until file) input output failure =
-    IsBrokenCheck protocol querier.now settings (asked_terms within until cite packets false strict) input output failure
+IsBroken (Show json file) input output failure = IsBrokenOff (WritesListing json input output) input output failure
+IsBroken (Replay protocol own settings until changes json file) input output failure =
+    IsBrokenReplay protocol own.now settings (record { until = until; changes = changes; json = json }) input output failure
+IsBroken (Check protocol querier settings within flags until file) input output failure =
+    IsBrokenCheck protocol querier.now (checked_settings settings) (asked_terms within until flags false) input output failure
 
 -- a message's fault was written without a line on standard error, or the work ended early and its reason was reported
 abbrev pub IsFaulty : Request → (in_words : Bool) → Input → (output errors : Output) → Type 0
 IsFaulty request in_words input output errors =
     (IsDone request input output false × (errors.new ≡ errors.old))
-    ⊎ ((failure : Failure) × IsBroken request input output failure × Told in_words errors failure)
+    ⊎ ((failure : Failure) × IsBroken request input output failure × IsTold errors (request_line in_words request failure))
 
 -- a request for a message, which doesn't read the input
 abbrev pub IsOfMessage : Request → Type 0
-IsOfMessage (Message protocol hex from to) = Unit {0}
-IsOfMessage (Convert interface vlan once file) = ⊥
-IsOfMessage (Show file) = ⊥
-IsOfMessage (Replay protocol own settings until changes file) = ⊥
-IsOfMessage (Check protocol querier settings within cite packets strict until file) = ⊥
+IsOfMessage (Message protocol hex from to json) = Unit {0}
+IsOfMessage (Convert interface vlan once json file) = ⊥
+IsOfMessage (Show json file) = ⊥
+IsOfMessage (Replay protocol own settings until changes json file) = ⊥
+IsOfMessage (Check protocol querier settings within flags until file) = ⊥
 
 -- a request for a conversion
 abbrev pub IsConversion : Request → Type 0
-IsConversion (Message protocol hex from to) = ⊥
-IsConversion (Convert interface vlan once file) = Unit {0}
-IsConversion (Show file) = ⊥
-IsConversion (Replay protocol own settings until changes file) = ⊥
-IsConversion (Check protocol querier settings within cite packets strict until file) = ⊥
+IsConversion (Message protocol hex from to json) = ⊥
+IsConversion (Convert interface vlan once json file) = Unit {0}
+IsConversion (Show json file) = ⊥
+IsConversion (Replay protocol own settings until changes json file) = ⊥
+IsConversion (Check protocol querier settings within flags until file) = ⊥
 
 -- a request for a check
 abbrev pub IsCheck : Request → Type 0
-IsCheck (Message protocol hex from to) = ⊥
-IsCheck (Convert interface vlan once file) = ⊥
-IsCheck (Show file) = ⊥
-IsCheck (Replay protocol own settings until changes file) = ⊥
-IsCheck (Check protocol querier settings within cite packets strict until file) = Unit {0}
+IsCheck (Message protocol hex from to json) = ⊥
+IsCheck (Convert interface vlan once json file) = ⊥
+IsCheck (Show json file) = ⊥
+IsCheck (Replay protocol own settings until changes json file) = ⊥
+IsCheck (Check protocol querier settings within flags until file) = Unit {0}
 
 -- A check reached its end with these totals, and standard error is unchanged.
 abbrev pub HasChecked : CheckOptions → (querier : List ℕ) → Input → (output errors : Output) → Totals → Type 0
 HasChecked options querier input output errors totals =
     WritesVerdict options.protocol querier options.settings options.terms input output totals × (errors.new ≡ errors.old)
 
--- The counts of a conversion were reported on standard error, if one isn't 0. They are those of repeated packets, of
--- packets that the file records as dropped, and of packets whose link type isn't read.
-abbrev pub TellsCounts : (errors : Output) → ConvertCounts → Type 0
-TellsCounts errors counts =
+-- The counts of a conversion were reported on standard error, as an object, or as lines if one isn't 0. They are those of
+-- repeated packets, of packets that the file records as dropped, and of packets whose link type isn't read.
+abbrev pub TellsCounts : (json : Bool) → (errors : Output) → ConvertCounts → Type 0
+TellsCounts true errors counts = IsTold errors (counts_object counts)
+TellsCounts false errors counts =
     (counts.repeated + counts.dropped + counts.unread.count ≡ 0 → errors.new ≡ errors.old)
     × (1 ≤ counts.repeated + counts.dropped + counts.unread.count → IsTold errors (counts_lines counts))
 
@@ -211,16 +221,16 @@ pub record Concludes (totals : Totals) (errors : Output) (status : ℕ) : Type 0
 
 -- The request was done. Standard error has only the counts of a conversion: repeated, dropped and unread packets.
 abbrev pub IsDoneTelling : Request → Input → (output errors : Output) → Type 0
-IsDoneTelling (Message protocol hex from to) input output errors =
-    IsDone (Message protocol hex from to) input output true × (errors.new ≡ errors.old)
-IsDoneTelling (Convert interface vlan once file) input output errors =
+IsDoneTelling (Message protocol hex from to json) input output errors =
+    IsDone (Message protocol hex from to json) input output true × (errors.new ≡ errors.old)
+IsDoneTelling (Convert interface vlan once json file) input output errors =
     (output.new.failed ≡ output.old.failed) × (counts : ConvertCounts)
-    × WritesConversion (choice_of interface vlan once) input output (Ok counts) × TellsCounts errors counts
-IsDoneTelling (Show file) input output errors = IsDone (Show file) input output true × (errors.new ≡ errors.old)
-IsDoneTelling (Replay protocol own settings until changes file) input output errors =
-    IsDone (Replay protocol own settings until changes file) input output true × (errors.new ≡ errors.old)
-IsDoneTelling (Check protocol querier settings within cite packets strict until file) input output errors =
-    (totals : Totals) × (totals.findings ≡ 0) × IsJudged totals × HasChecked (asked_options protocol settings within until cite packets false strict) querier.now input output errors totals
+    × WritesConversion (choice_of interface vlan once) input output (Ok counts) × TellsCounts json errors counts
+IsDoneTelling (Show json file) input output errors = IsDone (Show json file) input output true × (errors.new ≡ errors.old)
+IsDoneTelling (Replay protocol own settings until changes json file) input output errors =
+    IsDone (Replay protocol own settings until changes json file) input output true × (errors.new ≡ errors.old)
+IsDoneTelling (Check protocol querier settings within flags until file) input output errors =
+    (totals : Totals) × (totals.findings ≡ 0) × IsJudged totals × HasChecked (asked_options protocol settings within until flags false) querier.now input output errors totals
 
 -- A check reached its end without anything to judge, and the reason was reported.
 abbrev pub HasJudgedNothing : CheckOptions → (querier : List ℕ) → Input → (output errors : Output) → Type 0
@@ -231,22 +241,22 @@ HasJudgedNothing options querier input output errors =
 
 -- A check has findings.
 abbrev pub IsFinding : Request → Input → (output errors : Output) → Type 0
-IsFinding (Message protocol hex from to) input output errors = ⊥
-IsFinding (Convert interface vlan once file) input output errors = ⊥
-IsFinding (Show file) input output errors = ⊥
-IsFinding (Replay protocol own settings until changes file) input output errors = ⊥
-IsFinding (Check protocol querier settings within cite packets strict until file) input output errors =
+IsFinding (Message protocol hex from to json) input output errors = ⊥
+IsFinding (Convert interface vlan once json file) input output errors = ⊥
+IsFinding (Show json file) input output errors = ⊥
+IsFinding (Replay protocol own settings until changes json file) input output errors = ⊥
+IsFinding (Check protocol querier settings within flags until file) input output errors =
     (totals : Totals) × (1 ≤ totals.findings) × IsJudged totals
-    × HasChecked (asked_options protocol settings within until cite packets false strict) querier.now input output errors totals
+    × HasChecked (asked_options protocol settings within until flags false) querier.now input output errors totals
 
 -- A check had nothing to judge.
 abbrev pub IsUnjudged : Request → Input → (output errors : Output) → Type 0
-IsUnjudged (Message protocol hex from to) input output errors = ⊥
-IsUnjudged (Convert interface vlan once file) input output errors = ⊥
-IsUnjudged (Show file) input output errors = ⊥
-IsUnjudged (Replay protocol own settings until changes file) input output errors = ⊥
-IsUnjudged (Check protocol querier settings within cite packets strict until file) input output errors =
-    HasJudgedNothing (asked_options protocol settings within until cite packets false strict) querier.now input output errors
+IsUnjudged (Message protocol hex from to json) input output errors = ⊥
+IsUnjudged (Convert interface vlan once json file) input output errors = ⊥
+IsUnjudged (Show json file) input output errors = ⊥
+IsUnjudged (Replay protocol own settings until changes json file) input output errors = ⊥
+IsUnjudged (Check protocol querier settings within flags until file) input output errors =
+    HasJudgedNothing (asked_options protocol settings within until flags false) querier.now input output errors
 
 -- The request was performed with this status.
 pub record Performs (request : Request) (in_words : Bool) (input : Input) (output errors : Output) (status : ℕ) : Type 0 where
@@ -255,29 +265,31 @@ pub record Performs (request : Request) (in_words : Bool) (input : Input) (outpu
   pub faulty : status ≡ 1 → IsFaulty request in_words input output errors
   -- only a faulty request is refused, and its fault is reported
   pub refused : status ≡ 2 → (input.new ≡ input.old) × (output.new ≡ output.old)
-      × (failure : Failure) × IsRefused request failure × Told in_words errors failure
+      × (failure : Failure) × IsRefused request failure × IsTold errors (request_line in_words request failure)
   pub found : status ≡ 3 → IsFinding request input output errors
   pub unjudged : status ≡ 4 → IsUnjudged request input output errors
   pub unread : IsOfMessage request → input.new ≡ input.old
 
 -- A conversion was done, or ended early with a reported reason.
-pub record PerformsConversion (choice : Choice) (in_words : Bool) (input : Input) (output errors : Output) (status : ℕ) : Type 0 where
+pub record PerformsConversion (choice : Choice) (json : Bool) (input : Input) (output errors : Output) (status : ℕ) : Type 0 where
   pub at_most_one : status ≤ 1
   pub done : status ≡ 0 → (output.new.failed ≡ output.old.failed) × (counts : ConvertCounts)
-      × WritesConversion choice input output (Ok counts) × TellsCounts errors counts
+      × WritesConversion choice input output (Ok counts) × TellsCounts json errors counts
   pub faulty : status ≡ 1 → (failure : Failure)
-      × IsConversionBroken (WritesConversion choice input output) input output failure × Told in_words errors failure
+      × IsConversionBroken (WritesConversion choice input output) input output failure × Told true errors failure
 
 -- A check reached its end, with or without findings, or without anything to judge. Or it was refused or ended early,
 -- with a reported reason.
-pub record PerformsCheck (options : CheckOptions) (querier : List ℕ) (in_words : Bool) (input : Input) (output errors : Output) (status : ℕ) : Type 0 where
+pub record PerformsCheck (options : CheckOptions) (querier : List ℕ) (input : Input) (output errors : Output) (status : ℕ) : Type 0 where
   pub at_most_four : status ≤ 4
   pub done : status ≡ 0 → (totals : Totals) × (totals.findings ≡ 0) × IsJudged totals
       × HasChecked options querier input output errors totals
   pub faulty : status ≡ 1 → (failure : Failure)
-      × IsBrokenCheck options.protocol querier options.settings options.terms input output failure × Told in_words errors failure
+      × IsBrokenCheck options.protocol querier options.settings options.terms input output failure
+      × IsTold errors (check_line querier failure)
   pub refused : status ≡ 2 → (input.new ≡ input.old) × (output.new ≡ output.old)
-      × (failure : Failure) × IsRefusedReplay options.protocol querier options.settings options.terms.until failure × Told in_words errors failure
+      × (failure : Failure) × IsRefusedReplay options.protocol querier options.settings options.terms.until failure
+      × IsTold errors (check_line querier failure)
   pub found : status ≡ 3 → (totals : Totals) × (1 ≤ totals.findings) × IsJudged totals
       × HasChecked options querier input output errors totals
   pub unjudged : status ≡ 4 → HasJudgedNothing options querier input output errors

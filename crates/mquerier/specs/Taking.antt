@@ -1,5 +1,5 @@
 -- Checks whose querier and variables come from the capture itself.
-use Rattle.std.specs.Prelude.{◌≡◌, ◌⊎◌, ◌≤◌, ℕ, Bool, true, if◌then◌else◌, List, [], ◌++◌, codes, Option, None, Some, Result, Ok, Err}
+use Rattle.std.specs.Prelude.{◌≡◌, ◌⊎◌, ◌≤◌, ℕ, Bool, true, false, if◌then◌else◌, List, [], ◌++◌, codes, Option, None, Some, Result, Ok, Err}
 use Rattle.std.specs.Fmt.{decimal}
 use Rattle.std.specs.Str.{bytes_eq}
 use Rattle.std.specs.Option.{option_or}
@@ -14,6 +14,7 @@ use Rattle.mq_check.specs.Basis.{unjudged_by}
 use Rattle.mq_command.specs.declared.Request.{Request}
 use Rattle.mq_command.specs.declared.Request.TheVariants.{Message, Convert, Show, Replay, Check}
 use Rattle.mq_command.specs.declared.replay.Settings.{Settings}
+use Rattle.mq_lines.specs.Objects.{address_object}
 use Rattle.mq_lines.specs.Text.{address_text}
 use Rattle.mq_text.specs.Printing.{OutputState}
 use Rattle.mq_wire.specs.Family.{Family}
@@ -28,13 +29,13 @@ use Rattle.mquerier.specs.Status.{IsJudged, IsTold, Told}
 
 -- The request for a check whose querier is the word `auto`. It reports a changed variable of the querier once.
 abbrev pub taking_in : Request → Option CheckOptions
-taking_in (Message protocol hex from to) = None
-taking_in (Convert interface vlan once file) = None
-taking_in (Show file) = None
-taking_in (Replay protocol own settings until changes file) = None
-taking_in (Check protocol querier settings within cite packets strict until file) =
+taking_in (Message protocol hex from to json) = None
+taking_in (Convert interface vlan once json file) = None
+taking_in (Show json file) = None
+taking_in (Replay protocol own settings until changes json file) = None
+taking_in (Check protocol querier settings within flags until file) =
     if bytes_eq querier.now (codes "auto")
-    then Some (asked_options protocol settings within until cite packets true strict)
+    then Some (asked_options protocol settings within until flags true)
     else None
 
 abbrev pub taking_of : Result Request Error → Option CheckOptions
@@ -56,20 +57,43 @@ taken_text name (Some value) found = []
 taken_text name None None = []
 taken_text name None (Some value) = name ++ decimal value
 
--- the line for the querier and the variables that come from the capture
-abbrev pub taken_line : Family → Settings → Announced ℕ → List ℕ
-taken_line family s found =
+-- the lowest other router that sends general queries, if there is one
+abbrev pub beside_text : Family → Option ℕ → List ℕ
+beside_text family None = []
+beside_text family (Some address) = codes ", beside " ++ address_text family address
+
+-- the same in an object
+abbrev pub taken_value : (given found : Option ℕ) → List ℕ
+taken_value (Some value) found = codes "null"
+taken_value None None = codes "null"
+taken_value None (Some value) = decimal value
+
+abbrev pub beside_value : Family → Option ℕ → List ℕ
+beside_value family None = codes "null"
+beside_value family (Some address) = address_object family address
+
+-- the line, or the object, for the querier and the variables that come from the capture
+abbrev pub taken_line : (json : Bool) → Family → Settings → Announced ℕ → List ℕ
+taken_line true family s found =
+    codes "{\"taken\":{\"querier\":" ++ address_object family found.querier
+    ++ codes ",\"rv\":" ++ taken_value s.robustness found.robustness
+    ++ codes ",\"qi\":" ++ taken_value s.query_seconds found.query_seconds
+    ++ codes ",\"qri\":" ++ taken_value s.response_interval found.response_interval
+    ++ codes ",\"lmqi\":" ++ taken_value s.last_member_interval found.last_member_interval
+    ++ codes ",\"beside\":" ++ beside_value family found.beside ++ codes "}}\n"
+taken_line false family s found =
     codes "taken from the capture: querier " ++ address_text family found.querier
     ++ taken_text (codes " rv ") s.robustness found.robustness ++ taken_text (codes " qi ") s.query_seconds found.query_seconds
     ++ taken_text (codes " qri ") s.response_interval found.response_interval
-    ++ taken_text (codes " lmqi ") s.last_member_interval found.last_member_interval ++ codes "\n"
+    ++ taken_text (codes " lmqi ") s.last_member_interval found.last_member_interval ++ beside_text family found.beside
+    ++ codes "\n"
 
 -- The check of this querier reached its end. Then the line of what comes from the capture was written.
 abbrev pub IsFoundDone : Family → CheckOptions → Announced ℕ → Input → Output → Totals → Type 0
 IsFoundDone family options found input output totals =
     (mid : OutputState)
     × IsCheckDoneAt family found.querier (with_variables options.settings found) options.terms input (record { old = output.old; new = mid }) totals
-    × Writes (record { old = mid; new = output.new }) (taken_line family options.settings found)
+    × Writes (record { old = mid; new = output.new }) (taken_line options.terms.additions.json family options.settings found)
 
 -- the check ended early, or the output failed at that line
 abbrev pub IsFoundBroken : Family → CheckOptions → Announced ℕ → Input → Output → Failure → Type 0
@@ -77,7 +101,7 @@ IsFoundBroken family options found input output failure =
     IsCheckBrokenAt family found.querier (with_variables options.settings found) options.terms input output failure
     ⊎ ((failure ≡ Write) × (mid : OutputState) × (totals : Totals)
     × IsCheckDoneAt family found.querier (with_variables options.settings found) options.terms input (record { old = output.old; new = mid }) totals
-    × BreaksOff (record { old = mid; new = output.new }) (taken_line family options.settings found))
+    × BreaksOff (record { old = mid; new = output.new }) (taken_line options.terms.additions.json family options.settings found))
 
 -- nothing was read again, and nothing was written
 abbrev pub IsUntouched : Input → Output → Type 0
@@ -113,31 +137,31 @@ pub record ChecksTaking (family : Family) (options : CheckOptions) (first input 
 
 -- A check of this querier reached its end, with or without findings, or without anything to judge. Or it was refused or
 -- ended early, with a reported reason.
-pub record PerformsFound (family : Family) (options : CheckOptions) (found : Announced ℕ) (in_words : Bool) (input : Input) (output errors : Output) (status : ℕ) : Type 0 where
+pub record PerformsFound (family : Family) (options : CheckOptions) (found : Announced ℕ) (input : Input) (output errors : Output) (status : ℕ) : Type 0 where
   pub at_most_four : status ≤ 4
   pub done : status ≡ 0 → (totals : Totals) × (totals.findings ≡ 0) × IsJudged totals
       × IsFoundDone family options found input output totals × (errors.new ≡ errors.old)
   pub faulty : status ≡ 1 → (failure : Failure)
-      × IsFoundBroken family options found input output failure × Told in_words errors failure
+      × IsFoundBroken family options found input output failure × Told true errors failure
   pub refused : status ≡ 2 → IsUntouched input output × (failure : Failure)
-      × IsRefusedAt family found.querier (with_variables options.settings found) options.terms.until failure × Told in_words errors failure
+      × IsRefusedAt family found.querier (with_variables options.settings found) options.terms.until failure × Told true errors failure
   pub differs : status ≡ 3 → (totals : Totals) × (1 ≤ totals.findings) × IsJudged totals
       × IsFoundDone family options found input output totals × (errors.new ≡ errors.old)
   pub unjudged : status ≡ 4 → (totals : Totals) × (why : Unjudged) × (unjudged_by totals ≡ Some why)
       × IsFoundDone family options found input output totals × IsTold errors (unjudged_line why)
 
 -- the outcome by what the first reading of the capture found
-abbrev pub PerformsBy : Family → CheckOptions → (in_words : Bool) → Input → (output errors : Output) → (status : ℕ) → Result (Option (Announced ℕ)) CaptureFault → Type 0
-PerformsBy family options in_words input output errors status (Ok (Some found)) =
-    PerformsFound family options found in_words input output errors status
-PerformsBy family options in_words input output errors status (Ok None) =
+abbrev pub PerformsBy : Family → CheckOptions → Input → (output errors : Output) → (status : ℕ) → Result (Option (Announced ℕ)) CaptureFault → Type 0
+PerformsBy family options input output errors status (Ok (Some found)) =
+    PerformsFound family options found input output errors status
+PerformsBy family options input output errors status (Ok None) =
     (status ≡ 4) × IsUntouched input output × IsTold errors no_querier_line
-PerformsBy family options in_words input output errors status (Err fault) =
-    (status ≡ 1) × IsUntouched input output × Told in_words errors (first_failure fault)
+PerformsBy family options input output errors status (Err fault) =
+    (status ≡ 1) × IsUntouched input output × Told true errors (first_failure fault)
 
 -- A check of the querier that the capture names was performed with this status. The capture was read once for what is
 -- announced, and then again for the check.
-pub record PerformsTaking (options : CheckOptions) (in_words : Bool) (first input : Input) (output errors : Output) (status : ℕ) : Type 0 where
+pub record PerformsTaking (options : CheckOptions) (first input : Input) (output errors : Output) (status : ℕ) : Type 0 where
   pub found : Result (Option (Announced ℕ)) CaptureFault
   pub announces : Announces (family_of options.protocol) first.old first.new found
-  pub performs : PerformsBy (family_of options.protocol) options in_words input output errors status found
+  pub performs : PerformsBy (family_of options.protocol) options input output errors status found

@@ -39,11 +39,11 @@ Works request input output (Err failure) =
     (status_of failure ≡ 2 → IsRefused request failure) × (status_of failure ≡ 1 → IsBroken request input output failure)
 
 -- the result of a listing, which is never refused
-abbrev pub WorksOnListing : Input → Output → Result Bool Failure → Type 0
-WorksOnListing input output (Ok flag) =
-    (flag ≡ true) × (output.new.failed ≡ output.old.failed) × (count : ℕ) × WritesListing input output (Ok count)
-WorksOnListing input output (Err failure) =
-    (status_of failure ≡ 2 → ⊥) × (status_of failure ≡ 1 → IsBrokenOff (WritesListing input output) input output failure)
+abbrev pub WorksOnListing : (json : Bool) → Input → Output → Result Bool Failure → Type 0
+WorksOnListing json input output (Ok flag) =
+    (flag ≡ true) × (output.new.failed ≡ output.old.failed) × (count : ℕ) × WritesListing json input output (Ok count)
+WorksOnListing json input output (Err failure) =
+    (status_of failure ≡ 2 → ⊥) × (status_of failure ≡ 1 → IsBrokenOff (WritesListing json input output) input output failure)
 
 -- the result of a conversion, which is never refused
 abbrev pub WorksOnConversion : Choice → Input → Output → Result ConvertCounts Failure → Type 0
@@ -83,11 +83,11 @@ ChecksAt family querier settings terms input output (Err failure) =
     × (status_of failure ≡ 1 → IsCheckBrokenAt family querier settings terms input output failure)
 
 -- the result of a message
-abbrev pub WorksOnMessage : Protocol → (from to : Option (List ℕ)) → (hex : List ℕ) → Output → Result Bool Failure → Type 0
-WorksOnMessage protocol from to hex output (Ok flag) = WritesMessage protocol from to hex output flag
-WorksOnMessage protocol from to hex output (Err failure) =
+abbrev pub WorksOnMessage : (json : Bool) → Protocol → (from to : Option (List ℕ)) → (hex : List ℕ) → Output → Result Bool Failure → Type 0
+WorksOnMessage json protocol from to hex output (Ok flag) = WritesMessage json protocol from to hex output flag
+WorksOnMessage json protocol from to hex output (Err failure) =
     (status_of failure ≡ 2 → IsRefusedMessage protocol from to hex failure)
-    × (status_of failure ≡ 1 → IsBrokenMessage protocol from to hex output failure)
+    × (status_of failure ≡ 1 → IsBrokenMessage json protocol from to hex output failure)
 
 -- the reason why a text was not decoded
 abbrev pub IsUndecoded : List ℕ → Failure → Type 0

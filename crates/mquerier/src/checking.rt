@@ -2,6 +2,7 @@
 
 ghost use Rattle.std.specs.Prelude.{◌≡◌};
 ghost use Rattle.mquerier.specs.Changes.{input_by, output_by};
+ghost use Rattle.mquerier.specs.CheckRuns as spec;
 ghost use Rattle.mquerier.specs.Working.{ChecksAt, IsUnwritten, WorksOnCheck};
 
 use crate::breaking::ended;
@@ -26,6 +27,25 @@ pub struct CheckOptions {
     pub settings: Settings,
     /// The terms of the check.
     pub terms: CheckTerms,
+}
+
+/// The greatest limits of a link.
+const GREATEST: u32 = 65535;
+
+const GREATEST_OF_A_GROUP: u32 = 1024;
+
+/// Returns the settings of a check. A limit that isn't given is the greatest: the link stands for a querier whose limits
+/// are not known.
+pub(crate) fn checked_settings(settings: &Settings) -> Settings
+    ensures { result ≡ spec.checked_settings settings.now }
+{
+    Settings {
+        groups: settings.groups.or(Some(GREATEST)),
+        group_sources: settings.group_sources.or(Some(GREATEST_OF_A_GROUP)),
+        sources: settings.sources.or(Some(GREATEST)),
+        scheduled: settings.scheduled.or(Some(GREATEST)),
+        ..*settings
+    }
 }
 
 /// Checks the querier with this address in the input capture. Nothing is read or written until the request is accepted

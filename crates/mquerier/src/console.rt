@@ -9,7 +9,7 @@ pub struct Console<W, E> {
     pub output: Watched<W>,
     /// Standard error.
     pub errors: Watched<E>,
-    /// Set if a person reads standard error. Then a second line explains the number of a failure. A script gets one line
-    /// for each failure.
+    /// Set if a person reads standard error. Then a second line explains the number of each failure. Conversions and
+    /// checks explain it in any case.
     pub in_words: bool,
 }

@@ -14,6 +14,7 @@ mod checking;
 mod console;
 mod converting;
 mod counts;
+mod counts_object;
 mod failure;
 mod foreign;
 mod program;
@@ -39,11 +40,14 @@ use std::fs::File;
 use std::io::{BufReader, ErrorKind, IsTerminal, Read, Write};
 use std::process::ExitCode;
 use std::{env, io};
-pub use taking::{perform_taking, taking_of};
-pub use unopened::{refuse_file, refuse_stream};
+pub use taking::{names_querier, perform_taking, taking_of};
+pub use unopened::{refuse_file, tell_failed_read, tell_late_querier};
 
 /// The number of bytes that are read at once.
 const INPUT: usize = 65_536;
+
+/// The most bytes of standard input that are kept to find a querier.
+const KEPT: usize = 1 << 26;
 
 fn main(rt: HostRuntime) -> ExitCode {
     let status = run_on_host(&rt).unwrap_or_else(|error| {
@@ -73,8 +77,8 @@ fn run_on_host(rt: &HostRuntime) -> io::Result<u8> {
     let asked = request_of(alloc, &words);
     let taking = taking_of(&asked);
     let Some(name) = named_file(&asked) else {
-        if taking.is_some() {
-            return Ok(refuse_stream(&mut console.errors));
+        if let Some(options) = taking {
+            return run_on_stream(rt, &options, &mut console);
         }
         let reader = BufReader::with_capacity(alloc, INPUT, Beginning::new(rt.stdin()))?;
         return Ok(run_on(alloc, asked, reader, &mut console));
@@ -111,18 +115,43 @@ fn opened<E: Write>(
     }
 }
 
-/// Runs a check of the querier that the capture names. `reader` and `again` read the same file.
-fn run_twice<R: Read + Drop, W: Write, E: Write>(
+/// Runs a check of the querier that a capture on standard input names. It keeps the first bytes, which have to name the
+/// querier, and reads them twice.
+fn run_on_stream<W: Write, E: Write>(
+    rt: &HostRuntime,
+    options: &CheckOptions,
+    console: &mut Console<W, E>,
+) -> io::Result<u8> {
+    let alloc = rt.alloc();
+    let mut kept = Vec::new(alloc);
+    match rt.stdin().take(KEPT as u64).read_to_end(&mut kept) {
+        Ok(_) => {}
+        Err(error) if error.kind() == ErrorKind::OutOfMemory => return Err(error),
+        Err(_) => return Ok(tell_failed_read(&mut console.errors)),
+    }
+    let bytes = kept.as_slice();
+    if bytes.len() == KEPT && !names_querier(alloc, options.protocol, bytes) {
+        return Ok(tell_late_querier(&mut console.errors));
+    }
+    let reader = BufReader::with_capacity(alloc, INPUT, Beginning::new(bytes))?;
+    let again = Beginning::new(bytes.chain(rt.stdin()));
+    let again = BufReader::with_capacity(alloc, INPUT, again)?;
+    Ok(run_twice(alloc, options, reader, again, console))
+}
+
+/// Runs a check of the querier that the capture names. `reader` and `again` read the same capture, `reader` perhaps only
+/// its beginning.
+fn run_twice<Q: Read + Drop, R: Read + Drop, W: Write, E: Write>(
     alloc: Global,
     options: &CheckOptions,
-    reader: BufReader<Beginning<R>>,
+    reader: BufReader<Beginning<Q>>,
     again: BufReader<Beginning<R>>,
     console: &mut Console<W, E>,
 ) -> u8 {
     let source = Source::new(reader);
     let mut first = Watched::new(&source);
     let status = run_again(alloc, options, &mut first, again, console);
-    if console.in_words && status == FAULTY {
+    if status == FAULTY {
         tell_kind(source.first(), false, &mut console.errors);
     }
     status
@@ -141,7 +170,8 @@ fn run_again<Q: Read, R: Read + Drop, W: Write, E: Write>(
     perform_taking(alloc, options, first, &source, &mut input, console)
 }
 
-/// Runs on this input. If a file is of another kind, it also tells a person how to read it.
+/// Runs on this input. If a file is of another kind, it also says how to read it: to a person, or for a conversion or a
+/// check.
 fn run_on<R: Read + Drop, W: Write, E: Write>(
     alloc: Global,
     asked: Result<Request<'_>, Error>,
@@ -149,10 +179,11 @@ fn run_on<R: Read + Drop, W: Write, E: Write>(
     console: &mut Console<W, E>,
 ) -> u8 {
     let converts = matches!(&asked, Ok(Request::Convert { .. }));
+    let explains = converts || matches!(&asked, Ok(Request::Check { .. }));
     let source = Source::new(reader);
     let mut input = Watched::new(&source);
     let status = run(alloc, asked, &source, &mut input, console);
-    if console.in_words && status == FAULTY {
+    if (explains || console.in_words) && status == FAULTY {
         tell_kind(source.first(), converts, &mut console.errors);
     }
     status

@@ -1,6 +1,6 @@
 //! Runs of the program on its words and streams.
 
-ghost use Rattle.std.specs.Prelude.{◌≡◌, ◌≤◌, ◌||◌, ◌++◌, MatchResult, codes, is_err};
+ghost use Rattle.std.specs.Prelude.{◌≡◌, ◌≤◌, ◌||◌, ◌++◌, MatchResult, codes, false, is_err, true};
 ghost use Rattle.mq_count.specs.Streams.{inner_of, has_failed};
 ghost use Rattle.mq_text.specs.Printing.{Prints};
 ghost use Rattle.mquerier.specs.Changes.{BreaksOff, Writes, input_by, output_by};
@@ -9,16 +9,18 @@ ghost use Rattle.mquerier.specs.Choosing.{choice_of as asked_choice};
 ghost use Rattle.mquerier.specs.Failures.{status_of, unjudged_line, version_line};
 ghost use Rattle.mquerier.specs.Status.{Concludes, IsCheck, IsConversion, IsOfMessage, IsTold, IsWordless, PrintsVersion, TellsLines, TellsCounts, Told, Performs, PerformsCheck, PerformsConversion, Runs};
 
-use crate::checking::{CheckOptions, check_capture};
+use crate::checking::{CheckOptions, check_capture, checked_settings};
 use crate::console::Console;
 use crate::converting::convert_capture;
 use crate::counts::counts_lines_of;
+use crate::counts_object::counts_object_of;
 use crate::failure::{DONE, FAULTY, FOUND, Failure, REFUSED, UNJUDGED, line_of, status_of_failure};
+use crate::unopened::told_of_check;
 use crate::work::{flush, work};
 use clap::Error;
 use clap::error::ErrorKind;
 use mq_check::{Additions, CheckTerms, Totals, Unjudged};
-use mq_command::{Interface, Request, VERSION};
+use mq_command::{CheckFlags, Interface, Request, VERSION};
 use mq_convert::{Choice, ConvertCounts, Which, name_of};
 use mq_count::Watched;
 use mq_pcap::Supply;
@@ -151,26 +153,25 @@ pub fn perform<S: Supply, R: Read, W: Write, E: Write>(
             interface,
             vlan,
             once,
+            json,
             ..
         } => {
             let choice = choice_of(*interface, *vlan, *once);
-            perform_conversion(alloc, choice, supply, input, console)
+            perform_conversion(alloc, choice, *json, supply, input, console)
         }
         Request::Check {
             protocol,
             querier,
             settings,
             within,
-            cite,
-            packets,
-            strict,
+            flags,
             until,
             ..
         } => {
             let options = CheckOptions {
                 protocol: *protocol,
-                settings: *settings,
-                terms: terms_of(*within, *until, *cite, *packets, false, *strict),
+                settings: checked_settings(settings),
+                terms: terms_of(*within, *until, *flags, false),
             };
             perform_check(alloc, &options, querier, supply, input, console)
         }
@@ -225,11 +226,12 @@ fn choice_of(interface: Option<Interface<'_>>, vlan: Option<u64>, once: bool) ->
 fn perform_conversion<S: Supply, R: Read, W: Write, E: Write>(
     alloc: Global,
     choice: Choice,
+    json: bool,
     supply: &S,
     input: &mut Watched<R>,
     console: &mut Console<W, E>,
 ) -> u8
-    ensures performs { PerformsConversion choice console.old.in_words
+    ensures performs { PerformsConversion choice json
         (input_by R.remaining input.old input.new)
         (output_by W.contents console.old.output console.new.output)
         (output_by E.contents console.old.errors console.new.errors)
@@ -238,10 +240,10 @@ fn perform_conversion<S: Supply, R: Read, W: Write, E: Write>(
 {
     match convert_capture(alloc, choice, supply, input, &mut console.output) {
         Ok(counts) => {
-            tell_counts(&counts, &mut console.errors);
+            tell_counts(json, &counts, &mut console.errors);
             DONE
         }
-        Err(failure) => told(failure, console.in_words, &mut console.errors),
+        Err(failure) => told(failure, true, &mut console.errors),
     }
 }
 
@@ -252,22 +254,25 @@ const WITHIN: u32 = 100;
 pub(crate) fn terms_of(
     within: Option<u32>,
     until: Option<u64>,
-    cite: bool,
-    packets: bool,
+    flags: CheckFlags,
     once: bool,
-    strict: bool,
 ) -> CheckTerms
-    ensures { result ≡ asked_terms within until cite packets once strict }
+    ensures { result ≡ asked_terms within until flags once }
 {
     CheckTerms {
         within: within.unwrap_or(WITHIN),
         until,
         additions: Additions {
-            packets,
-            cite,
+            packets: flags.packets,
+            cite: flags.cite,
             once,
+            possible: flags.possible,
+            json: flags.json,
         },
-        strict,
+        flags: mq_check::CheckFlags {
+            began: flags.began,
+            strict: flags.strict,
+        },
     }
 }
 
@@ -280,7 +285,7 @@ fn perform_check<S: Supply, R: Read, W: Write, E: Write>(
     input: &mut Watched<R>,
     console: &mut Console<W, E>,
 ) -> u8
-    ensures performs { PerformsCheck options.now querier.now console.old.in_words
+    ensures performs { PerformsCheck options.now querier.now
         (input_by R.remaining input.old input.new)
         (output_by W.contents console.old.output console.new.output)
         (output_by E.contents console.old.errors console.new.errors)
@@ -291,13 +296,30 @@ fn perform_check<S: Supply, R: Read, W: Write, E: Write>(
 {
     match check_capture(alloc, options, querier, supply, input, &mut console.output) {
         Ok(totals) => status_of_totals(&totals, &mut console.errors),
-        Err(failure) => told(failure, console.in_words, &mut console.errors),
+        Err(failure) => told_of_check(failure, querier, &mut console.errors),
     }
 }
 
-/// Reports on standard error the counts of a conversion that are not 0.
-fn tell_counts<E: Write>(counts: &ConvertCounts, errors: &mut Watched<E>)
-    ensures { TellsCounts (output_by E.contents errors.old errors.new) counts.now }
+/// Reports on standard error the counts of a conversion: as an object, or as lines if one isn't 0.
+fn tell_counts<E: Write>(json: bool, counts: &ConvertCounts, errors: &mut Watched<E>)
+    ensures { TellsCounts json (output_by E.contents errors.old errors.new) counts.now }
+{
+    if json {
+        return tell_object(counts, errors);
+    }
+    tell_lines(counts, errors)
+}
+
+/// Reports the counts as an object.
+fn tell_object<E: Write>(counts: &ConvertCounts, errors: &mut Watched<E>)
+    ensures { TellsCounts true (output_by E.contents errors.old errors.new) counts.now }
+{
+    let _ = print(counts_object_of(counts).as_slice(), errors);
+}
+
+/// Reports the counts that are not 0 as lines.
+fn tell_lines<E: Write>(counts: &ConvertCounts, errors: &mut Watched<E>)
+    ensures { TellsCounts false (output_by E.contents errors.old errors.new) counts.now }
 {
     if counts.repeated > 0 || counts.dropped > 0 || counts.unread.count > 0 {
         let _ = print(counts_lines_of(counts).as_slice(), errors);
@@ -337,8 +359,9 @@ fn unjudged_line_of(why: Unjudged) -> &'static [u8]
             b"mquerier: nothing judged: every second packet or more has a stamp that goes back\n"
         }
         Unjudged::NoMessage => b"mquerier: nothing judged: there is no message of this family\n",
-        Unjudged::NoQuery => {
-            b"mquerier: nothing judged: no query from this address was seen, and none is missing\n"
+        Unjudged::NoQuery => b"mquerier: nothing judged: no query from this address was seen\n",
+        Unjudged::LimitsExceeded => {
+            b"mquerier: nothing judged: the limits refuse records, and may cause what is found\n"
         }
     }
 }

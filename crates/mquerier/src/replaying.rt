@@ -24,10 +24,8 @@ pub(crate) struct ReplayOptions {
     pub(crate) protocol: Protocol,
     /// The given variables and limits.
     pub(crate) settings: Settings,
-    /// The time until which it runs at least, in milliseconds after the first packet, if given.
-    pub(crate) until: Option<u64>,
-    /// Prints lines for changed groups.
-    pub(crate) changes: bool,
+    /// The request for the replay.
+    pub(crate) asked: Asked,
 }
 
 /// Replays the input capture to a querier with this address. Nothing is read or written until the request is accepted
@@ -40,7 +38,7 @@ pub(crate) fn replay_capture<S: Supply, R: Read, W: Write>(
     input: &mut Watched<R>,
     output: &mut Watched<W>,
 ) -> Result<bool, Failure>
-    ensures works { WorksOnReplay options.now.protocol own.now options.now.settings (record { until = options.now.until; changes = options.now.changes })
+    ensures works { WorksOnReplay options.now.protocol own.now options.now.settings options.now.asked
         (input_by R.remaining input.old input.new)
         (output_by W.contents output.old output.new)
         result }
@@ -74,20 +72,16 @@ fn replay_at<F: CapturedFamily, S: Supply, R: Read, W: Write>(
 ) -> Result<bool, Failure>
 where
     F::Address: LineKey,
-    ensures works { WorksAt F.FAMILY (F.Address.number own) options.now.settings (record { until = options.now.until; changes = options.now.changes })
+    ensures works { WorksAt F.FAMILY (F.Address.number own) options.now.settings options.now.asked
         (input_by R.remaining input.old input.new)
         (output_by W.contents output.old output.new)
         result }
     ensures unread { IsUnwritten result → input.new ≡ input.old }
     ensures unwritten { IsUnwritten result → output.new ≡ output.old }
 {
-    let _end = moment_asked(options.until)?;
+    let _end = moment_asked(options.asked.until)?;
     let config = configured::<F>(own, &options.settings)?;
-    let asked = Asked {
-        until: options.until,
-        changes: options.changes,
-    };
-    let answer = replay(alloc, config, asked, supply, input, output);
+    let answer = replay(alloc, config, options.asked, supply, input, output);
     ended(answer, output)?;
     Ok(true)
 }

@@ -1,18 +1,32 @@
 //! The line of a check for the variables that come from the capture.
 
-ghost use Rattle.std.specs.Prelude.{◌≡◌, ◌≤◌, ◌+◌, ◌++◌, length};
+ghost use Rattle.std.specs.Prelude.{◌≡◌, ◌≤◌, ◌+◌, ◌++◌, false, length, true};
 ghost use Rattle.arrayvec.specs.ArrayVec.{array_vec_len};
-ghost use Rattle.mq_check.specs.Numbered.{numbered_announced};
+ghost use Rattle.mq_check.specs.Numbered.{number_if, numbered_announced};
 ghost use Rattle.mquerier.specs.Taking as spec;
 
 use mq_check::Announced;
 use mq_command::Settings;
-use mq_lines::{LineKey, put_address};
+use mq_lines::{LineKey, put_address, put_address_object};
 use mq_text::{Text, put, put_decimal};
 
-/// Returns the line for the querier and the variables that come from the capture.
-pub(crate) fn taken_line_of<K: LineKey>(settings: &Settings, found: &Announced<K>) -> Text
-    ensures { result.items ≡ spec.taken_line K.family settings.now (numbered_announced K.number found.now) }
+/// Returns the line, or the object of JSON, for the querier and the variables that come from the capture.
+pub(crate) fn taken_line_of<K: LineKey>(
+    json: bool,
+    settings: &Settings,
+    found: &Announced<K>,
+) -> Text
+    ensures { result.items ≡ spec.taken_line json K.family settings.now (numbered_announced K.number found.now) }
+{
+    if json {
+        return object_of(settings, found);
+    }
+    text_of(settings, found)
+}
+
+/// Returns the line.
+fn text_of<K: LineKey>(settings: &Settings, found: &Announced<K>) -> Text
+    ensures { result.items ≡ spec.taken_line false K.family settings.now (numbered_announced K.number found.now) }
 {
     let mut line = Text::new();
     put(&mut line, b"taken from the capture: querier ");
@@ -36,8 +50,74 @@ pub(crate) fn taken_line_of<K: LineKey>(settings: &Settings, found: &Announced<K
         settings.last_member_interval,
         found.last_member_interval,
     );
+    put_beside(&mut line, found.beside);
     put(&mut line, b"\n");
     line
+}
+
+/// Returns the object.
+fn object_of<K: LineKey>(settings: &Settings, found: &Announced<K>) -> Text
+    ensures { result.items ≡ spec.taken_line true K.family settings.now (numbered_announced K.number found.now) }
+{
+    let mut line = Text::new();
+    put(&mut line, b"{\"taken\":{\"querier\":");
+    put_address_object(&mut line, found.querier);
+    put(&mut line, b",\"rv\":");
+    put_value(&mut line, settings.robustness, found.robustness);
+    put(&mut line, b",\"qi\":");
+    put_value(&mut line, settings.query_seconds, found.query_seconds);
+    put(&mut line, b",\"qri\":");
+    put_value(
+        &mut line,
+        settings.response_interval,
+        found.response_interval,
+    );
+    put(&mut line, b",\"lmqi\":");
+    put_value(
+        &mut line,
+        settings.last_member_interval,
+        found.last_member_interval,
+    );
+    put(&mut line, b",\"beside\":");
+    put_beside_value(&mut line, found.beside);
+    put(&mut line, b"}}\n");
+    line
+}
+
+/// Appends the lowest other router that sends general queries, if there is one, to the object.
+fn put_beside_value<K: LineKey>(line: &mut Text, beside: Option<K>)
+    requires room { array_vec_len line.old ≤ 3200 }
+    ensures text { line.new.items ≡ line.old.items ++ spec.beside_value K.family (number_if K.number beside) }
+    ensures room { array_vec_len line.new ≤ array_vec_len line.old + 50 }
+{
+    match beside {
+        Some(address) => put_address_object(line, address),
+        None => put(line, b"null"),
+    }
+}
+
+/// Appends the value of a variable that comes from the capture and isn't given to the object.
+fn put_value(line: &mut Text, given: Option<u32>, found: Option<u32>)
+    requires room { array_vec_len line.old ≤ 3000 }
+    ensures text { line.new.items ≡ line.old.items ++ spec.taken_value given found }
+    ensures room { array_vec_len line.new ≤ array_vec_len line.old + 30 }
+{
+    match (given, found) {
+        (None, Some(value)) => put_decimal(line, u64::from(value)),
+        _ => put(line, b"null"),
+    }
+}
+
+/// Appends the lowest other router that sends general queries, if there is one.
+fn put_beside<K: LineKey>(line: &mut Text, beside: Option<K>)
+    requires room { array_vec_len line.old ≤ 3200 }
+    ensures text { line.new.items ≡ line.old.items ++ spec.beside_text K.family (number_if K.number beside) }
+    ensures room { array_vec_len line.new ≤ array_vec_len line.old + 50 }
+{
+    if let Some(address) = beside {
+        put(line, b", beside ");
+        put_address(line, address);
+    }
 }
 
 /// Appends the name and the value of a variable that comes from the capture and isn't given.

@@ -6,7 +6,7 @@ ghost use Rattle.mquerier.specs.Changes.{input_by, output_by};
 ghost use Rattle.mquerier.specs.Replays.{family_of};
 ghost use Rattle.mquerier.specs.Taking as spec;
 
-use crate::checking::{CheckOptions, check_at};
+use crate::checking::{CheckOptions, check_at, checked_settings};
 use crate::console::Console;
 use crate::failure::{Failure, UNJUDGED};
 use crate::program::{print_whole, status_of_totals, terms_of, told};
@@ -35,19 +35,31 @@ pub fn taking_of(asked: &Result<Request<'_>, Error>) -> Option<CheckOptions>
                 querier,
                 settings,
                 within,
-                cite,
-                packets,
-                strict,
+                flags,
                 until,
                 ..
             },
         ) if *querier == "auto" => Some(CheckOptions {
             protocol: *protocol,
-            settings: *settings,
-            terms: terms_of(*within, *until, *cite, *packets, true, *strict),
+            settings: checked_settings(settings),
+            terms: terms_of(*within, *until, *flags, true),
         }),
         _ => None,
     }
+}
+
+/// Returns whether these first bytes of a capture name a querier, or memory to look for it ran out.
+pub fn names_querier(alloc: Global, protocol: Protocol, bytes: &[u8]) -> bool {
+    let mut first = Watched::new(bytes);
+    match protocol {
+        Protocol::Igmp => is_named(announced_variables::<Igmp, Global, &[u8]>(alloc, &mut first)),
+        Protocol::Mld => is_named(announced_variables::<Mld, Global, &[u8]>(alloc, &mut first)),
+    }
+}
+
+/// Returns whether a querier was found, or memory ran out.
+fn is_named<K: WireKey>(answer: Result<Option<Announced<K>>, CaptureFault>) -> bool {
+    matches!(answer, Ok(Some(_)) | Err(CaptureFault::Memory))
 }
 
 /// Performs a check of the querier that the capture names, and returns its status, as `perform` does.
@@ -63,7 +75,7 @@ pub fn perform_taking<S: Supply, Q: Read, R: Read, W: Write, E: Write>(
     input: &mut Watched<R>,
     console: &mut Console<W, E>,
 ) -> u8
-    ensures performs { spec.PerformsTaking options.now console.old.in_words
+    ensures performs { spec.PerformsTaking options.now
         (input_by Q.remaining first.old first.new)
         (input_by R.remaining input.old input.new)
         (output_by W.contents console.old.output console.new.output)
@@ -77,7 +89,7 @@ pub fn perform_taking<S: Supply, Q: Read, R: Read, W: Write, E: Write>(
             tell_no_querier(&mut console.errors);
             UNJUDGED
         }
-        Err(failure) => told(failure, console.in_words, &mut console.errors),
+        Err(failure) => told(failure, true, &mut console.errors),
     }
 }
 
@@ -164,7 +176,7 @@ where
         ..*given
     };
     let totals = check_at::<F, S, R, W>(alloc, &options, found.querier, supply, input, output)?;
-    let line = taken_line_of(&given.settings, found);
+    let line = taken_line_of(given.terms.additions.json, &given.settings, found);
     print_whole(line.as_slice(), output)?;
     Ok(totals)
 }

@@ -18,7 +18,7 @@ use mq_command::{Protocol, Request};
 use mq_count::Watched;
 use mq_lines::{igmp_line, mld_line};
 use mq_pcap::Supply;
-use mq_replay::show;
+use mq_replay::{Asked, show};
 use mq_text::{read_v4, read_v6};
 use std::alloc::Global;
 use std::io::{Read, Write};
@@ -48,24 +48,29 @@ pub fn work<S: Supply, R: Read, W: Write>(
             hex,
             from,
             to,
-        } => message(alloc, *protocol, hex, *from, *to, output),
+            json,
+        } => message(alloc, *json, *protocol, hex, *from, *to, output),
         // The caller performs conversions, which report counts on standard error, and checks, which have their own
         // statuses.
         Request::Convert { .. } | Request::Check { .. } => unreachable!(),
-        Request::Show { .. } => listing(alloc, supply, input, output),
+        Request::Show { json, .. } => listing(alloc, *json, supply, input, output),
         Request::Replay {
             protocol,
             own,
             settings,
             until,
             changes,
+            json,
             ..
         } => {
             let options = ReplayOptions {
                 protocol: *protocol,
                 settings: *settings,
-                until: *until,
-                changes: *changes,
+                asked: Asked {
+                    until: *until,
+                    changes: *changes,
+                    json: *json,
+                },
             };
             replay_capture(alloc, &options, own, supply, input, output)
         }
@@ -75,32 +80,34 @@ pub fn work<S: Supply, R: Read, W: Write>(
 /// Prints the line of a message.
 fn message<W: Write>(
     alloc: Global,
+    json: bool,
     protocol: Protocol,
     hex: &str,
     from: Option<&str>,
     to: Option<&str>,
     output: &mut Watched<W>,
 ) -> Result<bool, Failure>
-    ensures works { WorksOnMessage protocol (option_copied from.entry) (option_copied to.entry) hex.now
+    ensures works { WorksOnMessage json protocol (option_copied from.entry) (option_copied to.entry) hex.now
         (output_by W.contents output.old output.new)
         result }
     ensures unwritten { IsUnwritten result → output.new ≡ output.old }
 {
     match protocol {
-        Protocol::Igmp => igmp_message(alloc, hex, from, to, output),
-        Protocol::Mld => mld_message(alloc, hex, from, to, output),
+        Protocol::Igmp => igmp_message(alloc, json, hex, from, to, output),
+        Protocol::Mld => mld_message(alloc, json, hex, from, to, output),
     }
 }
 
 /// Prints the line of an IGMP message.
 fn igmp_message<W: Write>(
     alloc: Global,
+    json: bool,
     hex: &str,
     from: Option<&str>,
     to: Option<&str>,
     output: &mut Watched<W>,
 ) -> Result<bool, Failure>
-    ensures works { WorksOnMessage Igmp (option_copied from.entry) (option_copied to.entry) hex.now
+    ensures works { WorksOnMessage json Igmp (option_copied from.entry) (option_copied to.entry) hex.now
         (output_by W.contents output.old output.new)
         result }
     ensures unwritten { IsUnwritten result → output.new ≡ output.old }
@@ -109,7 +116,7 @@ fn igmp_message<W: Write>(
         return Err(Failure::NotAnAddress);
     }
     let bytes = decoded(alloc, hex)?;
-    let Ok(is_message) = igmp_line(&bytes, output) else {
+    let Ok(is_message) = igmp_line(json, &bytes, output) else {
         return Err(Failure::Write);
     };
     flush(output)?;
@@ -130,12 +137,13 @@ fn is_no_v4(text: Option<&str>) -> bool
 /// Prints the line of an MLD message.
 fn mld_message<W: Write>(
     alloc: Global,
+    json: bool,
     hex: &str,
     from: Option<&str>,
     to: Option<&str>,
     output: &mut Watched<W>,
 ) -> Result<bool, Failure>
-    ensures works { WorksOnMessage Mld (option_copied from.entry) (option_copied to.entry) hex.now
+    ensures works { WorksOnMessage json Mld (option_copied from.entry) (option_copied to.entry) hex.now
         (output_by W.contents output.old output.new)
         result }
     ensures unwritten { IsUnwritten result → output.new ≡ output.old }
@@ -153,7 +161,7 @@ fn mld_message<W: Write>(
         return Err(Failure::NotAnAddress);
     };
     let bytes = decoded(alloc, hex)?;
-    let Ok(is_message) = mld_line(source, destination, &bytes, output) else {
+    let Ok(is_message) = mld_line(json, source, destination, &bytes, output) else {
         return Err(Failure::Write);
     };
     flush(output)?;
@@ -174,18 +182,19 @@ fn decoded(alloc: Global, hex: &str) -> Result<Vec<u8>, Failure>
 /// Prints the listing of the input capture.
 fn listing<S: Supply, R: Read, W: Write>(
     alloc: Global,
+    json: bool,
     supply: &S,
     input: &mut Watched<R>,
     output: &mut Watched<W>,
 ) -> Result<bool, Failure>
-    ensures works { WorksOnListing
+    ensures works { WorksOnListing json
         (input_by R.remaining input.old input.new)
         (output_by W.contents output.old output.new)
         result }
     ensures accepted { IsRefusal result → ⊥ }
     ensures unwritten { IsUnwritten result → output.new ≡ output.old }
 {
-    let answer = show(alloc, supply, input, output);
+    let answer = show(alloc, json, supply, input, output);
     ended(answer, output)?;
     Ok(true)
 }

@@ -1,22 +1,8 @@
 -- `size_of_item` reads the size of the type. Assumes `Logic`.
-use Rattle.std.proofs.Common.{◌≡◌, [], ◌∷◌, refl, w64}
-use base.Fml.{ftrue, flft}
-use base.Logic.{emp}
-use contract.BorrowLft.{◌⊑◌}
-use contract.Monad.{fact, fact_i}
-use denote.Param.{layout, layouts}
-use denote.Steps.{nothing, owned}
-use denote.Builtin.{usize}
+use Rattle.mq_arena.proofs.Common.{◌≡◌, [], ◌∷◌, refl, w64, ftrue, flft, emp, ◌⊑◌, fact, fact_i, layout, layouts, nothing, owned, usize, inst_fn, Fn, a_type}
+use Rattle.mq_arena.proofs.Common.{vint, capped_fits, size, capped, alloc_all, pass_all, free_all, look_at, sets, ‵, raw, ◌⊛◌, ◌$◌, ◌∵◌, !, qed, by, move, drop}
+use Rattle.mq_arena.proofs.Common.{split, use0, size_word, of_opd, returns, enter, proved_at, leaves}
 use denote.Plain.{uint_Makes}
-use mir.MapTy.{inst_fn}
-use mir.Syntax.{Fn, a_type}
-use mir.Val.{vint}
-use prog.Capped.{capped_fits}
-use prog.Memory.{size, capped}
-use types.ByLocal.{alloc_all, pass_all, free_all, look_at, sets}
-use types.Kit.{‵, raw, ◌⊛◌, ◌$◌, ◌∵◌, !, qed, by, move, drop, split, use0}
-use types.Run.{size_word, of_opd, returns, enter}
-use Rattle.std.proofs.raw_atomic.Walks.{proved_at, leaves}
 use Rattle.mq_arena.specs.contracts.lent_vectors.size_of_item as contract_of
 use Rattle.mq_arena.specs.contracts.lent_vectors.size_of_item.Key.{name as #self}
 use Rattle.mq_arena.proofs.lent_vectors.size_of_item.Statement.{statement}

@@ -1,38 +1,13 @@
 -- `vec_in` hands its block to `lodge`. Assumes `Logic`.
-use Rattle.std.proofs.Common.{◌≡◌, ◌*◌, ◌^◌, ◌<◌, ◌≤◌, List, [], ◌∷◌, ◌++◌, length, refl, sym, ap, subst, arith, w64, Vec}
-use base.Fml.{ftrue, flft}
-use base.Logic.{SProp, emp}
-use contract.BorrowLft.{◌⊑◌}
-use contract.Monad.{fact, fact_i}
-use contract.Running.{tables}
-use denote.Builtin.{u128, usize, SliceRefMutOf}
-use denote.Exit.{no, yes}
-use denote.Param.{layout, layouts, param}
-use denote.RattleType.{owns}
-use denote.RawPtr.{block_ptr}
-use denote.Signature.{Slot, plain, types_at}
-use denote.Slice.{slice_val}
-use denote.Steps.{nothing, heard, only}
-use denote.Triple.Call.{calls_at_last}
-use denote.Triple.Walked.{Stays, stay_dropped, walk_of, Goes-dropped}
-use mir.MapTy.{inst_fn}
-use mir.Syntax.{Fn, a_type}
-use mir.Val.{Val, vint, has_ty, WT}
+use Rattle.mq_arena.proofs.Common.{◌≡◌, ◌*◌, ◌^◌, ◌<◌, ◌≤◌, List, [], ◌∷◌, ◌++◌, length, refl, sym, ap, subst, arith, w64, Vec, ftrue, flft, SProp, emp, ◌⊑◌}
+use Rattle.mq_arena.proofs.Common.{fact, fact_i, tables, u128, usize, SliceRefMutOf, no, yes, layout, layouts, param, owns, block_ptr, Slot, plain, types_at}
+use Rattle.mq_arena.proofs.Common.{slice_val, nothing, heard, only, calls_at_last, Stays, stay_dropped, walk_of, Goes-dropped, inst_fn, Fn, a_type, Val, vint}
+use Rattle.mq_arena.proofs.Common.{has_ty, WT, size, Env, WpFn, alloc_all, pass_all, free_all, look_at, look_in_at, get, sets, lands_last, env, regoal, fsplit}
+use Rattle.mq_arena.proofs.Common.{fjoin, await, whole, sub, stop, fld, hop, from, addr, lit, of_opd, no_more, and_then, first, blocks, exec, returns, enter}
+use Rattle.mq_arena.proofs.Common.{handle_tells, after, fm, proved_at, leaves, lodged, Lodged}
 use lib.Dec.{T as IsTrue}
-use prog.Memory.{size}
-use prog.Wp.{Env, WpFn}
-use types.ByLocal.{alloc_all, pass_all, free_all, look_at, look_in_at, get, sets, lands_last, env}
 use types.Kit.{‵, raw, ◌⊛◌, some, later, given, prop, at_ret, ◌$◌, ◌∵◌, !, qed, by, move, drop, use0, use1, use2, split, split3, pick, learn, rewrite}
-use types.Kit.{regoal, fsplit, fjoin, await}
-use types.Part.{whole, sub}
-use types.Run.{stop, fld, hop, from, addr, lit, of_opd, no_more, and_then, first, blocks, exec, returns, enter}
-use Rattle.core.proofs.alloc.Calls.{handle_tells}
-use Rattle.core.proofs.alloc.Shapes.{after}
-use Rattle.core.proofs.atomic.Steps.{fm}
-use Rattle.std.proofs.raw_atomic.Walks.{proved_at, leaves}
 use Rattle.std_alloc.proofs.vec.lodge.Met.{met}
-use Rattle.std_alloc.specs.Vec.Ownership.{lodged}
-use Rattle.std_alloc.specs.declared.vec.lodged.Lodged.{Lodged}
 use Rattle.mq_arena.proofs.Taken.{lent}
 use Rattle.mq_arena.proofs.EmptyVectors.{LentVec, lent_vec, vector_of_units, Lodges, at_lodge, IsEmptyAt, lodge_goes, lodge_gives}
 use Rattle.mq_arena.specs.contracts.lent_vectors.vec_in as contract_of

@@ -35,3 +35,6 @@ returns-in-Ok-clause-none_left_out g c room =
     let enough = sym c.tick.ensures.answer ∙ ap is_ok c.in-Ok.is in
     tick_leaves_none g.F.Address.WireKey.WIDTH c.args.now _ _ _ _ _
     c.is_well_formed.ensures.formed ((returns-in-Ok-clause-ticks g c).done (omega (arith, c.in-Some.ensures)) enough).0 room
+
+pub returns-in-Ok-clause-least : goal.returns-in-Ok-clause-least
+returns-in-Ok-clause-least g c enough _ = rw (← c.in-Some.ensures.1) (c.tick.ensures.least (c.tick.ensures.answer ∙ enough))

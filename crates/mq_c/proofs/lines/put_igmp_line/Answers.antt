@@ -9,4 +9,7 @@ returns g c =
     let told = c.igmp_line-printed.ensures in
     let room = c.igmp_line-printed.new.writer in
     rw (c.line-1.given.1.1 (sym (told.same_loan ∙ made.same_out)), c.without_end.ensures, c.written.ensures, c.requires.lent)
-    (record { text = line_stands Igmp [] c.args.body.now c.new-room.result room c.igmp_line-printed.result made.written made.full told.failed told.line })
+    (record {
+      text = line_stands c.args.json Igmp [] c.args.body.now c.new-room.result room c.igmp_line-printed.result made.written made.full
+          told.failed told.line;
+    })

@@ -9,7 +9,7 @@ pub look_in_file-read-requires-clause-room : goal.look_in_file-read-requires-cla
 look_in_file-read-requires-clause-room g c = room_of_filled most_bytes _ _ c.as_mut_slice.ensures.value c.in-Ok.ensures.items
 
 pub returns-clause-announces : goal.returns-clause-announces
-returns-clause-announces g c = announces _ _ _ _ c.look_in_file-read.new.looking.found _ _ c.look_in_file-read.ensures c.concluded.ensures
+returns-clause-announces g c = announces _ _ _ _ _ c.found_in.result _ _ c.look_in_file-read.ensures c.found_in.ensures c.concluded.ensures
 
 pub returns-clause-memory : goal.returns-clause-memory
 returns-clause-memory g c = λ is. absurd (of_capture _ _ _ (sym c.concluded.ensures ∙ is))

@@ -51,7 +51,7 @@ pub new-requires-2-clause-starts : goal.new-requires-2-clause-starts
 new-requires-2-clause-starts g c =
     let same = ap (λ (l : LinkValue). l.config) c.in-Ok-new_in.ensures.link in
     c.in-Ok-new.ensures.starts ∙
-    (λ i. checking_at_start c.args.terms.within ((c.timing-timing.ensures ∙ ap (λ (k : Configuration). k.timing) (sym same)) i) c.args.terms.strict)
+    (λ i. checking_at_start c.args.terms.within ((c.timing-timing.ensures ∙ ap (λ (k : Configuration). k.timing) (sym same)) i) c.args.terms.flags)
 
 pub check_on-requires-clause-in_range : goal.check_on-requires-clause-in_range
 check_on-requires-clause-in_range g c = rw c.new-2.ensures.terms c.requires

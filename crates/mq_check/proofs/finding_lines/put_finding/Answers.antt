@@ -1,8 +1,16 @@
--- A moment, and then a time.
+-- A moment, and then a time or what is asked for.
 use Rattle.std.proofs.Common.{codes}
 use Rattle.std.proofs.lemmas.List.{append_assoc}
-use Rattle.mq_check.specs.FindingLines.{at_moment, header_fault_text, interval_text}
+use Rattle.mq_check.specs.FindingLines.{asked_text, at_moment, header_fault_text, interval_text}
+use Rattle.mq_check.specs.Numbered.{numbered_asked}
 use Rattle.mq_check.proofs.finding_lines.put_finding.Goals as goal
+
+pub returns-in-PossiblyMissing-clause-text : goal.returns-in-PossiblyMissing-clause-text
+returns-in-PossiblyMissing-clause-text g c =
+    let it = c.in-PossiblyMissing in
+    rw (it.is, c.put_asked-in-PossiblyMissing.ensures.text, c.put_moment-in-PossiblyMissing.ensures.text)
+    (append_assoc c.args.text.now.items (at_moment it.moment (codes " possible missing "))
+    (asked_text g.F.Address.LineKey.family (numbered_asked g.F.Address.Key.number it.asked)))
 
 pub returns-in-Interval-clause-text : goal.returns-in-Interval-clause-text
 returns-in-Interval-clause-text g c =

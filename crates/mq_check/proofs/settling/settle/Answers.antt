@@ -14,7 +14,7 @@ loop-entry-preserved g c =
     record {
       found = (
         _,
-        now.found.1 ∙ ap (λ (xs : List (Finding ℕ)). now.found.0 ++ xs) (first.told c.args.within c.args.changed.now) ∙
+        now.found.1 ∙ ap (λ (xs : List (Finding ℕ)). now.found.0 ++ xs) (first.told c.args.expiry.now.within c.args.changed.now) ∙
             sym (append_assoc now.found.0 _ _),
         then_told _ _ _ _ _ _ _ _ _ _ _ now.found.2 c.in_ok-tell_entry.ensures,
       );
@@ -30,7 +30,8 @@ returns-in_err-tell_entry-clause-tells g c =
     let now = c.loop-entry.invariant in
     let first = c.in-Some.ensures.some in
     rw p.1 (broken_as _ _ _ _ _ _ _ _ (tells_as _ _ _ _ _ _ _ _
-    (sym (now.found.1 ∙ ap (λ (xs : List (Finding ℕ)). now.found.0 ++ xs) (first.told c.args.within c.args.changed.now) ∙ sym (append_assoc now.found.0 _ _)))
+    (sym (now.found.1 ∙ ap (λ (xs : List (Finding ℕ)). now.found.0 ++ xs) (first.told c.args.expiry.now.within c.args.changed.now)
+    ∙ sym (append_assoc now.found.0 _ _)))
     (told_broken _ _ _ _ _ _ _ _ (then_told _ _ _ _ _ _ _ _ _ _ _ now.found.2 c.in_err-tell_entry.ensures))))
 
 pub returns-clause-settled : goal.returns-clause-settled
@@ -42,5 +43,5 @@ pub returns-clause-tells : goal.returns-clause-tells
 returns-clause-tells g c =
     let now = c.loop-entry.invariant in
     tells_as _ _ _ _ _ _ _ _
-    (sym (now.found.1 ∙ ap (λ (xs : List (Finding ℕ)). now.found.0 ++ xs) (c.in_default.ensures.none_over.told c.args.within c.args.changed.now) ∙
+    (sym (now.found.1 ∙ ap (λ (xs : List (Finding ℕ)). now.found.0 ++ xs) (c.in_default.ensures.none_over.told c.args.expiry.now.within c.args.changed.now) ∙
     append-nil now.found.0)) now.found.2

@@ -11,7 +11,8 @@ abbrev pub invariant-loop-entry : goal.invariant-loop-entry
 invariant-loop-entry g l =
     record {
       found : (done : List (Finding ℕ)) ×
-          (told l.expiry.keep l.within l.expiry.moment l.changed l.fn.waiting ≡ done ++ told l.expiry.keep l.within l.expiry.moment l.changed l.waiting)
+          (told l.expiry.keep l.expiry.within l.expiry.moment l.changed l.fn.waiting
+          ≡ done ++ told l.expiry.keep l.expiry.within l.expiry.moment l.changed l.waiting)
           × Tells {T = Unit} {E = LineFault} g.F.Address.LineKey.family done l.fn.told l.told (output_of g.W.Write.contents l.fn.writer)
           (output_of g.W.Write.contents l.writer) (Ok tt);
       rest : settled l.expiry.keep l.expiry.moment l.fn.waiting ≡ settled l.expiry.keep l.expiry.moment l.waiting;

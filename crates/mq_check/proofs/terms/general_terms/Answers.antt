@@ -9,9 +9,7 @@ returns g c =
       g.met.F.CapturedFamily.same_family,
       c.response_said.ensures,
       c.response_interval.ensures,
-      c.robustness.ensures,
-      c.interval_said.ensures,
-      c.query_seconds.ensures,
+      c.in_force_terms.ensures,
       c.general_destination.ensures,
       c.is_faultless.ensures.family,
     ) refl

@@ -1,7 +1,5 @@
-use Rattle.std.proofs.Common.{length, ap, ◌∙◌, arith, refl}
+use Rattle.mq_convert.proofs.Common.{length, ap, ◌∙◌, arith, refl, le-ltb, name_of}
 use Rattle.std.specs.Int.{w128, from_be_bytes}
-use Rattle.std.proofs.lemmas.Bool.{le-ltb}
-use Rattle.mq_convert.specs.Interfaces.{name_of}
 use Rattle.mq_convert.proofs.Named.{filled_up}
 use Rattle.mq_convert.proofs.choice.name_of.Goals as goal
 

@@ -1,5 +1,4 @@
-use Rattle.std.proofs.Common.{sym, ◌∙◌}
-use Rattle.std.proofs.lemmas.Result.{err_from_is_err_and}
+use Rattle.mq_convert.proofs.Common.{sym, ◌∙◌, err_from_is_err_and}
 use Rattle.mq_convert.proofs.Converted.{flushed, not_flushed}
 use Rattle.mq_convert.proofs.converting.convert_by.Goals as goal
 

@@ -1,5 +1,4 @@
-use Rattle.std.proofs.Common.{sym}
-use Rattle.std.proofs.Math.Bool.{or-false}
+use Rattle.mq_convert.proofs.Common.{sym, or-false}
 use Rattle.mq_convert.proofs.Converted.{nothing_converted}
 use Rattle.mq_convert.proofs.converting.convert_in.Goals as goal
 

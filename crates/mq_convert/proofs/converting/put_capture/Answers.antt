@@ -1,9 +1,5 @@
-use Rattle.std.proofs.Common.{[], Ok, Err, ◌∙◌, arith, refl}
-use Rattle.std.proofs.lemmas.Result.{err_from_is_err_and}
-use Rattle.std.proofs.Math.Bool.{or-false}
+use Rattle.mq_convert.proofs.Common.{[], Ok, Err, ◌∙◌, arith, refl, err_from_is_err_and, or-false, nothing_passed, context_of}
 use Rattle.mq_text.specs.declared.printing.LineFault.{LineFault}
-use Rattle.mq_text.proofs.Passing.{nothing_passed}
-use Rattle.mq_convert.specs.Contexts.{context_of}
 use Rattle.mq_convert.proofs.SoFar.{nothing_read, ended_well, ended_faulty, ended_within, next_put, next_broken}
 use Rattle.mq_convert.proofs.WrittenEarly.{then_nothing}
 use Rattle.mq_convert.proofs.converting.put_capture.Goals as goal

@@ -1,11 +1,4 @@
-use Rattle.std.proofs.Common.{◌≡◌, ◌-◌, ◌≤◌, length}
-use Rattle.mq_count.specs.Streams.{inner_of, has_failed}
-use Rattle.mq_pcap.specs.Filling.{input_of}
-use Rattle.mq_text.specs.Printing.{Passes}
-use Rattle.mq_convert.specs.Contexts.{context_of}
-use Rattle.mq_convert.specs.Files.{endless}
-use Rattle.mq_convert.specs.Records.{written_of}
-use Rattle.mq_convert.specs.Sizes.{most_seen}
+use Rattle.mq_convert.proofs.Common.{◌≡◌, ◌-◌, ◌≤◌, length, inner_of, has_failed, input_of, Passes, context_of, endless, written_of, most_seen}
 use Rattle.mq_convert.proofs.SoFar.{IsReadTo}
 use Rattle.mq_convert.proofs.converting.put_capture.Given as goal
 

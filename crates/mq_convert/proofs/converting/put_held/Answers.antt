@@ -1,7 +1,4 @@
-use Rattle.std.proofs.Common.{◌≡◌, arith}
-use Rattle.std.proofs.lemmas.Result.{err_from_is_err_and}
-use Rattle.mq_text.proofs.Passing.{broken_within, then_put}
-use Rattle.mq_convert.specs.Records.{file_header}
+use Rattle.mq_convert.proofs.Common.{◌≡◌, arith, err_from_is_err_and, broken_within, then_put, file_header}
 use Rattle.mq_convert.proofs.converting.put_held.Goals as goal
 
 pub returns-in_err-put_file_header-clause-text : goal.returns-in_err-put_file_header-clause-text

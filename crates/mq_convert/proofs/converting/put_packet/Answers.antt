@@ -1,6 +1,4 @@
-use Rattle.std.proofs.Common.{subst}
-use Rattle.mq_convert.specs.Blocks.{captured_of}
-use Rattle.mq_convert.specs.Sieving.{Sifts}
+use Rattle.mq_convert.proofs.Common.{subst, captured_of, Sifts}
 use Rattle.mq_convert.proofs.Sieved.{counted_more, left_more}
 use Rattle.mq_convert.proofs.converting.put_packet.Goals as goal
 

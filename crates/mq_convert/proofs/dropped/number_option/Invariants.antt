@@ -1,6 +1,4 @@
-use Rattle.std.proofs.Common.{◌≡◌, length}
-use Rattle.mq_convert.specs.Dropped.{number_after, number_option}
-use Rattle.mq_convert.specs.Interfaces.{options_of}
+use Rattle.mq_convert.proofs.Common.{◌≡◌, length, number_after, number_option, options_of}
 use Rattle.mq_convert.proofs.dropped.number_option.Given as goal
 
 abbrev pub invariant-loop-found : goal.invariant-loop-found

@@ -1,7 +1,4 @@
-use Rattle.std.proofs.Common.{◌∙◌, ℕ, ap, arith}
-use Rattle.std.proofs.lemmas.Bool.Decides.{nat_tests}
-use Rattle.mq_count.specs.Streams.{counted_on}
-use Rattle.mq_pcap.specs.Filling.{Takes, input_of}
+use Rattle.mq_convert.proofs.Common.{◌∙◌, ℕ, ap, arith, nat_tests, counted_on, Takes, input_of}
 use Rattle.mq_convert.proofs.Filled.{filled_none, filled_more}
 use Rattle.mq_convert.proofs.filling.fill.Goals as goal
 

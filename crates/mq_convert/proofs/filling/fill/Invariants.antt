@@ -1,6 +1,5 @@
-use Rattle.std.proofs.Common.{◌-◌}
+use Rattle.mq_convert.proofs.Common.{◌-◌, input_of}
 use Rattle.mq_convert.proofs.Filled.{IsFilledFrom}
-use Rattle.mq_pcap.specs.Filling.{input_of}
 use Rattle.mq_convert.proofs.filling.fill.Given as goal
 
 abbrev pub invariant-loop-count : goal.invariant-loop-count

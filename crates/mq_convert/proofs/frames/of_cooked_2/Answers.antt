@@ -1,7 +1,4 @@
-use Rattle.std.proofs.Common.{length, refl}
-use Rattle.std.proofs.lemmas.Bool.{le-ltb}
-use Rattle.mq_pcap.proofs.Walk.{from_place}
-use Rattle.mq_convert.specs.Frames.{of_cooked_2}
+use Rattle.mq_convert.proofs.Common.{length, refl, le-ltb, from_place, of_cooked_2}
 use Rattle.mq_convert.proofs.frames.of_cooked_2.Goals as goal
 
 pub returns : goal.returns

@@ -1,5 +1,4 @@
-use Rattle.std.proofs.Common.{◌≡◌, length}
-use Rattle.mq_convert.specs.Interfaces.{interface_in, options_of, with_options}
+use Rattle.mq_convert.proofs.Common.{◌≡◌, length, interface_in, options_of, with_options}
 use Rattle.mq_convert.proofs.interfaces.interface_in.Given as goal
 
 abbrev pub invariant-loop-code : goal.invariant-loop-code

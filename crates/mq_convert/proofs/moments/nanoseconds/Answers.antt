@@ -1,5 +1,4 @@
-use Rattle.std.proofs.Common.{arith}
-use Rattle.std.proofs.Math.Nat.{one-le-pow}
+use Rattle.mq_convert.proofs.Common.{arith, one-le-pow}
 use Rattle.mq_convert.proofs.Powers.{far_below}
 use Rattle.mq_convert.proofs.moments.nanoseconds.Goals as goal
 

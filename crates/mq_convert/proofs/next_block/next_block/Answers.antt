@@ -1,6 +1,4 @@
-use Rattle.std.proofs.Common.{◌≡◌, ◌≤◌, true, arith, length}
-use Rattle.std.proofs.lemmas.Result.{err_from_is_err_and}
-use Rattle.mq_convert.specs.Sizes.{is_start, most_seen}
+use Rattle.mq_convert.proofs.Common.{◌≡◌, ◌≤◌, true, arith, length, err_from_is_err_and, is_start, most_seen}
 use Rattle.mq_convert.proofs.NextBlocks.{endless_next, head_cut, head_there, size_faulty, body_failed, body_cut, whole_next}
 use Rattle.mq_convert.proofs.next_block.next_block.Goals as goal
 use Rattle.mq_convert.proofs.next_block.next_block.Goals.{else-count-eq0-via-then-count-eq0+else-not-is_start, else-count-eq0-via-else-count-eq0}

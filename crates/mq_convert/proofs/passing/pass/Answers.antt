@@ -1,8 +1,4 @@
-use Rattle.std.proofs.Common.{◌∙◌, ◌+◌, ◌≤◌, ℕ, ap, arith}
-use Rattle.std.proofs.lemmas.Bool.Decides.{nat_tests}
-use Rattle.std.proofs.lemmas.List.{length-take}
-use Rattle.mq_count.specs.Streams.{counted_on}
-use Rattle.mq_pcap.specs.Filling.{Takes, input_of}
+use Rattle.mq_convert.proofs.Common.{◌∙◌, ◌+◌, ◌≤◌, ℕ, ap, arith, nat_tests, length-take, counted_on, Takes, input_of}
 use Rattle.mq_convert.proofs.Passed.{passed_more}
 use Rattle.mq_convert.proofs.passing.pass.Goals as goal
 

@@ -1,6 +1,5 @@
-use Rattle.std.proofs.Common.{◌-◌}
+use Rattle.mq_convert.proofs.Common.{◌-◌, input_of}
 use Rattle.mq_convert.proofs.Passed.{IsPassedFrom}
-use Rattle.mq_pcap.specs.Filling.{input_of}
 use Rattle.mq_convert.proofs.passing.pass.Given as goal
 
 abbrev pub invariant-loop-count : goal.invariant-loop-count

@@ -1,6 +1,4 @@
-use Rattle.std.proofs.Common.{[]}
-use Rattle.std.proofs.lemmas.Result.{err_from_is_err_and}
-use Rattle.mq_text.proofs.Passing.{broken_within}
+use Rattle.mq_convert.proofs.Common.{[], err_from_is_err_and, broken_within}
 use Rattle.mq_convert.proofs.Printed.{printed_behind}
 use Rattle.mq_convert.proofs.pieces.put_bytes.Goals as goal
 

@@ -1,10 +1,6 @@
-use Rattle.std.proofs.Common.{◌≡◌, ◌+◌, [], ◌++◌, length, take, arith, refl}
+use Rattle.mq_convert.proofs.Common.{◌≡◌, ◌+◌, [], ◌++◌, length, take, arith, refl, length-take-le, err_from_is_err_and, broken_within, framed, record_header}
+use Rattle.mq_convert.proofs.Common.{record_with}
 use Rattle.byteorder.specs.Endian.{big_bytes}
-use Rattle.std.proofs.lemmas.List.{length-take-le}
-use Rattle.std.proofs.lemmas.Result.{err_from_is_err_and}
-use Rattle.mq_text.proofs.Passing.{broken_within}
-use Rattle.mq_convert.specs.Frames.{framed}
-use Rattle.mq_convert.specs.Records.{record_header, record_with}
 use Rattle.mq_convert.proofs.Printed.{frame_put, head_put}
 use Rattle.mq_convert.proofs.records.put_frame.Goals as goal
 

@@ -1,5 +1,4 @@
-use Rattle.std.proofs.Common.{append_assoc}
-use Rattle.mq_convert.specs.Records.{record_header}
+use Rattle.mq_convert.proofs.Common.{append_assoc, record_header}
 use Rattle.mq_convert.proofs.records.put_header.Goals as goal
 
 pub returns-clause-text : goal.returns-clause-text

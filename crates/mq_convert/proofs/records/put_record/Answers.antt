@@ -1,5 +1,4 @@
-use Rattle.std.proofs.Common.{◌≡◌, true, arith}
-use Rattle.mq_convert.specs.Records.{record_of}
+use Rattle.mq_convert.proofs.Common.{◌≡◌, true, arith, record_of}
 use Rattle.mq_convert.proofs.records.put_record.Goals as goal
 
 pub returns-clause-text : goal.returns-clause-text

@@ -1,5 +1,4 @@
-use Rattle.std.proofs.Common.{arith}
-use Rattle.std.proofs.lemmas.Result.{err_from_is_err_and}
+use Rattle.mq_convert.proofs.Common.{arith, err_from_is_err_and}
 use Rattle.mq_convert.proofs.Seen.{first_there, middle_cut, middle_failed, middle_there, last_failed, last_filled}
 use Rattle.mq_convert.proofs.seeing.fill_long.Goals as goal
 

@@ -1,5 +1,4 @@
-use Rattle.std.proofs.Common.{sym, ◌∙◌, ◌≡◌, true, arith}
-use Rattle.mq_convert.specs.Frames.{is_tag}
+use Rattle.mq_convert.proofs.Common.{sym, ◌∙◌, ◌≡◌, true, arith, is_tag}
 use Rattle.mq_convert.proofs.TagWalk.{tag_off}
 use Rattle.mq_convert.proofs.tags.behind_tags.Goals as goal
 

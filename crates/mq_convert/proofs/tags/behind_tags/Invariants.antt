@@ -1,5 +1,4 @@
-use Rattle.std.proofs.Common.{◌≡◌, length}
-use Rattle.mq_convert.specs.Frames.{behind_tags}
+use Rattle.mq_convert.proofs.Common.{◌≡◌, length, behind_tags}
 use Rattle.mq_convert.proofs.tags.behind_tags.Given as goal
 
 abbrev pub invariant-loop-addresses : goal.invariant-loop-addresses

@@ -1,6 +1,4 @@
-use Rattle.std.proofs.Common.{◌≡◌, take}
-use Rattle.std.specs.List.{list_any}
-use Rattle.mq_convert.specs.Tallies.{is_of}
+use Rattle.mq_convert.proofs.Common.{◌≡◌, take, list_any, is_of}
 use Rattle.mq_convert.proofs.unread.has.Given as goal
 
 -- the test of the rows so far

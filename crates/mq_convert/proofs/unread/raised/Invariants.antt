@@ -1,7 +1,4 @@
-use Rattle.std.proofs.Common.{◌≡◌, take}
-use Rattle.std.specs.Prelude.{map}
-use Rattle.arrayvec.specs.ArrayVec.{array_vec_len}
-use Rattle.mq_convert.specs.Tallies.{raised}
+use Rattle.mq_convert.proofs.Common.{◌≡◌, take, map, array_vec_len, raised}
 use Rattle.mq_convert.proofs.unread.raised.Given as goal
 
 -- the rows so far

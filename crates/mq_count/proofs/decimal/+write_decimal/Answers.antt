@@ -1,5 +1,4 @@
-use Rattle.std.proofs.Common.{◌≡◌, ◌+◌, ◌/◌, ◌<◌, length, length-append, arith, ap, sym, ◌∙◌}
-use Rattle.std.proofs.lemmas.List.{take_more_set}
+use Rattle.mq_count.proofs.Common.{◌≡◌, ◌+◌, ◌/◌, ◌<◌, length, length-append, arith, ap, sym, ◌∙◌, take_more_set}
 use Rattle.std.proofs.lemmas.Fmt.{decimal_digit, decimal_step, length-decimal-le}
 use Rattle.std.specs.Fmt.{decimal}
 use Rattle.mq_count.proofs.decimal.+write_decimal.Goals as goal

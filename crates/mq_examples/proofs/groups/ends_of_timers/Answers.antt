@@ -1,7 +1,4 @@
-use Rattle.std.proofs.{Common.None, Common.arith, lemmas.Bool.Decides.nat_tests}
-use Rattle.std.specs.FinMap.{gets}
-use Rattle.mq_table.specs.declared.timers.SourceTimer.TheVariants.{Running}
-use Rattle.mq_table.proofs.{Maps.get-kept, Groups.same_group, Held.held_or_vacant-some, Held.held_or_vacant-none}
+use Rattle.mq_examples.proofs.Common.{None, arith, nat_tests, gets, Running, get-kept, same_group, held_or_vacant-some, held_or_vacant-none}
 use Rattle.mq_examples.proofs.groups.ends_of_timers.Goals as goal
 
 pub returns : goal.returns

@@ -1,6 +1,4 @@
-use Rattle.std.proofs.{Common.arith, lemmas.Bool.Decides.nat_tests}
-use Rattle.std.specs.{Cmp.nat_cmp_total, FinSet.members, FinSet.same_set, FinMap.gets, FinMap.nat_cmp-IsAntisymmetric}
-use Rattle.mq_table.proofs.Maps.{get-by_rule}
+use Rattle.mq_examples.proofs.Common.{arith, nat_tests, nat_cmp_total, members, same_set, gets, nat_cmp-IsAntisymmetric, get-by_rule}
 use Rattle.mq_examples.proofs.Leaving.{leaves}
 use Rattle.mq_examples.proofs.groups.first_records.Goals as goal
 

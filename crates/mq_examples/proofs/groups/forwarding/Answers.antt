@@ -1,5 +1,4 @@
-use Rattle.std.proofs.{Common.arith, lemmas.Bool.Decides.nat_tests}
-use Rattle.std.specs.FinMap.{gets}
+use Rattle.mq_examples.proofs.Common.{arith, nat_tests, gets}
 use Rattle.mq_examples.proofs.groups.forwarding.Goals as goal
 
 pub returns : goal.returns

@@ -1,6 +1,4 @@
-use Rattle.std.proofs.{Common.arith, Common.rules, lemmas.Bool.Decides.nat_tests}
-use Rattle.std.specs.{FinMap.gets, FinSet.members}
-use Rattle.mq_table.proofs.{Maps.get-by_rule, Groups.same_group}
+use Rattle.mq_examples.proofs.Common.{arith, rules, nat_tests, gets, members, get-by_rule, same_group}
 use Rattle.mq_examples.proofs.Leaving.{leaves}
 use Rattle.mq_examples.proofs.groups.older_hosts.Goals as goal
 

@@ -1,8 +1,5 @@
-use Rattle.std.proofs.{Common.◌∙◌, Common.[], Common.◌∷◌, Common.arith, lemmas.Bool.Decides.nat_tests}
-use Rattle.std.specs.{FinMap.gets, FinSet.members}
-use Rattle.mq_table.specs.{declared.timers.FilterMode.TheVariants.Include, Examples.default_timing, Examples.until}
-use Rattle.mq_examples.specs.Groups.{group_in, naming}
-use Rattle.mq_table.proofs.{Lower.timer_at-sources_lowered, Groups.same_group}
+use Rattle.mq_examples.proofs.Common.{◌∙◌, [], ◌∷◌, arith, nat_tests, gets, members, Include, default_timing, until, group_in, naming, same_group}
+use Rattle.mq_table.proofs.Lower.{timer_at-sources_lowered}
 use Rattle.std.specs.FinSet as set
 use Rattle.mq_examples.proofs.groups.queries_received.Goals as goal
 

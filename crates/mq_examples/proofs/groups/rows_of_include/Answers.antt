@@ -1,6 +1,4 @@
-use Rattle.std.proofs.{Common.arith, lemmas.Bool.Decides.nat_tests}
-use Rattle.std.specs.{FinMap.gets, FinSet.members}
-use Rattle.mq_table.proofs.Maps.{get-by_rule}
+use Rattle.mq_examples.proofs.Common.{arith, nat_tests, gets, members, get-by_rule}
 use Rattle.mq_examples.proofs.Leaving.{leaves}
 use Rattle.mq_examples.proofs.groups.rows_of_include.Goals as goal
 

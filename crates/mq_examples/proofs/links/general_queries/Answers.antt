@@ -1,4 +1,4 @@
-use Rattle.std.proofs.Common.{refl, rules}
+use Rattle.mq_examples.proofs.Common.{refl, rules}
 use Rattle.mq_examples.proofs.Worked.{ticks_to}
 use Rattle.mq_examples.proofs.links.general_queries.Goals as goal
 

@@ -1,4 +1,4 @@
-use Rattle.std.proofs.Common.{refl}
+use Rattle.mq_examples.proofs.Common.{refl}
 use Rattle.mq_examples.proofs.KnownMoments.{next_is}
 use Rattle.mq_examples.proofs.links.the_next_moment.Goals as goal
 

@@ -1,4 +1,4 @@
-use Rattle.std.proofs.Common.{refl}
+use Rattle.mq_examples.proofs.Common.{refl}
 use Rattle.mq_examples.proofs.KnownMoments.{forwards_so}
 use Rattle.mq_examples.proofs.links.what_is_forwarded.Goals as goal
 

@@ -1,12 +1,10 @@
-use Rattle.std.proofs.Common.{◌∷◌, [], None, Ok, refl, ap, ◌∙◌, take, drop, arith}
+use Rattle.mq_examples.proofs.Common.{◌∷◌, [], None, Ok, refl, ap, ◌∙◌, take, drop, arith, igmp, one_report, totals_of}
 use Rattle.mq_wire.specs.{Spelling.fault_of, Codes.code_of}
 use Rattle.mq_pcap.specs.{Capture.header_in, Capture.header_of, Frame.in_ethernet, Frame.in_ipv4, Frame.in_type}
 use Rattle.std.specs.Fmt.{digits}
 use Rattle.hex.specs.Hex.{encode_with}
-use Rattle.mq_replay.specs.Courses.{with_packets}
-use Rattle.mq_examples.specs.{Links.igmp, Replays.one_report, Replays.totals_of}
+use Rattle.mq_replay.specs.{Courses.with_packets, Ticks.ticked_within}
 use Rattle.mq_link.specs.Receive.{read_of}
-use Rattle.mq_replay.specs.Ticks.{ticked_within}
 use Rattle.mq_examples.proofs.{KnownReplays.report-known, Captures.the_form, Captures.the_packet}
 use Rattle.mq_examples.proofs.replays.a_report.Goals as goal
 

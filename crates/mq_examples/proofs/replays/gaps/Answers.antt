@@ -1,11 +1,9 @@
-use Rattle.std.proofs.Common.{◌∷◌, [], None, Some, Ok, refl, ap, ◌∙◌, take, drop, arith}
-use Rattle.mq_pcap.specs.{Capture.Captured, Capture.header_in, Capture.header_of, Frame.in_ethernet}
+use Rattle.mq_examples.proofs.Common.{◌∷◌, [], None, Some, Ok, refl, ap, ◌∙◌, take, drop, arith, Captured, igmp, two_packets, totals_of}
+use Rattle.mq_pcap.specs.{Capture.header_in, Capture.header_of, Frame.in_ethernet}
 use Rattle.std.specs.Fmt.{digits}
 use Rattle.hex.specs.Hex.{encode_with}
 use Rattle.mq_wire.specs.Codes.{code_of}
-use Rattle.mq_replay.specs.Courses.{with_packets}
-use Rattle.mq_examples.specs.{Links.igmp, Replays.two_packets, Replays.totals_of}
-use Rattle.mq_replay.specs.Ticks.{ticked_within}
+use Rattle.mq_replay.specs.{Courses.with_packets, Ticks.ticked_within}
 use Rattle.mq_examples.proofs.{Captures.the_form, KnownReplays.report-known}
 use Rattle.mq_examples.proofs.replays.gaps.Goals as goal
 

@@ -1,11 +1,9 @@
-use Rattle.std.proofs.Common.{[], None, Some, Ok, Err, refl, ap, ◌∙◌}
+use Rattle.mq_examples.proofs.Common.{[], None, Some, Ok, Err, refl, ap, ◌∙◌, igmp, totals_of}
 use Rattle.mq_pcap.specs.{declared.fault.PcapFault.TheVariants.CutHeader, Capture.header_in, Capture.header_of}
 use Rattle.std.specs.Fmt.{digits}
 use Rattle.hex.specs.Hex.{encode_with}
 use Rattle.mq_wire.specs.Codes.{code_of}
-use Rattle.mq_replay.specs.Courses.{with_packets}
-use Rattle.mq_examples.specs.{Links.igmp, Replays.totals_of}
-use Rattle.mq_replay.specs.Ticks.{ticked_within}
+use Rattle.mq_replay.specs.{Courses.with_packets, Ticks.ticked_within}
 use Rattle.mq_examples.proofs.{Captures.the_form, KnownReplays.report-known}
 use Rattle.mq_examples.proofs.replays.no_packets.Goals as goal
 

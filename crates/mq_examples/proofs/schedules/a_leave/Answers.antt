@@ -1,9 +1,5 @@
-use Rattle.std.proofs.{Common.true, Common.[], Common.refl, Common.arith, lemmas.Bool.Decides.nat_tests}
-use Rattle.std.specs.{FinMap.gets, FinSet.members}
-use Rattle.mq_table.specs.{declared.kind.Kind.TheVariants.ToIn, declared.timers.FilterMode.TheVariants.Exclude, Examples.default_timing, Table.change_of}
-use Rattle.mq_examples.specs.Groups.{heard_v2}
-use Rattle.mq_table.proofs.{Maps.get-by_rule, Maps.get-kept, Held.held_or_vacant-none, Groups.same_group}
-use Rattle.mq_sched.specs.Schedule.{no_schedule}
+use Rattle.mq_examples.proofs.Common.{true, [], refl, arith, nat_tests, gets, members, ToIn, Exclude, default_timing, change_of, heard_v2, get-by_rule}
+use Rattle.mq_examples.proofs.Common.{get-kept, held_or_vacant-none, same_group, no_schedule}
 use Rattle.mq_examples.proofs.Explicit.{change_sends}
 use Rattle.std.specs.FinSet as set
 use Rattle.mq_examples.proofs.schedules.a_leave.Goals as goal

@@ -1,6 +1,4 @@
-use Rattle.std.proofs.Common.{[], ◌∷◌, None, Some, refl}
-use Rattle.mq_table.specs.declared.timers.{FilterMode.TheVariants.Include, SourceTimer.TheVariants.Running}
-use Rattle.mq_examples.specs.Schedules.{refreshed}
+use Rattle.mq_examples.proofs.Common.{[], ◌∷◌, None, Some, refl, Include, Running, refreshed}
 use Rattle.mq_examples.proofs.Explicit.{known_sends}
 use Rattle.mq_examples.proofs.schedules.a_round_in_time_and_late.Goals as goal
 

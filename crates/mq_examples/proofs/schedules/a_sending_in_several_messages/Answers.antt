@@ -1,5 +1,4 @@
-use Rattle.std.proofs.Common.{[], ◌∷◌, None, Some, refl, ◌∙◌}
-use Rattle.mq_table.specs.{declared.timers.FilterMode.TheVariants.Include, declared.timers.SourceTimer.TheVariants.Running, Examples.default_timing}
+use Rattle.mq_examples.proofs.Common.{[], ◌∷◌, None, Some, refl, ◌∙◌, Include, Running, default_timing}
 use Rattle.mq_examples.proofs.Explicit.{sent-known}
 use Rattle.mq_examples.proofs.schedules.a_sending_in_several_messages.Goals as goal
 

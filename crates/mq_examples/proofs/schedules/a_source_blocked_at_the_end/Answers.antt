@@ -1,10 +1,5 @@
-use Rattle.std.proofs.{Common.false, Common.[], Common.◌∷◌, Common.refl, Common.arith, lemmas.Bool.Decides.nat_tests}
-use Rattle.std.specs.{FinMap.gets, FinSet.members}
-use Rattle.mq_table.specs.declared.{kind.Kind.TheVariants.Block, timers.FilterMode.TheVariants.Exclude}
-use Rattle.mq_table.specs.{Examples.default_timing, Examples.until, Table.change_of}
-use Rattle.mq_examples.specs.Groups.{group_in, naming}
-use Rattle.mq_table.proofs.{Maps.get-by_rule, Maps.get-kept, Held.held_or_vacant-none, Groups.same_group}
-use Rattle.mq_sched.specs.Schedule.{no_schedule}
+use Rattle.mq_examples.proofs.Common.{false, [], ◌∷◌, refl, arith, nat_tests, gets, members, Block, Exclude, default_timing, until, change_of, group_in, naming}
+use Rattle.mq_examples.proofs.Common.{get-by_rule, get-kept, held_or_vacant-none, same_group, no_schedule}
 use Rattle.mq_examples.proofs.Explicit.{change_sends}
 use Rattle.mq_examples.proofs.schedules.a_source_blocked_at_the_end.Goals as goal
 

@@ -1,10 +1,5 @@
-use Rattle.std.proofs.{Common.false, Common.[], Common.◌∷◌, Common.None, Common.refl, Common.arith, lemmas.Bool.Decides.nat_tests}
-use Rattle.std.specs.{FinMap.gets, FinSet.members}
-use Rattle.mq_table.specs.{declared.kind.Kind.TheVariants.Allow, declared.kind.Kind.TheVariants.Block, Examples.default_timing, Examples.until, Table.change_of}
-use Rattle.mq_table.specs.declared.timers.{FilterMode.TheVariants.Include, SourceTimer.TheVariants.Running}
-use Rattle.mq_examples.specs.{Groups.group_in, Groups.naming, Schedules.blocked, Schedules.refreshed}
-use Rattle.mq_table.proofs.{Maps.get-by_rule, Maps.get-kept, Held.held_or_vacant-some, Groups.same_group}
-use Rattle.mq_sched.specs.Schedule.{no_schedule}
+use Rattle.mq_examples.proofs.Common.{false, [], ◌∷◌, None, refl, arith, nat_tests, gets, members, Allow, Block, default_timing, until, change_of, Include}
+use Rattle.mq_examples.proofs.Common.{Running, group_in, naming, blocked, refreshed, get-by_rule, get-kept, held_or_vacant-some, same_group, no_schedule}
 use Rattle.mq_examples.proofs.Explicit.{change_leaves, change_sends, known_sends}
 use Rattle.mq_examples.proofs.schedules.a_source_refreshed.Goals as goal
 

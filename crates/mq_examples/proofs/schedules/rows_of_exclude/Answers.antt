@@ -1,10 +1,5 @@
-use Rattle.std.proofs.{Common.true, Common.false, Common.[], Common.◌∷◌, Common.refl, Common.arith, lemmas.Bool.Decides.nat_tests}
-use Rattle.std.specs.{FinMap.gets, FinSet.members}
-use Rattle.mq_table.specs.declared.kind.Kind.TheVariants.{IsIn, IsEx, ToIn, ToEx, Allow, Block}
-use Rattle.mq_table.specs.{declared.timers.FilterMode.TheVariants.Exclude, declared.timers.SourceTimer.TheVariants.Stopped, Examples.until}
-use Rattle.mq_examples.specs.Groups.{excluded, at_1000}
-use Rattle.mq_table.proofs.{Maps.get-by_rule, Groups.same_group}
-use Rattle.mq_sched.specs.Schedule.{no_schedule}
+use Rattle.mq_examples.proofs.Common.{true, false, [], ◌∷◌, refl, arith, nat_tests, gets, members, IsIn, IsEx, ToIn, ToEx, Allow, Block, Exclude, Stopped}
+use Rattle.mq_examples.proofs.Common.{until, excluded, at_1000, get-by_rule, same_group, no_schedule}
 use Rattle.mq_examples.proofs.Explicit.{change_sends}
 use Rattle.mq_examples.proofs.schedules.rows_of_exclude.Goals as goal
 

@@ -1,12 +1,6 @@
-use Rattle.std.proofs.{Common.false, Common.[], Common.◌∷◌, Common.refl, Common.ap, Common.◌∙◌, Common.arith, lemmas.Bool.Decides.nat_tests}
-use Rattle.std.specs.{FinMap.gets, FinSet.members}
-use Rattle.mq_table.specs.declared.kind.Kind.TheVariants.{IsEx, Block}
-use Rattle.mq_table.specs.declared.timers.FilterMode.TheVariants.{Include, Exclude}
-use Rattle.mq_table.specs.declared.timers.SourceTimer.TheVariants.{Stopped, Running}
-use Rattle.mq_table.specs.{Examples.default_timing, Examples.until, Table.change_of, Sendings.source_cleared}
-use Rattle.mq_examples.specs.{Groups.group_in, Groups.naming, Groups.included, Schedules.blocked}
-use Rattle.mq_table.proofs.{Maps.get-by_rule, Maps.keys-from_entries, Maps.kept-from_entries, Groups.same_group}
-use Rattle.mq_sched.specs.{Schedule.no_schedule, Sending.after_change}
+use Rattle.mq_examples.proofs.Common.{false, [], ◌∷◌, refl, ap, ◌∙◌, arith, nat_tests, gets, members, IsEx, Block, Include, Exclude, Stopped, Running}
+use Rattle.mq_examples.proofs.Common.{default_timing, until, change_of, source_cleared, group_in, naming, included, blocked, get-by_rule, keys-from_entries}
+use Rattle.mq_examples.proofs.Common.{kept-from_entries, same_group, no_schedule, after_change}
 use Rattle.mq_examples.proofs.Explicit.{change_is, change_leaves}
 use Rattle.mq_examples.proofs.schedules.what_is_dropped.Goals as goal
 

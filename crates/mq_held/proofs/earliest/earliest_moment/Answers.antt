@@ -1,17 +1,8 @@
-use Rattle.std.proofs.Common.{◌∙◌, sym, ap}
-use Rattle.std.specs.Prelude.{is_some}
-use Rattle.std.proofs.Common.{◌++◌, ◌∷◌, [], arith, length}
-use Rattle.std.specs.List.{flat_map}
-use Rattle.std.specs.Option.{option_to_list}
-use Rattle.std.specs.Prelude.{Some}
+use Rattle.mq_held.proofs.Common.{◌∙◌, sym, ap, ◌++◌, ◌∷◌, [], arith, length, flat_map, option_to_list, Spends-join_within, deadline_of, group_deadline}
+use Rattle.mq_held.proofs.Common.{group_due, those_of, timer_moments}
+use Rattle.std.specs.Prelude.{is_some, Some}
 use Rattle.std.specs.FinMap as map
-use Rattle.mq_count.proofs.Spent.{Spends-join_within}
-use Rattle.mq_table.specs.Group.{deadline_of, group_deadline}
-use Rattle.mq_sched.specs.Sending.{group_due}
-use Rattle.mq_held.specs.Moments.{those_of}
-use Rattle.mq_held.specs.Stored.{timer_moments}
-use Rattle.mq_held.proofs.HeldMoments.{deadlines-row, earliest-group, held-moment}
-use Rattle.mq_held.proofs.MomentCounts.{compared-both}
+use Rattle.mq_held.proofs.{HeldMoments.deadlines-row, HeldMoments.earliest-group, HeldMoments.held-moment, MomentCounts.compared-both}
 use Rattle.mq_held.proofs.earliest.earliest_moment.Goals as goal
 
 pub unwrap-requires : goal.unwrap-requires

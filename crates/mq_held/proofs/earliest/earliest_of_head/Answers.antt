@@ -1,9 +1,5 @@
-use Rattle.mq_table.specs.Group.{group_deadline}
-use Rattle.mq_sched.specs.Sending.{group_due}
-use Rattle.std.proofs.Common.{arith}
-use Rattle.mq_count.proofs.Spent.{Spends-join, Spends-within}
-use Rattle.mq_held.proofs.HeldMoments.{earliest-five}
-use Rattle.mq_held.proofs.MomentCounts.{compared-five}
+use Rattle.mq_held.proofs.Common.{group_deadline, group_due, arith, Spends-join, Spends-within}
+use Rattle.mq_held.proofs.{HeldMoments.earliest-five, MomentCounts.compared-five}
 use Rattle.mq_held.proofs.earliest.earliest_of_head.Goals as goal
 
 pub returns-clause-earliest : goal.returns-clause-earliest

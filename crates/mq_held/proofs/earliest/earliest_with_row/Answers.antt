@@ -1,15 +1,8 @@
 use Rattle.std.proofs.Common.{ℕ, ◌-◌, ◌≤◌, ◌≡◌, ◌++◌, length, length-drop, take, drop, Option, Some, sym, ap, ◌∙◌, arith, append_assoc}
-use Rattle.std.specs.List.{flat_map}
-use Rattle.std.specs.Option.{option_to_list}
-use Rattle.std.proofs.lemmas.List.{length-take, take_all, take-append-drop}
-use Rattle.std.proofs.lemmas.List.Concat.{flat_map-append}
+use Rattle.mq_held.proofs.Common.{flat_map, option_to_list, length-take, take_all, take-append-drop, flat_map-append, Spends-none, Spends-within, deadline_of}
+use Rattle.mq_held.proofs.Common.{Source, earliest_of, timer_moments, false≢true, common_steps}
 use Rattle.mq_count.specs.Timed.{least, moments_by}
-use Rattle.mq_count.proofs.Spent.{Spends-none, Spends-within}
 use Rattle.mq_count.proofs.TimedMoments.{moments-few}
-use Rattle.mq_table.specs.Group.{deadline_of}
-use Rattle.mq_table.specs.declared.sources.Source.{Source}
-use Rattle.mq_held.specs.Stored.{earliest_of, timer_moments}
-use Rattle.std.proofs.lemmas.Bool.{false≢true}
 use Rattle.std.specs.Prelude.{is_some, not}
 use Rattle.mq_held.proofs.earliest.earliest_with_row.Given.{Over}
 use Rattle.mq_held.proofs.earliest.earliest_with_row.Goals as goal
@@ -69,3 +62,6 @@ returns-in-None-clause-compared g c =
     ∙ ap (λ o. length (option_to_list o)) c.in-None.is in
     let fewer : length (option_to_list c.args.first ++ flat_map timer_moments c.args.row.now) - 1 ≡ 0 = omega (arith, none) in
     rw fewer (Spends-none c.args.m.now)
+
+pub loop-start-preserved : goal.loop-start-preserved
+loop-start-preserved g c = grind (arith, common_steps)

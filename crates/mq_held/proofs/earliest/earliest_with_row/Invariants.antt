@@ -1,7 +1,4 @@
-use Rattle.std.proofs.Common.{◌≡◌, ◌≤◌, ◌-◌, ◌++◌, length, take}
-use Rattle.std.specs.List.{flat_map}
-use Rattle.std.specs.Option.{option_to_list}
-use Rattle.mq_held.specs.Stored.{timer_moments}
+use Rattle.mq_held.proofs.Common.{◌≡◌, ◌≤◌, ◌-◌, ◌++◌, length, take, flat_map, option_to_list, timer_moments}
 use Rattle.mq_held.proofs.earliest.earliest_with_row.Given as goal
 
 -- the one moment of those so far, if there is one

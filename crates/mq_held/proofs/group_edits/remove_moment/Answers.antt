@@ -1,5 +1,4 @@
-use Rattle.std.proofs.Common.{◌∙◌, sym, ap}
-use Rattle.mq_sched.specs.Deadlines.{DeadlinesState}
+use Rattle.mq_held.proofs.Common.{◌∙◌, sym, ap, DeadlinesState}
 use Rattle.mq_held.proofs.StoredMoments.{remove-absent}
 use Rattle.mq_held.proofs.group_edits.remove_moment.Goals as goal
 

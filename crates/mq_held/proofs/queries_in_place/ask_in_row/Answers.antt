@@ -1,8 +1,4 @@
-use Rattle.std.proofs.Common.{◌≡◌, ◌∙◌, true, [], ap, sym, get_or, set}
-use Rattle.mq_sets.specs.Pools.{PoolState}
-use Rattle.mq_table.specs.Group.{deadline_of, is_ahead}
-use Rattle.mq_table.specs.Stored.{number_in}
-use Rattle.mq_table.proofs.AskingOne.{asked_found}
+use Rattle.mq_held.proofs.Common.{◌≡◌, ◌∙◌, true, [], ap, sym, get_or, set, PoolState, deadline_of, is_ahead, number_in, asked_found}
 use Rattle.mq_held.proofs.queries_in_place.ask_in_row.Goals as goal
 
 pub returns-clause-rows : goal.returns-clause-rows

@@ -1,14 +1,6 @@
-use Rattle.std.proofs.Common.{ℕ, ◌≡◌, ◌||◌, ◌+◌, ◌<◌, ◌∙◌, cond, [], Option, Some, length, set, get_or, take, drop, refl, ap, sym, arith}
-use Rattle.std.specs.List.{list_any}
-use Rattle.std.proofs.lemmas.Bool.{cond-false, cond-true}
-use Rattle.std.proofs.lemmas.List.Sums.{sum_by_more}
-use Rattle.std.proofs.lemmas.List.{get_or-set_same, length-set, set-get_or, set-set}
-use Rattle.mq_count.proofs.Spent.{Spends-join_within, Spends-none, Spends-within}
-use Rattle.mq_sets.specs.Pools.{PoolState}
-use Rattle.mq_table.specs.declared.sources.Source.{Source}
-use Rattle.mq_table.specs.MadeSources.{item_counted}
-use Rattle.mq_table.specs.SendingPlaces.{item_has_sendings}
-use Rattle.mq_table.proofs.Asking.{all_asked, some_asked}
+use Rattle.mq_held.proofs.Common.{ℕ, ◌≡◌, ◌||◌, ◌+◌, ◌<◌, ◌∙◌, cond, [], Option, Some, length, set, get_or, take, drop, refl, ap, sym, arith, list_any}
+use Rattle.mq_held.proofs.Common.{cond-false, cond-true, sum_by_more, get_or-set_same, length-set, set-get_or, set-set, Spends-join_within, Spends-none}
+use Rattle.mq_held.proofs.Common.{Spends-within, PoolState, Source, item_counted, item_has_sendings, all_asked, some_asked}
 use Rattle.mq_table.proofs.MadeLists.{passed_some, rest_after_some}
 use Rattle.mq_table.proofs.Places.{any_with_set, any_without, uncounted_all, uncounted_made, uncounted_stays}
 use Rattle.mq_held.proofs.CountedRows.{count-before, count-none_of_any, same-behind}

@@ -1,8 +1,4 @@
-use Rattle.std.proofs.Common.{◌≡◌, [], Some, length, take, drop, get_or, set}
-use Rattle.std.specs.List.{count_by, filter_map, list_any}
-use Rattle.mq_count.specs.Spending.{Spends}
-use Rattle.mq_table.specs.MadeSources.{item_counted}
-use Rattle.mq_table.specs.SendingPlaces.{item_has_sendings}
+use Rattle.mq_held.proofs.Common.{◌≡◌, [], Some, length, take, drop, get_or, set, count_by, filter_map, list_any, Spends, item_counted, item_has_sendings}
 use Rattle.mq_held.proofs.queries_in_place.count_in_row.Given as goal
 
 -- the passed places have the results of their sources; the rest, and the other rows, are unchanged

@@ -1,10 +1,7 @@
-use Rattle.std.proofs.Common.{◌≡◌, ◌<◌, get_or, sym, ap, ◌∙◌, arith}
-use Rattle.std.specs.Cmp.{ranked}
+use Rattle.mq_held.proofs.Common.{◌≡◌, ◌<◌, get_or, sym, ap, ◌∙◌, arith, ranked, Less, Equal, Greater, Spends-join_within, Spends-within, number_in}
 use Rattle.std.specs.Result.{is_ok}
-use Rattle.std.specs.declared.cmp.Ordering.TheVariants.{Less, Equal, Greater}
-use Rattle.mq_count.proofs.Spent.{Spends-join_within, Spends-within}
-use Rattle.mq_table.specs.Stored.{number_in}
 use Rattle.mq_held.proofs.NamedWalks.{IsWalked-first, IsWalked-met, IsWalked-passed, first-absent, some_item, walked-absent, walked-behind}
+use Rattle.std.proofs.lemmas.Grind.{common_steps}
 use Rattle.mq_held.proofs.several_in_place.has_each.Goals as goal
 use Rattle.mq_held.proofs.several_in_place.has_each.Goals.{in-Less, in-Equal}
 
@@ -69,3 +66,6 @@ loop-next-init g c =
           c.index-named-0.is c.requires.some inside (c.in-Ok.ensures.found x);
       spent = Spends-within _ _ c.find.ensures.spent (omega (arith, inside)) (omega arith);
     }
+
+pub returns-clause-all : goal.returns-clause-all
+returns-clause-all g c = grind (arith, common_steps)

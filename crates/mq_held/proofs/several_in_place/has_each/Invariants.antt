@@ -1,7 +1,4 @@
-use Rattle.std.proofs.Common.{length, ◌+◌, ◌-◌}
-use Rattle.mq_sets.specs.Search.{bitlen}
-use Rattle.mq_count.specs.Spending.{Spends}
-use Rattle.mq_table.specs.Stored.{number_in}
+use Rattle.mq_held.proofs.Common.{length, ◌+◌, ◌-◌, bitlen, Spends, number_in}
 use Rattle.mq_held.proofs.NamedWalks.{IsWalked}
 use Rattle.mq_held.proofs.several_in_place.has_each.Given as goal
 

@@ -1,9 +1,4 @@
-use Rattle.std.proofs.Common.{◌≡◌, ◌+◌, ◌<◌, ◌≤◌, get_or, sym, ap, ◌∙◌, arith, ⊎_elim}
-use Rattle.std.proofs.lemmas.Bool.{cases_lt}
-use Rattle.std.specs.Cmp.{ranked}
-use Rattle.std.specs.declared.cmp.Ordering.TheVariants.{Less, Greater}
-use Rattle.mq_count.proofs.Spent.{Spends-join_within}
-use Rattle.mq_table.specs.Stored.{number_in}
+use Rattle.mq_held.proofs.Common.{◌≡◌, ◌+◌, ◌<◌, ◌≤◌, get_or, sym, ap, ◌∙◌, arith, ⊎_elim, cases_lt, ranked, Less, Greater, Spends-join_within, number_in}
 use Rattle.mq_held.proofs.several_in_place.place_from.Goals as goal
 
 pub loop-place-preserved : goal.loop-place-preserved

@@ -1,7 +1,4 @@
-use Rattle.std.proofs.Common.{◌≤◌, length, ◌-◌}
-use Rattle.mq_count.specs.Spending.{Spends}
-use Rattle.mq_table.specs.Stored.{number_in}
-use Rattle.mq_held.specs.Restarted.{StandsFrom}
+use Rattle.mq_held.proofs.Common.{◌≤◌, length, ◌-◌, Spends, number_in, StandsFrom}
 use Rattle.mq_held.proofs.several_in_place.place_from.Given as goal
 
 -- the source stands at the place or after

@@ -1,14 +1,7 @@
-use Rattle.std.proofs.Common.{rules, ◌≡◌, ◌<◌, [], cond, ltb, length, List, get_or, set, min, Some, sym, ap, ◌∙◌, subst, arith}
-use Rattle.std.proofs.lemmas.List.{get_or-set_same, get_or_default, length-set, set-set}
-use Rattle.mq_count.proofs.Spent.{Spends-join, Spends-join_within}
-use Rattle.mq_sets.specs.Pools.{PoolState}
-use Rattle.mq_sets.proofs.OneCell.{set-same}
-use Rattle.mq_table.specs.declared.sources.Source.{Source}
-use Rattle.mq_table.specs.Stored.{number_in}
-use Rattle.mq_held.specs.Restarted.{StandsFrom}
-use Rattle.mq_held.proofs.Located.{placed}
-use Rattle.mq_held.proofs.RestartedRows.{IsNext, IsRestarted-more, IsRestarted-none, next-stands}
-use Rattle.mq_held.proofs.RestartedTimers.{SourceRestarted}
+use Rattle.mq_held.proofs.Common.{rules, ◌≡◌, ◌<◌, [], cond, ltb, length, List, get_or, set, min, Some, sym, ap, ◌∙◌, subst, arith, get_or-set_same}
+use Rattle.mq_held.proofs.Common.{get_or_default, length-set, set-set, Spends-join, Spends-join_within, PoolState, set-same, Source, number_in, StandsFrom}
+use Rattle.mq_held.proofs.{Located.placed, RestartedRows.IsNext, RestartedRows.IsRestarted-more, RestartedRows.IsRestarted-none, RestartedRows.next-stands}
+use Rattle.mq_held.proofs.{RestartedTimers.SourceRestarted}
 use Rattle.mq_held.proofs.several_in_place.restart_row.Given.{Over}
 use Rattle.mq_held.proofs.several_in_place.restart_row.Goals as goal
 use Rattle.mq_held.proofs.several_in_place.restart_row.Goals.{After-row}

@@ -1,5 +1,4 @@
-use Rattle.std.proofs.Common.{◌≡◌, ◌+◌, [], get_or, set}
-use Rattle.mq_count.specs.Spending.{Spends}
+use Rattle.mq_held.proofs.Common.{◌≡◌, ◌+◌, [], get_or, set, Spends}
 use Rattle.mq_held.proofs.RestartedRows.{IsRestarted}
 use Rattle.mq_held.proofs.several_in_place.restart_row.Given as goal
 

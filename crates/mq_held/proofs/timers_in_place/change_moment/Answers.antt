@@ -1,5 +1,4 @@
-use Rattle.std.proofs.Common.{sym, ap}
-use Rattle.mq_sched.specs.Deadlines.{DeadlinesState}
+use Rattle.mq_held.proofs.Common.{sym, ap, DeadlinesState}
 use Rattle.mq_held.proofs.RestartedTimers.{insert-same}
 use Rattle.mq_held.proofs.timers_in_place.change_moment.Goals as goal
 

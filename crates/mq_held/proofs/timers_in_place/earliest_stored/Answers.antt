@@ -1,15 +1,7 @@
-use Rattle.std.proofs.Common.{◌∙◌, refl, sym, ap}
+use Rattle.mq_held.proofs.Common.{◌∙◌, refl, sym, ap, group_of, ◌++◌, ◌∷◌, [], arith, length, flat_map, Spends-join_within, group_deadline, group_due, those_of}
+use Rattle.mq_held.proofs.Common.{timer_moments}
 use Rattle.std.specs.Prelude.{is_some}
-use Rattle.mq_held.specs.Stored.{group_of}
-use Rattle.std.proofs.Common.{◌++◌, ◌∷◌, [], arith, length}
-use Rattle.std.specs.List.{flat_map}
-use Rattle.mq_count.proofs.Spent.{Spends-join_within}
-use Rattle.mq_table.specs.Group.{group_deadline}
-use Rattle.mq_sched.specs.Sending.{group_due}
-use Rattle.mq_held.specs.Moments.{those_of}
-use Rattle.mq_held.specs.Stored.{timer_moments}
-use Rattle.mq_held.proofs.HeldMoments.{deadlines-row, earliest-group, held-moment}
-use Rattle.mq_held.proofs.MomentCounts.{compared-both}
+use Rattle.mq_held.proofs.{HeldMoments.deadlines-row, HeldMoments.earliest-group, HeldMoments.held-moment, MomentCounts.compared-both}
 use Rattle.mq_held.proofs.timers_in_place.earliest_stored.Goals as goal
 
 pub unwrap-requires : goal.unwrap-requires

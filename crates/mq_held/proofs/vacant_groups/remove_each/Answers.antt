@@ -1,11 +1,5 @@
-use Rattle.std.proofs.Common.{ℕ, ◌≡◌, ◌+◌, ◌*◌, ◌/◌, not, refl, length, get_or, take, sym, ap, ◌∙◌, arith}
-use Rattle.std.specs.Prelude.{filter}
-use Rattle.std.proofs.lemmas.List.{get_or_default, take_all}
-use Rattle.mq_count.proofs.Spent.{Spends-none, Spends-within, Spends-join_within}
-use Rattle.mq_sets.specs.NumberedKeys.{NumberedKey}
-use Rattle.mq_sets.specs.Search.{bitlen}
-use Rattle.mq_sets.proofs.Ascents.{filter-all}
-use Rattle.mq_sets.proofs.Bitlen.{bitlen-mono}
+use Rattle.mq_held.proofs.Common.{ℕ, ◌≡◌, ◌+◌, ◌*◌, ◌/◌, not, refl, length, get_or, take, sym, ap, ◌∙◌, arith, filter, get_or_default, take_all, Spends-none}
+use Rattle.mq_held.proofs.Common.{Spends-within, Spends-join_within, NumberedKey, bitlen, filter-all, bitlen-mono}
 use Rattle.mq_held.proofs.TakenItems.{is_among, left-more, still-there, without-is, length-left}
 use Rattle.mq_held.proofs.vacant_groups.remove_each.Goals as goal
 

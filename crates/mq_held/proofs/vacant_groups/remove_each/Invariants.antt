@@ -1,8 +1,4 @@
-use Rattle.std.proofs.Common.{◌≡◌, ◌+◌, ◌*◌, ◌/◌, not, take, length}
-use Rattle.std.specs.Prelude.{filter}
-use Rattle.mq_count.specs.Spending.{Spends}
-use Rattle.mq_sets.specs.Ascending.{set_of}
-use Rattle.mq_sets.specs.Search.{bitlen}
+use Rattle.mq_held.proofs.Common.{◌≡◌, ◌+◌, ◌*◌, ◌/◌, not, take, length, filter, Spends, set_of, bitlen}
 use Rattle.mq_held.proofs.vacant_groups.remove_each.Given as goal
 
 abbrev pub invariant-loop-number : goal.invariant-loop-number

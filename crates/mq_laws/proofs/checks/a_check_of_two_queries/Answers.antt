@@ -1,17 +1,10 @@
 -- computed, but for the thing that is asked about
-use Rattle.std.proofs.Common.{◌≡◌, ℕ, Bool, true, false, List, [], ◌∷◌, refl, arith}
-use Rattle.std.specs.Prelude.{map as list_map}
-use Rattle.mq_check.specs.declared.asked.Asked.{Asked}
-use Rattle.mq_check.specs.declared.asked.Asked.TheVariants.{AllGroups, Group, Source}
+use Rattle.mq_laws.proofs.Common.{◌≡◌, ℕ, Bool, true, false, List, [], ◌∷◌, refl, arith, list_map, Asked, AllGroups, Group, Source, is_same, AreSeen}
+use Rattle.mq_laws.proofs.Common.{CheckEvent, all_seen_in, Ask, AreMoved, PairUp, kept_for, seen_about, unnumbered, wanted_about}
 use Rattle.mq_check.specs.Checking.{role_lost, role_returned, with_general, with_seen, with_wanted}
-use Rattle.mq_check.specs.Queries.{is_same}
-use Rattle.mq_check.specs.Schedules.{schedules_blocked, schedules_seen, schedules_wanted}
+use Rattle.mq_check.specs.Schedules.{schedules_seen, schedules_wanted, with_cause, without_next}
 use Rattle.mq_check.specs.Waiting.{all_excused, settled, with_entry, with_partner}
-use Rattle.mq_laws.specs.AsWanted.{AreSeen}
-use Rattle.mq_laws.specs.Events.{CheckEvent}
-use Rattle.mq_laws.specs.WantedAndSeen.{all_seen_in}
-use Rattle.mq_laws.specs.CheckExamples.{all_answered, example_expected, example_timing, first_ask, last_ask, one_left_out, second_ask}
-use Rattle.mq_laws.specs.Pairing.{Ask, AreMoved, PairUp, kept_for, seen_about, unnumbered, wanted_about}
+use Rattle.mq_laws.specs.CheckExamples.{all_answered, began, example_expected, example_timing, first_ask, last_ask, one_left_out, second_ask}
 use Rattle.mq_laws.proofs.checks.a_check_of_two_queries.Goals as goal
 
 -- queries about a group are about the group 5 or another
@@ -24,7 +17,7 @@ by_group X here other group = elim (is_same (Group group) (Group 5)) as (λ (b :
 ] refl
 
 abbrev Pairs : Asked ℕ → Type 0
-Pairs asked = PairUp 100 (kept_for 100 example_timing false) (wanted_about asked example_expected) (seen_about asked (all_seen_in 100 (one_left_out 100)))
+Pairs asked = PairUp 100 (kept_for 100 example_timing began) (wanted_about asked example_expected) (seen_about asked (all_seen_in 100 (one_left_out 100)))
 
 pairs_of : (asked : Asked ℕ) → Pairs asked
 pairs_of AllGroups = (record { not_late = omega arith; not_early = omega arith; alike = refl }, tt)
@@ -59,18 +52,18 @@ moved_of (Group group) = by_group Moved
 moved_of (Source group source) = tt
 
 pub returns-clause-as_wanted : goal.returns-clause-as_wanted
-unfolding all_excused settled with_entry with_partner with_general with_seen with_wanted schedules_blocked schedules_seen schedules_wanted role_lost
-    role_returned
+unfolding all_excused settled with_entry with_partner with_general with_seen with_wanted schedules_seen schedules_wanted role_lost
+    role_returned with_cause without_next
 returns-clause-as_wanted c = record {
   on_time = (refl, refl, (refl, (refl, refl, refl)));
   wanted = refl;
   pairs = pairs_of;
-  missed = (record { has_to_be_sent = tt; over = omega arith }, tt);
+  missed = (record { has_to_be_sent = tt; over = omega arith; is_strict = refl }, tt);
 }
 
 pub returns-clause-late : goal.returns-clause-late
-unfolding all_excused settled with_entry with_partner with_general with_seen with_wanted schedules_blocked schedules_seen schedules_wanted role_lost
-    role_returned
+unfolding all_excused settled with_entry with_partner with_general with_seen with_wanted schedules_seen schedules_wanted role_lost
+    role_returned with_cause without_next
 returns-clause-late c = record {
   in_order = (omega arith, (omega arith, (omega arith, (omega arith, (omega arith, (omega arith, (omega arith, (omega arith, omega arith))))))));
   on_time = (refl, refl, (refl, (refl, refl, refl)));
@@ -79,14 +72,14 @@ returns-clause-late c = record {
 }
 
 pub returns-clause-taken_out : goal.returns-clause-taken_out
-returns-clause-taken_out c = (record { has_to_be_sent = tt; over = omega arith }, tt, tt)
+returns-clause-taken_out c = (record { has_to_be_sent = tt; over = omega arith; is_strict = refl }, tt, tt)
 
 pub returns-clause-others_seen : goal.returns-clause-others_seen
 returns-clause-others_seen c = others_seen_of
 
 pub returns-clause-others_on_time : goal.returns-clause-others_on_time
-unfolding all_excused settled with_entry with_partner with_general with_seen with_wanted schedules_blocked schedules_seen schedules_wanted role_lost
-    role_returned
+unfolding all_excused settled with_entry with_partner with_general with_seen with_wanted schedules_seen schedules_wanted role_lost
+    role_returned with_cause without_next
 returns-clause-others_on_time c = record {
   in_order = (omega arith, (omega arith, (omega arith, (omega arith, (omega arith, (omega arith, (omega arith, (omega arith, omega arith))))))));
   on_time = (refl, refl, (refl, (refl, refl, refl)));
@@ -98,8 +91,8 @@ pub returns-clause-all_seen : goal.returns-clause-all_seen
 returns-clause-all_seen c = all_seen_of
 
 pub returns-clause-all_on_time : goal.returns-clause-all_on_time
-unfolding all_excused settled with_entry with_partner with_general with_seen with_wanted schedules_blocked schedules_seen schedules_wanted role_lost
-    role_returned
+unfolding all_excused settled with_entry with_partner with_general with_seen with_wanted schedules_seen schedules_wanted role_lost
+    role_returned with_cause without_next
 returns-clause-all_on_time c = record {
   in_order = (omega arith, (omega arith, (omega arith, (omega arith, (omega arith, (omega arith, (omega arith, (omega arith, (omega arith, omega arith)))))))));
   on_time = (refl, refl, (refl, (refl, refl, refl)));
@@ -111,8 +104,8 @@ pub returns-clause-all_moved : goal.returns-clause-all_moved
 returns-clause-all_moved c = moved_of
 
 pub returns-clause-all_late : goal.returns-clause-all_late
-unfolding all_excused settled with_entry with_partner with_general with_seen with_wanted schedules_blocked schedules_seen schedules_wanted role_lost
-    role_returned
+unfolding all_excused settled with_entry with_partner with_general with_seen with_wanted schedules_seen schedules_wanted role_lost
+    role_returned with_cause without_next
 returns-clause-all_late c = record {
   in_order = (omega arith, (omega arith, (omega arith, (omega arith, (omega arith, (omega arith, (omega arith, (omega arith, (omega arith, omega arith)))))))));
   on_time = (refl, refl, (refl, (refl, refl, refl)));

@@ -1,13 +1,9 @@
 -- what the tests of intervals say
-use Rattle.std.proofs.Common.{◌≡◌, ℕ, ◌+◌, ◌-◌, ◌≤◌, not, Bool, true, false, None, refl, ap}
-use Rattle.std.specs.Prelude.{nat_lt}
-use Rattle.std.proofs.lemmas.Bool.{and_from, and_parts, le-leb, le-ltb, leb-true, lt-ltb, ltb-false, ltb-true, or_cases, or_left, or_right}
+use Rattle.mq_laws.proofs.Common.{◌≡◌, ℕ, ◌+◌, ◌-◌, ◌≤◌, not, Bool, true, false, None, refl, ap, nat_lt, and_from, and_parts, le-leb, le-ltb, leb-true, lt-ltb}
+use Rattle.mq_laws.proofs.Common.{ltb-false, ltb-true, or_cases, or_left, or_right, Timing, query_interval, startup_interval, is_within, is_interval}
+use Rattle.mq_laws.proofs.Common.{is_of_start, unless, IsClose, IsWantedInterval}
 use mathlib.Core.Logic.{inl, inr}
-use Rattle.mq_table.specs.declared.timing.Timing.{Timing}
-use Rattle.mq_table.specs.Timing.{query_interval, startup_interval}
-use Rattle.mq_check.specs.Entries.{is_within}
-use Rattle.mq_check.specs.General.{is_interval, is_late, is_of_start, unless}
-use Rattle.mq_laws.specs.OnTime.{IsClose, IsWantedInterval}
+use Rattle.mq_check.specs.General.{is_late}
 use Rattle.mq_laws.proofs.checks.general_queries_are_on_time_at_these_intervals.Goals as goal
 
 close : (within a b : ℕ) → is_within within a b ≡ true → IsClose within a b

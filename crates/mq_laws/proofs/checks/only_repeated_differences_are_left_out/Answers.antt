@@ -1,14 +1,12 @@
-use Rattle.std.proofs.Common.{◌≡◌, ℕ, ◌&&◌, Bool, true, false, List, [], ◌∷◌, refl, ap, sym, ◌∙◌}
-use Rattle.std.proofs.lemmas.Bool.{and_from, eq-eqb}
-use Rattle.mq_check.specs.declared.asked.Asked.{Asked}
-use Rattle.mq_check.specs.declared.asked.Asked.TheVariants.{AllGroups, Group, Source}
+use Rattle.mq_laws.proofs.Common.{◌≡◌, ℕ, ◌&&◌, Bool, true, false, List, [], ◌∷◌, refl, ap, sym, ◌∙◌, and_from, eq-eqb, AllGroups, Group, Source, Finding}
+use Rattle.mq_laws.proofs.Common.{Missing, PossiblyMissing, PossiblyExtra, Differs, all_reported, has_values, is_left_out, no_differences, repeats, reported}
+use Rattle.mq_laws.proofs.Common.{with_finding, with_values}
 use Rattle.mq_check.specs.declared.finding.Difference.{Difference}
 use Rattle.mq_check.specs.declared.finding.Difference.TheVariants.{Version, Response, Suppress, Robustness, QueryInterval, Destination}
-use Rattle.mq_check.specs.declared.finding.Finding.{Finding}
-use Rattle.mq_check.specs.declared.finding.Finding.TheVariants.{Missing, Extra, Differs, Interval, Silence, Packet}
+use Rattle.mq_check.specs.declared.finding.Finding.TheVariants.{Extra, Interval, Silence, Packet}
 use Rattle.mq_check.specs.declared.repeated.LastDifferences.{LastDifferences}
 use Rattle.mq_check.specs.declared.repeated.LastOfKind.{LastOfKind}
-use Rattle.mq_check.specs.Repeated.{all_reported, has_values, is_left_out, no_differences, repeats, reported, unless, with_finding, with_values}
+use Rattle.mq_check.specs.Repeated.{unless}
 use Rattle.mq_laws.specs.Reports.{is_of_variable, may_be_left_out, others_in}
 use Rattle.mq_laws.proofs.checks.only_repeated_differences_are_left_out.Goals as goal
 
@@ -37,6 +35,8 @@ never_has (Destination seen wanted) last none = refl
 never_repeats : (f : Finding ℕ) (last : LastDifferences) → may_be_left_out f ≡ false → repeats f last ≡ false
 never_repeats (Missing moment packet asked) last none = refl
 never_repeats (Extra moment packet asked reason) last none = refl
+never_repeats (PossiblyMissing moment packet asked) last none = refl
+never_repeats (PossiblyExtra moment packet asked) last none = refl
 never_repeats (Differs moment packet AllGroups difference) last none = never_has difference last.general none
 never_repeats (Differs moment packet (Group group) difference) last none = never_has difference last.specific none
 never_repeats (Differs moment packet (Source group source) difference) last none = never_has difference last.specific none
@@ -75,6 +75,8 @@ first_has (Destination seen wanted) = refl
 first_is_new : (f : Finding ℕ) → repeats f no_differences ≡ false
 first_is_new (Missing moment packet asked) = refl
 first_is_new (Extra moment packet asked reason) = refl
+first_is_new (PossiblyMissing moment packet asked) = refl
+first_is_new (PossiblyExtra moment packet asked) = refl
 first_is_new (Differs moment packet AllGroups difference) = first_has difference
 first_is_new (Differs moment packet (Group group) difference) = first_has difference
 first_is_new (Differs moment packet (Source group source) difference) = first_has difference

@@ -1,4 +1,4 @@
-use Rattle.std.proofs.Common.{[]}
+use Rattle.mq_laws.proofs.Common.{[]}
 use Rattle.mq_laws.proofs.Sifted.{all_go_out}
 use Rattle.mq_laws.proofs.conversions.all_go_out.Goals as goal
 

@@ -1,4 +1,4 @@
-use Rattle.std.proofs.Common.{[]}
+use Rattle.mq_laws.proofs.Common.{[]}
 use Rattle.mq_laws.proofs.Sifted.{once_enough}
 use Rattle.mq_laws.proofs.conversions.once_is_enough.Goals as goal
 

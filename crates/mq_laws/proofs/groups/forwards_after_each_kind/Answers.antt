@@ -1,7 +1,4 @@
-use Rattle.std.proofs.Common.{ap}
-use Rattle.std.specs.{FinMap.get-empty, Ordering.nat_cmp}
-use Rattle.mq_table.specs.Group.{is_running}
-use Rattle.mq_table.specs.declared.kind.Kind.TheVariants.{IsIn, IsEx, ToIn, ToEx, Allow, Block}
+use Rattle.mq_laws.proofs.Common.{ap, get-empty, nat_cmp, is_running, IsIn, IsEx, ToIn, ToEx, Allow, Block}
 use Rattle.mq_laws.proofs.ChangedSources.{forwards_in-group_after}
 use Rattle.mq_laws.proofs.groups.forwards_after_each_kind.Goals as goal
 

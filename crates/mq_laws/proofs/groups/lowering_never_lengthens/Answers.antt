@@ -1,5 +1,5 @@
+use Rattle.mq_laws.proofs.Common.{lowered_to}
 use Rattle.mq_laws.proofs.Lowered.{group_no_later, sources_no_later}
-use Rattle.mq_table.specs.Lowering.{lowered_to}
 use Rattle.mq_laws.proofs.groups.lowering_never_lengthens.Goals as goal
 
 pub returns-clause-group : goal.returns-clause-group

@@ -1,4 +1,4 @@
-use Rattle.mq_table.proofs.Held.{IsAnyGroup-change_of, IsWellFormed-change_of}
+use Rattle.mq_laws.proofs.Common.{IsAnyGroup-change_of, IsWellFormed-change_of}
 use Rattle.mq_laws.proofs.groups.records_keep_form.Goals as goal
 
 pub returns-clause-any : goal.returns-clause-any

@@ -1,4 +1,4 @@
-use Rattle.mq_table.proofs.Held.{IsWellFormed-older_report, IsWellFormed-group_lowered, IsWellFormed-sources_lowered}
+use Rattle.mq_laws.proofs.Common.{IsWellFormed-older_report, IsWellFormed-group_lowered, IsWellFormed-sources_lowered}
 use Rattle.mq_laws.proofs.groups.reports_and_queries_keep_form.Goals as goal
 
 pub returns-clause-older_reported : goal.returns-clause-older_reported

@@ -1,6 +1,4 @@
-use Rattle.std.proofs.Common.{cond, ap}
-use Rattle.mq_link.specs.State.{link_at}
-use Rattle.mq_laws.specs.Following.{filter_at, nothing_of_any}
+use Rattle.mq_laws.proofs.Common.{cond, ap, link_at, filter_at, nothing_of_any}
 use Rattle.mq_laws.proofs.Following.{all_followed, at_start}
 use Rattle.mq_laws.proofs.links.a_table_follows.Goals as goal
 

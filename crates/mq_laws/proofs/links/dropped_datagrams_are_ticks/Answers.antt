@@ -1,4 +1,4 @@
-use Rattle.mq_link.specs.{Receive.read_of, Receive.pseudo_of, Receive.drop_reason, Tick.tick_of}
+use Rattle.mq_laws.proofs.Common.{read_of, pseudo_of, drop_reason, tick_of}
 use Rattle.mq_laws.proofs.Unchanged.{dropped_decided}
 use Rattle.mq_laws.proofs.links.dropped_datagrams_are_ticks.Goals as goal
 

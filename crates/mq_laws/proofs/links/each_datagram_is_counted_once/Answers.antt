@@ -1,9 +1,6 @@
-use Rattle.std.proofs.Common.{◌≡◌, Ok, ap, sym, ◌∙◌, subst, length}
-use Rattle.std.proofs.lemmas.List.{length-map}
-use Rattle.mq_link.specs.Counters.{counted_at, kind_number}
-use Rattle.mq_link.specs.{Receive.read_of, Receive.pseudo_of, Receive.drop_reason, Receive.receipt_after, Receive.kind_of, Sent.outgoing, Tick.tick_of}
+use Rattle.mq_laws.proofs.Common.{◌≡◌, Ok, ap, sym, ◌∙◌, subst, length, length-map, counted_at, kind_number, read_of, pseudo_of, drop_reason, receipt_after}
+use Rattle.mq_laws.proofs.Common.{kind_of, outgoing, tick_of, records_in, CountsRecords}
 use Rattle.mq_laws.proofs.Counting.{decided_received, decided_counted, decided_records, decided_spelled, two_answers}
-use Rattle.mq_laws.specs.Laws.{records_in, CountsRecords}
 use Rattle.mq_laws.proofs.links.each_datagram_is_counted_once.Goals as goal
 
 pub returns-clause-received : goal.returns-clause-received

@@ -1,5 +1,4 @@
-use Rattle.std.proofs.Common.{◌≡◌, ℕ, ◌≤◌, max, ap, ◌∙◌, arith}
-use Rattle.mq_link.specs.{State.forwards, Tick.moment_of, Tick.tick_at, Tick.tick_of}
+use Rattle.mq_laws.proofs.Common.{◌≡◌, ℕ, ◌≤◌, max, ap, ◌∙◌, arith, forwards, moment_of, tick_at, tick_of}
 use Rattle.mq_laws.proofs.Filters.{same_filters}
 use Rattle.mq_laws.proofs.links.filters_stay_whatever_the_ticks.Goals as goal
 

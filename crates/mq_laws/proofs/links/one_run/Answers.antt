@@ -1,4 +1,4 @@
-use Rattle.mq_link.specs.State.{link_at}
+use Rattle.mq_laws.proofs.Common.{link_at}
 use Rattle.mq_link.proofs.Runs.{one_run}
 use Rattle.mq_laws.proofs.links.one_run.Goals as goal
 

@@ -1,5 +1,4 @@
-use Rattle.std.proofs.Common.{refl}
-use Rattle.mq_link.specs.declared.answers.Refusal.TheVariants.{Memory}
+use Rattle.mq_laws.proofs.Common.{refl, Memory}
 use Rattle.mq_laws.proofs.Named.{unknown_ignored, unadmitted_ignored, too_long, repeats, never_memory, stated_names}
 use Rattle.mq_laws.proofs.links.other_refusals.Goals as goal
 

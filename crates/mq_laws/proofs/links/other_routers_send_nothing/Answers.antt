@@ -1,8 +1,5 @@
-use Rattle.std.proofs.Common.{ap, ◌∙◌}
-use Rattle.mq_sched.specs.Election.{is_querier, ticked}
-use Rattle.mq_link.proofs.{Faultless.timing_in_range, Silent.silent_tick, Silent.silent_decided, Silent.other_before, Silent.other_decided}
-use Rattle.mq_link.proofs.Ticked.{IsWellFormed-tick_at}
-use Rattle.mq_link.specs.{Receive.read_of, Receive.pseudo_of, Receive.drop_reason, Tick.moment_of, Tick.tick_of}
+use Rattle.mq_laws.proofs.Common.{ap, ◌∙◌, is_querier, ticked, timing_in_range, IsWellFormed-tick_at, read_of, pseudo_of, drop_reason, moment_of, tick_of}
+use Rattle.mq_link.proofs.Silent.{silent_tick, silent_decided, other_before, other_decided}
 use Rattle.mq_laws.proofs.links.other_routers_send_nothing.Goals as goal
 
 pub returns-clause-tick : goal.returns-clause-tick

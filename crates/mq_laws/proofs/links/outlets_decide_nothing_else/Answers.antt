@@ -1,5 +1,4 @@
-use Rattle.std.proofs.Common.{refl}
-use Rattle.mq_link.specs.State.{link_at}
+use Rattle.mq_laws.proofs.Common.{refl, link_at}
 use Rattle.mq_laws.proofs.Outlets.{same_step, runs_alike}
 use Rattle.mq_laws.proofs.links.outlets_decide_nothing_else.Goals as goal
 

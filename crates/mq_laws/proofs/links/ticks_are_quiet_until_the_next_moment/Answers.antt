@@ -1,7 +1,6 @@
-use Rattle.std.proofs.Common.{◌≡◌, ℕ, ◌<◌, max, ap, ◌∙◌, arith}
-use Rattle.mq_link.proofs.{Faultless.timing_in_range, Later.later_after_tick, Quiet.quiet_tick, Ticked.IsWellFormed-tick_at}
-use Rattle.mq_link.specs.{Configuration.Configuration, Configuration.IsFaultless, State.LinkState, State.IsWellFormed}
-use Rattle.mq_link.specs.Tick.{moment_of, tick_at, tick_of, next_of}
+use Rattle.mq_laws.proofs.Common.{◌≡◌, ℕ, ◌<◌, max, ap, ◌∙◌, arith, timing_in_range, IsWellFormed-tick_at, Configuration, IsFaultless, LinkState, IsWellFormed}
+use Rattle.mq_laws.proofs.Common.{moment_of, tick_at, tick_of, next_of}
+use Rattle.mq_link.proofs.{Later.later_after_tick, Quiet.quiet_tick}
 use Rattle.mq_laws.proofs.links.ticks_are_quiet_until_the_next_moment.Goals as goal
 
 later : (config : Configuration) (now : ℕ) (state : LinkState) → IsFaultless config → IsWellFormed config state

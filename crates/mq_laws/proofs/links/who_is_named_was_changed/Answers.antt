@@ -1,6 +1,5 @@
-use Rattle.std.proofs.Common.{sym, ◌∙◌}
+use Rattle.mq_laws.proofs.Common.{sym, ◌∙◌, group_at, tick_of}
 use Rattle.mq_sets.proofs.KnownBySet.{known_by_set}
-use Rattle.mq_link.specs.{State.group_at, Tick.tick_of}
 use Rattle.mq_laws.proofs.{SpokenGroups.as_the_tick, SpokenGroups.as_the_tick_unread, TurnedSources.changes_where_turned, TurnedSources.changes_where_apart}
 use Rattle.mq_laws.proofs.links.who_is_named_was_changed.Goals as goal
 

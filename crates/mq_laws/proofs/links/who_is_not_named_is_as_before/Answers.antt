@@ -1,4 +1,4 @@
-use Rattle.mq_link.specs.{Receive.receipt_of, Run.Tick, Run.Datagram, Tick.tick_of}
+use Rattle.mq_laws.proofs.Common.{receipt_of, Tick, Datagram, tick_of}
 use Rattle.mq_laws.proofs.Following.{event_keeps, alike_forwarded}
 use Rattle.mq_laws.proofs.links.who_is_not_named_is_as_before.Goals as goal
 

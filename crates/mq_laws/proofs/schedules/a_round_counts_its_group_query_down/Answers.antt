@@ -1,4 +1,4 @@
-use Rattle.mq_sched.proofs.Rounds.{asks_group-messages_due, group_counted_down, group_stays}
+use Rattle.mq_laws.proofs.Common.{asks_group-messages_due, group_counted_down, group_stays}
 use Rattle.mq_laws.proofs.schedules.a_round_counts_its_group_query_down.Goals as goal
 
 pub returns-clause-asked : goal.returns-clause-asked

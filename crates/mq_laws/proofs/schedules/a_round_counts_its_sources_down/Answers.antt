@@ -1,4 +1,4 @@
-use Rattle.mq_sched.proofs.Rounds.{asked_in-messages_due, counted_down, others_stay, deadlines_stay}
+use Rattle.mq_laws.proofs.Common.{asked_in-messages_due, counted_down, others_stay, deadlines_stay}
 use Rattle.mq_laws.proofs.schedules.a_round_counts_its_sources_down.Goals as goal
 
 pub returns-clause-asked : goal.returns-clause-asked

@@ -1,5 +1,5 @@
-use Rattle.mq_laws.proofs.PortionsOfRounds.{set_together, clear_together, set_full, clear_full}
 use Rattle.mq_sched.proofs.FittingRounds.{all_fit}
+use Rattle.mq_laws.proofs.PortionsOfRounds.{set_together, clear_together, set_full, clear_full}
 use Rattle.mq_laws.proofs.schedules.a_round_is_in_portions.Goals as goal
 
 pub returns-clause-set : goal.returns-clause-set

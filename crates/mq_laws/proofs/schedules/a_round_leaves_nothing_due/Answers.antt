@@ -1,7 +1,4 @@
-use Rattle.std.proofs.Common.{◌≡◌, ◌<◌, ap, arith}
-use Rattle.mq_table.specs.Variables.{Variables}
-use Rattle.mq_laws.specs.Schedules.{state_after}
-use Rattle.mq_sched.proofs.Rounds.{quiet_after_round, quiet_is_silent}
+use Rattle.mq_laws.proofs.Common.{◌≡◌, ◌<◌, ap, arith, Variables, state_after, quiet_after_round, quiet_is_silent}
 use Rattle.mq_laws.proofs.schedules.a_round_leaves_nothing_due.Goals as goal
 
 -- the last member query interval isn't 0

@@ -1,5 +1,4 @@
-use Rattle.std.proofs.Common.{◌<◌, ap, arith}
-use Rattle.mq_table.specs.Variables.{Variables}
+use Rattle.mq_laws.proofs.Common.{◌<◌, ap, arith, Variables}
 use Rattle.mq_sched.proofs.Electing.{later_moment}
 use Rattle.mq_laws.proofs.schedules.a_tick_leaves_nothing_due.Goals as goal
 

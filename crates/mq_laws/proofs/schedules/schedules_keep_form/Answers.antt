@@ -1,5 +1,4 @@
-use Rattle.std.proofs.Common.{◌<◌, ap, arith}
-use Rattle.mq_table.specs.Variables.{Variables}
+use Rattle.mq_laws.proofs.Common.{◌<◌, ap, arith, Variables}
 use Rattle.mq_sched.proofs.Fits.{fits_after_record, fits_after_expiry, fits_acted, fits_after_round, fits_cleared}
 use Rattle.mq_laws.proofs.schedules.schedules_keep_form.Goals as goal
 

@@ -1,6 +1,4 @@
-use Rattle.std.proofs.Common.{◌||◌, sym, ap, ◌∙◌}
-use Rattle.mq_table.specs.declared.older_hosts.Hosts.{Hosts}
-use Rattle.mq_table.specs.Group.{is_ahead}
+use Rattle.mq_link.proofs.Common.{◌||◌, sym, ap, ◌∙◌, Hosts, is_ahead}
 use Rattle.mq_link.proofs.block_in_place.has_older_hosts.Goals as goal
 
 pub returns-then-hosts-clause-hosts : goal.returns-then-hosts-clause-hosts

@@ -1,7 +1,5 @@
-use Rattle.std.proofs.Common.{◌+◌, map, drop, sym, ap, subst}
+use Rattle.mq_link.proofs.Common.{◌+◌, map, drop, sym, ap, subst, event_of, HasRun, Tick, Datagram}
 use Rattle.std.proofs.Math.ListN.{drop_of_length-le}
-use Rattle.mq_link.specs.Events.{event_of, HasRun}
-use Rattle.mq_link.specs.Run.{Tick, Datagram}
 use Rattle.mq_link.proofs.EventsRun.{none_run, ticked_first, received_first, one_more, left_at}
 use Rattle.mq_link.proofs.events.run.Goals as goal
 use Rattle.mq_link.proofs.events.run.Goals.{in-Tick, in-Datagram}

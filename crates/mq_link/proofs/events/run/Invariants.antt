@@ -1,5 +1,4 @@
-use Rattle.std.proofs.Common.{map, drop}
-use Rattle.mq_link.specs.Events.{event_of}
+use Rattle.mq_link.proofs.Common.{map, drop, event_of}
 use Rattle.mq_link.proofs.EventsRun.{RunsOn}
 use Rattle.mq_link.proofs.events.run.Given as goal
 

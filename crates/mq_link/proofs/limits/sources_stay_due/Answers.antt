@@ -1,6 +1,4 @@
-use Rattle.std.proofs.Common.{◌≡◌, true, sym, ◌∙◌, arith}
-use Rattle.std.proofs.lemmas.Bool.Decides.{nat_tests}
-use Rattle.mq_sched.specs.Sending.{is_due}
+use Rattle.mq_link.proofs.Common.{◌≡◌, true, sym, ◌∙◌, arith, nat_tests, is_due}
 use Rattle.mq_link.proofs.MadeEntries.{some_after_count, due_again}
 use Rattle.mq_link.proofs.limits.sources_stay_due.Goals as goal
 

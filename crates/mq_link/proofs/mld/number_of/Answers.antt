@@ -1,5 +1,4 @@
-use Rattle.std.proofs.Common.{◌<◌, ◌≡◌, ◌^◌, arith, ap, ◌∙◌}
-use Rattle.std.specs.Int.{w128, from_be_bytes, to_be_bytes}
+use Rattle.mq_link.proofs.Common.{◌<◌, ◌≡◌, ◌^◌, arith, ap, ◌∙◌, w128, from_be_bytes, to_be_bytes}
 use Rattle.mq_link.proofs.Octets.{number_of_octets}
 use Rattle.mq_link.proofs.mld.number_of.Goals as goal
 

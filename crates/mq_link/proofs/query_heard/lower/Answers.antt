@@ -1,5 +1,4 @@
-use Rattle.std.proofs.Common.{◌<◌, length, ◌∙◌, arith}
-use Rattle.std.proofs.lemmas.Bool.Decides.{nat_tests}
+use Rattle.mq_link.proofs.Common.{◌<◌, length, ◌∙◌, arith, nat_tests}
 use Rattle.mq_link.proofs.LoweredSoFar.{lowered_as_set}
 use Rattle.mq_link.proofs.query_heard.lower.Goals as goal
 

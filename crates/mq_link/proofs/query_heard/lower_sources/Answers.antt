@@ -1,6 +1,4 @@
-use Rattle.std.proofs.Common.{ℕ, List, [], ◌∷◌, ◌++◌, ap, ◌∙◌, sym, refl, arith, eqb}
-use Rattle.std.specs.List.{list_any}
-use Rattle.mq_table.specs.Lowering.{sources_lowered}
+use Rattle.mq_link.proofs.Common.{ℕ, List, [], ◌∷◌, ◌++◌, ap, ◌∙◌, sym, refl, arith, eqb, list_any, sources_lowered}
 use Rattle.mq_link.proofs.LoweredSoFar.{none_lowered, one_lowered, all_lowered}
 use Rattle.mq_link.proofs.query_heard.lower_sources.Goals as goal
 

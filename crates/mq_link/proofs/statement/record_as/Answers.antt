@@ -1,9 +1,6 @@
-use Rattle.std.proofs.Common.{◌∙◌, ap, sym}
-use Rattle.std.proofs.lemmas.Bool.{true≢false}
+use Rattle.mq_link.proofs.Common.{◌∙◌, ap, sym, true≢false, hosts_of, with_sources, is_restart}
 use Rattle.std.specs.FinMap as map
-use Rattle.mq_table.specs.OlderHosts.{hosts_of, with_sources}
 use Rattle.mq_table.specs.Stored.{state_of}
-use Rattle.mq_link.specs.Refreshed.{is_restart}
 use Rattle.mq_link.proofs.RefreshedCosts.{kept_unless, restart_as}
 use Rattle.mq_link.proofs.statement.record_as.Goals as goal
 

@@ -1,6 +1,4 @@
-use Rattle.std.proofs.Common.{sym, ◌∙◌}
-use Rattle.mq_table.specs.Group.{vacant}
-use Rattle.mq_sched.specs.Schedule.{ScheduledGroup}
+use Rattle.mq_link.proofs.Common.{sym, ◌∙◌, vacant, ScheduledGroup}
 use Rattle.mq_link.proofs.KeptGroups.{is_number, spot_absent, absent_unheld, absent_sources}
 use Rattle.mq_link.proofs.storage.look.Goals as goal
 

@@ -3,8 +3,8 @@ use Rattle.std.proofs.lemmas.Result.{err_from_is_err_and}
 use Rattle.std.proofs.lemmas.Bool.Decides.{nat_tests}
 use Rattle.mq_held.specs.Groups.{group_at}
 use Rattle.mq_text.proofs.Passing.{item_passed, nothing_passed}
-use Rattle.mq_replay.specs.ChangeLines.{change_line, change_lines}
-use Rattle.mq_replay.proofs.ChangeTexts.{all_passed, item_broken, lines-numbered}
+use Rattle.mq_replay.specs.Events.{Changes, change_events, event_in}
+use Rattle.mq_replay.proofs.ChangeTexts.{all_passed, item_broken, events-numbered}
 use Rattle.mq_replay.proofs.change_lines.put_each.Goals as goal
 
 pub loop-address-init : goal.loop-address-init
@@ -14,7 +14,8 @@ pub loop-address-preserved : goal.loop-address-preserved
 loop-address-preserved g c =
     let before = c.loop-address.invariant in
     let number = g.F.Address.Key.number in
-    let text : _ → List ℕ = λ x. change_line g.F.Address.LineKey.family c.args.moment (number x) (group_at c.args.link.now.state.groups (number x)).group in
+    let text : _ → List ℕ =
+    λ x. event_in c.args.json g.F.Address.LineKey.family c.args.moment (Changes (number x) (group_at c.args.link.now.state.groups (number x)).group) in
     record {
       put = item_passed text _ _ _ _ _ _ _ _ c.address-item.result c.address-item.result c.loop-address-test.true c.address-item.is before.put
           c.in_ok-put_group.ensures.text;
@@ -25,12 +26,14 @@ pub returns-in_err-put_group-clause-text : goal.returns-in_err-put_group-clause-
 returns-in_err-put_group-clause-text g c =
     let p = err_from_is_err_and c.from_residual.result c.from_residual.ensures.1 in
     let number = g.F.Address.Key.number in
-    let text : _ → List ℕ = λ x. change_line g.F.Address.LineKey.family c.args.moment (number x) (group_at c.args.link.now.state.groups (number x)).group in
+    let text : _ → List ℕ =
+    λ x. event_in c.args.json g.F.Address.LineKey.family c.args.moment (Changes (number x) (group_at c.args.link.now.state.groups (number x)).group) in
     let family = g.F.Address.LineKey.family in
     let groups = c.args.link.now.state.groups in
     let items = c.changed-address-items.result.now in
     rw p.1 (item_broken text _ _ _ _ _ _ _ c.address-item.result c.address-item.result _ c.loop-address-test.true c.address-item.is
-    (lines-numbered number family c.args.moment groups items ∙ ap (change_lines family c.args.moment groups) c.changed-address-items.ensures.changed)
+    (events-numbered number c.args.json family c.args.moment groups items
+    ∙ ap (change_events c.args.json family c.args.moment groups) c.changed-address-items.ensures.changed)
     c.loop-address.invariant.put c.in_err-put_group.ensures.text)
 
 pub returns-clause-text : goal.returns-clause-text
@@ -39,7 +42,8 @@ returns-clause-text g c =
     let family = g.F.Address.LineKey.family in
     let groups = c.args.link.now.state.groups in
     let items = c.changed-address-items.result.now in
-    let text : _ → List ℕ = λ x. change_line family c.args.moment (number x) (group_at groups (number x)).group in
+    let text : _ → List ℕ = λ x. event_in c.args.json family c.args.moment (Changes (number x) (group_at groups (number x)).group) in
     all_passed text _ _ _ _ items c.loop-address.address-index _ (grind (arith, nat_tests))
-    (lines-numbered number family c.args.moment groups items ∙ ap (change_lines family c.args.moment groups) c.changed-address-items.ensures.changed)
+    (events-numbered number c.args.json family c.args.moment groups items
+    ∙ ap (change_events c.args.json family c.args.moment groups) c.changed-address-items.ensures.changed)
     c.loop-address.invariant.put

@@ -3,7 +3,7 @@ use Rattle.std.specs.List.{flat_map}
 use Rattle.mq_count.specs.Streams.{inner_of, has_failed}
 use Rattle.mq_held.specs.Groups.{group_at}
 use Rattle.mq_text.specs.Printing.{Passes}
-use Rattle.mq_replay.specs.ChangeLines.{change_line}
+use Rattle.mq_replay.specs.Events.{Changes, event_in}
 use Rattle.mq_replay.proofs.change_lines.put_each.Given as goal
 
 -- the groups so far were put
@@ -12,7 +12,7 @@ invariant-loop-address g l =
     let number = g.F.Address.Key.number in
     record {
       put : Passes (g.W.Write.contents (inner_of l.fn.writer)) (g.W.Write.contents (inner_of l.writer)) l.fn.buffer.items l.buffer.items
-          (flat_map (λ x. change_line g.F.Address.LineKey.family l.fn.moment (number x) (group_at l.fn.link.state.groups (number x)).group)
+          (flat_map (λ x. event_in l.fn.json g.F.Address.LineKey.family l.fn.moment (Changes (number x) (group_at l.fn.link.state.groups (number x)).group))
           (take l.address-index l.address-items));
       same : has_failed l.writer ≡ has_failed l.fn.writer;
     }

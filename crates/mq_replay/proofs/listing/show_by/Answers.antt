@@ -4,7 +4,7 @@ use Rattle.mq_replay.proofs.Shown.{shown}
 use Rattle.mq_replay.proofs.listing.show_by.Goals as goal
 
 pub returns-clause-shows : goal.returns-clause-shows
-returns-clause-shows g c = shown _ _ _ _ _ _ _ _ _ _ c.new.ensures c.put_listing-answer.ensures.puts c.finish.ensures
+returns-clause-shows g c = shown c.args.json _ _ _ _ _ _ _ _ _ _ c.new.ensures c.put_listing-answer.ensures.puts c.finish.ensures
 
 pub returns-clause-failed : goal.returns-clause-failed
 returns-clause-failed g c = failed_end _ _ _ _ _ _ (has_failed c.args.writer.now) c.finish.ensures c.put_listing-answer.ensures.failed

@@ -14,8 +14,8 @@ returns-in_err-answer-clause-receives g c =
     made.same_writer in
     let buffer = same_buffer contents family c.new-queries.result receives.messages receives.answers c.receive-received.new.outlet receives.handed ∙
     made.same_buffer in
-    let done = printed_by contents family c.args.now c.new-queries.result receives.messages receives.answers c.receive-received.new.outlet
-    (Err c.in_err-answer.field-0.0) made.moment made.answer receives.handed c.in_err-answer.ensures in
+    let done = printed_by contents family c.args.json c.args.now c.new-queries.result receives.messages receives.answers c.receive-received.new.outlet
+    (Err c.in_err-answer.field-0.0) made.json made.moment made.answer receives.handed c.in_err-answer.ensures in
     rw (c.writer-1.given.1 (sym writer), c.buffer-1.given.1 (sym buffer), p.1, ← made.writer, ← made.buffer)
     (record {
       answer = c.receive-received.result;
@@ -37,8 +37,8 @@ returns-in_err-answer-clause-failed g c =
     let family = g.F.Address.LineKey.family in
     let writer = same_writer contents family c.new-queries.result receives.messages receives.answers c.receive-received.new.outlet receives.handed ∙
     made.same_writer in
-    let done = printed_by contents family c.args.now c.new-queries.result receives.messages receives.answers c.receive-received.new.outlet
-    (Err c.in_err-answer.field-0.0) made.moment made.answer receives.handed c.in_err-answer.ensures in
+    let done = printed_by contents family c.args.json c.args.now c.new-queries.result receives.messages receives.answers c.receive-received.new.outlet
+    (Err c.in_err-answer.field-0.0) made.json made.moment made.answer receives.handed c.in_err-answer.ensures in
     rw (c.writer-1.given.1 (sym writer), p.1, ← made.writer) done.failed
 
 pub returns-clause-receives : goal.returns-clause-receives
@@ -51,8 +51,8 @@ returns-clause-receives g c =
     made.same_writer in
     let buffer = same_buffer contents family c.new-queries.result receives.messages receives.answers c.receive-received.new.outlet receives.handed ∙
     made.same_buffer in
-    let done = printed_by contents family c.args.now c.new-queries.result receives.messages receives.answers c.receive-received.new.outlet
-    (Ok c.in_ok-answer.field-0) made.moment made.answer receives.handed c.in_ok-answer.ensures in
+    let done = printed_by contents family c.args.json c.args.now c.new-queries.result receives.messages receives.answers c.receive-received.new.outlet
+    (Ok c.in_ok-answer.field-0) made.json made.moment made.answer receives.handed c.in_ok-answer.ensures in
     rw (c.writer-1.given.1 (sym writer), c.buffer-1.given.1 (sym buffer), ← made.writer, ← made.buffer)
     (record {
       answer = c.receive-received.result;
@@ -73,6 +73,6 @@ returns-clause-failed g c =
     let family = g.F.Address.LineKey.family in
     let writer = same_writer contents family c.new-queries.result receives.messages receives.answers c.receive-received.new.outlet receives.handed ∙
     made.same_writer in
-    let done = printed_by contents family c.args.now c.new-queries.result receives.messages receives.answers c.receive-received.new.outlet
-    (Ok c.in_ok-answer.field-0) made.moment made.answer receives.handed c.in_ok-answer.ensures in
+    let done = printed_by contents family c.args.json c.args.now c.new-queries.result receives.messages receives.answers c.receive-received.new.outlet
+    (Ok c.in_ok-answer.field-0) made.json made.moment made.answer receives.handed c.in_ok-answer.ensures in
     rw (c.writer-1.given.1 (sym writer), ← made.writer) done.failed

@@ -10,8 +10,8 @@ returns-clause-ticks g c =
     let family = g.F.Address.LineKey.family in
     let writer = same_writer contents family c.new-queries.result ticks.messages ticks.answers c.tick.new.outlet ticks.handed ∙ made.same_writer in
     let buffer = same_buffer contents family c.new-queries.result ticks.messages ticks.answers c.tick.new.outlet ticks.handed ∙ made.same_buffer in
-    let done = printed_by contents family c.args.now c.new-queries.result ticks.messages ticks.answers c.tick.new.outlet c.answer.result made.moment
-    made.answer ticks.handed c.answer.ensures in
+    let done = printed_by contents family c.args.json c.args.now c.new-queries.result ticks.messages ticks.answers c.tick.new.outlet c.answer.result
+    made.json made.moment made.answer ticks.handed c.answer.ensures in
     rw (c.writer-1.given.1 (sym writer), c.buffer-1.given.1 (sym buffer), ← made.writer, ← made.buffer)
     (record { messages = ticks.messages; answers = ticks.answers; ticks = ticks.ticks; put = done.put; all_sent = done.all_sent })
 
@@ -22,6 +22,6 @@ returns-clause-failed g c =
     let contents = g.W.Write.contents in
     let family = g.F.Address.LineKey.family in
     let writer = same_writer contents family c.new-queries.result ticks.messages ticks.answers c.tick.new.outlet ticks.handed ∙ made.same_writer in
-    let done = printed_by contents family c.args.now c.new-queries.result ticks.messages ticks.answers c.tick.new.outlet c.answer.result made.moment
-    made.answer ticks.handed c.answer.ensures in
+    let done = printed_by contents family c.args.json c.args.now c.new-queries.result ticks.messages ticks.answers c.tick.new.outlet c.answer.result
+    made.json made.moment made.answer ticks.handed c.answer.ensures in
     rw (c.writer-1.given.1 (sym writer), ← made.writer) done.failed

@@ -41,7 +41,7 @@ loop-read-preserved g c =
     let form = c.next.ensures.form ∙ now.form in
     let is_moment = c.of-moment.ensures ∙ c.moment_of_next.ensures.moment in
     let step = placed_as g.T.Step.takes _ _ c.loop-read.stamps c.moment_of_next.new.self _ _ _ _ _ _ _ _ _
-    (c.link.ensures ∙ ap (λ (f : Form). f.link) form) now.last is_moment c.goes_back-goes_back.ensures c.in_ok-packet.ensures in
+    (c.link.ensures ∙ ap (λ (f : Form). f.link) form) now.last is_moment c.goes_back-goes_back.ensures c.in_ok-packet.ensures.taken in
     let place = place_as c.loop-read.stamps c.moment_of_next.new.self _ (c.loop-read.packets + 1) c.in-Some.read.stamp_ms
     c.moment_of_next.ensures.after c.moment_of_next.ensures.moment in
     record {
@@ -78,7 +78,7 @@ returns-in_err-packet g c =
     let form = c.next.ensures.form ∙ now.form in
     let is_moment = c.of-moment.ensures ∙ c.moment_of_next.ensures.moment in
     let step = placed_as g.T.Step.takes _ _ c.loop-read.stamps c.moment_of_next.new.self _ _ _ _ _ _ _ _ _
-    (c.link.ensures ∙ ap (λ (f : Form). f.link) form) now.last is_moment c.goes_back-goes_back.ensures c.in_err-packet.ensures in
+    (c.link.ensures ∙ ap (λ (f : Form). f.link) form) now.last is_moment c.goes_back-goes_back.ensures c.in_err-packet.ensures.taken in
     rw (p.1, p.2) (walked_in_part _ _ _ _ _ _ _ _ _ _ _ c.in-Some.read _ now.walked now.read read step)
 
 pub returns : goal.returns

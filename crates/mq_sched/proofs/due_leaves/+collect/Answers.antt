@@ -1,10 +1,5 @@
-use Rattle.std.proofs.Common.{◌-◌, ◌+◌, ◌<◌, ◌≤◌, ◌≡◌, arith, List, length, get_or, drop, sym, ap, ◌∙◌, ⊎_elim, rules}
-use Rattle.std.proofs.lemmas.List.{get_or_read, drop-drop}
-use Rattle.std.proofs.lemmas.Bool.{cases_lt, false≢true}
-use Rattle.mq_sets.specs.Search.{bitlen}
-use Rattle.mq_sets.proofs.Bitlen.{bitlen-mono}
-use Rattle.mq_count.proofs.Spent.{Spends-within, Spends-none}
-use Rattle.mq_sched.specs.DeadlineTree.{sum_below, one_if_due}
+use Rattle.mq_sched.proofs.Common.{◌-◌, ◌+◌, ◌<◌, ◌≤◌, ◌≡◌, arith, List, length, get_or, drop, sym, ap, ◌∙◌, ⊎_elim, rules, get_or_read, drop-drop, cases_lt}
+use Rattle.mq_sched.proofs.Common.{false≢true, bitlen, bitlen-mono, Spends-within, Spends-none, sum_below, one_if_due}
 use Rattle.mq_sched.proofs.Below.{AreBelow-from_tree, ones-below, sum_below-leaf, none_below}
 use Rattle.mq_sched.proofs.DueLeaves.{leaf_written, spent_on_one, spent_on_both}
 use Rattle.mq_sched.proofs.due_leaves.+collect.Goals as goal

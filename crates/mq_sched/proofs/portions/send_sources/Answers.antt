@@ -1,17 +1,8 @@
-use Rattle.std.proofs.Common.{◌<◌, ◌+◌, ◌++◌, ◌∙◌, length, drop, sym, ap, arith, subst}
-use Rattle.std.specs.Prelude.{map as list_map}
-use Rattle.std.proofs.lemmas.List.{append-nil, drop_all}
-use Rattle.mq_count.proofs.Spent.{Spends-join_within}
-use Rattle.mq_sched.specs.Sending.{sources_queries}
-use Rattle.mq_sched.specs.Sink.{Sends}
-use Rattle.mq_sched.specs.Collected.{going_with}
+use Rattle.mq_sched.proofs.Common.{◌<◌, ◌+◌, ◌++◌, ◌∙◌, length, drop, sym, ap, arith, subst, list_map, append-nil, drop_all, Spends-join_within}
+use Rattle.mq_sched.proofs.Common.{sources_queries, Sends, going_with}
 use Rattle.mq_sched.proofs.Collecting.{going_more, going_same}
-use Rattle.mq_sched.proofs.Room.{room_for_collected}
 use Rattle.mq_sched.proofs.portions.send_sources.Goals as goal
 use Rattle.mq_sched.proofs.portions.send_sources.Goals.{then-goes, else-goes}
-
-pub new-collected-requires : goal.new-collected-requires
-new-collected-requires g c = room_for_collected _ _ c.is_small.ensures.1 c.is_small.ensures.0
 
 pub loop-source-preserved : goal.loop-source-preserved
 loop-source-preserved g c =

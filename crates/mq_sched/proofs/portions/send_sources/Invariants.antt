@@ -1,9 +1,5 @@
-use Rattle.std.proofs.Common.{◌≡◌, ◌<◌, ◌++◌, map, drop}
+use Rattle.mq_sched.proofs.Common.{◌≡◌, ◌<◌, ◌++◌, map, drop, Spends, sources_queries, SendsOn, going_with}
 use Rattle.arrayvec.specs.ArrayVec.{array_vec_len}
-use Rattle.mq_count.specs.Spending.{Spends}
-use Rattle.mq_sched.specs.Sending.{sources_queries}
-use Rattle.mq_sched.specs.Sink.{SendsOn}
-use Rattle.mq_sched.specs.Collected.{going_with}
 use Rattle.mq_sched.proofs.portions.send_sources.Given as goal
 
 -- the sources left are those collected and those ahead that go

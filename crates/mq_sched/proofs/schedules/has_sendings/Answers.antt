@@ -1,6 +1,4 @@
-use Rattle.std.proofs.Common.{ltb, ◌∙◌, sym}
-use Rattle.mq_table.specs.Group.{sendings_of}
-use Rattle.mq_table.proofs.Rows.{any_in_row}
+use Rattle.mq_sched.proofs.Common.{ltb, ◌∙◌, sym, sendings_of, any_in_row}
 use Rattle.mq_sched.proofs.schedules.has_sendings.Goals as goal
 
 pub returns : goal.returns

@@ -1,6 +1,4 @@
-use Rattle.std.proofs.Common.{◌≡◌, ◌+◌, true, false, ◌∙◌, ap}
-use Rattle.mq_table.specs.Lowering.{lowered_to}
-use Rattle.mq_sched.specs.Collected.{going_with}
+use Rattle.mq_sched.proofs.Common.{◌≡◌, ◌+◌, true, false, ◌∙◌, ap, lowered_to, going_with, arith, common_steps}
 use Rattle.mq_sched.proofs.Collecting.{going_between, waiting_are_sent}
 use Rattle.mq_sched.proofs.sending.send_waiting.Goals as goal
 
@@ -11,11 +9,14 @@ returns-clause-sent g c group is =
     let places = c.places_of_sendings-places.result in
     let limit : c.after-limit.result ≡ lowered_to c.args.timing.now c.args.now = c.after-limit.ensures.later ∙
     ap (λ n. c.args.now + n) c.last_member_time.ensures in
-    let set = ap (going_with number c.after-limit.result true) c.part_of-part.ensures ∙
+    let set =
     going_between number c.after-limit.result true row places.first places.end c.places_of_sendings-places.ensures in
-    let clear = ap (going_with number c.after-limit.result false) c.part_of-part.ensures ∙
+    let clear =
     going_between number c.after-limit.result false row places.first places.end c.places_of_sendings-places.ensures in
     waiting_are_sent g.S.Sink.takes c.args.sink.now c.send_sources.new.sink c.send_sources-2.new.sink number c.args.per_query c.args.timing.now
     c.args.now (number c.args.address)
     group c.after-limit.result row limit c.requires.ascending is
     (rw set at c.send_sources.ensures.sent) (rw clear at c.send_sources-2.ensures.sent)
+
+pub returns-clause-spent : goal.returns-clause-spent
+returns-clause-spent g c = grind (arith, common_steps)

@@ -1,10 +1,6 @@
-use Rattle.std.proofs.Common.{◌+◌, ◌-◌, length, refl, ap, sym, ◌∙◌, subst, arith, slice_set, rules}
-use Rattle.std.proofs.lemmas.List.{map-set}
-use Rattle.std.proofs.lemmas.List.Edits.{paste_all}
+use Rattle.mq_sets.proofs.Common.{◌+◌, ◌-◌, length, refl, ap, sym, ◌∙◌, subst, arith, slice_set, rules, map-set, paste_all, All-set, IsPlaced, rows_of}
+use Rattle.mq_sets.proofs.Common.{IsWithin, Extent}
 use Rattle.std.proofs.lemmas.Slice.{put_mid-paste}
-use Rattle.std.proofs.lemmas.List.Elements.{All-set}
-use Rattle.mq_sets.specs.Pools.{IsPlaced, rows_of, IsWithin}
-use Rattle.mq_sets.specs.declared.extents.Extent.{Extent}
 use Rattle.mq_sets.proofs.Apart.{apart-shorter}
 use Rattle.mq_sets.proofs.WrittenOver.{rows-written}
 use Rattle.mq_sets.proofs.extents.write_over.Goals as goal

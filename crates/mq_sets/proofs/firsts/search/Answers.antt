@@ -1,6 +1,4 @@
-use Rattle.std.proofs.Common.{◌<◌, ◌+◌, ◌-◌, ◌/◌, refl, arith, sym, ap, ◌∙◌, subst, length}
-use Rattle.std.specs.Ordering.{nat_cmp}
-use Rattle.mq_sets.specs.NumberedKeys.{key_at}
+use Rattle.mq_sets.proofs.Common.{◌<◌, ◌+◌, ◌-◌, ◌/◌, refl, arith, sym, ap, ◌∙◌, subst, length, nat_cmp, key_at, common_steps}
 use Rattle.mq_sets.proofs.KeysAt.{key_at-read}
 use Rattle.mq_sets.proofs.Narrowing.{IsNarrowed-to_above, IsNarrowed-to_below, spent_to_found}
 use Rattle.mq_sets.proofs.firsts.search.Goals as goal
@@ -31,3 +29,6 @@ pub returns-in-Equal-clause-spent : goal.returns-in-Equal-clause-spent
 returns-in-Equal-clause-spent g c =
     spent_to_found (λ x. key_at g.K.Key.number c.args.keys.now (g.T.First.first_of x)) c.args.items.now _ c.loop-low.invariant c.loop-low-test.true
     c.order.ensures.spent
+
+pub returns-in-Equal-clause-found : goal.returns-in-Equal-clause-found
+returns-in-Equal-clause-found g c = grind (arith, common_steps)

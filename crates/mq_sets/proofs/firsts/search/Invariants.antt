@@ -1,6 +1,5 @@
-use Rattle.std.proofs.Common.{◌-◌}
+use Rattle.mq_sets.proofs.Common.{◌-◌, key_at}
 use Rattle.mq_sets.proofs.Narrowing.{IsNarrowed}
-use Rattle.mq_sets.specs.NumberedKeys.{key_at}
 use Rattle.mq_sets.proofs.firsts.search.Given as goal
 
 abbrev pub invariant-loop-low : goal.invariant-loop-low

@@ -1,9 +1,5 @@
-use Rattle.std.proofs.Common.{ℕ, ◌+◌, ◌-◌, ◌<◌, ◌≡◌, arith, rules, List, get_or, length, take, map}
-use Rattle.std.specs.List.{All}
-use Rattle.std.proofs.lemmas.List.{get_or_default, length-map, take_more, take_all}
-use Rattle.mq_count.proofs.Spent.{Spends-join}
-use Rattle.mq_sets.specs.Pools.{IsWithin, cells_said, NamesRows}
-use Rattle.mq_sets.specs.declared.extents.Extent.{Extent}
+use Rattle.mq_sets.proofs.Common.{ℕ, ◌+◌, ◌-◌, ◌<◌, ◌≡◌, arith, rules, List, get_or, length, take, map, All, get_or_default, length-map, take_more, take_all}
+use Rattle.mq_sets.proofs.Common.{Spends-join, IsWithin, cells_said, NamesRows, Extent, common_steps}
 use Rattle.mq_sets.proofs.PackedRows.{none, IsNext, IsNext-named, IsPackedBy, IsPackedBy-more, packed-rows, packed-within, packed-apart, named-all}
 use Rattle.mq_sets.proofs.packing.pack_named.Goals as goal
 
@@ -107,3 +103,6 @@ returns g c =
       lengths = search rules;
       capacity = search rules;
     }
+
+pub slice_copy_out-extent : goal.slice_copy_out-extent
+slice_copy_out-extent g c = grind (arith, common_steps)

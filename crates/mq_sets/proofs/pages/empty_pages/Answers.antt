@@ -1,7 +1,5 @@
-use Rattle.std.proofs.Common.{arith, refl, ◌≡◌, ℕ, ◌+◌, ◌*◌, ◌≤◌}
-use Rattle.std.proofs.lemmas.Grind.{common_steps}
+use Rattle.mq_sets.proofs.Common.{arith, refl, ◌≡◌, ℕ, ◌+◌, ◌*◌, ◌≤◌, bytes_for, common_steps}
 use Rattle.std.proofs.Math.Nat.{mul-le-mul_right}
-use Rattle.mq_arena.specs.Vectors.{bytes_for}
 use Rattle.mq_sets.proofs.pages.empty_pages.Goals as goal
 
 one_more : (i b : ℕ) → (i + 1) * b ≡ i * b + b

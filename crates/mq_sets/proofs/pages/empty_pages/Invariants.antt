@@ -1,9 +1,6 @@
-use Rattle.std.proofs.Common.{◌≡◌, ◌+◌, ◌*◌, ◌≤◌, [], length}
-use Rattle.std.specs.Prelude.{vec_capacity}
-use Rattle.std.specs.List.{All}
+use Rattle.mq_sets.proofs.Common.{◌≡◌, ◌+◌, ◌*◌, ◌≤◌, [], length, vec_capacity, All, bytes_for, item_bytes}
 use Rattle.std.specs.contracts.vec.Vec as page
 use denote.Builtin.{u16}
-use Rattle.mq_arena.specs.Vectors.{bytes_for, item_bytes}
 use Rattle.mq_sets.proofs.pages.empty_pages.Given as goal
 
 abbrev pub invariant-loop : goal.invariant-loop

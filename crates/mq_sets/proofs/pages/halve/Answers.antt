@@ -1,5 +1,4 @@
-use Rattle.std.proofs.Common.{◌∙◌, ◌-◌, ap, ◌++◌, drop, take, length}
-use Rattle.std.proofs.lemmas.List.{take_rest}
+use Rattle.mq_sets.proofs.Common.{◌∙◌, ◌-◌, ap, ◌++◌, drop, take, length, take_rest}
 use Rattle.mq_sets.proofs.pages.halve.Goals as goal
 
 pub returns-clause-behind : goal.returns-clause-behind

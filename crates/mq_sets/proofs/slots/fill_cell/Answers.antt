@@ -1,6 +1,4 @@
-use Rattle.std.proofs.Common.{arith, ◌∙◌}
-use Rattle.std.proofs.lemmas.List.{append-nil}
-use Rattle.mq_sets.specs.Slots.{IsCell}
+use Rattle.mq_sets.proofs.Common.{arith, ◌∙◌, append-nil, IsCell, common_steps}
 use Rattle.mq_sets.proofs.Cells.{All-last, AreSlots-filled, kept-filled, item-filled, AreSlots-appended, items_in-append}
 use Rattle.mq_sets.proofs.slots.fill_cell.Goals as goal
 
@@ -27,3 +25,6 @@ pub returns-in-None-clause-kept : goal.returns-in-None-clause-kept
 returns-in-None-clause-kept g c order known =
     let pushed = rw c.unwrap.ensures at c.push.ensures.items in
     rw pushed (items_in-append c.args.cells.now.items order c.args.item known.within)
+
+pub returns-in-None-clause-item : goal.returns-in-None-clause-item
+returns-in-None-clause-item g c = grind (arith, common_steps)

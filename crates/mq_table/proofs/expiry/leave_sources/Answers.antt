@@ -1,16 +1,7 @@
 use Rattle.std.proofs.Common.{◌≡◌, ◌+◌, ◌<◌, ◌≤◌, min, false, refl, Option, List, Some, length, length-drop, get_or, take, drop, sym, ap, subst, ◌∙◌}
-use Rattle.std.proofs.Common.{◌||◌, arith}
-use Rattle.std.proofs.Math.ListN.{length-set}
-use Rattle.std.specs.List.{AllWithin, list_any}
+use Rattle.mq_table.proofs.Common.{◌||◌, arith, length-set, AllWithin, list_any, take_all, lies_ahead, Spends-join_within, compared-here, compared-past, Source}
+use Rattle.mq_table.proofs.Common.{deadline_of, running_among, runs_out, source_left, source_with, common_steps}
 use Rattle.std.specs.Option.{is_some}
-use Rattle.std.proofs.lemmas.List.{take_all}
-use Rattle.mq_count.specs.Timed.{lies_ahead}
-use Rattle.mq_count.proofs.Spent.{Spends-join_within}
-use Rattle.mq_count.proofs.TimedMoments.{compared-here, compared-past}
-use Rattle.mq_table.specs.declared.sources.Source.{Source}
-use Rattle.mq_table.specs.Group.{deadline_of}
-use Rattle.mq_table.specs.MadeSources.{running_among, runs_out, source_left}
-use Rattle.mq_table.specs.MergedRecord.{source_with}
 use Rattle.mq_table.proofs.EndedRuns.{run_stays, ended_leaves, behind_run, run_made, run_rest, running_among-more, running_among-run, any_out-run, any_out-more}
 use Rattle.mq_table.proofs.MadeLists.{passed_some, passed_none, rest_after_some, rest_after_none}
 use Rattle.mq_table.proofs.expiry.leave_sources.Goals as goal
@@ -126,3 +117,12 @@ returns-clause-ran_out g c =
     let end = c.loop-place-test.false in
     let now_long = c.len.ensures in
     so_far.ran_out ∙ ap (list_any (runs_out c.args.now)) (take_all c.loop-place.place c.args.sources.now.items (omega (arith, end, now_long, so_far.len)))
+
+pub move_run-requires-clause-within : goal.move_run-requires-clause-within
+move_run-requires-clause-within g c = grind (arith, common_steps)
+
+pub returns-clause-items : goal.returns-clause-items
+returns-clause-items g c = grind (arith, common_steps)
+
+pub returns-clause-spent : goal.returns-clause-spent
+returns-clause-spent g c = grind (arith, common_steps)

@@ -1,7 +1,4 @@
-use Rattle.std.proofs.Common.{◌≡◌, ◌≤◌, ◌-◌, length, take, drop, vec_capacity}
-use Rattle.std.specs.List.{filter_map, list_any}
-use Rattle.mq_count.specs.Spending.{Spends}
-use Rattle.mq_table.specs.MadeSources.{running_among, runs_out, source_left}
+use Rattle.mq_table.proofs.Common.{◌≡◌, ◌≤◌, ◌-◌, length, take, drop, vec_capacity, filter_map, list_any, Spends, running_among, runs_out, source_left}
 use Rattle.mq_table.proofs.expiry.leave_sources.Given as goal
 
 -- the places up to `left` have the rest of the passed sources; those ahead are unchanged

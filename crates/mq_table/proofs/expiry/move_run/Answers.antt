@@ -1,7 +1,5 @@
 use Rattle.std.proofs.Common.{◌≡◌, ◌+◌, ◌-◌, ◌++◌, List, length, length-drop, take, drop, sym, ap, ◌∙◌, arith, append-nil}
-use Rattle.std.specs.List.{copy_within}
-use Rattle.mq_table.specs.declared.sources.Source.{Source}
-use Rattle.std.proofs.lemmas.List.{take_all, drop_all, drop-drop}
+use Rattle.mq_table.proofs.Common.{copy_within, Source, take_all, drop_all, drop-drop, common_steps}
 use Rattle.std.proofs.lemmas.List.Edits.{drop-paste}
 use Rattle.mq_table.proofs.EndedRuns.{take_parts}
 use Rattle.mq_table.proofs.expiry.move_run.Goals as goal
@@ -32,3 +30,9 @@ returns-else-left-place-clause-moved g c =
     let same = c.if-left-place.false in
     let is : c.args.left ≡ c.args.place = omega (arith, same, c.requires.behind) in
     rw is (take_parts c.args.place c.args.run c.args.sources.now.items)
+
+pub returns-then-left-place-clause-len : goal.returns-then-left-place-clause-len
+returns-then-left-place-clause-len g c = grind (arith, common_steps)
+
+pub returns-then-left-place-clause-moved : goal.returns-then-left-place-clause-moved
+returns-then-left-place-clause-moved g c = grind (arith, common_steps)

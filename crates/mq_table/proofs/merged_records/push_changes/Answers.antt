@@ -1,9 +1,5 @@
-use Rattle.std.proofs.Common.{◌≡◌, ◌||◌, ◌-◌, ◌++◌, ap, ◌∙◌, arith, refl}
-use Rattle.mq_count.proofs.Spent.{Spends-join_within}
-use Rattle.mq_sets.specs.Merging.{merged, merged_lists, pair_of, comparisons_along}
-use Rattle.std.specs.Option.{option_to_list}
-use Rattle.mq_table.specs.Stored.{number_in}
-use Rattle.mq_table.specs.MergedRecord.{source_made, source_asked, source_turned}
+use Rattle.mq_table.proofs.Common.{◌≡◌, ◌||◌, ◌-◌, ◌++◌, ap, ◌∙◌, arith, refl, Spends-join_within, merged, merged_lists, pair_of, comparisons_along}
+use Rattle.mq_table.proofs.Common.{option_to_list, number_in, source_made, source_asked, source_turned, common_steps}
 use Rattle.mq_table.proofs.Pushed.{pushed_next, pushed_few, tested_next}
 use Rattle.mq_table.proofs.merged_records.push_changes.Goals as goal
 
@@ -74,3 +70,9 @@ loop-item-preserved g c =
       spent = Spends-join_within {a = compared} {b = compared} _ _ c.loop-item.invariant.spent next.spent
           (omega (arith, c.loop-item.invariant.fewer, next.comparisons_ahead)) (omega (arith, c.loop-item.invariant.fewer, next.comparisons_ahead));
     }
+
+pub returns-in_err-push_if_some-2-clause-memory : goal.returns-in_err-push_if_some-2-clause-memory
+returns-in_err-push_if_some-2-clause-memory g c = grind (arith, common_steps)
+
+pub returns-in_err-push_if_some-clause-memory : goal.returns-in_err-push_if_some-clause-memory
+returns-in_err-push_if_some-clause-memory g c = grind (arith, common_steps)

@@ -1,9 +1,5 @@
-use Rattle.std.proofs.Common.{◌≡◌, ◌||◌, ◌+◌, ◌-◌, ◌≤◌, ◌++◌, length, vec_capacity}
-use Rattle.std.specs.List.{filter_map, list_any}
-use Rattle.mq_count.specs.Spending.{Spends}
-use Rattle.mq_sets.specs.Merging.{merged, merged_lists, comparisons_along}
-use Rattle.mq_table.specs.Stored.{number_in}
-use Rattle.mq_table.specs.MergedRecord.{source_made, source_asked, source_turned}
+use Rattle.mq_table.proofs.Common.{◌≡◌, ◌||◌, ◌+◌, ◌-◌, ◌≤◌, ◌++◌, length, vec_capacity, filter_map, list_any, Spends, merged, merged_lists, comparisons_along}
+use Rattle.mq_table.proofs.Common.{number_in, source_made, source_asked, source_turned}
 use Rattle.mq_table.proofs.merged_records.push_changes.Given as goal
 
 -- The pushed results and those of the pairs ahead are all results of the merge. At most as many were pushed as

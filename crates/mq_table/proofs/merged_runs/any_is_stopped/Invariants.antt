@@ -1,6 +1,4 @@
-use Rattle.std.proofs.Common.{◌≡◌, take}
-use Rattle.std.specs.List.{list_any}
-use Rattle.mq_table.specs.MergedRecord.{item_is_stopped}
+use Rattle.mq_table.proofs.Common.{◌≡◌, take, list_any, item_is_stopped}
 use Rattle.mq_table.proofs.merged_runs.any_is_stopped.Given as goal
 
 -- the test of the passed sources for a stopped one

@@ -1,7 +1,5 @@
-use Rattle.std.proofs.Common.{◌<◌, get_or, ap, arith}
-use Rattle.std.specs.Cmp.{ranked}
+use Rattle.mq_table.proofs.Common.{◌<◌, get_or, ap, arith, ranked, number_in, common_steps}
 use Rattle.std.specs.declared.cmp.Ordering.TheVariants.{Greater}
-use Rattle.mq_table.specs.Stored.{number_in}
 use Rattle.mq_table.proofs.Runs.{above_place}
 use Rattle.mq_table.proofs.merged_runs.find_ahead.Goals as goal
 
@@ -17,3 +15,6 @@ returns-in-Greater-clause-absent g c =
       above = above_place number c.args.sources.now (g.K.Key.number c.args.name) c.loop-place.place c.index-sources-place.result c.requires.ascending
           c.loop-place-test.true c.index-sources-place.is (omega (arith, at, ap number c.index-sources-place.is));
     }
+
+pub loop-place-preserved : goal.loop-place-preserved
+loop-place-preserved g c = grind (arith, common_steps)

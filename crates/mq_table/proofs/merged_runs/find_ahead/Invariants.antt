@@ -1,7 +1,4 @@
-use Rattle.std.proofs.Common.{◌<◌}
-use Rattle.std.specs.List.{AllWithin}
-use Rattle.mq_count.specs.Spending.{Spends}
-use Rattle.mq_table.specs.Stored.{number_in}
+use Rattle.mq_table.proofs.Common.{◌<◌, AllWithin, Spends, number_in}
 use Rattle.mq_table.proofs.merged_runs.find_ahead.Given as goal
 
 -- the sources passed are below the name

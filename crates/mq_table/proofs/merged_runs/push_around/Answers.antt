@@ -1,9 +1,5 @@
-use Rattle.std.proofs.Common.{◌≡◌, ◌+◌, [], ◌∷◌, ◌++◌, ◌∙◌, take, drop, refl, ap, false, Some, None, rules}
-use Rattle.std.specs.List.{filter_map}
-use Rattle.std.proofs.lemmas.List.Elements.{All-drop, All-take}
-use Rattle.mq_sets.specs.Merging.{merged_lists}
-use Rattle.mq_table.specs.Stored.{number_in}
-use Rattle.mq_table.specs.MergedRecord.{source_made, source_asked, source_turned}
+use Rattle.mq_table.proofs.Common.{◌≡◌, ◌+◌, [], ◌∷◌, ◌++◌, ◌∙◌, take, drop, refl, ap, false, Some, None, rules, filter_map, All-drop, All-take, merged_lists}
+use Rattle.mq_table.proofs.Common.{number_in, source_made, source_asked, source_turned, arith, common_steps}
 use Rattle.mq_table.proofs.Runs.{one-IsAscending, merged-found, merged-absent, merged-alone, run_pushed, run_passed, last_run_pushed, last_run_passed}
 use Rattle.mq_table.proofs.Runs.{run_tested, last_run_tested}
 use Rattle.mq_table.proofs.merged_runs.push_around.Goals as goal
@@ -89,3 +85,6 @@ returns-in-Err g c =
       sources_room = search rules;
       asked_room = search rules;
     }
+
+pub push_run-requires-in-Err-2 : goal.push_run-requires-in-Err-2
+push_run-requires-in-Err-2 g c = grind (arith, common_steps)

@@ -1,11 +1,6 @@
-use Rattle.std.proofs.Common.{◌≡◌, ◌||◌, false, ◌+◌, ◌<◌, [], ◌∷◌, ◌++◌, ◌∙◌, length, drop, take, sym, ap, arith, Some, None, rules}
-use Rattle.std.proofs.lemmas.List.{drop_more, length-drop, length-take, drop_all}
-use Rattle.std.proofs.lemmas.List.Elements.{All-drop, All-take}
-use Rattle.mq_count.proofs.Spent.{Spends-join_within}
-use Rattle.mq_sets.proofs.Ascents.{IsAscending-rest}
-use Rattle.mq_sets.specs.Merging.{merged_lists}
-use Rattle.mq_table.specs.Stored.{number_in}
-use Rattle.mq_table.specs.MergedRecord.{source_made, source_asked, source_turned}
+use Rattle.mq_table.proofs.Common.{◌≡◌, ◌||◌, false, ◌+◌, ◌<◌, [], ◌∷◌, ◌++◌, ◌∙◌, length, drop, take, sym, ap, arith, Some, None, rules, drop_more}
+use Rattle.mq_table.proofs.Common.{length-drop, length-take, drop_all, All-drop, All-take, Spends-join_within, IsAscending-rest, merged_lists, number_in}
+use Rattle.mq_table.proofs.Common.{source_made, source_asked, source_turned, common_steps}
 use Rattle.mq_table.proofs.Runs.{merged-found, merged-absent, merged-alone, run_pushed, run_passed, last_run_pushed, last_run_passed, run_tested}
 use Rattle.mq_table.proofs.Runs.{last_run_tested, IsAscending-drop, few_pushed, few_more}
 use Rattle.mq_table.proofs.merged_runs.push_runs.Goals as goal
@@ -124,3 +119,9 @@ returns g c =
       sources_room = search rules;
       asked_room = search rules;
     }
+
+pub push_named-turned-requires-clause-room : goal.push_named-turned-requires-clause-room
+push_named-turned-requires-clause-room g c = grind (arith, common_steps)
+
+pub push_named-turned-requires-in-Err-clause-room : goal.push_named-turned-requires-in-Err-clause-room
+push_named-turned-requires-in-Err-clause-room g c = grind (arith, common_steps)

@@ -1,10 +1,5 @@
-use Rattle.std.proofs.Common.{◌≡◌, ◌||◌, ◌+◌, ◌-◌, ◌≤◌, ◌++◌, length, drop, max, min, vec_capacity}
-use Rattle.std.specs.List.{filter_map, list_any}
-use Rattle.mq_count.specs.Spending.{Spends}
-use Rattle.mq_sets.specs.Ascending.{IsAscending}
-use Rattle.mq_sets.specs.Merging.{merged_lists}
-use Rattle.mq_table.specs.Stored.{number_in}
-use Rattle.mq_table.specs.MergedRecord.{source_made, source_asked, source_turned, LeavesAlone}
+use Rattle.mq_table.proofs.Common.{◌≡◌, ◌||◌, ◌+◌, ◌-◌, ◌≤◌, ◌++◌, length, drop, max, min, vec_capacity, filter_map, list_any, Spends, IsAscending}
+use Rattle.mq_table.proofs.Common.{merged_lists, number_in, source_made, source_asked, source_turned, LeavesAlone}
 use Rattle.mq_table.proofs.merged_runs.push_runs.Given as goal
 
 -- The pushed results and those of the pairs ahead are all results of the merge. At most as many were pushed as both

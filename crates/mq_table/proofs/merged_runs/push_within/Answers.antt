@@ -1,7 +1,4 @@
-use Rattle.std.proofs.Common.{length, arith}
-use Rattle.mq_table.specs.MergedRecord.{LooksByHalves}
-use Rattle.mq_count.proofs.Spent.{Spends-within}
-use Rattle.mq_sets.proofs.Bitlen.{bitlen-few}
+use Rattle.mq_table.proofs.Common.{length, arith, LooksByHalves, Spends-within, bitlen-few, common_steps}
 use Rattle.mq_table.proofs.merged_runs.push_within.Goals as goal
 
 pub returns-then-named-eq1-clause-compares : goal.returns-then-named-eq1-clause-compares
@@ -24,3 +21,12 @@ returns-then-named-eq1-clause-by_halves g c one kept = Spends-within _ _ c.push_
 pub returns-else-named-eq1-clause-by_halves : goal.returns-else-named-eq1-clause-by_halves
 unfolding LooksByHalves
 returns-else-named-eq1-clause-by_halves g c one kept = absurd (c.if-named-eq1.false one)
+
+pub returns-then-named-eq1-clause-sources : goal.returns-then-named-eq1-clause-sources
+returns-then-named-eq1-clause-sources g c = grind (arith, common_steps)
+
+pub returns-then-named-eq1-clause-turned : goal.returns-then-named-eq1-clause-turned
+returns-then-named-eq1-clause-turned g c = grind (arith, common_steps)
+
+pub returns-then-named-eq1-clause-asked : goal.returns-then-named-eq1-clause-asked
+returns-then-named-eq1-clause-asked g c = grind (arith, common_steps)

@@ -1,6 +1,4 @@
-use Rattle.std.proofs.Common.{◌≡◌, take}
-use Rattle.std.specs.List.{list_any}
-use Rattle.mq_table.specs.SendingPlaces.{item_has_sendings}
+use Rattle.mq_table.proofs.Common.{◌≡◌, take, list_any, item_has_sendings}
 use Rattle.mq_table.proofs.sending_places.any_in_block.Given as goal
 
 -- the test of the passed sources for a sending

@@ -1,6 +1,4 @@
-use Rattle.std.proofs.Common.{◌≡◌, ◌+◌, ◌-◌, take, drop, ap, sym, ◌∙◌, arith}
-use Rattle.std.specs.List.{list_any}
-use Rattle.mq_table.specs.SendingPlaces.{item_has_sendings}
+use Rattle.mq_table.proofs.Common.{◌≡◌, ◌+◌, ◌-◌, take, drop, ap, sym, ◌∙◌, arith, list_any, item_has_sendings, common_steps}
 use Rattle.mq_table.proofs.Places.{none_behind_more}
 use Rattle.mq_table.proofs.sending_places.end_of_sendings.Goals as goal
 
@@ -18,3 +16,6 @@ by_block-preserved g c =
       within = omega (arith, c.by_block.invariant.within);
       none = none_behind_more item_has_sendings row start 16 (ap (λ n. list_any item_has_sendings (drop n row)) (sym back) ∙ c.by_block.invariant.none) block;
     }
+
+pub by_source-preserved : goal.by_source-preserved
+by_source-preserved g c = grind (arith, common_steps)

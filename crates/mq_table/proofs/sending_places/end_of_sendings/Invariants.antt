@@ -1,6 +1,4 @@
-use Rattle.std.proofs.Common.{◌≡◌, ◌≤◌, false, length, drop}
-use Rattle.std.specs.List.{list_any}
-use Rattle.mq_table.specs.SendingPlaces.{item_has_sendings}
+use Rattle.mq_table.proofs.Common.{◌≡◌, ◌≤◌, false, length, drop, list_any, item_has_sendings}
 use Rattle.mq_table.proofs.sending_places.end_of_sendings.Given as goal
 
 -- no source from the end on has a sending

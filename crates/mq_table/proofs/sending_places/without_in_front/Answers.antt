@@ -1,6 +1,4 @@
-use Rattle.std.proofs.Common.{◌≡◌, ◌+◌, ◌-◌, take, drop, ap, sym, ◌∙◌, arith}
-use Rattle.std.specs.List.{list_any}
-use Rattle.mq_table.specs.SendingPlaces.{item_has_sendings}
+use Rattle.mq_table.proofs.Common.{◌≡◌, ◌+◌, ◌-◌, take, drop, ap, sym, ◌∙◌, arith, list_any, item_has_sendings, common_steps}
 use Rattle.mq_table.proofs.Places.{none_in_front}
 use Rattle.mq_table.proofs.sending_places.without_in_front.Goals as goal
 
@@ -11,3 +9,9 @@ by_block-preserved g c =
     let count : (place + 16) - place ≡ 16 = omega arith in
     let block = ap (λ n. list_any item_has_sendings (take n (drop place row))) (sym count) ∙ sym c.any_in_block.ensures ∙ c.if-not-any_in_block.true in
     record { within = c.by_block-test.true; none = none_in_front item_has_sendings row place 16 c.by_block.invariant.none block }
+
+pub by_source-preserved : goal.by_source-preserved
+by_source-preserved g c = grind (arith, common_steps)
+
+pub returns-else-not-has_sendings-clause-next : goal.returns-else-not-has_sendings-clause-next
+returns-else-not-has_sendings-clause-next g c = grind (arith, common_steps)

@@ -1,6 +1,4 @@
-use Rattle.std.proofs.Common.{◌≡◌, ◌-◌, ◌≤◌, false, length, take}
-use Rattle.std.specs.List.{list_any}
-use Rattle.mq_table.specs.SendingPlaces.{item_has_sendings}
+use Rattle.mq_table.proofs.Common.{◌≡◌, ◌-◌, ◌≤◌, false, length, take, list_any, item_has_sendings}
 use Rattle.mq_table.proofs.sending_places.without_in_front.Given as goal
 
 -- no source passed has a sending

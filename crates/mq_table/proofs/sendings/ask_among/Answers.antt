@@ -1,6 +1,4 @@
-use Rattle.std.proofs.Common.{arith, length}
-use Rattle.mq_count.proofs.Spent.{Spends-within}
-use Rattle.mq_sets.proofs.Bitlen.{bitlen-few}
+use Rattle.mq_table.proofs.Common.{arith, length, Spends-within, bitlen-few}
 use Rattle.mq_table.proofs.InOrder.{some_held}
 use Rattle.mq_table.proofs.sendings.ask_among.Goals as goal
 

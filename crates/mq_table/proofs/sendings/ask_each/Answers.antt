@@ -1,15 +1,7 @@
-use Rattle.std.proofs.Common.{◌≡◌, true, false, ◌<◌, ◌≤◌, ◌∙◌, ap, sym, [], length, drop, refl, arith, rules}
-use Rattle.std.proofs.Math.ListN.{length-set}
-use Rattle.std.proofs.Math.Bool.{or-true, or-false}
-use Rattle.std.proofs.lemmas.Bool.{false≢true}
-use Rattle.std.proofs.lemmas.List.{drop_all}
-use Rattle.mq_count.proofs.Spent.{Spends-join, Spends-within, Spends-join_within}
-use Rattle.mq_sets.specs.Ascending.{set_of}
-use Rattle.mq_table.specs.Group.{is_ahead}
-use Rattle.mq_table.specs.AskedSources.{source_if_asked, is_asked_above}
-use Rattle.mq_table.proofs.InOrder.{in_order, some_held}
-use Rattle.mq_table.proofs.MadeLists.{all_made}
-use Rattle.mq_table.proofs.Asking.{step, made_at, stays, none_ahead, all_asked, some_asked}
+use Rattle.mq_table.proofs.Common.{◌≡◌, true, false, ◌<◌, ◌≤◌, ◌∙◌, ap, sym, [], length, drop, refl, arith, rules, length-set, or-true, or-false, false≢true}
+use Rattle.mq_table.proofs.Common.{drop_all, Spends-join, Spends-within, Spends-join_within, set_of, is_ahead, source_if_asked, is_asked_above}
+use Rattle.mq_table.proofs.{InOrder.in_order, InOrder.some_held, MadeLists.all_made, Asking.step, Asking.made_at, Asking.stays, Asking.none_ahead}
+use Rattle.mq_table.proofs.{Asking.all_asked, Asking.some_asked}
 use Rattle.mq_table.proofs.sendings.ask_each.Goals as goal
 use Rattle.mq_table.proofs.sendings.ask_each.Goals.{then-is_next+then-runs_on, then-is_next+else-runs_on, else-is_next}
 

@@ -1,8 +1,5 @@
-use Rattle.std.proofs.Common.{◌≡◌, ◌≤◌, ◌*◌, Some, length, min, take, drop, vec_capacity}
-use Rattle.std.specs.List.{filter_map, list_any}
-use Rattle.mq_count.specs.Spending.{Spends}
-use Rattle.mq_sets.specs.Ascending.{set_of}
-use Rattle.mq_table.specs.AskedSources.{source_if_asked, is_asked_above}
+use Rattle.mq_table.proofs.Common.{◌≡◌, ◌≤◌, ◌*◌, Some, length, min, take, drop, vec_capacity, filter_map, list_any, Spends, set_of, source_if_asked}
+use Rattle.mq_table.proofs.Common.{is_asked_above}
 use Rattle.mq_table.proofs.InOrder.{found_in_order, are_asked}
 use Rattle.mq_table.proofs.sendings.ask_each.Given as goal
 

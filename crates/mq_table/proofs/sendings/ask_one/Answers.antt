@@ -1,9 +1,5 @@
-use Rattle.std.proofs.Common.{true, false, set, ◌∙◌, ap, sym, refl}
-use Rattle.std.proofs.lemmas.List.{get_or_read}
-use Rattle.mq_table.specs.Group.{is_ahead}
-use Rattle.mq_table.specs.Stored.{number_in}
-use Rattle.mq_table.proofs.Asking.{made_at, stays}
-use Rattle.mq_table.proofs.AskingOne.{asked_absent, asked_found}
+use Rattle.mq_table.proofs.Common.{true, false, set, ◌∙◌, ap, sym, refl, get_or_read, is_ahead, number_in, arith, common_steps}
+use Rattle.mq_table.proofs.{Asking.made_at, Asking.stays, AskingOne.asked_absent, AskingOne.asked_found}
 use Rattle.mq_table.proofs.sendings.ask_one.Goals as goal
 
 pub returns-then-is_above-clause-items : goal.returns-then-is_above-clause-items
@@ -45,3 +41,6 @@ pub returns-in-Err-clause-some : goal.returns-in-Err-clause-some
 returns-in-Err-clause-some g c =
     let absent = rw c.as_slice.ensures.value at c.in-Err.ensures.member in
     (asked_absent g.K.Key.number c.args.limit c.args.count c.args.asked.now c.args.sources.now.items absent).1
+
+pub returns-then-is_above-clause-some : goal.returns-then-is_above-clause-some
+returns-then-is_above-clause-some g c = grind (arith, common_steps)

@@ -1,13 +1,7 @@
-use Rattle.std.proofs.Common.{Option, Some, ◌≡◌, ◌||◌, ◌+◌, ◌<◌, ◌∙◌, length, set, take, drop, refl, ap, sym, arith, rules}
-use Rattle.std.specs.List.{list_any}
-use Rattle.std.proofs.lemmas.List.{set-get_or}
-use Rattle.std.proofs.Math.ListN.{length-set}
-use Rattle.mq_table.specs.declared.sources.Source.{Source}
-use Rattle.mq_table.specs.MadeSources.{source_recounted}
-use Rattle.mq_table.specs.SendingPlaces.{item_has_sendings}
-use Rattle.mq_table.proofs.MadeLists.{passed_some, rest_after_some}
-use Rattle.mq_table.proofs.Places.{source_stays, sources_stay, made_of_none, any_with_set, any_without}
-use Rattle.mq_table.proofs.Asking.{all_asked, some_asked}
+use Rattle.mq_table.proofs.Common.{Option, Some, ◌≡◌, ◌||◌, ◌+◌, ◌<◌, ◌∙◌, length, set, take, drop, refl, ap, sym, arith, rules, list_any, set-get_or}
+use Rattle.mq_table.proofs.Common.{length-set, Source, source_recounted, item_has_sendings}
+use Rattle.mq_table.proofs.{MadeLists.passed_some, MadeLists.rest_after_some, Places.source_stays, Places.sources_stay, Places.made_of_none}
+use Rattle.mq_table.proofs.{Places.any_with_set, Places.any_without, Asking.all_asked, Asking.some_asked}
 use Rattle.mq_table.proofs.sendings.recount_each.Goals as goal
 use Rattle.mq_table.proofs.sendings.recount_each.Goals.{then-has_sendings, else-has_sendings}
 

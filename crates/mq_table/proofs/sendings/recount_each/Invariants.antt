@@ -1,7 +1,4 @@
-use Rattle.std.proofs.Common.{◌≡◌, Some, length, take, drop, vec_capacity}
-use Rattle.std.specs.List.{filter_map, list_any}
-use Rattle.mq_table.specs.MadeSources.{source_recounted}
-use Rattle.mq_table.specs.SendingPlaces.{item_has_sendings}
+use Rattle.mq_table.proofs.Common.{◌≡◌, Some, length, take, drop, vec_capacity, filter_map, list_any, source_recounted, item_has_sendings}
 use Rattle.mq_table.proofs.sendings.recount_each.Given as goal
 
 -- the passed places have the results of their sources; the rest is unchanged

@@ -1,6 +1,5 @@
 use Rattle.std.proofs.Common.{sym, ◌∙◌, ap}
-use Rattle.std.specs.Int.{w128, from_be_bytes}
-use Rattle.std.specs.Net.Addr.{ipv6_segments}
+use Rattle.std.specs.{Int.w128, Int.from_be_bytes, Net.Addr.ipv6_segments}
 use Rattle.mq_text.specs.Reading.{has_dot, number_of}
 use Rattle.mq_text.proofs.Spelled.{none_with_dot, none_v6, spelled_from_std}
 use Rattle.mq_text.proofs.reading.read_v6.Goals as goal

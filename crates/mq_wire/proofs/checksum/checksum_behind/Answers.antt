@@ -1,5 +1,4 @@
-use Rattle.std.proofs.Common.{ℕ, ◌-◌, ap}
-use Rattle.mq_wire.specs.Checksum.{with_field}
+use Rattle.mq_wire.proofs.Common.{ℕ, ◌-◌, ap, with_field}
 use Rattle.mq_wire.proofs.Sums.{sum_of_parts}
 use Rattle.mq_wire.proofs.checksum.checksum_behind.Goals as goal
 

@@ -1,5 +1,4 @@
-use Rattle.std.proofs.Common.{◌≡◌, ◌+◌, ◌*◌, ◌^◌, ◌≤◌, length}
-use Rattle.mq_wire.specs.Checksum.{sum_of_words}
+use Rattle.mq_wire.proofs.Common.{◌≡◌, ◌+◌, ◌*◌, ◌^◌, ◌≤◌, length, sum_of_words}
 use Rattle.mq_wire.proofs.checksum.last_sum.Given as goal
 
 -- the words so far and those that are left have the sum of all words

@@ -1,6 +1,4 @@
-use Rattle.std.proofs.Common.{◌≤◌, ◌+◌, ◌*◌, ◌^◌, ◌/◌, ◌%◌, arith}
-use Rattle.std.proofs.Math.Nat.{pow-le-pow_right}
-use Rattle.std.proofs.lemmas.Nat.{mul-le}
+use Rattle.mq_wire.proofs.Common.{◌≤◌, ◌+◌, ◌*◌, ◌^◌, ◌/◌, ◌%◌, arith, pow-le-pow_right, mul-le}
 use Rattle.mq_wire.proofs.codes.resp8.Goals as goal
 
 pub returns-clause-greatest : goal.returns-clause-greatest

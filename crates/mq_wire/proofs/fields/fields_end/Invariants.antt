@@ -1,5 +1,4 @@
-use Rattle.std.proofs.Common.{◌≡◌, ◌+◌, ◌≤◌, drop, length, sum}
-use Rattle.mq_wire.specs.Fields.{first_cut}
+use Rattle.mq_wire.proofs.Common.{◌≡◌, ◌+◌, ◌≤◌, drop, length, sum, first_cut}
 use Rattle.mq_wire.proofs.fields.fields_end.Given as goal
 
 -- a fact about all fields holds if it holds for those left

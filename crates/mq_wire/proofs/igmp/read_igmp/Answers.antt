@@ -1,5 +1,4 @@
-use Rattle.std.proofs.Common.{[], refl}
-use Rattle.mq_wire.specs.Family.{Igmp}
+use Rattle.mq_wire.proofs.Common.{[], refl, Igmp}
 use Rattle.mq_wire.proofs.Spelled.{exact_message, exact_fault}
 use Rattle.mq_wire.proofs.igmp.read_igmp.Goals as goal
 

@@ -1,5 +1,4 @@
-use Rattle.std.proofs.Common.{refl}
-use Rattle.mq_wire.specs.Family.{Mld}
+use Rattle.mq_wire.proofs.Common.{refl, Mld}
 use Rattle.mq_wire.proofs.Spelled.{exact_message, exact_fault}
 use Rattle.mq_wire.proofs.mld.read_mld.Goals as goal
 

@@ -1,5 +1,4 @@
-use Rattle.std.proofs.Common.{List, ℕ, subst}
-use Rattle.mq_wire.specs.Canon.{Writes}
+use Rattle.mq_wire.proofs.Common.{List, ℕ, subst, Writes}
 use Rattle.mq_wire.proofs.Written.{mld_written}
 use Rattle.mq_wire.proofs.mld.write_mld.Goals as goal
 

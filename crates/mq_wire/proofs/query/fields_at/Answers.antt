@@ -1,9 +1,5 @@
-use Rattle.std.proofs.Common.{◌+◌, ◌*◌, ℕ, replicate, length, sym, ap, ◌∙◌, arith}
-use Rattle.std.proofs.lemmas.Result.{err_from_is_err_and}
-use Rattle.mq_wire.specs.Fields.{cut_from}
-use Rattle.mq_wire.proofs.Spans.{ends_within, sum-replicate}
-use Rattle.mq_wire.proofs.Addresses.{bytes_behind}
-use Rattle.mq_wire.proofs.Queried.{fields_read}
+use Rattle.mq_wire.proofs.Common.{◌+◌, ◌*◌, ℕ, replicate, length, sym, ap, ◌∙◌, arith, err_from_is_err_and, cut_from}
+use Rattle.mq_wire.proofs.{Spans.ends_within, Spans.sum-replicate, Addresses.bytes_behind, Queried.fields_read}
 use Rattle.mq_wire.proofs.query.fields_at.Goals as goal
 
 pub returns-in_err-addresses_end : goal.returns-in_err-addresses_end

@@ -1,5 +1,4 @@
-use Rattle.std.proofs.Common.{◌∙◌, ◌≤◌, ◌+◌, length}
-use Rattle.mq_wire.specs.Family.{group_end}
+use Rattle.mq_wire.proofs.Common.{◌∙◌, ◌≤◌, ◌+◌, length, group_end}
 use Rattle.mq_wire.proofs.Queried.{current_read}
 use Rattle.mq_wire.proofs.reading.query.Goals as goal
 

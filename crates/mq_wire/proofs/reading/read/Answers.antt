@@ -1,8 +1,5 @@
-use Rattle.std.proofs.Common.{◌≡◌, ◌≤◌, [], length, sym, refl}
-use Rattle.std.proofs.lemmas.Result.{err_from_is_err_and}
-use Rattle.mq_wire.proofs.Cuts.{header}
-use Rattle.mq_wire.proofs.Faults.{header_cut, wrong, unknown}
-use Rattle.mq_wire.proofs.Spelled.{reads}
+use Rattle.mq_wire.proofs.Common.{◌≡◌, ◌≤◌, [], length, sym, refl, err_from_is_err_and}
+use Rattle.mq_wire.proofs.{Cuts.header, Faults.header_cut, Faults.wrong, Faults.unknown, Spelled.reads}
 use Rattle.mq_wire.proofs.reading.read.Goals as goal
 
 pub returns-in_err-fields_end : goal.returns-in_err-fields_end

@@ -1,6 +1,5 @@
-use Rattle.std.proofs.Common.{◌+◌, ◌∙◌, refl, arith}
-use Rattle.mq_wire.proofs.Addresses.{bytes_behind}
-use Rattle.mq_wire.proofs.RecordLists.{record_bounds}
+use Rattle.mq_wire.proofs.Common.{◌+◌, ◌∙◌, refl, arith, common_steps}
+use Rattle.mq_wire.proofs.{Addresses.bytes_behind, RecordLists.record_bounds}
 use Rattle.mq_wire.proofs.records.record_at.Goals as goal
 
 pub overflow_mul-auxiliary : goal.overflow_mul-auxiliary
@@ -26,3 +25,6 @@ overflow_add-result g c =
     let bounds = record_bounds g.K.WireKey.WIDTH c.args.place c.WIDTH.result c.WIDTH-2.result c.from.result c.from-2.result c.args.bytes.now
     c.WIDTH.ensures c.WIDTH-2.ensures (c.from.ensures ∙ c.number_at-count.ensures) c.from-2.ensures c.requires in
     omega (arith, bounds)
+
+pub returns-clause-end : goal.returns-clause-end
+returns-clause-end g c = grind (arith, common_steps)

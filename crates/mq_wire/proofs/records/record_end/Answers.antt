@@ -1,7 +1,5 @@
-use Rattle.std.proofs.Common.{◌≤◌, length, ◌∷◌, [], replicate, ap, ◌*◌, ℕ, arith}
-use Rattle.std.proofs.lemmas.Result.{err_from_is_err_and}
-use Rattle.mq_wire.proofs.RecordLists.{record_ends, sources_cut}
-use Rattle.mq_wire.proofs.Spans.{end_within}
+use Rattle.mq_wire.proofs.Common.{◌≤◌, length, ◌∷◌, [], replicate, ap, ◌*◌, ℕ, arith, err_from_is_err_and}
+use Rattle.mq_wire.proofs.{RecordLists.record_ends, RecordLists.sources_cut, Spans.end_within}
 use Rattle.mq_wire.proofs.records.record_end.Goals as goal
 
 pub returns-in_err-auxiliary : goal.returns-in_err-auxiliary

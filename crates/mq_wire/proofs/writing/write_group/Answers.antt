@@ -1,5 +1,4 @@
-use Rattle.std.proofs.Common.{◌≤◌, ◌++◌, length, drop, length-append, refl, ap, arith}
-use Rattle.byteorder.specs.Endian.{big_bytes}
+use Rattle.mq_wire.proofs.Common.{◌≤◌, ◌++◌, length, drop, length-append, refl, ap, arith, big_bytes}
 use Rattle.mq_wire.proofs.WrittenParts.{next_part}
 use Rattle.mq_wire.proofs.writing.write_group.Goals as goal
 

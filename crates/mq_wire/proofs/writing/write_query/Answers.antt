@@ -1,6 +1,4 @@
-use Rattle.std.proofs.Common.{◌++◌, refl, sym, ◌∙◌, arith}
-use Rattle.byteorder.specs.Endian.{big_bytes}
-use Rattle.mq_wire.specs.Canon.{fields_bytes}
+use Rattle.mq_wire.proofs.Common.{◌++◌, refl, sym, ◌∙◌, arith, big_bytes, fields_bytes}
 use Rattle.mq_wire.proofs.WrittenParts.{length_query, length_with_checksum}
 use Rattle.mq_wire.proofs.writing.write_query.Goals as goal
 

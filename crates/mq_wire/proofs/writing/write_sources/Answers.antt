@@ -1,5 +1,4 @@
-use Rattle.std.proofs.Common.{arith}
-use Rattle.byteorder.specs.Numbers.{length-bytes_high_first}
+use Rattle.mq_wire.proofs.Common.{arith, length-bytes_high_first}
 use Rattle.mq_wire.proofs.WrittenParts.{one_more}
 use Rattle.mq_wire.proofs.writing.write_sources.Goals as goal
 

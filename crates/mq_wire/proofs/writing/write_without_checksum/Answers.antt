@@ -1,8 +1,5 @@
 use Rattle.std.proofs.Common.{◌≡◌, ◌≤◌, ◌+◌, ◌*◌, ◌++◌, [], length, drop, length-append, append-nil, ap, ◌∙◌, arith}
-use Rattle.std.proofs.lemmas.List.{drop_all}
-use Rattle.byteorder.specs.Endian.{big_bytes}
-use Rattle.byteorder.specs.Numbers.{length-bytes_high_first}
-use Rattle.mq_wire.specs.Canon.{fields_bytes}
+use Rattle.mq_wire.proofs.Common.{drop_all, big_bytes, length-bytes_high_first, fields_bytes}
 use Rattle.mq_wire.proofs.WrittenParts.{next_part}
 use Rattle.mq_wire.proofs.writing.write_without_checksum.Goals as goal
 

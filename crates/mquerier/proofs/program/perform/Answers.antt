@@ -1,6 +1,8 @@
 use Rattle.std.proofs.Common.{subst}
 use Rattle.mq_check.specs.declared.check_terms.CheckTerms.{CheckTerms}
+use Rattle.mq_command.specs.declared.replay.Settings.{Settings}
 use Rattle.mq_convert.specs.declared.choice.Choice.{Choice}
+use Rattle.mquerier.specs.CheckRuns.{checked_settings}
 use Rattle.mquerier.specs.Changes.{input_by, output_by}
 use Rattle.mquerier.specs.Status.{PerformsCheck, PerformsConversion}
 use Rattle.mquerier.proofs.Checkings.{check_performed}
@@ -12,16 +14,19 @@ returns-in-Convert-clause-performs g c =
     let input = input_by g.R.Read.remaining c.args.input.now c.perform_conversion.new.input in
     let output = output_by g.W.Write.contents c.args.console.now.output c.perform_conversion.new.console.output in
     let errors = output_by g.E.Write.contents c.args.console.now.errors c.perform_conversion.new.console.errors in
-    let performs = subst (λ (choice : Choice). PerformsConversion choice c.args.console.now.in_words input output errors c.perform_conversion.result)
+    let performs = subst (λ (choice : Choice). PerformsConversion choice c.in-Convert.json input output errors c.perform_conversion.result)
     c.choice_of-choice.ensures c.perform_conversion.ensures.performs in
-    rw c.in-Convert.is (conversion_performed _ _ _ _ _ input output errors c.perform_conversion.result performs)
+    rw c.in-Convert.is (conversion_performed _ _ _ _ _ _ input output errors c.perform_conversion.result performs)
 
 pub returns-in-Check-clause-performs : goal.returns-in-Check-clause-performs
 returns-in-Check-clause-performs g c =
     let input = input_by g.R.Read.remaining c.args.input.now c.perform_check.new.input in
     let output = output_by g.W.Write.contents c.args.console.now.output c.perform_check.new.console.output in
     let errors = output_by g.E.Write.contents c.args.console.now.errors c.perform_check.new.console.errors in
+    let limited = subst
+    (λ (settings : Settings). PerformsCheck (record { protocol = c.in-Check.protocol; settings = settings; terms = c.terms_of.result })
+    c.in-Check.querier.now input output errors c.perform_check.result) c.checked_settings.ensures c.perform_check.ensures.performs in
     let performs = subst
-    (λ (terms : CheckTerms). PerformsCheck (record { protocol = c.in-Check.protocol; settings = c.in-Check.settings; terms = terms })
-    c.in-Check.querier.now c.args.console.now.in_words input output errors c.perform_check.result) c.terms_of.ensures c.perform_check.ensures.performs in
-    rw c.in-Check.is (check_performed _ _ _ _ _ _ _ _ _ _ input output errors c.perform_check.result performs)
+    (λ (terms : CheckTerms). PerformsCheck (record { protocol = c.in-Check.protocol; settings = checked_settings c.in-Check.settings; terms = terms })
+    c.in-Check.querier.now input output errors c.perform_check.result) c.terms_of.ensures limited in
+    rw c.in-Check.is (check_performed _ _ _ _ _ _ _ _ input output errors c.perform_check.result performs)

@@ -1,19 +1,17 @@
 use Rattle.std.proofs.Common.{arith, refl, ◌∙◌}
 use Rattle.std.proofs.lemmas.Result.{err_from_is_err_and}
-use Rattle.mq_replay.specs.declared.asked.Asked.{Asked}
 use Rattle.mquerier.proofs.Breakings.{end_by, unflushed_by, unwritten_end}
 use Rattle.mquerier.proofs.Checkings.{until_in_range}
 use Rattle.mquerier.proofs.Replayed.{replay_ended}
 use Rattle.mquerier.proofs.replaying.replay_at.Goals as goal
 
 pub replay-answer-requires : goal.replay-answer-requires
-replay-answer-requires g c = until_in_range c.args.options.now.until c.in_ok-_end.ensures.1
+replay-answer-requires g c = until_in_range c.args.options.now.asked.until c.in_ok-_end.ensures.1
 
 pub returns-in_err-ended-clause-works : goal.returns-in_err-ended-clause-works
 returns-in_err-ended-clause-works g c =
     let p = err_from_is_err_and c.from_residual-in_err-ended.result c.from_residual-in_err-ended.ensures.1 in
-    let asked : Asked = record { until = c.args.options.now.until; changes = c.args.options.now.changes } in
-    let it = replay_ended g.F.Family.FAMILY (g.F.Address.Key.number c.args.own) c.args.options.now.settings asked _ _ _ _ _ _ _
+    let it = replay_ended g.F.Family.FAMILY (g.F.Address.Key.number c.args.own) c.args.options.now.settings c.args.options.now.asked _ _ _ _ _ _ _
     (end_by g.R.Read.remaining g.W.Write.contents _ _ _ _ _ _ _ c.replay-answer.ensures.memory c.in_err-ended.ensures.unflushed c.in_err-ended.ensures.ended
     c.replay-answer.ensures.failed c.in_err-ended.ensures.bytes) c.in_ok-config.ensures c.replay-answer.ensures.replays in
     let one = it.0 in
@@ -21,8 +19,7 @@ returns-in_err-ended-clause-works g c =
 
 pub returns-clause-works : goal.returns-clause-works
 returns-clause-works g c =
-    let asked : Asked = record { until = c.args.options.now.until; changes = c.args.options.now.changes } in
-    let it = replay_ended g.F.Family.FAMILY (g.F.Address.Key.number c.args.own) c.args.options.now.settings asked _ _ _ _ _ _ _
+    let it = replay_ended g.F.Family.FAMILY (g.F.Address.Key.number c.args.own) c.args.options.now.settings c.args.options.now.asked _ _ _ _ _ _ _
     (end_by g.R.Read.remaining g.W.Write.contents _ _ _ _ _ _ _ c.replay-answer.ensures.memory c.in_ok-ended.ensures.unflushed c.in_ok-ended.ensures.ended
     c.replay-answer.ensures.failed c.in_ok-ended.ensures.bytes) c.in_ok-config.ensures c.replay-answer.ensures.replays in
     ((c.in_ok-_end.ensures.1, c.in_ok-config.ensures.0), refl, it.0, _, it.1)

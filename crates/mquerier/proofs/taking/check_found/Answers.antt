@@ -16,7 +16,7 @@ returns-in_err-print_whole g c =
     let output = output_by g.W.Write.contents c.args.output.now c.print_whole.new.output in
     let mid = output_of g.W.Write.contents c.check_at.new.output in
     let line = c.as_slice.ensures ∙ c.taken_line_of-line.ensures ∙
-    ap (λ (f : Family). taken_line f c.args.given.now.settings found) g.met.F.CapturedFamily.same_family in
+    ap (λ (f : Family). taken_line c.args.given.now.terms.additions.json f c.args.given.now.settings found) g.met.F.CapturedFamily.same_family in
     rw (p.1, p.2) (found_unwritten g.F.Family.FAMILY c.args.given.now found _ input output mid _ _ _ c.with_variables.ensures line
     c.in_ok-totals.ensures.works c.in_err-print_whole.ensures)
 
@@ -27,6 +27,6 @@ returns g c =
     let output = output_by g.W.Write.contents c.args.output.now c.print_whole.new.output in
     let mid = output_of g.W.Write.contents c.check_at.new.output in
     let line = c.as_slice.ensures ∙ c.taken_line_of-line.ensures ∙
-    ap (λ (f : Family). taken_line f c.args.given.now.settings found) g.met.F.CapturedFamily.same_family in
+    ap (λ (f : Family). taken_line c.args.given.now.terms.additions.json f c.args.given.now.settings found) g.met.F.CapturedFamily.same_family in
     found_done g.F.Family.FAMILY c.args.given.now found _ input output mid _ _ c.with_variables.ensures line c.in_ok-totals.ensures.works
     c.in_ok-print_whole.ensures

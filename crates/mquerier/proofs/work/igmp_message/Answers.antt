@@ -8,7 +8,7 @@ use Rattle.mquerier.proofs.work.igmp_message.Goals as goal
 pub returns-in_err-flush-clause-works : goal.returns-in_err-flush-clause-works
 returns-in_err-flush-clause-works g c =
     let p = err_from_is_err_and c.from_residual-in_err-flush.result c.from_residual-in_err-flush.ensures.1 in
-    let line = line_written _ _ _ Igmp (λ len. []) _ _ _ (c.in_ok-bytes.ensures ∙ ap Ok (sym c.deref.ensures.value)) c.in-Ok.ensures.line
+    let line = line_written c.args.json _ _ _ Igmp (λ len. []) _ _ _ (c.in_ok-bytes.ensures ∙ ap Ok (sym c.deref.ensures.value)) c.in-Ok.ensures.line
     c.in_err-flush.ensures.bytes in
     let no_from = c.is_no_v4.ensures.no c.if-is_no_v4.false in
     let no_to = c.is_no_v4-else-is_no_v4.ensures.no c.if-is_no_v4-2.false in

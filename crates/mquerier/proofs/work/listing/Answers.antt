@@ -6,7 +6,7 @@ use Rattle.mquerier.proofs.work.listing.Goals as goal
 pub returns-in_err-ended-clause-works : goal.returns-in_err-ended-clause-works
 returns-in_err-ended-clause-works g c =
     let p = err_from_is_err_and c.from_residual.result c.from_residual.ensures.1 in
-    let it = listing_ended _ _ _ _ _ _
+    let it = listing_ended c.args.json _ _ _ _ _ _
     (end_by g.R.Read.remaining g.W.Write.contents _ _ _ _ _ _ _ c.show-answer.ensures.memory c.in_err-ended.ensures.unflushed c.in_err-ended.ensures.ended
     c.show-answer.ensures.failed c.in_err-ended.ensures.bytes) c.show-answer.ensures.shows in
     let one = it.0 in
@@ -14,7 +14,7 @@ returns-in_err-ended-clause-works g c =
 
 pub returns-clause-works : goal.returns-clause-works
 returns-clause-works g c =
-    let it = listing_ended _ _ _ _ _ _
+    let it = listing_ended c.args.json _ _ _ _ _ _
     (end_by g.R.Read.remaining g.W.Write.contents _ _ _ _ _ _ _ c.show-answer.ensures.memory c.in_ok-ended.ensures.unflushed c.in_ok-ended.ensures.ended
     c.show-answer.ensures.failed c.in_ok-ended.ensures.bytes) c.show-answer.ensures.shows in
     (refl, it.0, _, it.1)

@@ -12,13 +12,13 @@ pub returns-in_err-bytes-clause-works : goal.returns-in_err-bytes-clause-works
 returns-in_err-bytes-clause-works g c =
     let p = err_from_is_err_and c.from_residual.result c.from_residual.ensures.1 in
     let output = output_by g.W.Write.contents c.args.output.now c.args.output.now in
-    rw (p.1, p.2) (undecoded _ _ _ _ _ output _ _ _ (ap option_copied c.in-Some.is)
+    rw (p.1, p.2) (undecoded c.args.json _ _ _ _ _ output _ _ _ (ap option_copied c.in-Some.is)
     (ap option_copied c.in-Some-to.is) c.in-Some-read_v6.ensures c.in-Some-read_v6-2.ensures refl c.in_err-bytes.ensures)
 
 pub returns-in_default-mld_line-clause-works : goal.returns-in_default-mld_line-clause-works
 returns-in_default-mld_line-clause-works g c =
     let pseudo = pseudo_header c.in-Some-read_v6.source c.in-Some-read_v6-2.destination in
-    let line = line_begun _ _ Mld pseudo _ _ _ (c.in_ok-bytes.ensures ∙ ap Ok (sym c.deref.ensures.value)) c.in_default-mld_line.ensures.line in
+    let line = line_begun c.args.json _ _ Mld pseudo _ _ _ (c.in_ok-bytes.ensures ∙ ap Ok (sym c.deref.ensures.value)) c.in_default-mld_line.ensures.line in
     rw (c.in-Some.is, c.in-Some-to.is) (
       λ e. absurd (omega (arith, e)),
       λ e. (
@@ -33,7 +33,7 @@ pub returns-in_err-flush-clause-works : goal.returns-in_err-flush-clause-works
 returns-in_err-flush-clause-works g c =
     let p = err_from_is_err_and c.from_residual-in_err-flush.result c.from_residual-in_err-flush.ensures.1 in
     let pseudo = pseudo_header c.in-Some-read_v6.source c.in-Some-read_v6-2.destination in
-    let line = line_written _ _ _ Mld pseudo _ _ _ (c.in_ok-bytes.ensures ∙ ap Ok (sym c.deref.ensures.value)) c.in-Ok.ensures.line
+    let line = line_written c.args.json _ _ _ Mld pseudo _ _ _ (c.in_ok-bytes.ensures ∙ ap Ok (sym c.deref.ensures.value)) c.in-Ok.ensures.line
     c.in_err-flush.ensures.bytes in
     rw (p.1, p.2, c.in_err-flush.ensures.write, c.in-Some.is, c.in-Some-to.is) (
       λ e. absurd (omega (arith, e)),
@@ -48,7 +48,7 @@ returns-in_err-flush-clause-works g c =
 pub returns-clause-works : goal.returns-clause-works
 returns-clause-works g c =
     let pseudo = pseudo_header c.in-Some-read_v6.source c.in-Some-read_v6-2.destination in
-    let line = line_written _ _ _ Mld pseudo _ _ _ (c.in_ok-bytes.ensures ∙ ap Ok (sym c.deref.ensures.value)) c.in-Ok.ensures.line
+    let line = line_written c.args.json _ _ _ Mld pseudo _ _ _ (c.in_ok-bytes.ensures ∙ ap Ok (sym c.deref.ensures.value)) c.in-Ok.ensures.line
     c.in_ok-flush.ensures.bytes in
     rw (c.in-Some.is, c.in-Some-to.is) (
       line.0,

@@ -6,4 +6,5 @@ pub returns-in-Message-clause-works : goal.returns-in-Message-clause-works
 returns-in-Message-clause-works g c =
     let input = input_by g.R.Read.remaining c.args.input.now c.args.input.now in
     let output = output_by g.W.Write.contents c.args.output.now c.message.new.output in
-    rw c.in-Message.is (worked c.in-Message.protocol c.in-Message.hex c.in-Message.from c.in-Message.to input output c.message.result c.message.ensures.works)
+    rw c.in-Message.is (worked c.in-Message.json c.in-Message.protocol c.in-Message.hex c.in-Message.from c.in-Message.to input output
+    c.message.result c.message.ensures.works)

@@ -1,34 +1,11 @@
 -- `allocate` hands out the units that it took as room for the type that was asked. Assumes `Logic`.
-use Rattle.std.proofs.Common.{◌≡◌, true, false, List, [], ◌∷◌, ◌++◌, refl, sym, subst, ◌∙◌, lit<, w64, Ok, Err, arith}
-use mir.Syntax.{Ty, Fn}
-use mir.Val.{Val, vint, vptr}
-use base.Logic.{SProp, ent, id⊢}
-use base.Fml.{froom}
-use prog.Memory.{size, align, capped}
-use prog.Capped.{capped_is, capped_small}
-use prog.Wp.{Env, WpFn}
-use contract.Monad.{fact}
-use contract.Running.{tables}
-use types.Kit.{‵, raw, ◌⊛◌, some, later, prop, at_ret, ◌$◌, ◌∵◌, !, qed, by, move, drop, use0, use1, split, join, pick, regoal, fjoin, await}
-use types.Part.{whole, sub, agg}
-use types.Match.{vrt, in_variant}
-use types.Run.{stop, fld, hop, from, addr, lit, of_opd, no_more, and_then, first, switches_on, exec, returns, enter}
-use types.ByLocal.{alloc_all, pass_all, free_all, look_at, look_in_at, get, get_in, get_tag, sets, sets_last, lands_as, env}
-use denote.Builtin.{usize, RefOf}
-use denote.Exit.{yes}
-use denote.RattleType.{owns}
-use denote.RawPtr.{Ptr, block_ptr}
-use denote.Signature.{Slot, plain, types_at}
-use denote.Steps.{nothing, heard}
-use denote.Triple.Call.{calls_from}
-use denote.Triple.Clauses.{Lasts, lasts}
-use denote.Triple.Entry.{alive}
-use denote.Triple.Spec.{triple_of}
-use denote.Triple.Walked.{Stays, stay_dropped, walk_of, Goes-dropped}
-use Rattle.core.proofs.alloc.Calls.{Answer, answer_val, Answer-Ok, Answer-err}
-use Rattle.core.proofs.alloc.Shapes.{after, head, arm_body}
-use Rattle.core.proofs.atomic.Steps.{fm}
-use Rattle.std.proofs.raw_atomic.Walks.{proved_at, leaves}
+use Rattle.mq_arena.proofs.Common.{◌≡◌, true, false, List, [], ◌∷◌, ◌++◌, refl, sym, subst, ◌∙◌, lit<, w64, Ok, Err, arith, Ty, Fn, Val, vint, vptr, SProp, ent}
+use Rattle.mq_arena.proofs.Common.{id⊢, froom, size, align, capped, capped_is, capped_small, Env, WpFn, fact, tables, ‵, raw, ◌⊛◌, some, later, prop, at_ret}
+use Rattle.mq_arena.proofs.Common.{◌$◌, ◌∵◌, !, qed, by, move, drop, use0, use1, split, join, pick, regoal, fjoin, await, whole, sub, agg, vrt, in_variant}
+use Rattle.mq_arena.proofs.Common.{stop, fld, hop, from, addr, lit, of_opd, no_more, and_then, first, switches_on, exec, returns, enter, alloc_all, pass_all}
+use Rattle.mq_arena.proofs.Common.{free_all, look_at, look_in_at, get, get_in, get_tag, sets, sets_last, lands_as, env, usize, RefOf, yes, owns, Ptr, block_ptr}
+use Rattle.mq_arena.proofs.Common.{Slot, plain, types_at, nothing, heard, calls_from, Lasts, lasts, alive, triple_of, Stays, stay_dropped, walk_of}
+use Rattle.mq_arena.proofs.Common.{Goes-dropped, Answer, answer_val, Answer-Ok, Answer-err, after, head, arm_body, fm, proved_at, leaves}
 use Rattle.mq_arena.proofs.Arms.{then_runs}
 use Rattle.mq_arena.proofs.Rooms.{room_of_units}
 use Rattle.mq_arena.proofs.Taken.{Taken, Told, taken}

@@ -1,15 +1,7 @@
 -- The function `shrink`, which is the trait's: it returns the result of the trait's body. Assumes `Logic`.
 use mathlib.Core.List.{[], ◌∷◌}
 use mathlib.Core.Path.{refl}
-use mir.MapTy.{inst_fn}
-use mir.Syntax.{Dict, a_type, impl, tcons, tnil, dnil}
-use base.Logic.{sep}
-use borrow.Fn.Kept.{kept_by}
-use contract.BorrowLft.{⊑_static, ⊑_refl}
-use contract.Lifetimes.{Lfts}
-use contract.Running.{tables_of}
-use denote.Param.{layout, layouts}
-use denote.Param.NoDrop.{glues}
+use Rattle.mq_arena.proofs.Common.{inst_fn, Dict, a_type, impl, tcons, tnil, dnil, sep, kept_by, ⊑_static, ⊑_refl, Lfts, tables_of, layout, layouts, glues}
 use Rattle.core.proofs.alloc.Allocator.shrink.Met.{met}
 use Rattle.core.proofs.alloc.Allocator.shrink.Symbol as trait_body
 use Rattle.mq_arena.proofs.Kept.{parameters, answer}

@@ -1,41 +1,18 @@
 -- `into_units` lends the units for good. Assumes `Logic`.
-use Rattle.std.proofs.Common.{◌≡◌, ℕ, ◌^◌, ◌<◌, List, [], ◌∷◌, ◌++◌, length, refl, ap, ◌∙◌, arith, w64}
-use base.Fraction.{full_share}
-use base.Fml.{fsep, fauth, ftrue}
-use base.Logic.{SProp, emp, id⊢}
+use Rattle.mq_arena.proofs.Common.{◌≡◌, ℕ, ◌^◌, ◌<◌, List, [], ◌∷◌, ◌++◌, length, refl, ap, ◌∙◌, arith, w64, full_share, fsep, fauth, ftrue, SProp, emp, id⊢}
+use Rattle.mq_arena.proofs.Common.{fact, fact_i, tables, Array, u128, usize, yes, whole_in, mem, shares, owns, Ptr, RawPtr, block_ptr, ptr_val, lies_at}
+use Rattle.mq_arena.proofs.Common.{in_a_block, shadow, Slot, plain, types_at, slice_val, nothing, alive, Stays, stay_dropped, walk_of, Fn, static, Val, vint}
+use Rattle.mq_arena.proofs.Common.{vstruct, vcons, vnil, of_list, Env, WpFn, alloc_all, pass_all, free_all, look_at, get, get_in, sets, sets_last, env, ‵, raw}
+use Rattle.mq_arena.proofs.Common.{◌⊛◌, prop, at_ret, ◌$◌, ◌∵◌, !, qed, by, move, keep, drop, use0, use1, use2, split, rewrite, regoal, fsplit, fjoin, fpick}
+use Rattle.mq_arena.proofs.Common.{fpack, feq_l, feq_i, whole, sub, agg, stop, fld, of_opd, no_more, and_then, first, blocks, exec, returns, enter, Goes-blank}
+use Rattle.mq_arena.proofs.Common.{after, proved_at, leaves}
 use base.Stored.{coded_list}
-use contract.Monad.{fact, fact_i}
-use contract.Running.{tables}
-use denote.Array.{Array}
 use denote.ArrayMemory.{Array-apart}
-use denote.Builtin.{u128, usize}
-use denote.Exit.{yes}
 use denote.FollowSlice.{slice_of}
-use denote.Index.{whole_in}
-use denote.Memory.{mem, shares}
-use denote.RattleType.{owns}
-use denote.RawPtr.{Ptr, RawPtr, block_ptr, ptr_val, lies_at, in_a_block}
-use denote.Shadow.{shadow}
-use denote.Signature.{Slot, plain, types_at}
-use denote.Slice.{slice_val}
-use denote.Steps.{nothing}
 use denote.Struct.Struct.{Struct}
-use denote.Triple.Entry.{alive}
-use denote.Triple.Walked.{Stays, stay_dropped, walk_of}
-use mir.Syntax.{Fn, static}
-use mir.Val.{Val, vint, vstruct, vcons, vnil, of_list}
-use prog.Wp.{Env, WpFn}
-use types.ByLocal.{alloc_all, pass_all, free_all, look_at, get, get_in, sets, sets_last, env}
-use types.Kit.{‵, raw, ◌⊛◌, prop, at_ret, ◌$◌, ◌∵◌, !, qed, by, move, keep, drop, use0, use1, use2, split, rewrite, regoal, fsplit, fjoin, fpick}
-use types.Kit.{fpack, feq_l, feq_i}
-use types.Part.{whole, sub, agg}
-use types.Run.{stop, fld, of_opd, no_more, and_then, first, blocks, exec, returns, enter}
 use types.SemTy.{Arr, cells}
 use types.Share.{arr_parts}
 use types.Tokens.{name_new, bor_new}
-use Rattle.core.proofs.alloc.Calls.{Goes-blank}
-use Rattle.core.proofs.alloc.Shapes.{after}
-use Rattle.std.proofs.raw_atomic.Walks.{proved_at, leaves}
 use Rattle.mq_arena.proofs.Taken.{Block}
 use Rattle.mq_arena.specs.contracts.lent_memory.LentMemory as memory
 use Rattle.mq_arena.specs.contracts.lent_memory.LentMemory.into_units.{ended, clauses}

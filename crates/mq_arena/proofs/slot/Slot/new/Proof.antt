@@ -1,30 +1,10 @@
 -- `new` wraps the memory. Assumes `Logic`.
-use Rattle.std.proofs.Common.{◌≡◌, ℕ, List, [], ◌∷◌, ◌++◌, refl, arith}
-use mir.Syntax.{Fn}
-use mir.Val.{Val}
-use base.Logic.{SProp, emp}
-use base.Fml.{ftrue}
-use prog.Wp.{Env, WpFn}
-use contract.Monad.{fact, fact_i}
-use contract.Running.{tables}
-use types.Kit.{‵, raw, ◌⊛◌, prop, ◌$◌, ◌∵◌, !, qed, by, move, drop, use0, split, rewrite, regoal, fsplit, fjoin, fpack}
-use types.Part.{agg}
-use types.Run.{of_opd, no_more, and_then, returns, enter}
-use types.ByLocal.{alloc_all, pass_all, free_all, look_at, get, sets, env}
-use denote.Exit.{yes}
-use denote.Exit.{rest as left_of}
-use denote.RattleType.{owns}
-use denote.Param.{layout}
-use denote.Signature.{types_at}
-use denote.Steps.{nothing}
-use denote.Triple.Entry.{alive}
-use denote.Triple.Walked.{Stays, stay_dropped, walk_of}
-use Rattle.core.proofs.alloc.Calls.{Goes-blank}
-use Rattle.core.proofs.cell.Inside.{one, round}
+use Rattle.mq_arena.proofs.Common.{◌≡◌, ℕ, List, [], ◌∷◌, ◌++◌, refl, arith, Fn, Val, SProp, emp, ftrue, Env, WpFn, fact, fact_i, tables, ‵, raw, ◌⊛◌, prop}
+use Rattle.mq_arena.proofs.Common.{◌$◌, ◌∵◌, !, qed, by, move, drop, use0, split, rewrite, regoal, fsplit, fjoin, fpack, agg, of_opd, no_more, and_then}
+use Rattle.mq_arena.proofs.Common.{returns, enter, alloc_all, pass_all, free_all, look_at, get, sets, env, yes, left_of, owns, layout, types_at, nothing, alive}
+use Rattle.mq_arena.proofs.Common.{Stays, stay_dropped, walk_of, Goes-blank, one, round, proved_at, leaves, Typed}
 use Rattle.std_alloc.proofs.ResultValues.{and_tt}
-use Rattle.std.proofs.raw_atomic.Walks.{proved_at, leaves}
 use Rattle.mq_arena.proofs.Cell.{Fields, contents_in}
-use denote.Laws.{Typed}
 use Rattle.mq_arena.proofs.Walks.{slot_at}
 use Rattle.mq_arena.specs.contracts.unused_memory.Unused as rest
 use Rattle.mq_arena.proofs.unused_memory.Unused.TheLaws as rest_laws

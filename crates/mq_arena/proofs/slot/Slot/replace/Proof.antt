@@ -1,26 +1,9 @@
 -- `replace` opens the slot with the thread's token, reads it, writes it and closes it. Assumes `Logic`.
-use Rattle.std.proofs.Common.{ℕ, List, [], ◌∷◌, ◌++◌, refl}
-use mir.Syntax.{Fn}
-use mir.Val.{Val, vptr}
-use base.Logic.{SProp, emp}
-use base.Fml.{Lft, Share, ftrue, flft, ftok}
-use base.Mask.{every}
-use prog.Wp.{Env, WpFn}
-use contract.Monad.{fact, fact_i}
-use types.Kit.{‵, raw, ◌⊛◌, prop, at_ret, ◌$◌, ◌∵◌, !, qed, by, move, keep, use0, split, join, rewrite, regoal, fsplit, fsplit3, fjoin}
-use types.Part.{whole, sub, look_in, store_in}
-use types.Run.{stop, fld, load, addr, of_opd, assigns, first, blocks, exec, returns, enter}
-use types.ByLocal.{alloc_all, pass_all, free_all, look_at, get, through, sets, sets_last, env}
-use denote.Exit.{rest, yes}
-use denote.RattleType.{owns}
-use denote.Param.{layout}
-use denote.Signature.{types_at}
-use denote.Steps.{nothing, heard}
-use denote.Triple.Walked.{Stays, stay_dropped, walk_of, Goes-dropped}
-use Rattle.core.proofs.alloc.Calls.{Goes-blank}
-use Rattle.core.proofs.alloc.Shapes.{after}
-use Rattle.core.proofs.cell.Inside.{one}
-use Rattle.std.proofs.raw_atomic.Walks.{leaves}
+use Rattle.mq_arena.proofs.Common.{ℕ, List, [], ◌∷◌, ◌++◌, refl, Fn, Val, vptr, SProp, emp, Lft, Share, ftrue, flft, ftok, every, Env, WpFn, fact, fact_i, ‵}
+use Rattle.mq_arena.proofs.Common.{raw, ◌⊛◌, prop, at_ret, ◌$◌, ◌∵◌, !, qed, by, move, keep, use0, split, join, rewrite, regoal, fsplit, fsplit3, fjoin, whole}
+use Rattle.mq_arena.proofs.Common.{sub, look_in, store_in, stop, fld, load, addr, of_opd, assigns, first, blocks, exec, returns, enter, alloc_all, pass_all}
+use Rattle.mq_arena.proofs.Common.{free_all, look_at, get, through, sets, sets_last, env, rest, yes, owns, layout, types_at, nothing, heard, Stays}
+use Rattle.mq_arena.proofs.Common.{stay_dropped, walk_of, Goes-dropped, Goes-blank, after, one, leaves}
 use Rattle.mq_arena.proofs.Walks.{slot_at, with_token, proved_with_token}
 use Rattle.mq_arena.proofs.Cell.{quiet, Held, Over, held_Lawful, opens_slot, shuts_slot}
 use Rattle.mq_arena.specs.contracts.slot.Slot.replace.{ended, clauses}

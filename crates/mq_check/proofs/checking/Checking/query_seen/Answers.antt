@@ -3,7 +3,6 @@ use Rattle.mq_wire.specs.Family.{Family}
 use Rattle.mq_wire.specs.Numbered.{numbered_query}
 use Rattle.mq_link.specs.Configuration.{Configuration}
 use Rattle.mq_check.specs.Queries.{general_terms, terms_of}
-use Rattle.mq_check.specs.Unheld.{specific_terms}
 use Rattle.mq_check.proofs.SeenQueries.{general_came, specific_came}
 use Rattle.mq_check.proofs.checking.Checking.query_seen.Goals as goal
 
@@ -25,6 +24,4 @@ returns g c =
     let terms = c.terms_of-terms.ensures ∙
     ap (λ (f : Family). terms_of f c.args.packet.number (g.F.Address.Key.number c.args.packet.to)
     (numbered_query g.F.Address.Key.number c.args.query.now)) family in
-    let wanted = c.specific_terms-wanted.ensures ∙
-    (λ i. specific_terms (is_config i) (c.timing-in_force.ensures i) (numbered_query g.F.Address.Key.number c.args.query.now)) in
-    specific_came _ _ _ _ _ _ _ _ _ _ _ _ _ (sym c.is_general.ensures ∙ c.if-is_general.false) family terms wanted c.moment.ensures.same c.see_specific.ensures
+    specific_came _ _ _ _ _ _ _ _ _ _ _ _ (sym c.is_general.ensures ∙ c.if-is_general.false) family terms c.moment.ensures.same c.see_specific.ensures

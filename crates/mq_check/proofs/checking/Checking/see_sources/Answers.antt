@@ -12,7 +12,7 @@ loop-source-init g c =
     let number = g.F.Address.Key.number in
     ap (λ (xs : List ℕ). fold
     (one_seen c.args.seen.moment (numbered_terms number c.args.seen.terms)
-    (standing_in g.F.Family.FAMILY c.args.link.now.state.groups c.args.seen.moment (numbered_terms number c.args.seen.wanted))) c.args.self.now
+    (standing_in g.F.Family.FAMILY c.args.link.now.state.groups c.args.link.now.state.election.timing c.args.seen.moment)) c.args.self.now
     (list_map (Source (number c.args.group)) xs)) (sym c.into_iter-source-iterator.ensures.into_iter_gives)
 
 pub loop-source-preserved : goal.loop-source-preserved
@@ -23,10 +23,10 @@ loop-source-preserved g c =
     c.loop-source.invariant
     ∙ ap (λ (xs : List ℕ). fold
     (one_seen c.args.seen.moment (numbered_terms number c.args.seen.terms)
-    (standing_in g.F.Family.FAMILY c.args.link.now.state.groups c.args.seen.moment (numbered_terms number c.args.seen.wanted))) c.loop-source.self
+    (standing_in g.F.Family.FAMILY c.args.link.now.state.groups c.args.link.now.state.election.timing c.args.seen.moment)) c.loop-source.self
     (list_map (Source (number c.args.group)) xs)) c.in-Some.ensures.steps
     ∙ ap (λ (v : CheckingValue). fold
     (one_seen c.args.seen.moment (numbered_terms number c.args.seen.terms)
-    (standing_in g.F.Family.FAMILY c.args.link.now.state.groups c.args.seen.moment (numbered_terms number c.args.seen.wanted))) v rest)
-    (ap (λ (s : Standing ℕ). with_seen c.args.seen.moment (numbered_terms number c.args.seen.terms) s c.loop-source.self asked)
+    (standing_in g.F.Family.FAMILY c.args.link.now.state.groups c.args.link.now.state.election.timing c.args.seen.moment)) v rest)
+    (ap (λ (s : Standing). with_seen c.args.seen.moment (numbered_terms number c.args.seen.terms) s c.loop-source.self asked)
     (sym c.standing_in-standing.ensures) ∙ sym c.see.ensures)

@@ -18,9 +18,10 @@ pub returns-in-Some-clause-comes : goal.returns-in-Some-clause-comes
 returns-in-Some-clause-comes g c =
     let carries = sym c.in-Some.ensures ∙ (λ i. datagram_of (sym c.is_faultless.ensures.family i) (c.unwrap_frame-inner.ensures i)) in
     let notes = counted_in _ _ (record { envelope = g.F.Family.envelope_of c.in-Some.datagram.envelope; body = c.in-Some.datagram.body.now })
-    c.note_packet.new.self c.note_datagram.new.self c.note_datagram.ensures (sym c.is_faultless.ensures.family) ∙
+    c.note_packet.new.self c.note_datagram.new.self c.note_datagram.ensures
+    (c.config-in-Some.ensures ∙ c.in_ok-tick_through.ensures.comes.same_config ∙ sym c.config.ensures) ∙
     ap (λ (q : WantingValue). record q {
-      basis = with_datagram c.config.result.now.family
+      basis = with_datagram c.config.result.now
           (record { envelope = g.F.Family.envelope_of c.in-Some.datagram.envelope; body = c.in-Some.datagram.body.now }) q.basis;
     }) c.note_packet.ensures in
     packet_came g.F.Address.LineKey.family c.config.result.now c.args.packet.now.link c.args.self.now.terms.within

@@ -1,12 +1,13 @@
 use Rattle.std.proofs.Common.{◌≡◌, ap, sym, ◌∙◌}
 use Rattle.std.proofs.lemmas.Result.{err_from_is_err_and}
 use Rattle.mq_link.specs.Configuration.{Configuration}
+use Rattle.mq_link.specs.Counters.{Counters}
 use Rattle.mq_text.specs.Printing.{output_of}
 use Rattle.mq_check.specs.Check.{looked_ahead}
 use Rattle.mq_check.specs.Checking.{CheckingValue, told_at_end}
 use Rattle.mq_check.specs.Coming.{checked_in}
 use Rattle.mq_check.specs.General.{silence_up_to}
-use Rattle.mq_check.proofs.EndedChecks.{broken_ahead, broken_to_end, full_at_end, put_at_end, unput_at_end}
+use Rattle.mq_check.proofs.EndedChecks.{broken_ahead, broken_to_end, full_at_end, put_at_end, rests_on_end, unput_at_end}
 use Rattle.mq_check.proofs.running_check.Check.end.Goals as goal
 
 pub returns-in_err-settle_through-clause-rest : goal.returns-in_err-settle_through-clause-rest
@@ -61,6 +62,8 @@ returns-in_err-totals-clause-rest g c =
     let state = c.is_full.ensures ∙ ap (λ (s : CheckingValue). s.waiting.is_full) c.checking-2.ensures in
     let timing = c.timing-configured.ensures ∙ ap (λ (k : Configuration). k.timing) c.config-2.ensures in
     let passed = c.silence-passed.ensures ∙ (λ i. silence_up_to (before.terms i).within (timing i) c.args.end (c.checking.ensures i).phase) in
+    let rests = rests_on_end _ _ _ _ _ c.with_refused-rests_on.ensures c.basis.ensures
+    (c.refused-refused.ensures ∙ ap (λ (n : Counters). n.refused) c.counts.ensures) in
     let silence = silence_up_to c.args.self.now.terms.within c.args.self.now.link.config.timing c.args.end c.settle_through.new.self.queries.checking.phase in
     let last : told_at_end c.look_ahead.new.self.terms.within c.look_ahead.new.self.link.config.timing c.args.end c.silence-passed.result
     c.look_ahead.new.self.queries.checking
@@ -72,7 +75,7 @@ returns-in_err-totals-clause-rest g c =
     g.F.Address.LineKey.family c.args.self.now.told c.settle_through.new.self.told c.look_ahead.new.self.told
     (output_of g.W.Write.contents c.args.writer.now) (output_of g.W.Write.contents c.settle_through.new.writer)
     (output_of g.W.Write.contents c.look_ahead.new.writer) (output_of g.W.Write.contents c.tell_end.new.writer) family before.comes.checked ahead
-    after.comes.checked c.basis-rests_on.ensures last (sym state ∙ c.if-is_full.false) before.comes.tells after.comes.tells c.in_err-totals.ensures.text)
+    after.comes.checked rests last (sym state ∙ c.if-is_full.false) before.comes.tells after.comes.tells c.in_err-totals.ensures.text)
 
 pub returns-clause-rest : goal.returns-clause-rest
 returns-clause-rest g c =
@@ -86,6 +89,8 @@ returns-clause-rest g c =
     let state = c.is_full.ensures ∙ ap (λ (s : CheckingValue). s.waiting.is_full) c.checking-2.ensures in
     let timing = c.timing-configured.ensures ∙ ap (λ (k : Configuration). k.timing) c.config-2.ensures in
     let passed = c.silence-passed.ensures ∙ (λ i. silence_up_to (before.terms i).within (timing i) c.args.end (c.checking.ensures i).phase) in
+    let rests = rests_on_end _ _ _ _ _ c.with_refused-rests_on.ensures c.basis.ensures
+    (c.refused-refused.ensures ∙ ap (λ (n : Counters). n.refused) c.counts.ensures) in
     let silence = silence_up_to c.args.self.now.terms.within c.args.self.now.link.config.timing c.args.end c.settle_through.new.self.queries.checking.phase in
     let last : told_at_end c.look_ahead.new.self.terms.within c.look_ahead.new.self.link.config.timing c.args.end c.silence-passed.result
     c.look_ahead.new.self.queries.checking
@@ -97,5 +102,5 @@ returns-clause-rest g c =
     g.F.Address.LineKey.family c.args.self.now.told c.settle_through.new.self.told c.look_ahead.new.self.told c.tell_end.new.self.told
     (output_of g.W.Write.contents c.args.writer.now) (output_of g.W.Write.contents c.settle_through.new.writer)
     (output_of g.W.Write.contents c.look_ahead.new.writer) (output_of g.W.Write.contents c.tell_end.new.writer) c.in_ok-totals.totals family
-    before.comes.checked ahead after.comes.checked c.basis-rests_on.ensures last (sym state ∙ c.if-is_full.false) before.comes.tells after.comes.tells
+    before.comes.checked ahead after.comes.checked rests last (sym state ∙ c.if-is_full.false) before.comes.tells after.comes.tells
     c.in_ok-totals.ensures.totals c.in_ok-totals.ensures.text

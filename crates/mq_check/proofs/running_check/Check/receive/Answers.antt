@@ -3,8 +3,9 @@ use Rattle.mq_link.specs.Configuration.{Configuration}
 use Rattle.mq_replay.specs.Report.{Datagram}
 use Rattle.mq_check.specs.Basis.{with_other_querier}
 use Rattle.mq_check.specs.Basis as basis
-use Rattle.mq_check.specs.Blocked.{blocked_in}
-use Rattle.mq_check.specs.Checking.{all_blocked, role_changed}
+use Rattle.mq_check.specs.Causes.{causes_in}
+use Rattle.mq_check.specs.Checking.{all_changed, role_changed}
+use Rattle.mq_check.specs.Queries.{specific_terms}
 use Rattle.mq_check.specs.Wanting.{WantingValue}
 use Rattle.mq_check.proofs.Bases.{other_named}
 use Rattle.mq_check.proofs.Steppings.{received_at, received_is}
@@ -15,10 +16,13 @@ returns-clause-receives g c =
     let is_family = sym c.is_faultless.ensures.family ∙ ap (λ (config : Configuration). config.family) c.config.ensures in
     let now = c.moment-now.result in
     let datagram : Datagram = record { envelope = g.F.Family.envelope_of c.args.datagram.now.envelope; body = c.args.datagram.now.body.now } in
-    let notes = c.block_all.ensures ∙
-    (λ i. record c.args.self.now.queries { checking = all_blocked now (blocked_in (is_family i) datagram) c.args.self.now.queries.checking }) in
+    let notes = c.change_all.ensures ∙
+    (λ i. record c.args.self.now.queries {
+      checking = all_changed now (specific_terms (c.config-3.ensures i) (c.timing-in_force.ensures i) c.args.self.now.queries.basis.packets)
+          (causes_in (is_family i) datagram) c.args.self.now.queries.checking;
+    }) in
     let begins = c.begin.ensures ∙
-    (λ i. record c.block_all.new.self { moment = now; by_tick = false; is_returning = not (c.is_querier-was_querier.ensures i) }) in
+    (λ i. record c.change_all.new.self { moment = now; by_tick = false; is_returning = not (c.is_querier-was_querier.ensures i) }) in
     let receives = c.receive.ensures.receives in
     let configured = c.timing-configured.ensures ∙ ap (λ (config : Configuration). config.timing) c.config-2.ensures in
     let role =
@@ -34,5 +38,5 @@ returns-clause-receives g c =
     (c.is_querier-stays_querier.ensures i) c.receive.new.outlet.basis)) in
     received_at _ _ _ _ _ _ _ c.moment-now.ensures.same
     (received_is g.F.Family.FAMILY c.args.self.now.terms.within now _ c.args.self.now.link c.receive.new.self c.args.self.now.queries
-    c.block_all.new.self c.begin.new.self c.receive.new.outlet c.name_other.new.self _ _ is_family notes begins
+    c.change_all.new.self c.begin.new.self c.receive.new.outlet c.name_other.new.self _ _ is_family notes begins
     receives.receives.hands_out receives.handed role rests)

@@ -1,8 +1,5 @@
-use Rattle.std.proofs.Common.{List, arith, ap, refl, ◌∙◌, sym}
-use Rattle.std.specs.Prelude.{slice_get}
+use Rattle.mq_convert.proofs.Common.{List, arith, ap, refl, ◌∙◌, sym, slice_get, Interface, context_of}
 use Rattle.std.proofs.lemmas.Option.{slice_get_read}
-use Rattle.mq_convert.specs.declared.context.Interface.{Interface}
-use Rattle.mq_convert.specs.Contexts.{context_of}
 use Rattle.mq_convert.proofs.StoredDrops.{dropped_stored}
 use Rattle.mq_convert.proofs.context.Context.add_dropped.Goals as goal
 

@@ -1,5 +1,4 @@
-use Rattle.std.proofs.Common.{◌≡◌, ◌<◌, length, refl, ap, sym, ◌∙◌, arith}
-use Rattle.mq_convert.specs.Sieving.{SieveState, gone_of}
+use Rattle.mq_convert.proofs.Common.{◌≡◌, ◌<◌, length, refl, ap, sym, ◌∙◌, arith, SieveState, gone_of}
 use Rattle.mq_convert.proofs.AnyOf.{any_at, any_of_none, made_at, made_long, one_any}
 use Rattle.mq_convert.proofs.sieve.Sieve.has_gone.Goals as goal
 

@@ -1,8 +1,5 @@
 -- A frame that is none of those so far.
-use Rattle.std.proofs.Common.{◌≡◌, drop}
-use Rattle.std.specs.List.{list_any}
-use Rattle.mq_convert.specs.Frames.{framed}
-use Rattle.mq_convert.specs.Repeats.{is_again}
+use Rattle.mq_convert.proofs.Common.{◌≡◌, drop, list_any, framed, is_again}
 use Rattle.mq_convert.proofs.sieve.Sieve.has_gone.Given as goal
 
 abbrev pub invariant-loop-place : goal.invariant-loop-place

@@ -1,6 +1,4 @@
-use Rattle.std.proofs.Common.{◌≡◌, ◌∙◌, ap, sym, false}
-use Rattle.mq_convert.specs.Blocks.{captured_of}
-use Rattle.mq_convert.specs.Sieving.{SieveState}
+use Rattle.mq_convert.proofs.Common.{◌≡◌, ◌∙◌, ap, sym, false, captured_of, SieveState}
 use Rattle.mq_convert.proofs.Sieved.{sifted_none}
 use Rattle.mq_convert.proofs.sieve.Sieve.leaves_out.Goals as goal
 

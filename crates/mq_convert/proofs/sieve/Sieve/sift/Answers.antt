@@ -1,11 +1,5 @@
-use Rattle.std.proofs.Common.{◌≡◌, ◌∙◌, ap, subst, true, false, arith}
-use Rattle.std.proofs.lemmas.Bool.Decides.{nat_tests}
-use Rattle.mq_convert.specs.declared.choice.Choice.{Choice}
-use Rattle.mq_convert.specs.Blocks.{captured_of}
-use Rattle.mq_convert.specs.Choices.{is_chosen_packet}
-use Rattle.mq_convert.specs.Frames.{Framed, tag_of, untagged}
-use Rattle.mq_convert.specs.Repeats.{is_short}
-use Rattle.mq_convert.specs.Sieving.{SieveState, SiftsFrame}
+use Rattle.mq_convert.proofs.Common.{◌≡◌, ◌∙◌, ap, subst, true, false, arith, nat_tests, Choice, captured_of, is_chosen_packet, Framed, tag_of, untagged}
+use Rattle.mq_convert.proofs.Common.{is_short, SieveState, SiftsFrame}
 use Rattle.mq_convert.proofs.Sieved.{chosen_is, sifted_cut, sifted_other, sifted_whole}
 use Rattle.mq_convert.proofs.sieve.Sieve.sift.Goals as goal
 

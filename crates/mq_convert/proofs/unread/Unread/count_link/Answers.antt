@@ -1,8 +1,4 @@
-use Rattle.std.proofs.Common.{◌∙◌, [], ◌∷◌, ◌++◌, List, sym, ap}
-use Rattle.std.specs.Prelude.{map}
-use Rattle.arrayvec.specs.ArrayVec.{ArrayVec}
-use Rattle.mq_convert.specs.declared.unread.LinkCount.{LinkCount}
-use Rattle.mq_convert.specs.Tallies.{raised}
+use Rattle.mq_convert.proofs.Common.{◌∙◌, [], ◌∷◌, ◌++◌, List, sym, ap, map, ArrayVec, LinkCount, raised}
 use Rattle.mq_convert.proofs.Tallied.{tallied_known, tallied_new}
 use Rattle.mq_convert.proofs.unread.Unread.count_link.Goals as goal
 use Rattle.mq_convert.proofs.unread.Unread.count_link.Goals.{then-not-known, else-not-known}

@@ -1,5 +1,4 @@
-use Rattle.std.proofs.Common.{◌+◌, sym, ap, ◌∙◌, arith}
-use Rattle.mq_count.specs.Timed.{compared}
+use Rattle.mq_count.proofs.Common.{◌+◌, sym, ap, ◌∙◌, arith, compared}
 use Rattle.mq_count.proofs.TimedMoments.{compared-here, compared-past, exactly}
 use Rattle.mq_count.proofs.metering.Meter.count_ahead.Goals as goal
 

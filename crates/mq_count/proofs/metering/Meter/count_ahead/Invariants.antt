@@ -1,6 +1,5 @@
-use Rattle.std.proofs.Common.{◌≡◌, ◌≤◌, ◌-◌, length, true}
+use Rattle.mq_count.proofs.Common.{◌≡◌, ◌≤◌, ◌-◌, length, true, lies_ahead}
 use Rattle.std.specs.List.{AllWithin}
-use Rattle.mq_count.specs.Timed.{lies_ahead}
 use Rattle.mq_count.proofs.metering.Meter.count_ahead.Given as goal
 
 -- those so far lie ahead

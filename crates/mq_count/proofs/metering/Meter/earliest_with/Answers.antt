@@ -1,8 +1,5 @@
-use Rattle.std.proofs.Common.{◌≡◌, ◌-◌, ◌++◌, [], ◌∷◌, take, length, length-append, append-nil, ap, sym, subst, ◌∙◌, arith}
-use Rattle.std.specs.Option.{option_to_list}
-use Rattle.std.proofs.lemmas.List.{take_all}
-use Rattle.mq_count.specs.Spending.{Spends}
-use Rattle.mq_count.specs.Timed.{least, moments_by}
+use Rattle.mq_count.proofs.Common.{◌≡◌, ◌-◌, ◌++◌, [], ◌∷◌, take, length, length-append, append-nil, ap, sym, subst, ◌∙◌, arith, option_to_list, take_all}
+use Rattle.mq_count.proofs.Common.{Spends, least, moments_by}
 use Rattle.mq_count.proofs.TimedMoments.{moments-more, least-more}
 use Rattle.mq_count.proofs.metering.Meter.earliest_with.Goals as goal
 use Rattle.mq_count.proofs.metering.Meter.earliest_with.Goals.{in-Some+then-ms, in-Some+else-ms, in-None}

@@ -1,5 +1,4 @@
-use Rattle.std.proofs.Common.{◌≡◌, ◌+◌, length, take}
-use Rattle.mq_count.specs.Timed.{least, moments_by}
+use Rattle.mq_count.proofs.Common.{◌≡◌, ◌+◌, length, take, least, moments_by}
 use Rattle.mq_count.proofs.metering.Meter.earliest_with.Given as goal
 
 -- the earliest so far, and how many items had no moment

@@ -1,4 +1,4 @@
-use Rattle.std.proofs.Common.{refl}
+use Rattle.mq_examples.proofs.Common.{refl}
 use Rattle.mq_wire.specs.Spelling.{fault_of}
 use Rattle.mq_link.specs.Receive.{read_of}
 use Rattle.mq_examples.proofs.Worked.{comes}

@@ -1,4 +1,4 @@
-use Rattle.std.proofs.Common.{refl}
+use Rattle.mq_examples.proofs.Common.{refl}
 use Rattle.mq_examples.proofs.Worked.{become_all}
 use Rattle.mq_examples.proofs.links.records.a_group_met_five_times.Goals as goal
 

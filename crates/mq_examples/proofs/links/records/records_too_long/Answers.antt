@@ -1,4 +1,4 @@
-use Rattle.std.proofs.Common.{refl}
+use Rattle.mq_examples.proofs.Common.{refl}
 use Rattle.mq_examples.proofs.Worked.{becomes}
 use Rattle.mq_examples.proofs.links.records.records_too_long.Goals as goal
 

@@ -1,4 +1,4 @@
-use Rattle.std.proofs.Common.{refl}
+use Rattle.mq_examples.proofs.Common.{refl}
 use Rattle.mq_examples.proofs.Worked.{becomes, become_all}
 use Rattle.mq_examples.proofs.links.records.two_refusals.Goals as goal
 

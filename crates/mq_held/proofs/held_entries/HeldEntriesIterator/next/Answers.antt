@@ -1,13 +1,8 @@
-use Rattle.std.proofs.Common.{◌≡◌, ◌+◌, sum, take, drop, sym, ap, ◌∙◌, subst, arith, get_or, length, refl}
+use Rattle.mq_held.proofs.Common.{◌≡◌, ◌+◌, sum, take, drop, sym, ap, ◌∙◌, subst, arith, get_or, length, refl, drop_all, AreFilled, HeldState, rank_at}
 use Rattle.std.specs.FinMap as map
-use Rattle.std.proofs.lemmas.List.{drop_all}
-use Rattle.mq_sets.specs.NumberedKeys.{AreFilled}
-use Rattle.mq_held.specs.Held.{HeldState}
-use Rattle.mq_held.specs.Listed.{rank_at}
-use Rattle.mq_held.proofs.HeldInOrder.{one_fewer}
-use Rattle.mq_held.proofs.KeysByNumber.{numbers_in}
-use Rattle.mq_held.proofs.GroupsInOrder.{IsOrdered-stored, len-view}
-use Rattle.mq_held.proofs.GroupPages.{IsNext, IsNext-turned, IsNext-here, rank-end, number-next, next-numbered, next-entries}
+use Rattle.mq_held.proofs.{HeldInOrder.one_fewer, KeysByNumber.numbers_in, GroupsInOrder.IsOrdered-stored, GroupsInOrder.len-view, GroupPages.IsNext}
+use Rattle.mq_held.proofs.{GroupPages.IsNext-turned, GroupPages.IsNext-here, GroupPages.rank-end, GroupPages.number-next, GroupPages.next-numbered}
+use Rattle.mq_held.proofs.{GroupPages.next-entries}
 use Rattle.mq_held.proofs.held_entries.HeldEntriesIterator.next.Given.{Over}
 use Rattle.mq_held.proofs.held_entries.HeldEntriesIterator.next.Goals as goal
 use Rattle.mq_held.proofs.held_entries.HeldEntriesIterator.next.Goals.{then-self-page+else-self-pages, else-self-page}

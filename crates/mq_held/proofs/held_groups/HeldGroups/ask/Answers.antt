@@ -1,40 +1,15 @@
-use Rattle.std.specs.List.{count_by}
-use Rattle.std.proofs.lemmas.List.Sums.{count_by-le-length}
-use Rattle.std.specs.Prelude.{map as list_map}
-use Rattle.std.proofs.Common.{◌≡◌, cond, ℕ, ◌+◌, ◌-◌, ◌≤◌, Bool, true, false, [], ◌∷◌, Option, length, get_or, set, None, Some, refl, is_some, min}
-use Rattle.std.proofs.Common.{sym, ap, ◌∙◌, subst, arith}
-use Rattle.std.proofs.lemmas.Bool.{true≢false}
-use Rattle.std.proofs.lemmas.List.{length-set}
-use Rattle.mq_count.proofs.Spent.{Spends-join, Spends-join_within, Spends-within}
-use Rattle.mq_sets.specs.Ascending.{IsAscending, set_of}
-use Rattle.mq_sets.specs.Pools.{PoolState}
-use Rattle.mq_sets.specs.Search.{bitlen}
-use Rattle.mq_table.specs.AskedSources.{source_if_asked}
-use Rattle.mq_table.specs.Group.{deadline_of, is_ahead, timer_at}
-use Rattle.mq_table.specs.declared.sources.Source.{Source}
-use Rattle.mq_table.specs.Lowering.{lowered_to}
-use Rattle.mq_table.specs.SendingPlaces.{item_has_sendings}
-use Rattle.mq_table.specs.Sendings.{above}
-use Rattle.mq_table.specs.Timing.{last_member_count}
-use Rattle.mq_table.specs.Stored.{number_in, timers_in}
-use Rattle.mq_table.proofs.SourceLists.{get-absent}
-use Rattle.mq_sched.specs.Deadlines.{DeadlinesState}
-use Rattle.mq_sched.specs.Schedule.{ScheduledGroup}
-use Rattle.mq_sched.specs.Sending.{waiting_messages}
-use Rattle.mq_sched.specs.Sink.{Sends}
-use Rattle.mq_held.specs.declared.scheduled_head.ScheduledHead.{ScheduledHead}
-use Rattle.mq_held.specs.Groups.{group_at, one_if}
-use Rattle.mq_held.specs.Held.{HasNumber}
-use Rattle.mq_held.specs.Stored.{IsStored}
-use Rattle.mq_held.proofs.AskedInPlace.{IsAsked, IsCounted, IsUnasked, asked-above, formed_counted, head_is, least-asked, none_sent, quiet_in, row-asked}
-use Rattle.mq_held.proofs.AskedInPlace.{rows_counted}
-use Rattle.mq_held.proofs.AskedInPlace.{seen_counted, sends_after, size-asked, size-counted, state_unasked, unasked-absent}
-use Rattle.mq_held.proofs.AskedInPlace.{unasked-below, up_asked, up_counted}
-use Rattle.mq_held.proofs.CountedRows.{one-at_most}
-use Rattle.mq_held.proofs.Inside.{has as has-there, same-address}
-use Rattle.mq_held.proofs.Located.{Located, Placed, located, placed, row-read, row_of, rows-len, stored-written}
-use Rattle.mq_held.proofs.RestartedTimers.{timer-held}
-use Rattle.mq_held.proofs.StoredEdits.{schedules_fit}
+use Rattle.mq_held.proofs.Common.{count_by, count_by-le-length, list_map, ◌≡◌, cond, ℕ, ◌+◌, ◌-◌, ◌≤◌, Bool, true, false, [], ◌∷◌, Option, length, get_or, set}
+use Rattle.mq_held.proofs.Common.{None, Some, refl, is_some, min, sym, ap, ◌∙◌, subst, arith, true≢false, length-set, Spends-join, Spends-join_within}
+use Rattle.mq_held.proofs.Common.{Spends-within, IsAscending, set_of, PoolState, bitlen, source_if_asked, deadline_of, is_ahead, timer_at, Source, lowered_to}
+use Rattle.mq_held.proofs.Common.{item_has_sendings, above, last_member_count, number_in, timers_in, get-absent, DeadlinesState, ScheduledGroup}
+use Rattle.mq_held.proofs.Common.{waiting_messages, Sends, ScheduledHead, group_at, one_if, HasNumber, IsStored, common_steps}
+use Rattle.mq_held.proofs.{AskedInPlace.IsAsked, AskedInPlace.IsCounted, AskedInPlace.IsUnasked, AskedInPlace.asked-above, AskedInPlace.formed_counted}
+use Rattle.mq_held.proofs.{AskedInPlace.head_is, AskedInPlace.least-asked, AskedInPlace.none_sent, AskedInPlace.quiet_in, AskedInPlace.row-asked}
+use Rattle.mq_held.proofs.{AskedInPlace.rows_counted, AskedInPlace.seen_counted, AskedInPlace.sends_after, AskedInPlace.size-asked, AskedInPlace.size-counted}
+use Rattle.mq_held.proofs.{AskedInPlace.state_unasked, AskedInPlace.unasked-absent, AskedInPlace.unasked-below, AskedInPlace.up_asked, AskedInPlace.up_counted}
+use Rattle.mq_held.proofs.{CountedRows.one-at_most, Inside.has as has-there, Inside.same-address, Located.Located, Located.Placed, Located.located}
+use Rattle.mq_held.proofs.{Located.placed, Located.row-read, Located.row_of, Located.rows-len, Located.stored-written, RestartedTimers.timer-held}
+use Rattle.mq_held.proofs.{StoredEdits.schedules_fit}
 use Rattle.mq_held.proofs.held_groups.HeldGroups.ask.Given.{Over}
 use Rattle.mq_held.proofs.held_groups.HeldGroups.ask.Goals as goal
 use Rattle.mq_held.proofs.held_groups.HeldGroups.ask.Goals.{After-ask_in_row, After-index-row-place, After-row-row-3, After-self}
@@ -194,9 +169,8 @@ overflow_sub-self g c =
 -- a group has two schedules at most
 two_at_most : (a b : Bool) → one_if a + one_if b ≤ 2
 two_at_most true true = omega arith
-two_at_most true false = omega arith
 two_at_most false true = omega arith
-two_at_most false false = omega arith
+two_at_most _ _ = omega arith
 
 pub overflow_add-self : goal.overflow_add-self
 overflow_add-self g c =
@@ -306,3 +280,9 @@ returns-clause-moved g c address has =
     let few = count_by-le-length item_has_sendings (get_or c.ask_in_row.new.rows.rows c.args.number []) in
     let least = at_most asks (2 + min 1 count) in
     Spends-join_within _ _ counted c.change.ensures.moves (omega (arith, least, least-asked a, sent, one-at_most count)) (omega (arith, few, size, a.at.others))
+
+pub index-requires : goal.index-requires
+index-requires g c = grind (arith, common_steps)
+
+pub ask_in_row-requires-clause-number : goal.ask_in_row-requires-clause-number
+ask_in_row-requires-clause-number g c = grind (arith, common_steps)

@@ -1,15 +1,10 @@
-use Rattle.std.proofs.Common.{◌≡◌, not, take, length, sym, ap, ◌∙◌, arith}
-use Rattle.std.specs.Prelude.{filter}
+use Rattle.mq_held.proofs.Common.{◌≡◌, not, take, length, sym, ap, ◌∙◌, arith, filter, count_by-le-length, Spends-within, is_vacant_at}
 use Rattle.std.specs.FinMap as map
-use Rattle.std.proofs.lemmas.List.Sums.{count_by-le-length}
-use Rattle.mq_count.proofs.Spent.{Spends-within}
 use Rattle.mq_sets.proofs.PutInOrder.{in-order-within}
-use Rattle.mq_held.specs.Held.{is_vacant_at}
-use Rattle.mq_held.proofs.DueInOrder.{few-moved, few-running, few-spent, due-left, count-left, numbers-left, is_due_at, many-moved, many-spent}
-use Rattle.mq_held.proofs.DueInOrder.{picked_so, picked-once, picked-ordered}
-use Rattle.mq_held.proofs.GroupsInOrder.{IsOrdered-stored, len-view, len-all, all-known}
-use Rattle.mq_held.proofs.Inside.{running-held}
-use Rattle.mq_held.proofs.KeysByNumber.{numbers_in}
+use Rattle.mq_held.proofs.{DueInOrder.few-moved, DueInOrder.few-running, DueInOrder.few-spent, DueInOrder.due-left, DueInOrder.count-left}
+use Rattle.mq_held.proofs.{DueInOrder.numbers-left, DueInOrder.is_due_at, DueInOrder.many-moved, DueInOrder.many-spent, DueInOrder.picked_so}
+use Rattle.mq_held.proofs.{DueInOrder.picked-once, DueInOrder.picked-ordered, GroupsInOrder.IsOrdered-stored, GroupsInOrder.len-view, GroupsInOrder.len-all}
+use Rattle.mq_held.proofs.{GroupsInOrder.all-known, Inside.running-held, KeysByNumber.numbers_in}
 use Rattle.mq_held.proofs.held_groups.HeldGroups.due.Given.{Over}
 use Rattle.mq_held.proofs.held_groups.HeldGroups.due.Goals as goal
 

@@ -1,6 +1,5 @@
 use Rattle.std.proofs.Common.{◌∙◌, length, arith, ap, sym}
-use Rattle.mq_held.proofs.Inside.{head-of}
-use Rattle.mq_held.proofs.Located.{located}
+use Rattle.mq_held.proofs.{Inside.head-of, Located.located}
 use Rattle.mq_held.proofs.held_groups.HeldGroups.entry_of.Goals as goal
 
 pub index-item-requires : goal.index-item-requires

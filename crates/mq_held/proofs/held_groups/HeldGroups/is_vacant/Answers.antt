@@ -1,7 +1,6 @@
 use Rattle.std.proofs.Common.{◌∙◌, true, false, refl, arith, ap, sym, true≢false}
 use Rattle.mq_table.specs.Group.{is_include}
-use Rattle.mq_held.proofs.Inside.{vacant-of}
-use Rattle.mq_held.proofs.Located.{located, row_of}
+use Rattle.mq_held.proofs.{Inside.vacant-of, Located.located, Located.row_of}
 use Rattle.mq_held.proofs.held_groups.HeldGroups.is_vacant.Goals as goal
 use Rattle.mq_held.proofs.held_groups.HeldGroups.is_vacant.Goals.{in-Include, in_default}
 

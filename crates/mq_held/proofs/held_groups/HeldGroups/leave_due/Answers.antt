@@ -1,9 +1,6 @@
-use Rattle.std.proofs.Common.{◌<◌, ◌∙◌, not, length, sym, arith}
-use Rattle.std.proofs.lemmas.List.Filters.{FiltersInPlace-more_set, FiltersInPlace-more_no}
-use Rattle.mq_held.specs.Held.{IsNumber, is_vacant_at}
-use Rattle.mq_held.proofs.Inside.{within-rows}
-use Rattle.mq_held.proofs.DueNumbers.{due-number, looked-more, running-number}
-use Rattle.mq_held.proofs.LeftNumbers.{unread, unread-is}
+use Rattle.mq_held.proofs.Common.{◌<◌, ◌∙◌, not, length, sym, arith, FiltersInPlace-more_set, FiltersInPlace-more_no, IsNumber, is_vacant_at, common_steps}
+use Rattle.mq_held.proofs.{Inside.within-rows, DueNumbers.due-number, DueNumbers.looked-more, DueNumbers.running-number, LeftNumbers.unread}
+use Rattle.mq_held.proofs.{LeftNumbers.unread-is}
 use Rattle.mq_held.proofs.held_groups.HeldGroups.leave_due.Goals as goal
 use Rattle.mq_held.proofs.held_groups.HeldGroups.leave_due.Goals.{then-is_due, else-is_due}
 
@@ -40,3 +37,6 @@ loop-place-preserved g c =
         spent,
       )
     ]
+
+pub returns-clause-numbers : goal.returns-clause-numbers
+returns-clause-numbers g c = grind (arith, common_steps)

@@ -1,11 +1,4 @@
-use Rattle.std.proofs.Common.{◌≤◌, not, take, vec_capacity}
-use Rattle.std.specs.List.{count_by}
-use Rattle.std.proofs.lemmas.List.Filters.{FiltersInPlace}
-use Rattle.mq_count.specs.Spending.{Spends}
-use Rattle.mq_sets.specs.NumberedKeys.{key_in}
-use Rattle.mq_held.specs.Groups.{group_at}
-use Rattle.mq_held.specs.Held.{is_vacant_at}
-use Rattle.mq_held.specs.Places.{has_due}
+use Rattle.mq_held.proofs.Common.{◌≤◌, not, take, vec_capacity, count_by, FiltersInPlace, Spends, key_in, group_at, is_vacant_at, has_due}
 use Rattle.mq_held.proofs.held_groups.HeldGroups.leave_due.Given as goal
 
 abbrev pub invariant-loop-place : goal.invariant-loop-place

@@ -1,7 +1,4 @@
-use Rattle.std.proofs.Common.{◌<◌, ◌∙◌, length, sym, arith}
-use Rattle.std.proofs.lemmas.List.Filters.{FiltersInPlace-more_set, FiltersInPlace-more_no}
-use Rattle.mq_sets.specs.NumberedKeys.{key_in}
-use Rattle.mq_held.specs.Held.{IsNumber}
+use Rattle.mq_held.proofs.Common.{◌<◌, ◌∙◌, length, sym, arith, FiltersInPlace-more_set, FiltersInPlace-more_no, key_in, IsNumber}
 use Rattle.mq_held.proofs.LeftNumbers.{unread-is, number-has}
 use Rattle.mq_held.proofs.held_groups.HeldGroups.leave_vacant.Goals as goal
 use Rattle.mq_held.proofs.held_groups.HeldGroups.leave_vacant.Goals.{then-is_vacant, else-is_vacant}

@@ -1,6 +1,4 @@
-use Rattle.std.proofs.Common.{◌≤◌, vec_capacity}
-use Rattle.std.proofs.lemmas.List.Filters.{FiltersInPlace}
-use Rattle.mq_held.specs.Held.{is_vacant_at}
+use Rattle.mq_held.proofs.Common.{◌≤◌, vec_capacity, FiltersInPlace, is_vacant_at}
 use Rattle.mq_held.proofs.held_groups.HeldGroups.leave_vacant.Given as goal
 
 abbrev pub invariant-loop-place : goal.invariant-loop-place

@@ -1,6 +1,4 @@
-use Rattle.std.proofs.Common.{length, arith, ap, subst}
-use Rattle.mq_sets.specs.NumberedKeys.{AreFilled}
-use Rattle.mq_held.specs.Held.{HeldState}
+use Rattle.mq_held.proofs.Common.{length, arith, ap, subst, AreFilled, HeldState}
 use Rattle.mq_held.proofs.Inside.{contained, is-number, known-key, len-held, number-of, room_is, same-address, same-number, within-rows}
 use Rattle.mq_held.proofs.held_groups.HeldGroups.lemma_is_numbered.Goals as goal
 

@@ -1,7 +1,5 @@
-use Rattle.std.proofs.Common.{◌∙◌, length, arith, ap}
-use Rattle.mq_sched.specs.Schedule.{ScheduledGroup}
-use Rattle.mq_held.proofs.Inside.{address-of, head-of}
-use Rattle.mq_held.proofs.Located.{located}
+use Rattle.mq_held.proofs.Common.{◌∙◌, length, arith, ap, ScheduledGroup}
+use Rattle.mq_held.proofs.{Inside.address-of, Inside.head-of, Located.located}
 use Rattle.mq_held.proofs.held_groups.HeldGroups.load.Goals as goal
 
 pub index-item-requires : goal.index-item-requires

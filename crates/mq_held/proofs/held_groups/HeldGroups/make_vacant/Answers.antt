@@ -1,9 +1,6 @@
 use Rattle.std.proofs.Common.{◌∙◌, [], arith, length-set}
-use Rattle.mq_held.specs.Groups.{unheld}
-use Rattle.mq_held.specs.Stored.{no_head}
-use Rattle.mq_held.proofs.Inside.{ahead_is, moment-there, state-set}
-use Rattle.mq_held.proofs.Located.{located}
-use Rattle.mq_held.proofs.StoredEdits.{IsStored-cleared, group_of-none}
+use Rattle.mq_held.proofs.Common.{unheld, no_head}
+use Rattle.mq_held.proofs.{Inside.ahead_is, Inside.moment-there, Inside.state-set, Located.located, StoredEdits.IsStored-cleared, StoredEdits.group_of-none}
 use Rattle.mq_held.proofs.held_groups.HeldGroups.make_vacant.Goals as goal
 
 pub index-before-requires : goal.index-before-requires

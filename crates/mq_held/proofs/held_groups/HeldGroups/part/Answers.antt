@@ -1,10 +1,6 @@
-use Rattle.std.proofs.Common.{◌<◌, ◌∙◌, length, not, sym, ap, subst, arith}
-use Rattle.mq_count.proofs.Spent.{Spends-join_within}
-use Rattle.mq_sets.specs.NumberedKeys.{key_in}
-use Rattle.mq_held.specs.Held.{IsNumber}
-use Rattle.mq_held.proofs.KeysByNumber.{numbers_in}
-use Rattle.mq_held.proofs.GroupsInOrder.{IsOrdered-stored, len-view, len-all, all-known}
-use Rattle.mq_held.proofs.LeftNumbers.{number-has, passed_yes, passed_no}
+use Rattle.mq_held.proofs.Common.{◌<◌, ◌∙◌, length, not, sym, ap, subst, arith, Spends-join_within, key_in, IsNumber, common_steps}
+use Rattle.mq_held.proofs.{KeysByNumber.numbers_in, GroupsInOrder.IsOrdered-stored, GroupsInOrder.len-view, GroupsInOrder.len-all, GroupsInOrder.all-known}
+use Rattle.mq_held.proofs.{LeftNumbers.number-has, LeftNumbers.passed_yes, LeftNumbers.passed_no}
 use Rattle.mq_held.proofs.held_groups.HeldGroups.part.Goals as goal
 use Rattle.mq_held.proofs.held_groups.HeldGroups.part.Goals.{then-not-is_vacant, else-not-is_vacant}
 
@@ -78,3 +74,6 @@ returns-clause-moved g c =
     let all = c.all.ensures.numbers ∙ ap (λ s. numbers_in s.order.items) c.self.view_is in
     let size = len-view known (ap (λ s. s.order) c.self.view_is) in
     Spends-join_within _ _ c.all.ensures.moved c.leave_vacant.ensures.moved (omega (arith, size, len-all known all)) (omega (arith, size, len-all known all))
+
+pub returns-clause-kept : goal.returns-clause-kept
+returns-clause-kept g c = grind (arith, common_steps)

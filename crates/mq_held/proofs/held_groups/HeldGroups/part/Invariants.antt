@@ -1,6 +1,4 @@
-use Rattle.std.proofs.Common.{◌≡◌, ◌≤◌, take, not}
-use Rattle.std.specs.Prelude.{filter}
-use Rattle.mq_held.specs.Held.{is_vacant_at}
+use Rattle.mq_held.proofs.Common.{◌≡◌, ◌≤◌, take, not, filter, is_vacant_at}
 use Rattle.mq_held.proofs.held_groups.HeldGroups.part.Given as goal
 
 abbrev pub invariant-loop-place : goal.invariant-loop-place

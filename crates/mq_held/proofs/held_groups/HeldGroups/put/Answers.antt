@@ -1,10 +1,5 @@
-use Rattle.std.proofs.Common.{◌∙◌, ap, sym}
-use Rattle.mq_sched.specs.Schedule.{ScheduledGroup}
-use Rattle.mq_held.specs.Held.{HeldState}
-use Rattle.mq_held.specs.Groups.{group_at, sources_of}
-use Rattle.mq_table.specs.Stored.{size_of}
-use Rattle.mq_held.proofs.Amounts.{vacant_sources}
-use Rattle.mq_held.proofs.Inside.{ahead-same, some-address}
+use Rattle.mq_held.proofs.Common.{◌∙◌, ap, sym, ScheduledGroup, HeldState, group_at, sources_of, size_of}
+use Rattle.mq_held.proofs.{Amounts.vacant_sources, Inside.ahead-same, Inside.some-address}
 use Rattle.mq_held.proofs.held_groups.HeldGroups.put.Goals as goal
 
 pub returns-then-is_vacant-clause-order : goal.returns-then-is_vacant-clause-order

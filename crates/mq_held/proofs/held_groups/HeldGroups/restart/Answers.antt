@@ -1,17 +1,6 @@
-use Rattle.std.proofs.Common.{◌≡◌, ℕ, Option, None, Some, is_some, Bool, true, false, if◌then◌else◌, refl, ◌+◌, ◌∙◌, length, set, arith, ap, sym, subst}
-use Rattle.std.specs.Option.{unwrap_or}
-use Rattle.mq_count.specs.Spending.{Spends}
-use Rattle.mq_count.proofs.Spent.{Spends-join, Spends-join_within, Spends-within}
-use Rattle.mq_sets.specs.Ascending.{IsAscending}
-use Rattle.mq_sets.specs.Search.{bitlen}
-use Rattle.mq_table.specs.Group.{timer_at}
-use Rattle.mq_table.specs.Stored.{number_in}
-use Rattle.mq_table.proofs.SourceLists.{get-absent}
-use Rattle.mq_sched.specs.Schedule.{ScheduledGroup}
-use Rattle.mq_held.specs.Groups.{group_at}
-use Rattle.mq_held.specs.Moments.{moments_of}
-use Rattle.mq_held.specs.Restarted.{restarted}
-use Rattle.mq_held.specs.Stored.{earliest_of}
+use Rattle.mq_held.proofs.Common.{◌≡◌, ℕ, Option, None, Some, is_some, Bool, true, false, if◌then◌else◌, refl, ◌+◌, ◌∙◌, length, set, arith, ap, sym, subst}
+use Rattle.mq_held.proofs.Common.{unwrap_or, Spends, Spends-join, Spends-join_within, Spends-within, IsAscending, bitlen, timer_at, number_in, get-absent}
+use Rattle.mq_held.proofs.Common.{ScheduledGroup, group_at, moments_of, restarted, earliest_of, common_steps}
 use Rattle.mq_held.proofs.Located.{Located, located, placed, row-inside, row-read, row-seen, row_of}
 use Rattle.mq_held.proofs.RestartedTimers.{GroupRestarted, formed_then, group-then, later_then, row-size, timer-held, up_then}
 use Rattle.mq_held.proofs.held_groups.HeldGroups.restart.Given.{Over}
@@ -133,3 +122,9 @@ returns-clause-moment_moved g c address has differs =
     let before = ap (λ (e : ScheduledGroup). earliest_of (moments_of e)) (r.at.group has) ∙ r.at.earliest c.moment-earliest.result c.moment-earliest.ensures in
     let after = ap (λ (e : ScheduledGroup). earliest_of (moments_of e)) group_is ∙ c.earliest_then-due.ensures.earliest in
     rw r.at.others (moved_twice c.earliest_then-due.result _ before after differs c.set.ensures.moves c.change_moment.ensures.moved)
+
+pub set-requires-clause-number : goal.set-requires-clause-number
+set-requires-clause-number g c = grind (arith, common_steps)
+
+pub row-row-requires-2 : goal.row-row-requires-2
+row-row-requires-2 g c = grind (arith, common_steps)

@@ -1,14 +1,6 @@
-use Rattle.std.proofs.Common.{◌+◌, ◌-◌, ◌*◌, false, Some, cond, List, length, sym, ap, subst, ◌∙◌, arith, rules}
-use Rattle.std.proofs.lemmas.Grind.{common_steps}
-use Rattle.std.proofs.lemmas.Bool.{eq-eqb, eqb-true}
-use Rattle.std.proofs.lemmas.List.{nil_from_length}
-use Rattle.mq_count.proofs.Spent.{Spends-within}
-use Rattle.mq_sets.specs.Search.{bitlen}
-use Rattle.mq_held.specs.Groups.{Groups, group_at, running_in, sources_of}
-use Rattle.mq_held.specs.Held.{HeldState}
-use Rattle.mq_held.specs.Restarted.{RestartsEach}
-use Rattle.mq_held.proofs.Inside.{group_found}
-use Rattle.mq_held.proofs.RestartedTimers.{insert-same}
+use Rattle.mq_held.proofs.Common.{◌+◌, ◌-◌, ◌*◌, false, Some, cond, List, length, sym, ap, subst, ◌∙◌, arith, rules, eq-eqb, eqb-true, nil_from_length}
+use Rattle.mq_held.proofs.Common.{Spends-within, bitlen, Groups, group_at, running_in, sources_of, HeldState, RestartsEach, common_steps}
+use Rattle.mq_held.proofs.{Inside.group_found, RestartedTimers.insert-same}
 use Rattle.mq_held.proofs.held_groups.HeldGroups.restart_each.Goals as goal
 
 pub returns-in-Some-clause-spent : goal.returns-in-Some-clause-spent
@@ -40,3 +32,6 @@ returns-then-is_empty-clause-effect g c address has =
 
 pub returns-in-None-clause-effect : goal.returns-in-None-clause-effect
 returns-in-None-clause-effect g c address has = grind (arith, common_steps, c.restart.ensures.before address has, c.restart.ensures.groups address has)
+
+pub returns-in-Some-clause-effect : goal.returns-in-Some-clause-effect
+returns-in-Some-clause-effect g c = grind (arith, common_steps)

@@ -1,19 +1,8 @@
-use Rattle.std.proofs.Common.{cond, rules, ◌∙◌, length, get_or, min, Some, arith, ap, sym, subst}
-use Rattle.std.specs.Prelude.{map as list_map}
-use Rattle.std.specs.List.{list_all}
-use Rattle.std.proofs.lemmas.Bool.{lt-ltb}
-use Rattle.mq_count.proofs.Spent.{Spends-join, Spends-join_within, Spends-within}
-use Rattle.mq_sets.specs.Ascending.{IsAscending, set_of}
-use Rattle.mq_sets.specs.Search.{bitlen}
-use Rattle.mq_table.specs.Group.{IsWellFormed}
-use Rattle.mq_table.specs.Stored.{number_in}
-use Rattle.mq_held.specs.Groups.{group_at}
-use Rattle.mq_held.specs.Moments.{moments_of}
-use Rattle.mq_held.specs.Restarted.{has_each, restarted_each, some_stopped}
-use Rattle.mq_held.specs.Stored.{earliest_of, group_of, no_head}
-use Rattle.mq_held.proofs.Located.{Located, first-held, located, row-inside, row-seen, row_of, rows-len}
-use Rattle.mq_held.proofs.RestartedEach.{has_each-row}
-use Rattle.mq_held.proofs.RestartedRows.{HasNamed, formed-each, group-each, has_named}
+use Rattle.mq_held.proofs.Common.{cond, rules, ◌∙◌, length, get_or, min, Some, arith, ap, sym, subst, list_map, list_all, lt-ltb, Spends-join}
+use Rattle.mq_held.proofs.Common.{Spends-join_within, Spends-within, IsAscending, set_of, bitlen, IsWellFormed, number_in, group_at, moments_of, has_each}
+use Rattle.mq_held.proofs.Common.{restarted_each, some_stopped, earliest_of, group_of, no_head}
+use Rattle.mq_held.proofs.{Located.Located, Located.first-held, Located.located, Located.row-inside, Located.row-seen, Located.row_of, Located.rows-len}
+use Rattle.mq_held.proofs.{RestartedEach.has_each-row, RestartedRows.HasNamed, RestartedRows.formed-each, RestartedRows.group-each, RestartedRows.has_named}
 use Rattle.mq_held.proofs.held_groups.HeldGroups.restart_several.Given.{Over}
 use Rattle.mq_held.proofs.held_groups.HeldGroups.restart_several.Goals as goal
 use Rattle.mq_held.proofs.held_groups.HeldGroups.restart_several.Goals.{After-index, After-self}

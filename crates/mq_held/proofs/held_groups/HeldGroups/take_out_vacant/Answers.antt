@@ -1,12 +1,8 @@
-use Rattle.std.proofs.Common.{◌≡◌, ◌<◌, ◌≤◌, ◌/◌, ◌^◌, length, not, ap, ◌∙◌, arith}
-use Rattle.std.specs.Prelude.{filter}
-use Rattle.mq_count.proofs.Spent.{Spends-within, Spends-join, Spends-join_within}
-use Rattle.mq_held.specs.Held.{is_vacant_at}
-use Rattle.mq_held.proofs.GroupsInOrder.{IsOrdered-stored}
-use Rattle.mq_held.proofs.Inside.{len-held}
-use Rattle.mq_held.proofs.TakenItems.{length-vacant}
-use Rattle.mq_held.proofs.TakenGroups.{groups-left, given-within, inside-left, has-left, left-removed, gone-there, gone-once, parts-left, order-left}
-use Rattle.mq_held.proofs.TakenGroups.{left-kept, all-vacant, few-searches, few-moves, many-moves}
+use Rattle.mq_held.proofs.Common.{◌≡◌, ◌<◌, ◌≤◌, ◌/◌, ◌^◌, length, not, ap, ◌∙◌, arith, filter, Spends-within, Spends-join, Spends-join_within, is_vacant_at}
+use Rattle.mq_held.proofs.{GroupsInOrder.IsOrdered-stored, Inside.len-held, TakenItems.length-vacant, TakenGroups.groups-left, TakenGroups.given-within}
+use Rattle.mq_held.proofs.{TakenGroups.inside-left, TakenGroups.has-left, TakenGroups.left-removed, TakenGroups.gone-there, TakenGroups.gone-once}
+use Rattle.mq_held.proofs.{TakenGroups.parts-left, TakenGroups.order-left, TakenGroups.left-kept, TakenGroups.all-vacant, TakenGroups.few-searches}
+use Rattle.mq_held.proofs.{TakenGroups.few-moves, TakenGroups.many-moves}
 use Rattle.mq_held.proofs.held_groups.HeldGroups.take_out_vacant.Given.{Over}
 use Rattle.mq_held.proofs.held_groups.HeldGroups.take_out_vacant.Goals as goal
 

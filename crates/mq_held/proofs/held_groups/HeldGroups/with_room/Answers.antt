@@ -1,9 +1,6 @@
-use Rattle.std.proofs.Common.{◌≡◌, refl, ◌∙◌, [], length, arith, ap}
-use Rattle.std.specs.Prelude.{replicate}
-use Rattle.std.proofs.lemmas.List.{length-replicate}
+use Rattle.mq_held.proofs.Common.{◌≡◌, refl, ◌∙◌, [], length, arith, ap, replicate, length-replicate, no_head}
 use Rattle.mq_arena.proofs.Takes.{both, refused}
 use Rattle.mq_held.specs.Sizes.{bytes_of_groups}
-use Rattle.mq_held.specs.Stored.{no_head}
 use Rattle.mq_held.proofs.StoredEdits.{IsStored-none, groups_by-none}
 use Rattle.mq_held.proofs.held_groups.HeldGroups.with_room.Goals as goal
 

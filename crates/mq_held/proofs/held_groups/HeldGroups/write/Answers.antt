@@ -1,18 +1,11 @@
 use Rattle.std.proofs.Common.{◌≡◌, ◌+◌, ◌-◌, ◌*◌, ◌≤◌, ◌∙◌, not, length, length-set, arith, ap, sym}
 use Rattle.std.specs.FinMap as map
-use Rattle.mq_count.proofs.Spent.{Spends-join_within}
-use Rattle.mq_sets.specs.Search.{bitlen}
-use Rattle.mq_sets.specs.Pools.{ahead_after}
-use Rattle.mq_table.specs.Stored.{size_of}
-use Rattle.mq_held.specs.declared.scheduled_head.ScheduledHead.{ScheduledHead}
-use Rattle.mq_held.specs.Groups.{group_at, one_if, sources_of}
-use Rattle.mq_held.specs.Held.{ahead_with, moved_by_row}
-use Rattle.mq_held.specs.Stored.{group_of}
-use Rattle.mq_held.proofs.MomentCounts.{Spends-both}
-use Rattle.mq_held.proofs.Inside.{address-of, moment-there, source_room_is, sources-held, state-set}
-use Rattle.mq_held.proofs.Located.{IsStoredWith, Located, located, stored-written}
-use Rattle.mq_held.proofs.StoredEdits.{group-of-parts, schedules_fit}
-use Rattle.mq_held.proofs.StoredMoments.{ahead-is, contains-insert, len-set, moment-room, moved-is, names-rows}
+use Rattle.mq_held.proofs.Common.{Spends-join_within, bitlen, ahead_after, size_of, ScheduledHead, group_at, one_if, sources_of, ahead_with, moved_by_row}
+use Rattle.mq_held.proofs.Common.{group_of}
+use Rattle.mq_held.proofs.{MomentCounts.Spends-both, Inside.address-of, Inside.moment-there, Inside.source_room_is, Inside.sources-held, Inside.state-set}
+use Rattle.mq_held.proofs.{Located.IsStoredWith, Located.Located, Located.located, Located.stored-written, StoredEdits.group-of-parts}
+use Rattle.mq_held.proofs.{StoredEdits.schedules_fit, StoredMoments.ahead-is, StoredMoments.contains-insert, StoredMoments.len-set, StoredMoments.moment-room}
+use Rattle.mq_held.proofs.{StoredMoments.moved-is, StoredMoments.names-rows}
 use Rattle.mq_held.proofs.held_groups.HeldGroups.write.Given.{Over}
 use Rattle.mq_held.proofs.held_groups.HeldGroups.write.Goals as goal
 use Rattle.mq_held.proofs.held_groups.HeldGroups.write.Goals.{After-head, After-self}

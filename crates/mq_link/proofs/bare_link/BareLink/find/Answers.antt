@@ -1,6 +1,4 @@
-use Rattle.std.proofs.Common.{ap, ◌∙◌}
-use Rattle.mq_held.specs.Groups.{group_at, sources_of}
-use Rattle.mq_link.specs.Link.{LinkValue}
+use Rattle.mq_link.proofs.Common.{ap, ◌∙◌, group_at, sources_of, LinkValue}
 use Rattle.mq_link.proofs.KeptGroups.{is_number}
 use Rattle.mq_link.proofs.bare_link.BareLink.find.Goals as goal
 

@@ -1,11 +1,6 @@
-use Rattle.std.proofs.Common.{ap, sym, ◌∙◌}
-use Rattle.mq_table.specs.Group.{forwards_in}
-use Rattle.mq_sched.specs.Schedule.{ScheduledGroup}
-use Rattle.mq_held.specs.Groups.{group_at}
-use Rattle.mq_link.specs.Link.{LinkValue}
+use Rattle.mq_link.proofs.Common.{ap, sym, ◌∙◌, forwards_in, ScheduledGroup, group_at, LinkValue}
 use Rattle.mq_link.specs.State as state
-use Rattle.mq_link.proofs.KeptGroups.{is_number, absent_unheld}
-use Rattle.mq_link.proofs.LinkStored.{absent_forwards}
+use Rattle.mq_link.proofs.{KeptGroups.is_number, KeptGroups.absent_unheld, LinkStored.absent_forwards}
 use Rattle.mq_link.proofs.bare_link.BareLink.forwards.Goals as goal
 
 pub entry_of-requires : goal.entry_of-requires

@@ -1,11 +1,5 @@
-use Rattle.std.proofs.Common.{◌<◌, max, subst, arith}
-use Rattle.mq_link.specs.Link.{LinkValue}
-use Rattle.mq_link.specs.Router.{RouterValue, state_of}
-use Rattle.mq_link.specs.State.{IsWellFormed}
-use Rattle.mq_link.specs.Tick.{tick_of, next_of}
-use Rattle.mq_link.proofs.Faultless.{timing_in_range}
-use Rattle.mq_link.proofs.Later.{later_after_tick}
-use Rattle.mq_link.proofs.LinkStored.{well_formed_at}
+use Rattle.mq_link.proofs.Common.{◌<◌, max, subst, arith, LinkValue, RouterValue, state_of, IsWellFormed, tick_of, next_of}
+use Rattle.mq_link.proofs.{Faultless.timing_in_range, Later.later_after_tick, LinkStored.well_formed_at}
 use Rattle.mq_link.proofs.bare_link.BareLink.is_well_formed.Goals as goal
 
 pub returns-clause-formed : goal.returns-clause-formed

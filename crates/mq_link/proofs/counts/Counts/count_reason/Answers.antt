@@ -1,6 +1,4 @@
-use Rattle.std.proofs.Common.{◌≡◌, ◌<◌, ◌∙◌, ap, length, get_or, arith}
-use Rattle.mq_count.specs.Streams.{counted_on}
-use Rattle.mq_link.specs.Counters.{Counters, counted_at, reason_number}
+use Rattle.mq_link.proofs.Common.{◌≡◌, ◌<◌, ◌∙◌, ap, length, get_or, arith, counted_on, Counters, counted_at, reason_number}
 use Rattle.mq_link.proofs.CountedRows.{row_counted, reason_positive}
 use Rattle.mq_link.proofs.counts.Counts.count_reason.Goals as goal
 

@@ -1,5 +1,4 @@
-use Rattle.std.proofs.Common.{[]}
-use Rattle.mq_wire.specs.Family.{Igmp}
+use Rattle.mq_link.proofs.Common.{[], Igmp}
 use Rattle.mq_link.proofs.Numbered.{read_as}
 use Rattle.mq_link.proofs.igmp.IgmpFamily.read.Goals as goal
 

@@ -1,15 +1,12 @@
-use Rattle.std.proofs.Common.{sym, ap, ◌∙◌, subst}
-use Rattle.mq_link.specs.Configuration.{Configuration}
-use Rattle.mq_link.specs.Link.{HasReceived, LinkValue}
-use Rattle.mq_link.specs.Workspace.{WorkspaceState, suffices}
+use Rattle.mq_link.proofs.Common.{sym, ap, ◌∙◌, subst, Configuration, HasReceived, LinkValue, WorkspaceState, suffices}
 use Rattle.mq_link.proofs.link.Link.receive.Goals as goal
 
 pub invariant_of-self : goal.invariant_of-self
 invariant_of-self g c =
     let config = c.receive_in.ensures.config in
     let workspace = c.receive_in.ensures.workspace in (
-      (λ i. suffices (config i).limits (workspace i)) ∙ c.self.invariant.0,
-      ap (λ (w : WorkspaceState). w.groups) workspace ∙ c.self.invariant.1 ∙ sym (ap (λ (k : Configuration). k.limits.groups) config),
+      (λ i. suffices (config i).room (workspace i)) ∙ c.self.invariant.0,
+      ap (λ (w : WorkspaceState). w.groups) workspace ∙ c.self.invariant.1 ∙ sym (ap (λ (k : Configuration). k.room.groups) config),
     )
 
 pub receive_in-requires-clause-enough : goal.receive_in-requires-clause-enough

@@ -1,15 +1,12 @@
-use Rattle.std.proofs.Common.{sym, ap, ◌∙◌, subst}
-use Rattle.mq_link.specs.Configuration.{Configuration}
-use Rattle.mq_link.specs.Link.{HasTicked, LinkValue}
-use Rattle.mq_link.specs.Workspace.{WorkspaceState, suffices}
+use Rattle.mq_link.proofs.Common.{sym, ap, ◌∙◌, subst, Configuration, HasTicked, LinkValue, WorkspaceState, suffices}
 use Rattle.mq_link.proofs.link.Link.tick.Goals as goal
 
 pub invariant_of-self : goal.invariant_of-self
 invariant_of-self g c =
     let config = c.tick_in.ensures.config in
     let workspace = c.tick_in.ensures.workspace in (
-      (λ i. suffices (config i).limits (workspace i)) ∙ c.self.invariant.0,
-      ap (λ (w : WorkspaceState). w.groups) workspace ∙ c.self.invariant.1 ∙ sym (ap (λ (k : Configuration). k.limits.groups) config),
+      (λ i. suffices (config i).room (workspace i)) ∙ c.self.invariant.0,
+      ap (λ (w : WorkspaceState). w.groups) workspace ∙ c.self.invariant.1 ∙ sym (ap (λ (k : Configuration). k.room.groups) config),
     )
 
 pub tick_in-requires-clause-enough : goal.tick_in-requires-clause-enough

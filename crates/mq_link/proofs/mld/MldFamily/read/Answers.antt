@@ -1,5 +1,4 @@
-use Rattle.std.proofs.Common.{length}
-use Rattle.mq_wire.specs.Family.{Mld}
+use Rattle.mq_link.proofs.Common.{length, Mld}
 use Rattle.mq_wire.specs.PseudoHeader.{pseudo_header}
 use Rattle.mq_link.proofs.Numbered.{read_as}
 use Rattle.mq_link.proofs.mld.MldFamily.read.Goals as goal

@@ -1,5 +1,4 @@
-use Rattle.std.proofs.Common.{sym, arith, subst}
-use Rattle.mq_link.specs.Seen.{AreListed}
+use Rattle.mq_link.proofs.Common.{sym, arith, subst, AreListed}
 use Rattle.mq_link.proofs.ListedNumbers.{listed_each, none_listed}
 use Rattle.mq_link.proofs.record_counts.RecordCounts.clear.Goals as goal
 

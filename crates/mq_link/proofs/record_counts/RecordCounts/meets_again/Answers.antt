@@ -1,7 +1,5 @@
-use Rattle.std.proofs.Common.{◌≡◌, ◌+◌, ◌<◌, ◌≤◌, cond, [], ◌∷◌, ◌++◌, length, length-set, set, sym, ap, ◌∙◌, subst, arith}
+use Rattle.mq_link.proofs.Common.{◌≡◌, ◌+◌, ◌<◌, ◌≤◌, cond, [], ◌∷◌, ◌++◌, length, length-set, set, sym, ap, ◌∙◌, subst, arith, get_or_default, AreListed}
 use Rattle.std.specs.Prelude.{slice_index, is_ok}
-use Rattle.std.proofs.lemmas.List.{get_or_default}
-use Rattle.mq_link.specs.Seen.{AreListed}
 use Rattle.mq_link.proofs.ListedNumbers.{listed_again, listed_first, room_for_one}
 use Rattle.mq_link.proofs.record_counts.RecordCounts.meets_again.Goals as goal
 

@@ -1,5 +1,4 @@
-use Rattle.mq_link.proofs.HandedOut.{with_answers}
-use Rattle.mq_link.proofs.RouterSteps.{recounted_by}
+use Rattle.mq_link.proofs.{HandedOut.with_answers, RouterSteps.recounted_by}
 use Rattle.mq_link.proofs.router.Router.count_answers.Goals as goal
 
 pub returns : goal.returns

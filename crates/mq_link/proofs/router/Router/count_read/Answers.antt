@@ -1,5 +1,4 @@
-use Rattle.mq_link.specs.Reading.{numbered_read}
-use Rattle.mq_link.specs.Receive.{count_read}
+use Rattle.mq_link.proofs.Common.{numbered_read, count_read}
 use Rattle.mq_link.proofs.RouterSteps.{recounted_by}
 use Rattle.mq_link.proofs.router.Router.count_read.Goals as goal
 

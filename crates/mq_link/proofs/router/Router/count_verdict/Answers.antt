@@ -1,5 +1,4 @@
-use Rattle.mq_link.specs.Counters.{count_verdict}
-use Rattle.mq_link.specs.Judging.{verdict_of}
+use Rattle.mq_link.proofs.Common.{count_verdict, verdict_of}
 use Rattle.mq_link.proofs.RouterSteps.{recounted_by}
 use Rattle.mq_link.proofs.router.Router.count_verdict.Goals as goal
 

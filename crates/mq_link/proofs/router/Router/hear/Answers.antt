@@ -1,26 +1,15 @@
-use Rattle.std.proofs.Common.{◌+◌, ◌*◌, refl, ap, subst, arith}
+use Rattle.mq_link.proofs.Common.{◌+◌, ◌*◌, refl, ap, subst, arith, Spends, source_count, numbered_query, query_heard, IsPaid, Setting, Leaves, RouterValue}
+use Rattle.mq_link.proofs.Common.{router_of, state_of, sources_in, Lists, KeepsSpace, put_by_rows}
 use Rattle.std.specs.FinMap as map
-use Rattle.mq_count.specs.Spending.{Spends}
-use Rattle.mq_wire.specs.Canon.{source_count}
-use Rattle.mq_wire.specs.Numbered.{numbered_query}
-use Rattle.mq_link.specs.Heard.{query_heard}
-use Rattle.mq_link.specs.Moved.{IsPaid}
-use Rattle.mq_link.specs.Record.{Setting}
-use Rattle.mq_link.specs.Router.{Leaves, RouterValue, router_of, state_of}
-use Rattle.mq_link.specs.State.{sources_in}
-use Rattle.mq_link.specs.declared.storage.Lists.{Lists}
-use Rattle.mq_link.specs.Storage.{KeepsSpace, put_by_rows}
-use Rattle.mq_link.proofs.Faultless.{few_sources, timing_in_range}
-use Rattle.mq_link.proofs.LinkStored.{ready_in, stored_next}
-use Rattle.mq_link.proofs.Rooms.{enough_room, enough_space, still_space, workspace_next}
-use Rattle.mq_link.proofs.RouterSteps.{enough_inside, sound_heard}
+use Rattle.mq_link.proofs.{Faultless.few_sources, Faultless.timing_in_range, LinkStored.ready_in, LinkStored.stored_next, Rooms.enough_room, Rooms.enough_space}
+use Rattle.mq_link.proofs.{Rooms.still_space, Rooms.workspace_next, RouterSteps.enough_inside, RouterSteps.sound_heard}
 use Rattle.mq_link.proofs.router.Router.hear.Goals as goal
 
 pub hear_query-requires-clause-ready : goal.hear_query-requires-clause-ready
 hear_query-requires-clause-ready g c =
     let enough = enough_inside c.self.view_is c.work.view_is c.requires.enough in
-    let room = enough_room c.self.inside.status.config.limits _ _ enough _ c.work.invariant in
-    ready_in c.self.inside.status c.self.inside.storage c.lemma_is_sound.ensures.faultless c.self.invariant.sound _ room.group
+    let room = enough_room c.self.inside.status.config.room _ _ enough _ c.work.invariant in
+    ready_in c.self.inside.status c.self.inside.storage c.lemma_is_sound.ensures.faultless c.self.invariant.sound c.self.invariant.within _ room.group
 
 pub hear_query-requires-clause-small : goal.hear_query-requires-clause-small
 hear_query-requires-clause-small g c address =
@@ -72,8 +61,8 @@ returns-clause-spent g c =
 pub hear_query-requires-clause-space : goal.hear_query-requires-clause-space
 hear_query-requires-clause-space g c =
     let enough = enough_inside c.self.view_is c.work.view_is c.requires.enough in
-    let space = enough_space c.self.inside.status.config.limits _ _ enough _ c.work.invariant in
-    omega (arith, c.self.invariant.sound.within.group_count, space.due)
+    let space = enough_space c.self.inside.status.config.room _ _ enough _ c.work.invariant in
+    omega (arith, c.self.invariant.sound.within.group_count, c.self.invariant.within.groups, space.due)
 
 pub returns-clause-moved : goal.returns-clause-moved
 returns-clause-moved g c =

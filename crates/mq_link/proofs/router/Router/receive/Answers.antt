@@ -1,22 +1,8 @@
-use Rattle.std.proofs.Common.{◌≡◌, ◌+◌, ◌||◌, max, length, refl, ap, ◌∙◌, sym, subst, arith}
-use Rattle.mq_count.specs.Spending.{Spends}
-use Rattle.mq_count.proofs.Spent.{Spends-within}
-use Rattle.mq_sched.specs.Election.{ticked}
-use Rattle.mq_link.specs.Configuration.{Configuration}
-use Rattle.mq_link.specs.Cost.{cost_of}
-use Rattle.mq_link.specs.Forwarding.{changed_by_read, changed_by_tick}
-use Rattle.mq_link.specs.LeastCost.{least_after}
-use Rattle.mq_link.specs.Receive.{drop_reason, setting_of}
-use Rattle.mq_link.specs.Record.{Setting}
-use Rattle.mq_link.specs.Router.{RouterValue, state_of}
-use Rattle.mq_link.specs.State.{LinkState, held_of}
-use Rattle.mq_link.specs.Tick.{tick_of}
-use Rattle.mq_link.specs.Workspace.{suffices, with_changed}
-use Rattle.mq_link.proofs.HandedOut.{with_answers}
-use Rattle.mq_link.proofs.HandedOver.{same_outlet}
-use Rattle.mq_link.proofs.LinkReceived.{has_received, read_in}
-use Rattle.mq_link.proofs.ListedGroups.{those_so}
-use Rattle.mq_link.proofs.TickedSizes.{received_within, moved_within, least_after_tick}
+use Rattle.mq_link.proofs.Common.{◌≡◌, ◌+◌, ◌||◌, max, length, refl, ap, ◌∙◌, sym, subst, arith, Spends, Spends-within, ticked, Configuration, cost_of}
+use Rattle.mq_link.proofs.Common.{changed_by_read, changed_by_tick, least_after, drop_reason, setting_of, Setting, RouterValue, state_of, LinkState, held_of}
+use Rattle.mq_link.proofs.Common.{tick_of, suffices, with_changed}
+use Rattle.mq_link.proofs.{HandedOut.with_answers, HandedOver.same_outlet, LinkReceived.has_received, LinkReceived.read_in, ListedGroups.those_so}
+use Rattle.mq_link.proofs.{TickedSizes.received_within, TickedSizes.moved_within, TickedSizes.least_after_tick}
 use Rattle.mq_link.proofs.router.Router.receive.Given.{Over}
 use Rattle.mq_link.proofs.router.Router.receive.Goals as goal
 
@@ -52,7 +38,7 @@ returns-clause-spent g c =
     let leaves = c.come_to.ensures.step.leaves in
     let spent = received_within (ticked config.timing moment before.at.election).timing moment before.groups between.groups
     (length c.args.body.now) _ _ _ _ _ (ap (λ (s : LinkState). s.groups) leaves.state_is) c.come_to.ensures.few
-    (Spends-within _ _ c.come_to.ensures.spent (omega arith) (omega arith)) c.take_in-received.ensures.spent in
+    (Spends-within _ _ c.come_to.ensures.costs.spent (omega arith) (omega arith)) c.take_in-received.ensures.spent in
     let least = (λ i. let at : Setting = record { config = leaves.config i; election = between.at.election; now = between.at.now } in
     least_after at envelope (read_in family envelope c.args.body.now) between.groups)
     ∙ least_after_tick family config envelope c.args.body.now c.args.now moment (state_of before)
@@ -71,18 +57,18 @@ returns-clause-moved g c =
     let moment = max before.at.now c.args.now in
     let leaves = c.come_to.ensures.step.leaves in
     let moved = moved_within (ticked config.timing moment before.at.election).timing moment before.groups between.groups
-    (length c.args.body.now) _ _ _ _ _ _ (ap (λ (s : LinkState). s.groups) leaves.state_is) c.lemma_is_stored.ensures.put_by c.come_to.ensures.moved
+    (length c.args.body.now) _ _ _ _ _ _ (ap (λ (s : LinkState). s.groups) leaves.state_is) c.lemma_is_stored.ensures.put_by c.come_to.ensures.paid
     c.take_in-received.ensures.moved in
     subst (Spends _ _ before.moved) (sym (ap (λ (r : RouterValue). r.moved) (counted g c))) moved
 
 pub take_in-received-requires-clause-enough : goal.take_in-received-requires-clause-enough
 take_in-received-requires-clause-enough g c =
-    (λ i. suffices (c.come_to.ensures.step.leaves.config i).limits (c.come_to.ensures.workspace i)) ∙ c.requires.enough
+    (λ i. suffices (c.come_to.ensures.step.leaves.config i).room (c.come_to.ensures.workspace i)) ∙ c.requires.enough
 
 pub take_in-received-requires-clause-few_changed : goal.take_in-received-requires-clause-few_changed
 take_in-received-requires-clause-few_changed g c =
-    let limits = ap (λ (k : Configuration). k.limits.groups) c.come_to.ensures.step.leaves.config in
-    omega (arith, limits, c.come_to.ensures.few, c.lemma_is_stored.ensures.sound.within.group_count)
+    let limits = ap (λ (k : Configuration). k.room.groups) c.come_to.ensures.step.leaves.config in
+    omega (arith, limits, c.come_to.ensures.few, c.lemma_is_stored.ensures.sound.within.group_count, c.lemma_is_stored.ensures.within.groups)
 
 pub returns-clause-workspace : goal.returns-clause-workspace
 returns-clause-workspace g c =

@@ -1,26 +1,10 @@
-use Rattle.std.proofs.Common.{◌≡◌, ◌+◌, ◌*◌, ◌||◌, ℕ, max, List, length, None, Some, Result, Ok, sym, ap, ◌∙◌, subst, arith}
+use Rattle.mq_link.proofs.Common.{◌≡◌, ◌+◌, ◌*◌, ◌||◌, ℕ, max, List, length, None, Some, Result, Ok, sym, ap, ◌∙◌, subst, arith, Spends, Spends-within}
+use Rattle.mq_link.proofs.Common.{Spends-none, Message, WireFault, numbered_message, Dropped, least_length, AreThose, changed_by_message, changed_by_read}
+use Rattle.mq_link.proofs.Common.{least_of, least_unless, least_after, HasMoved, numbered_read, Envelope, Receipt, taken_in, count_read, pseudo_of, read_of}
+use Rattle.mq_link.proofs.Common.{receipt_after, drop_reason, HasReceipt, RouterValue, silent_step, state_of, TakesQuery, sources_in}
 use Rattle.std.specs.FinMap as map
-use Rattle.mq_count.specs.Spending.{Spends}
-use Rattle.mq_count.proofs.Spent.{Spends-within, Spends-none}
-use Rattle.mq_wire.specs.declared.message.Message.{Message}
-use Rattle.mq_wire.specs.declared.message.WireFault.{WireFault}
-use Rattle.mq_wire.specs.Numbered.{numbered_message}
-use Rattle.mq_link.specs.declared.answers.Received.TheVariants.{Dropped}
-use Rattle.mq_link.specs.Cost.{least_length}
-use Rattle.mq_link.specs.Forwarding.{AreThose, changed_by_message, changed_by_read}
-use Rattle.mq_link.specs.LeastCost.{least_of, least_unless, least_after}
-use Rattle.mq_link.specs.Moved.{HasMoved}
-use Rattle.mq_link.specs.Reading.{numbered_read}
-use Rattle.mq_link.specs.Receive.{Envelope, Receipt, taken_in, count_read, pseudo_of, read_of, receipt_after, drop_reason}
-use Rattle.mq_link.specs.Router.{HasReceipt, RouterValue, silent_step, state_of}
-use Rattle.mq_link.specs.Sender.{TakesQuery}
-use Rattle.mq_link.specs.State.{sources_in}
-use Rattle.mq_link.proofs.LeastLengths.{long_where_read}
-use Rattle.mq_link.proofs.LinkReceived.{is_dropped, is_taken}
-use Rattle.mq_link.proofs.ListedGroups.{those_alone}
-use Rattle.mq_link.proofs.Moved.{paid_none, paid_within}
-use Rattle.mq_link.proofs.Receipts.{IsCarriedWhere, carried_where_read}
-use Rattle.mq_link.proofs.RecordsRead.{few_where_read}
+use Rattle.mq_link.proofs.{LeastLengths.long_where_read, LinkReceived.is_dropped, LinkReceived.is_taken, ListedGroups.those_alone, Moved.paid_none}
+use Rattle.mq_link.proofs.{Moved.paid_within, Receipts.IsCarriedWhere, Receipts.carried_where_read, RecordsRead.few_where_read}
 use Rattle.mq_link.proofs.router.Router.take_in.Given.{Over}
 use Rattle.mq_link.proofs.router.Router.take_in.Goals as goal
 use Rattle.mq_link.proofs.router.Router.take_in.Goals.{After-take_message, After-count_dropped}

@@ -1,20 +1,8 @@
-use Rattle.std.proofs.Common.{◌≡◌, ◌*◌, ◌≤◌, length, refl, sym, subst, arith}
+use Rattle.mq_link.proofs.Common.{◌≡◌, ◌*◌, ◌≤◌, length, refl, sym, subst, arith, le-max_left, le-max_right, Spends-within, own_sources, QueryVersion, Older}
+use Rattle.mq_link.proofs.Common.{Current, source_count, numbered_version, AreThose, taken_in, WorkspaceState, with_changed}
 use Rattle.std.specs.FinMap as map
-use Rattle.std.proofs.Math.Nat.{le-max_left, le-max_right}
-use Rattle.mq_count.proofs.Spent.{Spends-within}
-use Rattle.mq_held.proofs.Amounts.{own_sources}
-use Rattle.mq_wire.specs.declared.query.QueryVersion.{QueryVersion}
-use Rattle.mq_wire.specs.declared.query.QueryVersion.TheVariants.{Older, Current}
-use Rattle.mq_wire.specs.Canon.{source_count}
-use Rattle.mq_wire.specs.Numbered.{numbered_version}
-use Rattle.mq_link.specs.Forwarding.{AreThose}
-use Rattle.mq_link.specs.Receive.{taken_in}
-use Rattle.mq_link.specs.Workspace.{WorkspaceState, with_changed}
-use Rattle.mq_link.proofs.Faultless.{few_groups}
-use Rattle.mq_link.proofs.ListedGroups.{those_alone}
-use Rattle.mq_link.proofs.Moved.{paid_within}
-use Rattle.mq_link.proofs.MovedRecords.{report_moves_within}
-use Rattle.mq_link.proofs.RecordCosts.{report_within, statement_within}
+use Rattle.mq_link.proofs.{Faultless.few_groups, ListedGroups.those_alone, Moved.paid_within, MovedRecords.report_moves_within, RecordCosts.report_within}
+use Rattle.mq_link.proofs.{RecordCosts.statement_within}
 use Rattle.mq_link.proofs.router.Router.take_message.Goals as goal
 
 pub returns-in-Query-clause-receipt : goal.returns-in-Query-clause-receipt

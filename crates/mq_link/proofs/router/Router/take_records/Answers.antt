@@ -1,40 +1,23 @@
-use Rattle.std.proofs.Common.{◌≡◌, ◌+◌, ◌*◌, ◌≤◌, ◌||◌, length, refl, sym, ap, ◌∙◌, subst, arith}
-use Rattle.std.specs.Prelude.{map as list_map}
+use Rattle.mq_link.proofs.Common.{◌≡◌, ◌+◌, ◌*◌, ◌≤◌, ◌||◌, length, refl, sym, ap, ◌∙◌, subst, arith, list_map, sum_by, Spends, Spends-join_within, HeldState}
+use Rattle.mq_link.proofs.Common.{own_cost, AreThose, changed_by_all, least_all, IsPaid, own_moves, with_outcomes, all_judged, HasReceipt, RouterValue}
+use Rattle.mq_link.proofs.Common.{router_of, silent_step, state_of, met_in, AreSound, Groups, sources_in, HasSpace, KeepsRoom, put_by_rows, WorkspaceState}
+use Rattle.mq_link.proofs.Common.{with_changed}
 use Rattle.std.specs.FinMap as map
-use Rattle.std.specs.List.{sum_by}
-use Rattle.mq_count.specs.Spending.{Spends}
-use Rattle.mq_count.proofs.Spent.{Spends-join_within}
-use Rattle.mq_held.specs.Held.{HeldState}
-use Rattle.mq_link.specs.Cost.{own_cost}
-use Rattle.mq_link.specs.Forwarding.{AreThose, changed_by_all}
-use Rattle.mq_link.specs.LeastCost.{least_all}
-use Rattle.mq_link.specs.Moved.{IsPaid, own_moves}
-use Rattle.mq_link.specs.Receive.{with_outcomes}
-use Rattle.mq_link.specs.Record.{all_judged}
-use Rattle.mq_link.specs.Router.{HasReceipt, RouterValue, router_of, silent_step, state_of}
-use Rattle.mq_link.specs.Seen.{met_in}
-use Rattle.mq_link.specs.Sound.{AreSound}
-use Rattle.mq_link.specs.State.{Groups, sources_in}
-use Rattle.mq_link.specs.Storage.{HasSpace, KeepsRoom, put_by_rows}
-use Rattle.mq_link.specs.Workspace.{WorkspaceState, with_changed}
-use Rattle.mq_link.proofs.GrownGroups.{all_judged_grow}
-use Rattle.mq_link.proofs.LinkStored.{stored_next}
-use Rattle.mq_link.proofs.ListedGroups.{few_inside, listed_within, numbers_marked}
-use Rattle.mq_link.proofs.Moved.{paid_join}
-use Rattle.mq_link.proofs.Rooms.{enough_groups, enough_room, room_on, workspace_next}
-use Rattle.mq_link.proofs.RouterSteps.{enough_inside}
+use Rattle.mq_link.proofs.{GrownGroups.all_judged_grow, LinkStored.stored_next, ListedGroups.few_inside, ListedGroups.listed_within}
+use Rattle.mq_link.proofs.{ListedGroups.numbers_marked, Moved.paid_join, Rooms.enough_groups, Rooms.enough_room, Rooms.room_on, Rooms.workspace_next}
+use Rattle.mq_link.proofs.{RouterSteps.enough_inside}
 use Rattle.mq_link.proofs.router.Router.take_records.Given.{Over}
 use Rattle.mq_link.proofs.router.Router.take_records.Goals as goal
 
 pub take_each-received-requires-clause-room : goal.take_each-received-requires-clause-room
 take_each-received-requires-clause-room g c =
     let enough = enough_inside c.self.view_is c.work.view_is c.requires.enough in
-    enough_room c.self.inside.status.config.limits _ _ enough _ c.work.invariant
+    enough_room c.self.inside.status.config.room _ _ enough _ c.work.invariant
 
 pub list_changed-requires-clause-room : goal.list_changed-requires-clause-room
 list_changed-requires-clause-room g c =
     let enough = enough_inside c.self.view_is c.work.view_is c.requires.enough in
-    let room = enough_room c.self.inside.status.config.limits _ _ enough _ c.work.invariant in
+    let room = enough_room c.self.inside.status.config.room _ _ enough _ c.work.invariant in
     let left = c.take_each-received.ensures in
     omega (arith, room.changed, left.room.changed, left.rooms.groups, c.self.invariant.group_room)
 
@@ -49,9 +32,9 @@ list_changed-requires-clause-space g c =
 pub list_changed-requires-clause-few : goal.list_changed-requires-clause-few
 list_changed-requires-clause-few g c =
     let enough = enough_inside c.self.view_is c.work.view_is c.requires.enough in
-    let limits = ap (λ (r : RouterValue). r.at.config.limits.groups) c.self.view_is in
+    let limits = ap (λ (r : RouterValue). r.at.config.room.groups) c.self.view_is in
     let few = few_inside g.F.Address.Key.number c.work.inside.lists _ _ _ c.work.view_is refl c.requires.few_changed in
-    omega (arith, few, limits, enough_groups c.self.inside.status.config.limits _ _ enough, c.take_each-received.ensures.room.changed, c.work.invariant.marks)
+    omega (arith, few, limits, enough_groups c.self.inside.status.config.room _ _ enough, c.take_each-received.ensures.room.changed, c.work.invariant.marks)
 
 pub list_changed-requires-clause-marked : goal.list_changed-requires-clause-marked
 list_changed-requires-clause-marked g c = numbers_marked _ _ _ c.take_each-received.ensures.changed
@@ -79,11 +62,11 @@ invariant_of-work g c =
     let cleared : KeepsRoom taken (record taken { met = c.clear.new.self; changed = c.list_changed.new.marks }) =
     record { group = omega arith; named = refl; asked = omega arith; met = c.clear.ensures.room; changed = listed.len } in
     let enough = enough_inside c.self.view_is c.work.view_is c.requires.enough in
-    let limits = ap (λ (r : RouterValue). r.at.config.limits.groups) c.self.view_is in
+    let limits = ap (λ (r : RouterValue). r.at.config.room.groups) c.self.view_is in
     let few = few_inside g.F.Address.Key.number c.work.inside.lists _ _ _ c.work.view_is refl c.requires.few_changed in
     workspace_next _ _ _ c.work.invariant (room_on c.take_each-received.ensures.room cleared)
     (subst (λ n. HasSpace n c.list_changed.new.lists) (marks g c) listed.space) c.clear.ensures.none listed.none listed.ascending
-    (omega (arith, listed.count, few, limits, enough_groups c.self.inside.status.config.limits _ _ enough, marks g c))
+    (omega (arith, listed.count, few, limits, enough_groups c.self.inside.status.config.room _ _ enough, marks g c))
 
 pub returns-clause-receipt : goal.returns-clause-receipt
 returns-clause-receipt g c =

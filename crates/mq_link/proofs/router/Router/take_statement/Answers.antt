@@ -1,10 +1,4 @@
-use Rattle.std.proofs.Common.{◌≡◌, [], ◌∷◌, ap, ◌∙◌, sym, subst, zero-add}
-use Rattle.mq_count.specs.Spending.{Spends}
-use Rattle.mq_link.specs.declared.answers.Received.TheVariants.{Taken}
-use Rattle.mq_link.specs.Counters.{count_verdict}
-use Rattle.mq_link.specs.Judging.{verdict_of}
-use Rattle.mq_link.specs.Receive.{taken}
-use Rattle.mq_link.specs.Router.{RouterValue, state_of}
+use Rattle.mq_link.proofs.Common.{◌≡◌, [], ◌∷◌, ap, ◌∙◌, sym, subst, zero-add, Spends, Taken, count_verdict, verdict_of, taken, RouterValue, state_of}
 use Rattle.mq_link.proofs.router.Router.take_statement.Goals as goal
 
 pub returns-clause-receipt : goal.returns-clause-receipt

@@ -1,9 +1,5 @@
-use Rattle.std.proofs.Common.{◌≡◌, length, ap, arith}
-use Rattle.mq_wire.specs.Canon.{canon}
-use Rattle.mq_wire.specs.Numbered.{numbered_query}
+use Rattle.mq_link.proofs.Common.{◌≡◌, length, ap, arith, canon, numbered_query, Terms, outgoing_on, fields_sent, common_steps}
 use Rattle.mq_sched.specs.Sink.{query_of}
-use Rattle.mq_link.specs.Handing.{Terms, outgoing_on}
-use Rattle.mq_link.specs.Sent.{fields_sent}
 use Rattle.mq_link.proofs.Lengths.{within_longest}
 use Rattle.mq_link.proofs.sender.QueryTerms.write.Goals as goal
 
@@ -22,3 +18,6 @@ unreachable-requires g c =
     ≡ (outgoing_on family terms query).bytes = λ i. canon family (same_own i) (same_fields i) in
     let long = ap length same in
     omega (arith, short.0, short.1, long, fits, c.requires.length)
+
+pub returns-clause-bytes : goal.returns-clause-bytes
+returns-clause-bytes g c = grind (arith, common_steps)

@@ -1,8 +1,5 @@
-use Rattle.std.proofs.Common.{◌≡◌, ℕ, Bool, false, length, ap, ◌∙◌, subst, refl, arith, take}
+use Rattle.mq_link.proofs.Common.{◌≡◌, ℕ, Bool, false, length, ap, ◌∙◌, subst, refl, arith, take, IsTrue, Query, general_destination, common_steps}
 use Rattle.std.specs.Prelude.{◌==◌, if◌then◌else◌}
-use Rattle.std.specs.Bool.{IsTrue}
-use Rattle.mq_wire.specs.declared.query.Query.{Query}
-use Rattle.mq_link.specs.Family.{general_destination}
 use Rattle.mq_link.proofs.Lengths.{written_back}
 use Rattle.mq_link.proofs.sender.SenderSinkAddress.send.Goals as goal
 
@@ -46,3 +43,6 @@ returns-clause-takes g c =
         kept = λ more. absurd (omega (arith, fits, more));
       };
     }
+
+pub slice_bounds-hand_over-end : goal.slice_bounds-hand_over-end
+slice_bounds-hand_over-end g c = grind (arith, common_steps)

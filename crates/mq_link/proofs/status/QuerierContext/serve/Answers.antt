@@ -1,10 +1,5 @@
-use Rattle.std.proofs.Common.{◌≤◌, sym, ap, ◌∙◌, arith}
-use Rattle.mq_count.proofs.Spent.{Spends-join_within}
-use Rattle.mq_table.specs.Filter.{filter_of}
-use Rattle.mq_table.specs.Stored.{size_of}
-use Rattle.mq_sched.specs.Schedule.{ScheduledGroup}
-use Rattle.mq_link.proofs.Bounds.{expired_size}
-use Rattle.mq_link.proofs.KeptFilters.{alike_after, round_keeps_filter}
+use Rattle.mq_link.proofs.Common.{◌≤◌, sym, ap, ◌∙◌, arith, Spends-join_within, filter_of, size_of, ScheduledGroup}
+use Rattle.mq_link.proofs.{Bounds.expired_size, KeptFilters.alike_after, KeptFilters.round_keeps_filter}
 use Rattle.mq_link.proofs.status.QuerierContext.serve.Goals as goal
 
 -- the round keeps the filter that the end of the timers leaves

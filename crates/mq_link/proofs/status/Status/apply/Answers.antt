@@ -1,28 +1,11 @@
-use Rattle.std.proofs.Common.{◌≡◌, ◌<◌, ℕ, true, false, ◌||◌, length, refl, sym, ap, ◌∙◌, subst, arith}
-use Rattle.std.proofs.Common.{Option, IfSome, MatchOption, is_some, Result, Ok, Err, MatchResult}
+use Rattle.mq_link.proofs.Common.{◌≡◌, ◌<◌, ℕ, true, false, ◌||◌, length, refl, sym, ap, ◌∙◌, subst, arith, Option, IfSome, MatchOption, is_some, Result, Ok}
+use Rattle.mq_link.proofs.Common.{Err, MatchResult, is_ok, result_ok, true≢false, Spends, Spends-join_within, Spends-within, IsSpotFor, Spot, named_in}
+use Rattle.mq_link.proofs.Common.{HeldState, HasNumber, Storage, CanApply, HasEffect, statement_of, changes, least_work, most_copied, AreMarked, KeepsNumbers}
+use Rattle.mq_link.proofs.Common.{met_in, has_counted}
 use Rattle.std.specs.FinMap as map
-use Rattle.std.specs.Result.{is_ok, result_ok}
-use Rattle.std.proofs.lemmas.Bool.{true≢false}
-use Rattle.mq_count.specs.Spending.{Spends}
-use Rattle.mq_count.proofs.Spent.{Spends-join_within, Spends-within}
-use Rattle.mq_sets.specs.NumberedKeys.{IsSpotFor}
-use Rattle.mq_sets.specs.declared.spots.Spot.{Spot}
-use Rattle.mq_table.specs.Stored.{named_in}
 use Rattle.mq_held.specs.Groups.{Groups, group_at, sources_of}
-use Rattle.mq_held.specs.Held.{HeldState, HasNumber}
-use Rattle.mq_link.specs.declared.storage.Storage.{Storage}
-use Rattle.mq_link.specs.Applying.{CanApply, HasEffect}
-use Rattle.mq_link.specs.Changing.{statement_of}
-use Rattle.mq_link.specs.Forwarding.{changes}
-use Rattle.mq_link.specs.LeastCost.{least_work}
-use Rattle.mq_link.specs.Refreshed.{most_copied}
-use Rattle.mq_link.specs.Seen.{AreMarked, KeepsNumbers, met_in}
-use Rattle.mq_link.specs.Storage.{has_counted}
-use Rattle.mq_link.proofs.Applied.{can_apply_still, effect_before}
-use Rattle.mq_link.proofs.ChangedRecords.{length-by, marked_by, met_in-by}
-use Rattle.mq_link.proofs.MetNumbers.{AreNumbered}
-use Rattle.mq_link.proofs.Moved.{paid_within}
-use Rattle.mq_link.proofs.RefreshedCosts.{least_named, tried_and_copied}
+use Rattle.mq_link.proofs.{Applied.can_apply_still, Applied.effect_before, ChangedRecords.length-by, ChangedRecords.marked_by, ChangedRecords.met_in-by}
+use Rattle.mq_link.proofs.{MetNumbers.AreNumbered, Moved.paid_within, RefreshedCosts.least_named, RefreshedCosts.tried_and_copied}
 use Rattle.mq_link.proofs.status.Status.apply.Given.{Over}
 use Rattle.mq_link.proofs.status.Status.apply.Goals as goal
 use Rattle.mq_link.proofs.status.Status.apply.Goals.{After-ok}
@@ -32,11 +15,13 @@ IsFound held a found = MatchResult found (HasNumber held a) (IsSpotFor held.orde
 
 -- the number of the group, which is held
 within_so : (g : Over) (c : After-ok g) → IfSome c.ok.result (λ n. n < length c.args.work.now.changed)
-within_so g c = subst (λ o. IfSome o (λ n. n < length c.args.work.now.changed)) (sym c.ok.ensures.value) (by_found c.args.lookup.found c.requires.lookup)
+within_so g c = subst (λ o. IfSome o (λ n. n < length c.args.work.now.changed)) (sym c.ok.ensures.value) (by_found c.args.lookup.found c.requires.ready.lookup)
   where
     by_found : (found : Result ℕ Spot) → IsFound c.args.storage.now.held (g.F.Address.Key.number c.args.lookup.address) found
         → IfSome (result_ok found) (λ n. n < length c.args.work.now.changed)
-    by_found (Ok n) has = let below = c.lemma_is_numbered.ensures.within _ n has in omega (arith, below, c.requires.group_room, c.requires.room.changed)
+    by_found (Ok n) has =
+        let below = c.lemma_is_numbered.ensures.within _ n has in
+        omega (arith, below, c.requires.ready.group_room, c.requires.ready.room.changed)
     by_found (Err spot) is = tt
 
 keeps_so : (g : Over) (c : After-ok g) → KeepsNumbers c.args.storage.now.held c.apply_in_place.new.storage.held
@@ -48,7 +33,7 @@ IsNumbered held a number = MatchOption number (map.contains_key held.groups a �
 numbered_so : (g : Over) (c : After-ok g) → IsNumbered c.apply_in_place.new.storage.held (g.F.Address.Key.number c.args.lookup.address) c.ok.result
 numbered_so g c =
     subst (IsNumbered c.apply_in_place.new.storage.held (g.F.Address.Key.number c.args.lookup.address)) (sym c.ok.ensures.value)
-    (by_found c.args.lookup.found c.requires.lookup c.in-Some.ensures.held)
+    (by_found c.args.lookup.found c.requires.ready.lookup c.in-Some.ensures.held)
   where
     by_found : (found : Result ℕ Spot) → IsFound c.args.storage.now.held (g.F.Address.Key.number c.args.lookup.address) found → is_ok found ≡ true
         → IsNumbered c.apply_in_place.new.storage.held (g.F.Address.Key.number c.args.lookup.address) (result_ok found)
@@ -107,11 +92,11 @@ returns-in-None-clause-in_place g c heard =
     absurd (true≢false (sym (done heard) ∙ ap is_some c.in-None.is))
 
 -- where nothing was applied in place, only comparisons were made
-pub apply_to_copy-requires : goal.apply_to_copy-requires
-apply_to_copy-requires g c =
+pub apply_to_copy-requires-clause-ready : goal.apply_to_copy-requires-clause-ready
+apply_to_copy-requires-clause-ready g c =
     let none = c.apply_in_place.ensures.none c.in-None.is in
     subst (λ (s : Storage _ _). CanApply g.F.Address.Key.number c.args.self.now s c.args.work.now c.args.lookup) (sym none)
-    (can_apply_still c.apply_in_place.new.storage.meter c.requires)
+    (can_apply_still c.apply_in_place.new.storage.meter c.requires.ready)
 
 -- the effect of the copy with its comparisons, by the storage and the sink before
 copied_so : (g : Over) (c : goal.After-apply_to_copy g) → (let number = g.F.Address.Key.number in

@@ -1,11 +1,6 @@
-use Rattle.std.proofs.Common.{◌+◌, ◌*◌, cond, min, length, ap, ◌∙◌, subst, arith}
+use Rattle.mq_link.proofs.Common.{◌+◌, ◌*◌, cond, min, length, ap, ◌∙◌, subst, arith, Spends, Spends-join_within, Spends-within, bitlen, Storage, most_blocked}
 use Rattle.std.specs.FinMap as map
-use Rattle.mq_count.specs.Spending.{Spends}
-use Rattle.mq_count.proofs.Spent.{Spends-join_within, Spends-within}
-use Rattle.mq_sets.specs.Search.{bitlen}
 use Rattle.mq_held.specs.Groups.{group_at, sources_of, with_group}
-use Rattle.mq_link.specs.declared.storage.Storage.{Storage}
-use Rattle.mq_link.specs.Refreshed.{most_blocked}
 use Rattle.mq_link.proofs.RefreshedCosts.{blocked_few, set_few}
 use Rattle.mq_link.proofs.status.Status.apply_in_place.Goals as goal
 

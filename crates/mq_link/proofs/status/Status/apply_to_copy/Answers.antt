@@ -1,55 +1,24 @@
-use Rattle.std.proofs.Common.{◌≡◌, ◌≤◌, ◌+◌, ◌*◌, ◌<◌, ℕ, Bool, false, ◌||◌, cond, List, length, refl, sym, ap, ◌∙◌, subst, arith}
-use Rattle.std.proofs.Common.{Option, None, Some, IfSome, MatchOption}
-use Rattle.std.specs.Option.{option_map, option_map_or}
+use Rattle.mq_link.proofs.Common.{◌≡◌, ◌≤◌, ◌+◌, ◌*◌, ◌<◌, ℕ, Bool, false, ◌||◌, cond, List, length, refl, sym, ap, ◌∙◌, subst, arith, Option, None, Some}
+use Rattle.mq_link.proofs.Common.{IfSome, MatchOption, option_map, option_map_or, Spends, Spends-within, Spends-join_within, bitlen, set_of, changes_filter}
+use Rattle.mq_link.proofs.Common.{hosts_of, named_in, size_of, GroupChange, ScheduledGroup, messages_due, after_change, after_round, is_querier, Sends}
+use Rattle.mq_link.proofs.Common.{HeldState, HasNumber, QuerierContext, Storage, Refusal, Applied, HasOutcome, HasEffect, acts_as, statement_of, change_written}
+use Rattle.mq_link.proofs.Common.{Configuration, v1_mutes_leave, per_query, least_merge, least_work, MovesWithin, moved_by_edit, Outcome, Statement, change_in}
+use Rattle.mq_link.proofs.Common.{change_stated, changed_by, limit_passed, stated, unless_passed, after_sending, sent_at_once, changes, most_asked}
+use Rattle.mq_link.proofs.Common.{most_changed, AreMarked, KeepsNumbers, counted_again, met_in, group_stored, IsLookup, KeepsRoom, KeepsRooms, has_counted}
 use Rattle.std.specs.FinMap as map
-use Rattle.mq_count.specs.Spending.{Spends}
-use Rattle.mq_count.proofs.Spent.{Spends-within, Spends-join_within}
-use Rattle.mq_sets.specs.Search.{bitlen}
-use Rattle.mq_sets.specs.Ascending.{set_of}
 use Rattle.mq_table.specs.declared.changes.Loaded.{Loaded}
-use Rattle.mq_table.specs.Filter.{changes_filter}
-use Rattle.mq_table.specs.OlderHosts.{hosts_of}
-use Rattle.mq_table.specs.Stored.{named_in, size_of}
-use Rattle.mq_table.specs.Table.{GroupChange}
-use Rattle.mq_sched.specs.Schedule.{ScheduledGroup}
-use Rattle.mq_sched.specs.Sending.{messages_due, after_change, after_round}
-use Rattle.mq_sched.specs.Election.{is_querier}
-use Rattle.mq_sched.specs.Sink.{Sends}
-use Rattle.mq_held.specs.Held.{HeldState, HasNumber}
 use Rattle.mq_held.specs.Groups.{group_at, sources_in, sources_of, with_group}
-use Rattle.mq_link.specs.declared.status.QuerierContext.{QuerierContext}
-use Rattle.mq_link.specs.declared.storage.Storage.{Storage}
-use Rattle.mq_link.specs.declared.answers.Refusal.{Refusal}
-use Rattle.mq_link.specs.declared.statement.Verdict.TheVariants.{Refused}
-use Rattle.mq_link.specs.Counters.{Applied}
-use Rattle.mq_link.specs.Router.{HasOutcome}
-use Rattle.mq_link.specs.Applying.{HasEffect}
-use Rattle.mq_link.specs.Changing.{acts_as, statement_of, change_written}
-use Rattle.mq_link.specs.Configuration.{Configuration}
-use Rattle.mq_link.specs.Family.{v1_mutes_leave, per_query}
-use Rattle.mq_link.specs.LeastCost.{least_merge, least_work}
-use Rattle.mq_link.specs.Moved.{MovesWithin, moved_by_edit}
-use Rattle.mq_link.specs.Record.{Outcome, Statement, change_in, change_stated, changed_by, limit_passed, stated, unless_passed, after_sending, sent_at_once}
-use Rattle.mq_link.specs.Forwarding.{changes}
-use Rattle.mq_link.specs.Refreshed.{most_asked, most_changed}
-use Rattle.mq_link.specs.Seen.{AreMarked, KeepsNumbers, counted_again, met_in}
-use Rattle.mq_link.specs.Storage.{group_stored, IsLookup, KeepsRoom, KeepsRooms, has_counted}
-use Rattle.mq_link.proofs.Applied.{groups_left}
-use Rattle.mq_link.proofs.ChangedRecords.{changed_then, length-by, marked_by, met_in-by}
-use Rattle.mq_link.proofs.Faultless.{few_groups, few_in_all, few_sources}
-use Rattle.mq_link.proofs.KeptGroups.{found_or_not, group_found}
-use Rattle.mq_link.proofs.MetNumbers.{AreNumbered}
-use Rattle.mq_link.proofs.Moved.{paid_within}
-use Rattle.mq_link.proofs.MadeEntries.{round_keeps_size}
-use Rattle.mq_link.proofs.RefreshedCosts.{asks_most, none_stopped_in}
-use Rattle.mq_link.proofs.RefreshedStates.{none_is_stopped}
-use Rattle.mq_link.proofs.Rooms.{room_on}
-use Rattle.mq_link.proofs.StatedSteps.{AreFew, IsChanged, stated_ignored, stated_judged, kept_is_held, kept_stays, left_has_place, left_has_room, made_few}
+use Rattle.mq_link.specs.{declared.statement.Verdict.TheVariants.Refused, Limits.IsChangeAt}
+use Rattle.mq_link.proofs.{Applied.groups_left, ChangedRecords.changed_then, ChangedRecords.length-by, ChangedRecords.marked_by, ChangedRecords.met_in-by}
+use Rattle.mq_link.proofs.{Faultless.few_groups, Faultless.few_in_all, Faultless.few_sources, KeptGroups.found_or_not, KeptGroups.group_found}
+use Rattle.mq_link.proofs.{MetNumbers.AreNumbered, Moved.paid_within, MadeEntries.round_keeps_size, RefreshedCosts.asks_most, RefreshedCosts.none_stopped_in}
+use Rattle.mq_link.proofs.{RefreshedStates.none_is_stopped, Rooms.room_on, StatedSteps.AreFew, StatedSteps.IsChanged, StatedSteps.stated_ignored}
+use Rattle.mq_link.proofs.{StatedSteps.stated_judged, StatedSteps.kept_is_held, StatedSteps.kept_stays, StatedSteps.left_has_place, StatedSteps.left_has_room}
+use Rattle.mq_link.proofs.{StatedSteps.made_few}
 use Rattle.mq_link.proofs.status.Status.apply_to_copy.Given.{Over}
 use Rattle.mq_link.proofs.status.Status.apply_to_copy.Goals as goal
-use Rattle.mq_link.proofs.status.Status.apply_to_copy.Goals.{After-change, After-ask, After-refusal-arg-3-1, After-refusal}
-use Rattle.mq_link.proofs.status.Status.apply_to_copy.Goals.{After-round, After-lemma_is_numbered-2, After-count_changed}
-use Rattle.mq_link.specs.Limits.{IsChangeAt}
+use Rattle.mq_link.proofs.status.Status.apply_to_copy.Goals.{After-change, After-ask, After-refusal-arg-3-1, After-refusal, After-round}
+use Rattle.mq_link.proofs.status.Status.apply_to_copy.Goals.{After-lemma_is_numbered-2, After-count_changed}
 
 -- the test whether the group is to be asked for, if something changes
 abbrev asks_of : Option Loaded → Option Bool
@@ -145,7 +114,7 @@ is_held_so : (g : Over) (c : After-refusal-arg-3-1 g)
     → map.contains_key c.args.storage.now.held.groups (g.F.Address.Key.number c.args.lookup.address) ≡ c.is_ok.result
 is_held_so g c =
     let is = c.lemma_is_numbered.ensures in
-    found_or_not c.args.storage.now.held (g.F.Address.Key.number c.args.lookup.address) c.args.lookup.found c.requires.lookup is.held is.of_one
+    found_or_not c.args.storage.now.held (g.F.Address.Key.number c.args.lookup.address) c.args.lookup.found c.requires.ready.lookup is.held is.of_one
     ∙ sym c.is_ok.ensures.value
 
 -- and the limits are checked by that, its sources and its schedule
@@ -221,10 +190,11 @@ returns-in_default-clause-spent g c = Spends-within _ _ (spent_changing g c.befo
 
 pub change-requires-clause-room : goal.change-requires-clause-room
 change-requires-clause-room g c =
-    let within = c.requires.sound.within.group_sources (g.F.Address.Key.number c.args.lookup.address) in
-    let named = c.requires.named in
-    let room = c.requires.room.group in
-    let asked = c.requires.room.asked in
+    let within = c.requires.ready.sound.within.group_sources (g.F.Address.Key.number c.args.lookup.address) in
+    let named = c.requires.ready.named in
+    let fits = c.requires.ready.within.group_sources in
+    let room = c.requires.ready.room.group in
+    let asked = c.requires.ready.room.asked in
     let len = c.look-stored.ensures.len in
     record { group = omega arith; asked = omega arith }
 
@@ -234,7 +204,8 @@ change-requires-clause-running g c include =
     let number = g.F.Address.Key.number in
     let stored : ScheduledGroup = record { group = group_stored number c.look-stored.result; schedule = c.look-stored.result.schedule } in
     none_stopped_in number c.look-stored.result.sources.now c.look-stored.ensures.ascending
-    (none_is_stopped c.args.self.now (number c.args.lookup.address) c.args.storage.now.held.groups stored c.look-stored.ensures.group c.requires.sound include)
+    (none_is_stopped c.args.self.now (number c.args.lookup.address) c.args.storage.now.held.groups stored c.look-stored.ensures.group c.requires.ready.sound
+    include)
 
 pub ask-requires-clause-ascending : goal.ask-requires-clause-ascending
 ask-requires-clause-ascending g c = rw c.in-Some.is at c.change.ensures.ascending
@@ -243,21 +214,23 @@ pub ask-requires-clause-held : goal.ask-requires-clause-held
 ask-requires-clause-held g c = rw c.in-Some.is at c.change.ensures.held
 
 pub refusal-requires-clause-groups : goal.refusal-requires-clause-groups
-refusal-requires-clause-groups g c = omega (arith, c.requires.sound.within.group_count, few_groups c.args.self.now.config c.lemma_is_sound.ensures.faultless)
+refusal-requires-clause-groups g c =
+    omega (arith, c.requires.ready.sound.within.group_count, few_groups c.args.self.now.config c.lemma_is_sound.ensures.faultless)
 
 pub refusal-requires-clause-sources : goal.refusal-requires-clause-sources
-refusal-requires-clause-sources g c = omega (arith, c.requires.sound.within.sources, (few_in_all c.args.self.now.config c.lemma_is_sound.ensures.faultless).0)
+refusal-requires-clause-sources g c =
+    omega (arith, c.requires.ready.sound.within.sources, (few_in_all c.args.self.now.config c.lemma_is_sound.ensures.faultless).0)
 
 pub refusal-requires-clause-scheduled : goal.refusal-requires-clause-scheduled
 refusal-requires-clause-scheduled g c =
-    omega (arith, c.requires.sound.within.scheduled, (few_in_all c.args.self.now.config c.lemma_is_sound.ensures.faultless).1)
+    omega (arith, c.requires.ready.sound.within.scheduled, (few_in_all c.args.self.now.config c.lemma_is_sound.ensures.faultless).1)
 
 pub refusal-requires-clause-few : goal.refusal-requires-clause-few
 refusal-requires-clause-few g c =
     let few = few_so g c.before.before.before.before.before.before.before.before in
     let most = few_sources c.args.self.now.config c.lemma_is_sound.ensures.faultless in
-    let within = c.requires.sound.within.group_sources (g.F.Address.Key.number c.args.lookup.address) in
-    omega (arith, most, within, c.requires.named, few.changed, few.asked)
+    let within = c.requires.ready.sound.within.group_sources (g.F.Address.Key.number c.args.lookup.address) in
+    omega (arith, most, within, c.requires.ready.named, few.changed, few.asked)
 
 pub refusal-requires-clause-change : goal.refusal-requires-clause-change
 refusal-requires-clause-change g c = (g.F.Address.Key.number c.args.lookup.address, change_at g c)
@@ -291,18 +264,18 @@ kept_from g c =
 
 pub keep-kept-requires-clause-few : goal.keep-kept-requires-clause-few
 keep-kept-requires-clause-few g c =
-    let room = ap (λ (s : Storage _ _). s.held.order.room) c.refusal.ensures.left ∙ c.requires.group_room in
-    omega (arith, room, few_groups c.args.self.now.config c.lemma_is_sound.ensures.faultless)
+    let room = ap (λ (s : Storage _ _). s.held.order.room) c.refusal.ensures.left ∙ c.requires.ready.group_room in
+    omega (arith, room, c.requires.ready.within.few_groups)
 
 pub keep-kept-requires-clause-lookup : goal.keep-kept-requires-clause-lookup
 keep-kept-requires-clause-lookup g c =
-    subst (λ (s : Storage _ _). IsLookup g.F.Address.Key.number s.held c.args.lookup) (sym c.refusal.ensures.left) c.requires.lookup
+    subst (λ (s : Storage _ _). IsLookup g.F.Address.Key.number s.held c.args.lookup) (sym c.refusal.ensures.left) c.requires.ready.lookup
 
 pub keep-kept-requires-clause-held : goal.keep-kept-requires-clause-held
 keep-kept-requires-clause-held g c =
     let sent = c.before.before in
     let did_so = did g (checked_of g sent) in
-    kept_is_held _ _ _ _ _ _ _ _ did_so c.lemma_is_sound.ensures.positive c.requires.admitted c.requires.sound _ (λ i. (kept_from g sent i).1)
+    kept_is_held _ _ _ _ _ _ _ _ did_so c.lemma_is_sound.ensures.positive c.requires.admitted c.requires.ready.sound _ (λ i. (kept_from g sent i).1)
 
 -- a group that was found is held
 pub keep-kept-requires-clause-stays : goal.keep-kept-requires-clause-stays
@@ -311,7 +284,7 @@ keep-kept-requires-clause-stays g c found =
     let groups = c.args.storage.now.held.groups in
     let check = checked_of g c.before.before in
     let contained = is_held_so g check.before ∙ c.is_ok.ensures.value ∙ found in
-    let held = c.requires.sound.all address (group_at groups address) (group_found groups address contained) in
+    let held = c.requires.ready.sound.all address (group_at groups address) (group_found groups address contained) in
     kept_stays _ _ _ groups _ _ _ _ (did g check) _ (λ i. (kept_from g c.before.before i).1) held.held
 
 pub keep-kept-requires-clause-room : goal.keep-kept-requires-clause-room
@@ -319,19 +292,19 @@ keep-kept-requires-clause-room g c =
     let address = g.F.Address.Key.number c.args.lookup.address in
     let sent = c.before.before in
     let did_so = did g (checked_of g sent) in
-    let most = left_has_place _ _ _ _ _ _ _ _ did_so c.lemma_is_sound.ensures.positive c.requires.admitted c.requires.sound c.in_default-refusal.is in
+    let most = left_has_place _ _ _ _ _ _ _ _ did_so c.lemma_is_sound.ensures.positive c.requires.admitted c.requires.ready.sound c.in_default-refusal.is in
     subst (λ (p : Storage _ _ × ScheduledGroup). map.len (with_group p.0.held.groups address p.1) ≤ p.0.held.order.room)
-    (sym (kept_from g sent)) (omega (arith, most, c.requires.group_room))
+    (sym (kept_from g sent)) (omega (arith, most, c.requires.ready.group_room, c.requires.ready.within.groups))
 
 pub keep-kept-requires-clause-fits : goal.keep-kept-requires-clause-fits
 keep-kept-requires-clause-fits g c =
     let address = g.F.Address.Key.number c.args.lookup.address in
     let sent = c.before.before in
     let did_so = did g (checked_of g sent) in
-    let most = left_has_room _ _ _ _ _ _ _ _ did_so c.lemma_is_sound.ensures.positive c.requires.admitted c.requires.sound c.in_default-refusal.is in
+    let most = left_has_room _ _ _ _ _ _ _ _ did_so c.lemma_is_sound.ensures.positive c.requires.admitted c.requires.ready.sound c.in_default-refusal.is in
     let room : HeldState → ℕ = λ held. held.source_room + sources_of (group_at held.groups address) in
     subst (λ (p : Storage _ _ × ScheduledGroup). sources_in p.0.held.groups + size_of p.1.group ≤ room p.0.held)
-    (sym (kept_from g sent)) (omega (arith, most, c.requires.source_room))
+    (sym (kept_from g sent)) (omega (arith, most, c.requires.ready.source_room, c.requires.ready.within.sources))
 
 -- a number of a group is below how many are counted
 within_so : (g : Over) (c : After-lemma_is_numbered-2 g) → IfSome c.keep-kept.result (λ n. n < length c.args.work.now.changed)
@@ -346,8 +319,8 @@ within_so g c = by_number c.keep-kept.result c.keep-kept.ensures.number
     by_number None absent = tt
     by_number (Some n) has =
         let below = c.lemma_is_numbered-2.ensures.within _ n has in
-        let room = c.keep-kept.ensures.rooms.groups ∙ ap (λ (s : Storage _ _). s.held.order.room) c.refusal.ensures.left ∙ c.requires.group_room in
-        omega (arith, below, room, c.requires.room.changed)
+        let room = c.keep-kept.ensures.rooms.groups ∙ ap (λ (s : Storage _ _). s.held.order.room) c.refusal.ensures.left ∙ c.requires.ready.group_room in
+        omega (arith, below, room, c.requires.ready.room.changed)
 
 pub count_changed-requires : goal.count_changed-requires
 count_changed-requires g c =

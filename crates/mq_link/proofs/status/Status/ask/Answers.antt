@@ -1,22 +1,9 @@
-use Rattle.std.proofs.Common.{ℕ, ◌+◌, ◌-◌, ◌*◌, ◌≤◌, Bool, cond, true, false, [], ◌∷◌, refl, sym, ap, ◌∙◌, subst, arith}
+use Rattle.mq_link.proofs.Common.{ℕ, ◌+◌, ◌-◌, ◌*◌, ◌≤◌, Bool, cond, true, false, [], ◌∷◌, refl, sym, ap, ◌∙◌, subst, arith, Spends-within, set_of, bitlen}
+use Rattle.mq_link.proofs.Common.{bitlen-mono, acted, after_round, messages_due, Sends, quiet_is_silent, same_round, group_at, running_in, sources_of}
+use Rattle.mq_link.proofs.Common.{HeldState, insert-same, QuerierContext, Storage, per_query, few-running, common_steps}
 use Rattle.std.specs.FinMap as map
-use Rattle.mq_count.proofs.Spent.{Spends-within}
-use Rattle.mq_sets.specs.Ascending.{set_of}
-use Rattle.mq_sets.specs.Search.{bitlen}
-use Rattle.mq_sets.proofs.Bitlen.{bitlen-mono}
-use Rattle.mq_sched.specs.Sending.{acted, after_round, messages_due}
-use Rattle.mq_sched.specs.Sink.{Sends}
-use Rattle.mq_sched.proofs.Rounds.{quiet_is_silent, same_round}
-use Rattle.mq_held.specs.Groups.{group_at, running_in, sources_of}
-use Rattle.mq_held.specs.Held.{HeldState}
 use Rattle.mq_held.proofs.Inside.{some-address}
-use Rattle.mq_held.proofs.RestartedTimers.{insert-same}
-use Rattle.mq_link.specs.declared.status.QuerierContext.{QuerierContext}
-use Rattle.mq_link.specs.declared.storage.Storage.{Storage}
-use Rattle.mq_link.specs.Family.{per_query}
-use Rattle.mq_link.proofs.KeptGroups.{group_found}
-use Rattle.mq_link.proofs.Moved.{spends_none}
-use Rattle.mq_held.proofs.DueInOrder.{few-running}
+use Rattle.mq_link.proofs.{KeptGroups.group_found, Moved.spends_none}
 use Rattle.mq_link.proofs.status.Status.ask.Goals as goal
 
 -- a router that isn't querier asks for nothing; a querier asks
@@ -101,3 +88,9 @@ returns-else-at-clause-sent g c address has =
     (acted b at.election.timing at.now false asked e)) asks ∙ quiet_is_silent (per_query at.config.family) at.election.timing at.now address e
     (c.requires.quiet address has) in
     subst (λ queries. Sends g.S.Sink.takes c.args.sink.now queries c.args.sink.now) (sym silent) refl
+
+pub returns-else-at-clause-spent : goal.returns-else-at-clause-spent
+returns-else-at-clause-spent g c = grind (arith, common_steps)
+
+pub returns-else-at-clause-there : goal.returns-else-at-clause-there
+returns-else-at-clause-there g c = grind (arith, common_steps)

@@ -1,27 +1,10 @@
-use Rattle.std.proofs.Common.{◌≡◌, ℕ, zero, suc, ◌+◌, ◌*◌, ◌≤◌, ◌==◌, ◌||◌, Bool, true, false, cond, min, [], ◌∷◌, is_some, length, refl, sym, ap}
-use Rattle.std.proofs.Common.{◌∙◌, subst, arith}
+use Rattle.mq_link.proofs.Common.{◌≡◌, ℕ, zero, suc, ◌+◌, ◌*◌, ◌≤◌, ◌==◌, ◌||◌, Bool, true, false, cond, min, [], ◌∷◌, is_some, length, refl, sym, ap, ◌∙◌}
+use Rattle.mq_link.proofs.Common.{subst, arith, eq-eqb, eqb-false, eqb-true, or_right, true≢false, nil_from_length, Spends, Spends-join_within, bitlen}
+use Rattle.mq_link.proofs.Common.{is_include, timer_at, named_in, IsQuietAt, ScheduledGroup, quiet_by, group_at, sources_of, HasNumber, HeldState, Storage}
+use Rattle.mq_link.proofs.Common.{IsPaid, moved_by_edit, most_blocked, put_by_rows, common_steps}
 use Rattle.std.specs.FinMap as map
-use Rattle.std.proofs.lemmas.Bool.{eq-eqb, eqb-false, eqb-true, or_right, true≢false}
-use Rattle.std.proofs.lemmas.List.{nil_from_length}
-use Rattle.mq_count.specs.Spending.{Spends}
-use Rattle.mq_count.proofs.Spent.{Spends-join_within}
-use Rattle.mq_sets.specs.Search.{bitlen}
-use Rattle.mq_table.specs.Group.{is_include, timer_at}
-use Rattle.mq_table.specs.Stored.{named_in}
-use Rattle.mq_sched.specs.Rounds.{IsQuietAt}
-use Rattle.mq_sched.specs.Schedule.{ScheduledGroup}
-use Rattle.mq_sched.proofs.Rounds.{quiet_by}
-use Rattle.mq_held.specs.Groups.{group_at, sources_of}
-use Rattle.mq_held.specs.Held.{HasNumber, HeldState}
-use Rattle.mq_link.specs.declared.storage.Storage.{Storage}
-use Rattle.mq_link.specs.Moved.{IsPaid, moved_by_edit}
-use Rattle.mq_link.specs.Refreshed.{most_blocked}
-use Rattle.mq_link.specs.Storage.{put_by_rows}
-use Rattle.mq_link.proofs.BlockDone.{IsDone, done_named, done_unnamed, rows_named}
-use Rattle.mq_link.proofs.Faultless.{few_groups}
-use Rattle.mq_link.proofs.Moved.{paid_by}
-use Rattle.mq_link.proofs.OneNamed.{one_item}
-use Rattle.mq_link.proofs.PaidEdits.{few_digits}
+use Rattle.mq_link.proofs.{BlockDone.IsDone, BlockDone.done_named, BlockDone.done_unnamed, BlockDone.rows_named, Faultless.few_groups, Moved.paid_by}
+use Rattle.mq_link.proofs.{OneNamed.one_item, PaidEdits.few_digits}
 use Rattle.mq_link.proofs.status.Status.block.Given.{Over}
 use Rattle.mq_link.proofs.status.Status.block.Goals as goal
 use Rattle.mq_link.proofs.status.Status.block.Goals.{Else-there, Then-is_empty, Then-there}
@@ -213,3 +196,6 @@ returns-else-there-clause-spent g c =
         (omega (arith, digits, most_is, none))
     by_test false first second size named most one low_is digits most_is none = Spends-join_within _ _ first second (omega arith)
         (omega (arith, digits, most_is, none))
+
+pub entry_of-requires : goal.entry_of-requires
+entry_of-requires g c = grind (arith, common_steps)

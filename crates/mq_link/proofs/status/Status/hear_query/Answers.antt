@@ -1,21 +1,10 @@
-use Rattle.std.proofs.Common.{◌≡◌, ◌+◌, ◌*◌, ◌≤◌, cond, refl, sym, ap, ◌∙◌, subst, arith}
+use Rattle.mq_link.proofs.Common.{◌≡◌, ◌+◌, ◌*◌, ◌≤◌, cond, refl, sym, ap, ◌∙◌, subst, arith, Spends, Spends-none, Spends-within, Spends-join}
+use Rattle.mq_link.proofs.Common.{Spends-join_within, StoredGroup, loses_role, own_sources, numbered_query, QuerierContext, Storage, groups_cleared}
+use Rattle.mq_link.proofs.Common.{groups_lowered, MovesWithin, Setting, KeepsRooms, put_by_rows}
 use Rattle.std.specs.FinMap as map
-use Rattle.mq_count.specs.Spending.{Spends}
-use Rattle.mq_count.proofs.Spent.{Spends-none, Spends-within, Spends-join, Spends-join_within}
-use Rattle.mq_table.specs.Stored.{StoredGroup}
-use Rattle.mq_sched.specs.Election.{loses_role}
 use Rattle.mq_held.specs.Groups.{group_at, sources_of, sources_in}
-use Rattle.mq_held.proofs.Amounts.{own_sources}
-use Rattle.mq_wire.specs.Numbered.{numbered_query}
-use Rattle.mq_link.specs.declared.status.QuerierContext.{QuerierContext}
-use Rattle.mq_link.specs.declared.storage.Storage.{Storage}
-use Rattle.mq_link.specs.Heard.{groups_cleared, groups_lowered}
-use Rattle.mq_link.specs.Moved.{MovesWithin}
-use Rattle.mq_link.specs.Record.{Setting}
-use Rattle.mq_link.specs.Storage.{KeepsRooms, put_by_rows}
-use Rattle.mq_link.proofs.HeardGroups.{cleared_ready, cleared_sources, cleared_small}
-use Rattle.mq_link.proofs.Moved.{paid_none, paid_within, paid_join}
-use Rattle.mq_link.proofs.Rooms.{ready_counted, rooms_on}
+use Rattle.mq_link.proofs.{HeardGroups.cleared_ready, HeardGroups.cleared_sources, HeardGroups.cleared_small, Moved.paid_none, Moved.paid_within}
+use Rattle.mq_link.proofs.{Moved.paid_join, Rooms.ready_counted, Rooms.rooms_on}
 use Rattle.mq_link.proofs.status.Status.hear_query.Goals as goal
 use Rattle.mq_link.proofs.status.Status.hear_query.Goals.{then-hear, else-hear}
 

@@ -1,15 +1,8 @@
-use Rattle.std.proofs.Common.{◌≡◌, ◌||◌, is_some, ltb, sym, ap, ◌∙◌, arith}
-use Rattle.std.proofs.lemmas.Bool.{true≢false}
-use Rattle.mq_sched.specs.Rounds.{is_due_at}
-use Rattle.mq_sched.specs.Schedule.{ScheduledGroup}
-use Rattle.mq_table.specs.Stored.{timers_in}
-use Rattle.mq_held.specs.Groups.{schedules_in}
-use Rattle.mq_link.specs.declared.status.QuerierContext.{QuerierContext}
-use Rattle.mq_link.specs.Blocked.{has_older_hosts}
-use Rattle.mq_link.specs.Configuration.{Configuration}
+use Rattle.mq_link.proofs.Common.{◌≡◌, ◌||◌, is_some, ltb, sym, ap, ◌∙◌, arith, true≢false, is_due_at, ScheduledGroup, timers_in, QuerierContext}
+use Rattle.mq_link.proofs.Common.{has_older_hosts, Configuration, schedules_in, common_steps}
 use Rattle.mq_link.proofs.status.Status.number_blocked.Goals as goal
-use Rattle.mq_link.proofs.status.Status.number_blocked.Goals.{then-is_due-via-then-is_due, then-is_due-via-else-is_due+then-has_older_hosts}
-use Rattle.mq_link.proofs.status.Status.number_blocked.Goals.{then-is_some, else-is_some}
+use Rattle.mq_link.proofs.status.Status.number_blocked.Goals.{then-is_due-via-then-is_due, then-is_due-via-else-is_due+then-has_older_hosts, then-is_some}
+use Rattle.mq_link.proofs.status.Status.number_blocked.Goals.{else-is_some}
 
 pub returns-then-is_due-clause-done : goal.returns-then-is_due-clause-done
 returns-then-is_due-clause-done g c block ok can =
@@ -51,3 +44,6 @@ returns-then-schedules-limits-clause-can g c =
             (λ i. none i || ltb (same i) (limits_are i).scheduled) ∙ sym w.value-is ∙ c.if-schedules-limits.true
       ];
     }
+
+pub entry_of-stored-requires : goal.entry_of-stored-requires
+entry_of-stored-requires g c = grind (arith, common_steps)

@@ -1,37 +1,16 @@
-use Rattle.std.proofs.Common.{◌≡◌, ℕ, ◌+◌, ◌-◌, ◌≤◌, [], Bool, true, None, Option, is_some, cond, length, sym, ap, ◌∙◌, subst, arith}
-use Rattle.std.specs.Prelude.{map as list_map}
-use Rattle.std.specs.Cmp.{nat_cmp_total}
+use Rattle.mq_link.proofs.Common.{◌≡◌, ℕ, ◌+◌, ◌-◌, ◌≤◌, [], Bool, true, None, Option, is_some, cond, length, sym, ap, ◌∙◌, subst, arith, list_map}
+use Rattle.mq_link.proofs.Common.{nat_cmp_total, Spends-join_within, Spends-within, bitlen, bitlen-mono, changes_filter, named_in, membership_interval}
+use Rattle.mq_link.proofs.Common.{IsQuietAt, ScheduledGroup, quiet_by, HasNumber, HeldState, has_each, most_looked, restarted_each, IsWellFormed-restarted_each}
+use Rattle.mq_link.proofs.Common.{QuerierContext, statement_of, Applied, changes, moved_by_edit, Outcome, stated, is_restart, few-running, common_steps}
 use Rattle.std.specs.FinMap as map
 use Rattle.std.specs.FinSet as set
-use Rattle.mq_count.proofs.Spent.{Spends-join_within, Spends-within}
-use Rattle.mq_sets.specs.Search.{bitlen}
-use Rattle.mq_sets.proofs.Bitlen.{bitlen-mono}
-use Rattle.mq_table.specs.Filter.{changes_filter}
 use Rattle.mq_table.specs.Group.{IsWellFormed}
-use Rattle.mq_table.specs.Stored.{named_in}
-use Rattle.mq_table.specs.Timing.{membership_interval}
-use Rattle.mq_sched.specs.Rounds.{IsQuietAt}
-use Rattle.mq_sched.specs.Schedule.{ScheduledGroup}
-use Rattle.mq_sched.proofs.Rounds.{quiet_by}
 use Rattle.mq_held.specs.Groups.{group_at, running_in, sources_of, with_group}
-use Rattle.mq_held.specs.Held.{HasNumber, HeldState}
-use Rattle.mq_held.specs.Restarted.{has_each, most_looked, restarted_each}
-use Rattle.mq_held.proofs.RestartedEach.{IsWellFormed-restarted_each}
-use Rattle.mq_link.specs.declared.status.QuerierContext.{QuerierContext}
-use Rattle.mq_link.specs.Changing.{statement_of}
-use Rattle.mq_link.specs.Counters.{Applied}
-use Rattle.mq_link.specs.Forwarding.{changes}
-use Rattle.mq_link.specs.Moved.{moved_by_edit}
-use Rattle.mq_link.specs.Record.{Outcome, stated}
-use Rattle.mq_link.specs.Refreshed.{is_restart}
-use Rattle.mq_link.proofs.Faultless.{few_groups}
-use Rattle.mq_link.proofs.KeptGroups.{is_number}
-use Rattle.mq_link.proofs.Moved.{paid_by, paid_none, paid_within}
-use Rattle.mq_held.proofs.DueInOrder.{few-running}
-use Rattle.mq_link.proofs.PaidEdits.{few_digits}
-use Rattle.mq_link.proofs.RefreshedCosts.{set-mono}
-use Rattle.mq_link.proofs.RefreshedEach.{filter-restarted_each, size-restarted_each}
-use Rattle.mq_link.proofs.RefreshedStates.{by_option, group_put, held_as, if_some, match_option, no_stopped, on_some, put_by_same, put_is, stated-each}
+use Rattle.mq_link.proofs.{Faultless.few_groups, KeptGroups.is_number, Moved.paid_by, Moved.paid_none, Moved.paid_within, PaidEdits.few_digits}
+use Rattle.mq_link.proofs.{RefreshedCosts.set-mono, RefreshedEach.filter-restarted_each, RefreshedEach.size-restarted_each, RefreshedStates.by_option}
+use Rattle.mq_link.proofs.{RefreshedStates.group_put, RefreshedStates.held_as, RefreshedStates.if_some, RefreshedStates.match_option}
+use Rattle.mq_link.proofs.{RefreshedStates.no_stopped, RefreshedStates.on_some, RefreshedStates.put_by_same, RefreshedStates.put_is}
+use Rattle.mq_link.proofs.{RefreshedStates.stated-each}
 use Rattle.mq_link.proofs.status.Status.refresh.Given.{Over}
 use Rattle.mq_link.proofs.status.Status.refresh.Goals as goal
 use Rattle.mq_link.proofs.status.Status.refresh.Goals.{After-restart_each}
@@ -193,3 +172,12 @@ returns-clause-moved g c =
     (size-restarted_each c.after-deadline.result (list_map number c.args.named.now) (group_at groups a) (all_so g c there)) (formed_then g c there)
     (formed_so g c) in
     paid_by (count + moved_by_edit) moved (omega (arith, same, digits_so g c, sixteen)))
+
+pub returns-clause-done : goal.returns-clause-done
+returns-clause-done g c = grind (arith, common_steps)
+
+pub entry_of-requires : goal.entry_of-requires
+entry_of-requires g c = grind (arith, common_steps)
+
+pub returns-then-is_due-clause-done : goal.returns-then-is_due-clause-done
+returns-then-is_due-clause-done g c = grind (arith, common_steps)

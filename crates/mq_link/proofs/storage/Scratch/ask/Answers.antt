@@ -1,10 +1,5 @@
-use Rattle.std.proofs.Common.{◌≡◌, cond, vec_len, sym, ap, ◌∙◌, arith}
-use Rattle.std.proofs.lemmas.Bool.{eqb-true}
-use Rattle.std.proofs.lemmas.List.{nil_from_length}
-use Rattle.mq_sets.specs.Ascending.{set_of}
-use Rattle.mq_sched.specs.Schedule.{ScheduledGroup, settled}
-use Rattle.mq_sched.specs.Sending.{after_change, group_asked, sources_asked}
-use Rattle.mq_link.specs.declared.storage.Scratch.{Scratch}
+use Rattle.mq_link.proofs.Common.{◌≡◌, cond, vec_len, sym, ap, ◌∙◌, arith, eqb-true, nil_from_length, set_of, ScheduledGroup, settled, after_change}
+use Rattle.mq_link.proofs.Common.{group_asked, sources_asked, Scratch}
 use Rattle.mq_link.proofs.RefreshedGroups.{unasked}
 use Rattle.mq_link.proofs.storage.Scratch.ask.Goals as goal
 use Rattle.mq_link.proofs.storage.Scratch.ask.Goals.{then-asks_group, else-asks_group}

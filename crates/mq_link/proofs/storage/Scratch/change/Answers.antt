@@ -1,19 +1,7 @@
-use Rattle.std.proofs.Common.{◌≡◌, ◌+◌, ◌≤◌, false, true, [], Some, min, length, sym, ap, ◌∙◌, subst, arith}
-use Rattle.mq_count.specs.Spending.{Spends}
-use Rattle.mq_sets.specs.Search.{bitlen}
-use Rattle.mq_sets.specs.SourceSets.{SetState}
-use Rattle.mq_table.specs.MergedRecord.{LooksByHalves}
-use Rattle.mq_table.specs.OlderHosts.{hosts_of, with_sources}
-use Rattle.mq_table.specs.Stored.{named_in, size_of}
-use Rattle.mq_table.proofs.SourceLists.{len-timers_in}
-use Rattle.mq_link.specs.Changing.{statement_of, acts_as}
-use Rattle.mq_link.specs.declared.statement.StatementKind.{StatementKind}
-use Rattle.mq_link.specs.declared.statement.StatementKind.TheVariants.{Record}
-use Rattle.mq_link.specs.declared.storage.Scratch.{Scratch}
-use Rattle.mq_link.specs.Storage.{group_stored}
-use Rattle.mq_link.specs.LeastCost.{least_merge}
+use Rattle.mq_link.proofs.Common.{◌≡◌, ◌+◌, ◌≤◌, false, true, [], Some, min, length, sym, ap, ◌∙◌, subst, arith, Spends, bitlen, SetState, LooksByHalves}
+use Rattle.mq_link.proofs.Common.{hosts_of, with_sources, named_in, size_of, len-timers_in, statement_of, acts_as, StatementKind, Record, Scratch, group_stored}
+use Rattle.mq_link.proofs.Common.{least_merge, most_changed, restarts}
 use Rattle.mq_link.proofs.ChangedRecords.{changed_by_older}
-use Rattle.mq_link.specs.Refreshed.{most_changed, restarts}
 use Rattle.mq_link.proofs.RefreshedCosts.{BlocksSo, asks_by, block_acts, blocks_is, merge_by, none_taken_keeps}
 use Rattle.mq_link.proofs.RefreshedGroups.{none_listed, restarts-unasked, restarts-unasked_sources}
 use Rattle.mq_link.proofs.storage.Scratch.change.Given.{Over}

@@ -1,12 +1,7 @@
-use Rattle.std.proofs.Common.{◌≡◌, sym, ap, ◌∙◌, arith}
+use Rattle.mq_link.proofs.Common.{◌≡◌, sym, ap, ◌∙◌, arith, Spends-within, ScheduleState, ScheduledGroup, no_schedule, cleared, sources_of}
 use Rattle.std.specs.FinMap as map
-use Rattle.mq_count.proofs.Spent.{Spends-within}
-use Rattle.mq_sched.specs.Schedule.{ScheduleState, ScheduledGroup, no_schedule, cleared}
-use Rattle.mq_held.specs.Groups.{sources_of}
-use Rattle.mq_link.proofs.ClearedGroups.{none_of, left_alone, cleared_held, cleared_size}
-use Rattle.mq_link.proofs.GroupNumbers.{number_found}
-use Rattle.mq_link.proofs.KeptGroups.{kept_held}
-use Rattle.mq_link.proofs.Moved.{paid_none, paid_within}
+use Rattle.mq_link.proofs.{ClearedGroups.none_of, ClearedGroups.left_alone, ClearedGroups.cleared_held, ClearedGroups.cleared_size, GroupNumbers.number_found}
+use Rattle.mq_link.proofs.{KeptGroups.kept_held, Moved.paid_none, Moved.paid_within}
 use Rattle.mq_link.proofs.storage.Storage.clear_group.Goals as goal
 
 pub load-schedule-requires-clause-room : goal.load-schedule-requires-clause-room

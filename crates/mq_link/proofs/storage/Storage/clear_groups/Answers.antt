@@ -1,20 +1,10 @@
-use Rattle.std.proofs.Common.{◌≡◌, ◌+◌, ◌*◌, ◌<◌, get_or, length, refl, sym, ap, ◌∙◌, subst, arith}
-use Rattle.std.specs.Prelude.{map as list_map}
-use Rattle.std.specs.List.{All}
+use Rattle.mq_link.proofs.Common.{◌≡◌, ◌+◌, ◌*◌, ◌<◌, get_or, length, refl, sym, ap, ◌∙◌, subst, arith, list_map, All, Spends-within, key_in, cleared, group_at}
+use Rattle.mq_link.proofs.Common.{sources_of, HasNumber, IsNumber, IsServed, put_by_rows}
 use Rattle.std.specs.FinMap as map
-use Rattle.mq_count.proofs.Spent.{Spends-within}
-use Rattle.mq_sets.specs.NumberedKeys.{key_in}
-use Rattle.mq_sched.specs.Schedule.{cleared}
-use Rattle.mq_held.specs.Groups.{group_at, sources_of}
-use Rattle.mq_held.specs.Held.{HasNumber, IsNumber}
-use Rattle.mq_link.specs.Serving.{IsServed}
-use Rattle.mq_link.specs.Storage.{put_by_rows}
-use Rattle.mq_link.proofs.ClearedGroups.{none_cleared, one_cleared, all_cleared, served_more}
-use Rattle.mq_link.proofs.GroupNumbers.{is_number_stays, number_found, number_stays, number_stayed}
-use Rattle.mq_link.proofs.Moved.{paid_none, paid_by, paid_join}
-use Rattle.mq_link.proofs.PaidEdits.{few_digits}
-use Rattle.mq_link.proofs.ReplacedGroups.{address_of, all_entries, as_many, entry_at, next_group}
-use Rattle.mq_link.proofs.Rooms.{rooms_on}
+use Rattle.mq_link.proofs.{ClearedGroups.none_cleared, ClearedGroups.one_cleared, ClearedGroups.all_cleared, ClearedGroups.served_more}
+use Rattle.mq_link.proofs.{GroupNumbers.is_number_stays, GroupNumbers.number_found, GroupNumbers.number_stays, GroupNumbers.number_stayed, Moved.paid_none}
+use Rattle.mq_link.proofs.{Moved.paid_by, Moved.paid_join, PaidEdits.few_digits, ReplacedGroups.address_of, ReplacedGroups.all_entries, ReplacedGroups.as_many}
+use Rattle.mq_link.proofs.{ReplacedGroups.entry_at, ReplacedGroups.next_group, Rooms.rooms_on}
 use Rattle.mq_link.proofs.storage.Storage.clear_groups.Goals as goal
 
 pub loop-number-init : goal.loop-number-init

@@ -1,6 +1,4 @@
-use Rattle.std.proofs.Common.{◌≡◌, ℕ, ◌+◌, ◌*◌, ◌≤◌}
-use Rattle.mq_link.specs.Moved.{IsPaid}
-use Rattle.mq_link.specs.Storage.{KeepsRooms, put_by_rows}
+use Rattle.mq_link.proofs.Common.{◌≡◌, ℕ, ◌+◌, ◌*◌, ◌≤◌, IsPaid, KeepsRooms, put_by_rows}
 use Rattle.mq_link.proofs.ClearedGroups.{AreClearedTo}
 use Rattle.mq_link.proofs.storage.Storage.clear_groups.Given as goal
 

@@ -1,9 +1,5 @@
-use Rattle.std.proofs.Common.{arith}
-use Rattle.mq_count.proofs.Spent.{Spends-within}
-use Rattle.mq_sets.proofs.Bitlen.{bitlen-mono}
-use Rattle.mq_link.proofs.KeptGroups.{spot_absent, absent_unheld}
-use Rattle.mq_held.proofs.DueInOrder.{few-running}
-use Rattle.mq_link.proofs.PaidEdits.{made_paid}
+use Rattle.mq_link.proofs.Common.{arith, Spends-within, bitlen-mono, few-running}
+use Rattle.mq_link.proofs.{KeptGroups.spot_absent, KeptGroups.absent_unheld, PaidEdits.made_paid}
 use Rattle.mq_link.proofs.storage.Storage.insert.Goals as goal
 
 pub returns-clause-spent : goal.returns-clause-spent

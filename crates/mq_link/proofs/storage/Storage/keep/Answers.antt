@@ -1,12 +1,8 @@
-use Rattle.std.proofs.Common.{◌+◌, ◌≤◌, sym, ap, ◌∙◌, subst, arith}
+use Rattle.mq_link.proofs.Common.{◌+◌, ◌≤◌, sym, ap, ◌∙◌, subst, arith, is_ok, size_of}
 use Rattle.std.specs.FinMap as map
-use Rattle.std.specs.Result.{is_ok}
-use Rattle.mq_table.specs.Stored.{size_of}
 use Rattle.mq_held.specs.Groups.{group_at, sources_in, sources_of}
-use Rattle.mq_link.proofs.GroupNumbers.{number_stays}
-use Rattle.mq_link.proofs.KeptGroups.{is_number, spot_absent, absent_sources, len_with_new, with_none, with_other, with_new}
-use Rattle.mq_link.proofs.Moved.{paid_none, paid_within}
-use Rattle.mq_link.proofs.PaidEdits.{few_digits}
+use Rattle.mq_link.proofs.{GroupNumbers.number_stays, KeptGroups.is_number, KeptGroups.spot_absent, KeptGroups.absent_sources, KeptGroups.len_with_new}
+use Rattle.mq_link.proofs.{KeptGroups.with_none, KeptGroups.with_other, KeptGroups.with_new, Moved.paid_none, Moved.paid_within, PaidEdits.few_digits}
 use Rattle.mq_link.proofs.storage.Storage.keep.Goals as goal
 
 pub put-requires-clause-number : goal.put-requires-clause-number

@@ -1,16 +1,8 @@
-use Rattle.std.proofs.Common.{◌≡◌, sym, ap, ◌∙◌, arith}
+use Rattle.mq_link.proofs.Common.{◌≡◌, sym, ap, ◌∙◌, arith, Spends-within, Spends-join, Spends-join_within, bitlen, bitlen-le, ScheduledGroup, sources_of}
+use Rattle.mq_link.proofs.Common.{source_count, numbered_query, numbered_version, group_lowered}
 use Rattle.std.specs.FinMap as map
-use Rattle.mq_count.proofs.Spent.{Spends-within, Spends-join, Spends-join_within}
-use Rattle.mq_sets.specs.Search.{bitlen}
-use Rattle.mq_sets.proofs.Bitlen.{bitlen-le}
-use Rattle.mq_sched.specs.Schedule.{ScheduledGroup}
-use Rattle.mq_held.specs.Groups.{sources_of}
-use Rattle.mq_wire.specs.Canon.{source_count}
-use Rattle.mq_wire.specs.Numbered.{numbered_query, numbered_version}
-use Rattle.mq_link.specs.Heard.{group_lowered}
-use Rattle.mq_link.proofs.KeptGroups.{group_found, is_number, kept_held}
-use Rattle.mq_link.proofs.Moved.{paid_none, paid_within}
-use Rattle.mq_link.proofs.HeardGroups.{one_lowered_held, one_lowered_size, lowered_at, lowered_none, spent_lowering}
+use Rattle.mq_link.proofs.{KeptGroups.group_found, KeptGroups.is_number, KeptGroups.kept_held, Moved.paid_none, Moved.paid_within, HeardGroups.one_lowered_held}
+use Rattle.mq_link.proofs.{HeardGroups.one_lowered_size, HeardGroups.lowered_at, HeardGroups.lowered_none, HeardGroups.spent_lowering}
 use Rattle.mq_link.proofs.storage.Storage.lower_held.Goals as goal
 
 pub load-schedule-requires-clause-number : goal.load-schedule-requires-clause-number

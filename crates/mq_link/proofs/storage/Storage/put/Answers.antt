@@ -1,12 +1,6 @@
-use Rattle.std.proofs.Common.{◌-◌, arith}
+use Rattle.mq_link.proofs.Common.{◌-◌, arith, Spends-within, key_in, bitlen-mono, group_at, one_if, running_in, few-running}
 use Rattle.std.specs.FinMap as map
-use Rattle.mq_count.proofs.Spent.{Spends-within}
-use Rattle.mq_sets.specs.NumberedKeys.{key_in}
-use Rattle.mq_sets.proofs.Bitlen.{bitlen-mono}
-use Rattle.mq_held.specs.Groups.{group_at, one_if, running_in}
-use Rattle.mq_link.proofs.GroupNumbers.{number_found}
-use Rattle.mq_held.proofs.DueInOrder.{few-running}
-use Rattle.mq_link.proofs.PaidEdits.{put_paid}
+use Rattle.mq_link.proofs.{GroupNumbers.number_found, PaidEdits.put_paid}
 use Rattle.mq_link.proofs.storage.Storage.put.Goals as goal
 
 pub returns-clause-spent : goal.returns-clause-spent

@@ -1,12 +1,7 @@
-use Rattle.std.proofs.Common.{◌≡◌, ◌+◌, ◌-◌, cond, not, refl, sym, ap, ◌∙◌, arith}
+use Rattle.mq_link.proofs.Common.{◌≡◌, ◌+◌, ◌-◌, cond, not, refl, sym, ap, ◌∙◌, arith, vacant, is_vacant, ScheduleState, ScheduledGroup, after_round, HeldState}
+use Rattle.mq_link.proofs.Common.{Storage, limit_passed_by}
 use Rattle.std.specs.FinMap as map
-use Rattle.mq_table.specs.Group.{vacant, is_vacant}
-use Rattle.mq_sched.specs.Schedule.{ScheduleState, ScheduledGroup}
-use Rattle.mq_sched.specs.Sending.{after_round}
 use Rattle.mq_held.specs.Groups.{schedules_of, one_if, schedules_in, sources_in}
-use Rattle.mq_held.specs.Held.{HeldState}
-use Rattle.mq_link.specs.declared.storage.Storage.{Storage}
-use Rattle.mq_link.specs.Record.{limit_passed_by}
 use Rattle.mq_link.proofs.WithGroup.{enough_groups, enough_sources, enough_schedules, judged_by, as_number, any_timing}
 use Rattle.mq_link.proofs.storage.Storage.refusal.Goals as goal
 use Rattle.mq_link.proofs.storage.Storage.refusal.Goals.{then-is_vacant, else-is_vacant}

@@ -1,17 +1,7 @@
-use Rattle.std.proofs.Common.{◌+◌, ◌*◌, sym, ap, ◌∙◌, subst, arith}
+use Rattle.mq_link.proofs.Common.{◌+◌, ◌*◌, sym, ap, ◌∙◌, subst, arith, option_map, Spends-join_within, ScheduledGroup, messages_due, Sends, bitlen, group_at}
+use Rattle.mq_link.proofs.Common.{sources_of, changes_filter, group_expired}
 use Rattle.std.specs.FinMap as map
-use Rattle.std.specs.Option.{option_map}
-use Rattle.mq_count.proofs.Spent.{Spends-join_within}
-use Rattle.mq_sched.specs.Schedule.{ScheduledGroup}
-use Rattle.mq_sched.specs.Sending.{messages_due}
-use Rattle.mq_sched.specs.Sink.{Sends}
-use Rattle.mq_sets.specs.Search.{bitlen}
-use Rattle.mq_held.specs.Groups.{group_at, sources_of}
-use Rattle.mq_table.specs.Filter.{changes_filter}
-use Rattle.mq_link.specs.Tick.{group_expired}
-use Rattle.mq_link.proofs.Moved.{paid_within}
-use Rattle.mq_link.proofs.ServedGroups.{served_held, served_size}
-use Rattle.mq_link.proofs.TickedFilters.{named_where, put_changes}
+use Rattle.mq_link.proofs.{Moved.paid_within, ServedGroups.served_held, ServedGroups.served_size, TickedFilters.named_where, TickedFilters.put_changes}
 use Rattle.mq_link.proofs.storage.Storage.tick_group.Goals as goal
 
 pub put-requires-clause-held : goal.put-requires-clause-held

@@ -1,27 +1,14 @@
-use Rattle.std.proofs.Common.{◌≡◌, cond, ◌+◌, ◌*◌, ◌≤◌, ◌<◌, [], ◌∷◌, ◌++◌, get_or, length, refl, sym, ap, ◌∙◌, subst, arith, vec_capacity}
+use Rattle.mq_link.proofs.Common.{◌≡◌, cond, ◌+◌, ◌*◌, ◌≤◌, ◌<◌, [], ◌∷◌, ◌++◌, get_or, length, refl, sym, ap, ◌∙◌, subst, arith, vec_capacity, is_ok, list_map}
+use Rattle.mq_link.proofs.Common.{All, flat_map, take_all, length-map, Spends-join, Spends-join_within, IsAscending, key_in, Sends, group_at, sources_of}
+use Rattle.mq_link.proofs.Common.{HasNumber, IsNumber, due_in, most_moved_by_tick, put_by_rows, common_steps}
 use Rattle.std.specs.FinMap as map
-use Rattle.std.specs.Result.{is_ok}
-use Rattle.std.specs.Prelude.{map as list_map}
-use Rattle.std.specs.List.{All, flat_map}
-use Rattle.std.proofs.lemmas.List.{take_all, length-map}
-use Rattle.mq_count.proofs.Spent.{Spends-join, Spends-join_within}
-use Rattle.mq_sets.specs.Ascending.{IsAscending}
-use Rattle.mq_sets.specs.NumberedKeys.{key_in}
-use Rattle.mq_sched.specs.Sink.{Sends}
-use Rattle.mq_held.specs.Groups.{group_at, sources_of}
-use Rattle.mq_held.specs.Held.{HasNumber, IsNumber}
-use Rattle.mq_held.specs.Places.{due_in}
-use Rattle.mq_link.specs.Moved.{most_moved_by_tick}
-use Rattle.mq_link.specs.Storage.{put_by_rows}
-use Rattle.mq_link.proofs.DueGroups.{all_running, are_due, due_entries, none_have, sent_of_due}
-use Rattle.mq_link.proofs.GroupNumbers.{is_number_stays, number_found, number_stays, number_stayed, stands_once}
-use Rattle.mq_link.proofs.Moved.{paid_none, paid_by, paid_join, spends_none}
-use Rattle.mq_link.proofs.PaidEdits.{few_digits, none_of_all, some_of, taken_out_paid}
-use Rattle.mq_link.proofs.ReplacedGroups.{address_of, as_many, entry_at, next_group}
-use Rattle.mq_link.proofs.Rooms.{rooms_on}
-use Rattle.mq_link.proofs.TickedEntries.{queries_at, queries_of_entries}
-use Rattle.mq_link.proofs.TickedFilters.{few_turned, one_turned, those_turned, with_answer}
-use Rattle.mq_link.proofs.TickedNumbers.{served_as, none_ticked, one_ticked, ticked_left, vacant_named}
+use Rattle.mq_link.proofs.{DueGroups.all_running, DueGroups.are_due, DueGroups.due_entries, DueGroups.none_have, DueGroups.sent_of_due}
+use Rattle.mq_link.proofs.{GroupNumbers.is_number_stays, GroupNumbers.number_found, GroupNumbers.number_stays, GroupNumbers.number_stayed}
+use Rattle.mq_link.proofs.{GroupNumbers.stands_once, Moved.paid_none, Moved.paid_by, Moved.paid_join, Moved.spends_none, PaidEdits.few_digits}
+use Rattle.mq_link.proofs.{PaidEdits.none_of_all, PaidEdits.some_of, PaidEdits.taken_out_paid, ReplacedGroups.address_of, ReplacedGroups.as_many}
+use Rattle.mq_link.proofs.{ReplacedGroups.entry_at, ReplacedGroups.next_group, Rooms.rooms_on, TickedEntries.queries_at, TickedEntries.queries_of_entries}
+use Rattle.mq_link.proofs.{TickedFilters.few_turned, TickedFilters.one_turned, TickedFilters.those_turned, TickedFilters.with_answer, TickedNumbers.served_as}
+use Rattle.mq_link.proofs.{TickedNumbers.none_ticked, TickedNumbers.one_ticked, TickedNumbers.ticked_left, TickedNumbers.vacant_named}
 use Rattle.mq_link.proofs.storage.Storage.tick_groups.Given.{Over}
 use Rattle.mq_link.proofs.storage.Storage.tick_groups.Goals as goal
 use Rattle.mq_link.proofs.storage.Storage.tick_groups.Goals.{in-Some, in_default}
@@ -290,3 +277,6 @@ returns-clause-few g c =
     let named = ap length c.loop-number.invariant.5 in
     let size = length-map c.loop-number.lists.1.1.1.0.items g.K.Key.number in
     omega (arith, few, named, size, many, (are_due now old.groups).few, c.loop-number.auto.number-index-end)
+
+pub returns-clause-space : goal.returns-clause-space
+returns-clause-space g c = grind (arith, common_steps)

@@ -1,9 +1,5 @@
-use Rattle.std.proofs.Common.{◌≡◌, ℕ, ◌+◌, ◌*◌, ◌≤◌, vec_capacity}
-use Rattle.std.specs.Prelude.{map as list_map}
-use Rattle.mq_link.specs.Moved.{IsPaid}
-use Rattle.mq_link.specs.Storage.{KeepsRooms, put_by_rows}
-use Rattle.mq_link.proofs.TickedFilters.{turned_to}
-use Rattle.mq_link.proofs.TickedNumbers.{AreTickedTo}
+use Rattle.mq_link.proofs.Common.{◌≡◌, ℕ, ◌+◌, ◌*◌, ◌≤◌, vec_capacity, list_map, IsPaid, KeepsRooms, put_by_rows}
+use Rattle.mq_link.proofs.{TickedFilters.turned_to, TickedNumbers.AreTickedTo}
 use Rattle.mq_link.proofs.storage.Storage.tick_groups.Given as goal
 
 -- the groups of the numbers so far are served; the sent queries are theirs; the moves for them are paid; and those

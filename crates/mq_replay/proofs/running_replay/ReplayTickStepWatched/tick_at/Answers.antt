@@ -29,5 +29,5 @@ returns-clause-effect g c =
 pub returns-clause-later : goal.returns-clause-later
 returns-clause-later g c =
     let is_family = g.met.F.CapturedFamily.same_family ∙ sym c.is_faultless.ensures.family ∙ ap (λ (config : Configuration). config.family) c.config.ensures in
-    comes_later _ _ _ _ _ _ c.is_well_formed.ensures.later (tick_lined c.args.self.now.asked.changes _ _ _ _ _ _ _ _ _ _ _ is_family
+    comes_later _ _ _ _ _ _ c.is_well_formed.ensures.later (tick_lined c.args.self.now.asked _ _ _ _ _ _ _ _ _ _ _ is_family
     c.in_ok-tick.ensures.config c.in_ok-tick.ensures.changed c.in_ok-tick.ensures.ticks c.put_changes.ensures.text).link

@@ -1,12 +1,6 @@
-use Rattle.std.proofs.Common.{◌<◌, ◌≡◌, ◌+◌, ◌-◌, ◌*◌, ◌≤◌, arith, ap, sym, ◌∙◌, refl, length, get_or, ⊎_elim, rules}
-use Rattle.std.proofs.lemmas.List.{get_or_read}
-use Rattle.std.proofs.lemmas.Bool.{cases_lt, false≢true, le-ltb, le-leb}
-use Rattle.mq_sets.specs.Search.{bitlen}
-use Rattle.mq_sets.proofs.Bitlen.{bitlen-half, bitlen-zero}
-use Rattle.mq_count.proofs.Spent.{Spends-join_within}
-use Rattle.mq_sched.specs.DeadlineTree.{TreeState}
-use Rattle.mq_sched.proofs.Below.{none_below}
-use Rattle.mq_sched.proofs.Leaves.{ones-top, one-top}
+use Rattle.mq_sched.proofs.Common.{◌<◌, ◌≡◌, ◌+◌, ◌-◌, ◌*◌, ◌≤◌, arith, ap, sym, ◌∙◌, refl, length, get_or, ⊎_elim, rules, get_or_read, cases_lt, false≢true}
+use Rattle.mq_sched.proofs.Common.{le-ltb, le-leb, bitlen, bitlen-half, bitlen-zero, Spends-join_within, TreeState}
+use Rattle.mq_sched.proofs.{Below.none_below, Leaves.ones-top, Leaves.one-top}
 use Rattle.mq_sched.proofs.deadline_tree.DeadlineTree.due.Goals as goal
 use Rattle.mq_sched.proofs.deadline_tree.DeadlineTree.due.Goals.{then-len-eq0-via-then-len-eq0, then-len-eq0-via-else-len-eq0+then-not-reached}
 

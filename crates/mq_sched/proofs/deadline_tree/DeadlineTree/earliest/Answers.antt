@@ -1,6 +1,4 @@
-use Rattle.std.proofs.Common.{◌<◌, arith, ap, length}
-use Rattle.std.proofs.lemmas.List.{get_or_read}
-use Rattle.mq_sched.specs.DeadlineTree.{TreeState}
+use Rattle.mq_sched.proofs.Common.{◌<◌, arith, ap, length, get_or_read, TreeState}
 use Rattle.mq_sched.proofs.DeadlineTree.{top_is_earliest}
 use Rattle.mq_sched.proofs.deadline_tree.DeadlineTree.earliest.Goals as goal
 

@@ -1,15 +1,12 @@
-use Rattle.std.proofs.Common.{◌<◌, ◌≤◌, ◌≡◌, ◌-◌, ◌*◌, ◌/◌, ◌⊎◌, inl, inr, arith, ap, length, set, ◌∙◌}
+use Rattle.mq_sched.proofs.Common.{◌<◌, ◌≤◌, ◌≡◌, ◌-◌, ◌*◌, ◌/◌, ◌⊎◌, inl, inr, arith, ap, length, set, ◌∙◌, Spends-within, Spends-join_within, bitlen-mono}
+use Rattle.mq_sched.proofs.Common.{TreeState, common_steps}
 use Rattle.std.proofs.lemmas.List.{get_or_read, take_at, length-set, get_or-take}
-use Rattle.mq_count.proofs.Spent.{Spends-within, Spends-join_within}
-use Rattle.mq_sets.proofs.Bitlen.{bitlen-mono}
-use Rattle.mq_sched.specs.DeadlineTree.{TreeState}
-use Rattle.mq_sched.proofs.Shrinking.{shrunk, pair_below, went_to}
-use Rattle.mq_sched.proofs.WrittenAbove.{written-few}
+use Rattle.mq_sched.proofs.{Shrinking.shrunk, Shrinking.pair_below, Shrinking.went_to, WrittenAbove.written-few}
 use Rattle.mq_sched.proofs.deadline_tree.DeadlineTree.shrink.Goals as goal
 use Rattle.mq_sched.proofs.deadline_tree.DeadlineTree.shrink.Goals.{then-leaf-last, else-leaf-last}
 
-pub settle-requires-clause-tree : goal.settle-requires-clause-tree
-settle-requires-clause-tree g c =
+pub repair_above-requires-clause-tree : goal.repair_above-requires-clause-tree
+repair_above-requires-clause-tree g c =
     let count = ap (λ (s : TreeState). s.count) c.self.view_is in
     let nodes = c.self.inside.nodes.items in
     let lefts = c.self.inside.lefts.items in
@@ -44,7 +41,7 @@ returns-clause-spent g c =
       | then-leaf-last w ↦ omega (arith, w.changed-is, c.requires.leaf)
       | else-leaf-last w ↦ omega (arith, w.changed-is, c.len-last.ensures, c.self.inside.lefts.ok.0, count)
     ] in
-    Spends-within _ _ c.settle.ensures.spent (omega (arith, last)) (bitlen-mono _ _ half)
+    Spends-within _ _ c.repair_above.ensures.spent (omega (arith, last)) (bitlen-mono _ _ half)
 
 pub returns-clause-moves : goal.returns-clause-moves
 returns-clause-moves g c =
@@ -53,8 +50,8 @@ returns-clause-moves g c =
       | then-leaf-last w ↦ omega (arith, w.if-leaf-last.true, w.changed-is, c.len-last.ensures, c.self.inside.lefts.ok.0, count)
       | else-leaf-last w ↦ omega (arith, w.changed-is, c.len-last.ensures, c.self.inside.lefts.ok.0, count)
     ] in
-    let few = written-few c.deref_mut-2.result.now c.settle.new.lefts c.if-leaf-last.changed in
-    Spends-join_within _ _ c.settle.ensures.moves c.count.ensures (omega arith) (omega (arith, few, bitlen-mono _ _ half))
+    let few = written-few c.deref_mut-2.result.now c.repair_above.new.lefts c.if-leaf-last.changed in
+    Spends-join_within _ _ c.repair_above.ensures.moves c.count.ensures (omega arith) (omega (arith, few, bitlen-mono _ _ half))
 
 pub returns-clause-leaves : goal.returns-clause-leaves
 returns-clause-leaves g c other from below =
@@ -74,12 +71,18 @@ returns-clause-leaves g c other from below =
     let is_x = get_or_read nodes c.nodes_below-earlier.result.1 x (omega (arith, pair, known.size, some)) c.index.ensures 0 in
     let is_y = get_or_read (set nodes c.args.leaf x) c.nodes_below-earlier.result.0 y
     (omega (arith, pair, known.size, some, length-set nodes c.args.leaf x)) c.index-2.ensures 0 in
-    let size : length c.settle.new.nodes ≡ c.truncate.new.self.len = omega (arith, c.settle.ensures.size, c.deref_mut.ensures.len) in
+    let size : length c.repair_above.new.nodes ≡ c.truncate.new.self.len = omega (arith, c.repair_above.ensures.size, c.deref_mut.ensures.len) in
     let items = rw is_last at c.truncate.ensures.items in
     let kept = rw (c.deref_mut.ensures.value, items) at
-    (c.settle.ensures.leaves other (omega (arith, c.deref_mut-2.ensures.len, c.truncate-2.ensures.len, from, count, is_last))) in
+    (c.repair_above.ensures.leaves other (omega (arith, c.deref_mut-2.ensures.len, c.truncate-2.ensures.len, from, count, is_last))) in
     let same : c.args.self.now.count - 1 ≡ last = omega (arith, count) in
-    rw (take_at c.settle.new.nodes _ c.truncate.new.self.len size, same, ← state)
+    rw (take_at c.repair_above.new.nodes _ c.truncate.new.self.len size, same, ← state)
     (kept ∙ get_or-take (2 * last) _ other 0 (omega (arith, below, count)) ∙
     went_to nodes last c.args.leaf c.nodes_below-earlier.result.0 c.nodes_below-earlier.result.1 x y
     (omega (arith, known.size, count, c.requires.within), omega (arith, known.size, some)) pair.0 is_x is_y other)
+
+pub invariant_of-self : goal.invariant_of-self
+invariant_of-self g c = grind (arith, common_steps)
+
+pub returns-clause-count : goal.returns-clause-count
+returns-clause-count g c = grind (arith, common_steps)

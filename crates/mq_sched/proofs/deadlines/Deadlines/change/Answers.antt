@@ -1,7 +1,5 @@
-use Rattle.std.proofs.Common.{◌+◌, ◌≡◌, ◌∙◌, cond, arith, ap, refl}
+use Rattle.mq_sched.proofs.Common.{◌+◌, ◌≡◌, ◌∙◌, cond, arith, ap, refl, nat_cmp_total, DeadlinesState, moments_at}
 use Rattle.std.specs.FinMap as map
-use Rattle.std.specs.Cmp.{nat_cmp_total}
-use Rattle.mq_sched.specs.Deadlines.{DeadlinesState, moments_at}
 use Rattle.mq_sched.proofs.NumbersAtLeaves.{leaf-of_held, moments-changed}
 use Rattle.mq_sched.proofs.deadlines.Deadlines.change.Given.{Over}
 use Rattle.mq_sched.proofs.deadlines.Deadlines.change.Goals as goal

@@ -1,8 +1,6 @@
-use Rattle.std.proofs.Common.{◌-◌, ◌/◌, ◌≡◌, ◌∙◌, arith, ap, length, take, drop}
-use Rattle.std.specs.Prelude.{slice_index, map as list_map}
+use Rattle.mq_sched.proofs.Common.{◌-◌, ◌/◌, ◌≡◌, ◌∙◌, arith, ap, length, take, drop, slice_index, list_map, take_all, take_at, length-drop, length-map}
+use Rattle.mq_sched.proofs.Common.{length-take-le, DeadlinesState}
 use Rattle.std.specs.FinMap as map
-use Rattle.std.proofs.lemmas.List.{take_all, take_at, length-drop, length-map, length-take-le}
-use Rattle.mq_sched.specs.Deadlines.{DeadlinesState}
 use Rattle.mq_sched.proofs.NumbersAtLeaves.{found_behind, due-numbers}
 use Rattle.mq_sched.proofs.deadlines.Deadlines.due.Goals as goal
 

@@ -1,5 +1,4 @@
-use Rattle.std.proofs.Common.{ap}
-use Rattle.mq_sched.specs.Deadlines.{DeadlinesState}
+use Rattle.mq_sched.proofs.Common.{ap, DeadlinesState}
 use Rattle.mq_sched.proofs.NumbersAtLeaves.{earliest_of_numbers}
 use Rattle.mq_sched.proofs.deadlines.Deadlines.earliest.Goals as goal
 

@@ -1,10 +1,6 @@
-use Rattle.std.proofs.Common.{ℕ, ◌≡◌, ◌<◌, ◌≤◌, Bool, true, false, refl, sym, ap, ◌∙◌, arith, length, get_or, ⊎_elim}
-use Rattle.std.specs.Prelude.{nat_le}
-use Rattle.std.proofs.lemmas.Bool.{cases_lt, le-leb, lt-leb, false≢true}
-use Rattle.std.proofs.lemmas.List.{get_or_read}
+use Rattle.mq_sched.proofs.Common.{ℕ, ◌≡◌, ◌<◌, ◌≤◌, Bool, true, false, refl, sym, ap, ◌∙◌, arith, length, get_or, ⊎_elim, nat_le, cases_lt, le-leb, lt-leb}
+use Rattle.mq_sched.proofs.Common.{false≢true, get_or_read, Spends-none, DeadlinesState, is_number_due}
 use Rattle.std.specs.FinMap as map
-use Rattle.mq_count.proofs.Spent.{Spends-none}
-use Rattle.mq_sched.specs.Deadlines.{DeadlinesState, is_number_due}
 use Rattle.mq_sched.proofs.NumbersAtLeaves.{IsLeafOf, due-at, due-none, there-at, there-none}
 use Rattle.mq_sched.proofs.deadlines.Deadlines.is_due.Given.{Over}
 use Rattle.mq_sched.proofs.deadlines.Deadlines.is_due.Goals as goal

@@ -1,7 +1,5 @@
-use Rattle.std.proofs.Common.{◌∙◌, Some, arith, ap, sym}
+use Rattle.mq_sched.proofs.Common.{◌∙◌, Some, arith, ap, sym, slice_index, DeadlinesState}
 use Rattle.std.specs.FinMap as map
-use Rattle.std.specs.Prelude.{slice_index}
-use Rattle.mq_sched.specs.Deadlines.{DeadlinesState}
 use Rattle.mq_sched.proofs.NumbersAtLeaves.{leaf-of_held, moment-there, get-moments_at}
 use Rattle.mq_sched.proofs.deadlines.Deadlines.moment.Goals as goal
 

@@ -1,6 +1,4 @@
-use Rattle.std.proofs.Common.{◌-◌, ◌/◌, ◌≡◌, ◌+◌, arith, ap, length, take, drop, get_or}
-use Rattle.std.proofs.lemmas.List.{take_all, length-drop}
-use Rattle.mq_sched.specs.Deadlines.{DeadlinesState}
+use Rattle.mq_sched.proofs.Common.{◌-◌, ◌/◌, ◌≡◌, ◌+◌, arith, ap, length, take, drop, get_or, take_all, length-drop, DeadlinesState}
 use Rattle.mq_sched.proofs.NumbersAtLeaves.{dense-leaf, below-room, numbers-once}
 use Rattle.mq_sched.proofs.deadlines.Deadlines.numbers.Goals as goal
 

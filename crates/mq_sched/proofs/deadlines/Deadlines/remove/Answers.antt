@@ -1,9 +1,6 @@
-use Rattle.std.proofs.Common.{ℕ, ◌+◌, ◌-◌, ◌*◌, ◌/◌, ◌<◌, ◌≤◌, ◌≡◌, ◌∙◌, cond, arith, ap, sym, subst, refl, length, get_or, drop, rules}
+use Rattle.mq_sched.proofs.Common.{ℕ, ◌+◌, ◌-◌, ◌*◌, ◌/◌, ◌<◌, ◌≤◌, ◌≡◌, ◌∙◌, cond, arith, ap, sym, subst, refl, length, get_or, drop, rules, nat_cmp_total}
+use Rattle.mq_sched.proofs.Common.{take_at, length-take-le, get_or-take, leaf_after, DeadlinesState, AreNumbered, moments_at}
 use Rattle.std.specs.FinMap as map
-use Rattle.std.specs.Cmp.{nat_cmp_total}
-use Rattle.std.proofs.lemmas.List.{take_at, length-take-le, get_or-take}
-use Rattle.mq_sched.specs.DeadlineTree.{leaf_after}
-use Rattle.mq_sched.specs.Deadlines.{DeadlinesState, AreNumbered, moments_at}
 use Rattle.mq_sched.proofs.NumbersAtLeaves.{IsLeafOf, leaf-of_held, AreNumbered-left, moments-gone}
 use Rattle.mq_sched.proofs.deadlines.Deadlines.remove.Given.{Over}
 use Rattle.mq_sched.proofs.deadlines.Deadlines.remove.Goals as goal

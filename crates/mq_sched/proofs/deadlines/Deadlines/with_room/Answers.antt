@@ -1,7 +1,5 @@
-use Rattle.std.proofs.Common.{ℕ, ◌*◌, ◌<◌, length, arith, refl, ap, ◌∙◌}
-use Rattle.std.proofs.lemmas.List.{length-replicate}
+use Rattle.mq_sched.proofs.Common.{ℕ, ◌*◌, ◌<◌, length, arith, refl, ap, ◌∙◌, length-replicate, nat_cmp}
 use Rattle.std.specs.FinMap as map
-use Rattle.std.specs.Ordering.{nat_cmp}
 use Rattle.mq_sched.proofs.deadlines.Deadlines.with_room.Goals as goal
 
 pub invariant_of-result : goal.invariant_of-result

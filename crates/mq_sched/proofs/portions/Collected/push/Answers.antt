@@ -1,4 +1,4 @@
-use Rattle.std.proofs.Common.{arith}
+use Rattle.mq_sched.proofs.Common.{arith, common_steps}
 use Rattle.mq_sched.proofs.Collecting.{full_is_sent}
 use Rattle.mq_sched.proofs.portions.Collected.push.Goals as goal
 
@@ -8,3 +8,6 @@ returns-then-len-self-clause-sent g c rest =
     c.send.new.sink
     c.args.self.now.sources.items c.push.new.self.items c.send.new.self.sources.items c.args.source rest
     (omega arith) c.push.ensures.items (omega arith) c.send.ensures.empty c.send.ensures.sent
+
+pub returns-else-len-self-clause-sent : goal.returns-else-len-self-clause-sent
+returns-else-len-self-clause-sent g c = grind (arith, common_steps)

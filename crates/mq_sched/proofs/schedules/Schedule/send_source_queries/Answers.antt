@@ -1,8 +1,4 @@
-use Rattle.std.proofs.Common.{◌≡◌, true, cond, [], ◌∙◌, sym, ap, subst}
-use Rattle.std.proofs.lemmas.Bool.{le-leb}
-use Rattle.mq_table.proofs.Places.{between_in_group}
-use Rattle.mq_sched.specs.Sending.{is_due, waiting_messages}
-use Rattle.mq_sched.specs.Sink.{Sends}
+use Rattle.mq_sched.proofs.Common.{◌≡◌, true, cond, [], ◌∙◌, sym, ap, subst, le-leb, between_in_group, is_due, waiting_messages, Sends}
 use Rattle.mq_sched.proofs.schedules.Schedule.send_source_queries.Goals as goal
 
 pub count_sendings_between-left-requires : goal.count_sendings_between-left-requires

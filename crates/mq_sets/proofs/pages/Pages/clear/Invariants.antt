@@ -1,6 +1,4 @@
-use Rattle.std.proofs.Common.{◌≡◌, ◌+◌, ◌≤◌, [], length}
-use Rattle.std.specs.Prelude.{vec_capacity}
-use Rattle.std.specs.List.{All}
+use Rattle.mq_sets.proofs.Common.{◌≡◌, ◌+◌, ◌≤◌, [], length, vec_capacity, All}
 use Rattle.mq_sets.proofs.pages.Pages.clear.Given as goal
 
 abbrev pub invariant-loop-page : goal.invariant-loop-page

@@ -1,6 +1,5 @@
-use Rattle.std.proofs.Common.{◌-◌, sym, ap, ◌∙◌, subst, refl, arith, length, take, drop, [], ◌∷◌, length-append, length-take, length-drop}
-use Rattle.mq_count.proofs.Spent.{Spends-join_within}
-use Rattle.mq_sets.specs.NumberedKeys.{PagesState}
+use Rattle.mq_sets.proofs.Common.{◌-◌, sym, ap, ◌∙◌, subst, refl, arith, length, take, drop, [], ◌∷◌, length-append, length-take, length-drop}
+use Rattle.mq_sets.proofs.Common.{Spends-join_within, PagesState}
 use Rattle.mq_sets.proofs.PagesFilled.{IsFilling, IsFilling-more}
 use Rattle.mq_sets.proofs.pages.Pages.fill.Goals as goal
 

@@ -1,5 +1,4 @@
-use Rattle.std.proofs.Common.{◌≡◌, ◌+◌, ◌-◌, length}
-use Rattle.mq_count.specs.Spending.{Spends}
+use Rattle.mq_sets.proofs.Common.{◌≡◌, ◌+◌, ◌-◌, length, Spends}
 use Rattle.mq_sets.proofs.PagesFilled.{IsFilling}
 use Rattle.mq_sets.proofs.pages.Pages.fill.Given as goal
 

@@ -1,9 +1,4 @@
-use Rattle.std.proofs.Common.{ℕ, ◌<◌, [], ap, sym, subst, arith, length, get_or, min}
-use Rattle.std.specs.List.{All}
-use Rattle.mq_count.specs.Spending.{Spends}
-use Rattle.mq_sets.specs.Ascending.{IsAscending}
-use Rattle.mq_sets.specs.Search.{IsPlaceFor, bitlen}
-use Rattle.mq_sets.specs.NumberedKeys.{key_at}
+use Rattle.mq_sets.proofs.Common.{ℕ, ◌<◌, [], ap, sym, subst, arith, length, get_or, min, All, Spends, IsAscending, IsPlaceFor, bitlen, key_at}
 use Rattle.mq_sets.proofs.SearchCosts.{spent-directory, spent-both}
 use Rattle.mq_sets.proofs.SearchedPages.{some-pages, ascending-page, All-page, place-in_pages}
 use Rattle.mq_sets.proofs.pages.Pages.find.Goals as goal

@@ -1,11 +1,7 @@
-use Rattle.std.proofs.Common.{ℕ, ◌≡◌, ◌<◌, ◌≤◌, ◌+◌, suc, List, [], ◌∷◌, ◌++◌, sym, ap, ◌∙◌, subst, arith, length, map, take, drop, set, get_or}
+use Rattle.mq_sets.proofs.Common.{ℕ, ◌≡◌, ◌<◌, ◌≤◌, ◌+◌, suc, List, [], ◌∷◌, ◌++◌, sym, ap, ◌∙◌, subst, arith, length, map, take, drop, set, get_or}
+use Rattle.mq_sets.proofs.Common.{vec_capacity, remove, All, map-set, get_or-map, length-map, length-remove, get_or-remove_below, All-append, All-take}
+use Rattle.mq_sets.proofs.Common.{All-drop, All-set, All-push, PagesState, joined, common_steps}
 use Rattle.std.proofs.Common.{length-append, length-set, Vec}
-use Rattle.std.specs.Prelude.{vec_capacity}
-use Rattle.std.specs.List.{remove, All}
-use Rattle.std.proofs.lemmas.List.{map-set, get_or-map, length-map}
-use Rattle.std.proofs.lemmas.List.Edits.{length-remove, get_or-remove_below}
-use Rattle.std.proofs.lemmas.List.Elements.{All-append, All-take, All-drop, All-set, All-push}
-use Rattle.mq_sets.specs.NumberedKeys.{PagesState, joined}
 use Rattle.mq_sets.proofs.Stored.{map-remove}
 use Rattle.mq_sets.proofs.PagedNumbers.{paged, paged-same}
 use Rattle.mq_sets.proofs.pages.Pages.join.Goals as goal
@@ -92,3 +88,9 @@ invariant_of-self g c =
       omega (arith, written, kept, fewer, ap length pushed, longer, c.remove-behind.ensures.capacity, c.self.invariant.2),
       omega (arith, written, kept, fewer, ap length pushed, longer, c.push.ensures.capacity, c.self.invariant.3),
     )
+
+pub returns-clause-moved : goal.returns-clause-moved
+returns-clause-moved g c = grind (arith, common_steps)
+
+pub unwrap-requires : goal.unwrap-requires
+unwrap-requires g c = grind (arith, common_steps)

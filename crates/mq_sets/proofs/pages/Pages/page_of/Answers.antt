@@ -1,9 +1,5 @@
-use Rattle.std.proofs.Common.{ℕ, ◌≡◌, ◌+◌, ◌-◌, ◌<◌, ◌≤◌, List, [], ap, sym, ◌∙◌, subst, arith, length, map, take, drop, get_or, length-drop, Vec}
-use Rattle.std.specs.List.{All}
-use Rattle.std.proofs.lemmas.List.{get_or-drop, length-map}
-use Rattle.mq_sets.specs.Ascending.{IsAscending}
-use Rattle.mq_sets.specs.Search.{IsPlaceFor}
-use Rattle.mq_sets.specs.NumberedKeys.{PagesState, first_key, key_at}
+use Rattle.mq_sets.proofs.Common.{ℕ, ◌≡◌, ◌+◌, ◌-◌, ◌<◌, ◌≤◌, List, [], ap, sym, ◌∙◌, subst, arith, length, map, take, drop, get_or, length-drop, Vec, All}
+use Rattle.mq_sets.proofs.Common.{get_or-drop, length-map, IsAscending, IsPlaceFor, PagesState, first_key, key_at, common_steps}
 use Rattle.mq_sets.proofs.SearchedPages.{All-unmap, IsAscending-unmap, holds-map, place-map, slice-later, some-later, ascending-later, firsts-later}
 use Rattle.mq_sets.proofs.pages.Pages.page_of.Goals as goal
 
@@ -55,3 +51,9 @@ returns-in-Err-clause-absent g c =
       omega (arith, size, c.in-Err.ensures.absent.within, c.requires.filled.some, length-map pages (length {A = ℕ})),
       subst (λ xs. IsPlaceFor (first_key key_of) xs (g.K.Key.number c.args.key) c.in-Err.page) later at,
     )
+
+pub returns-in-Err-clause-spent : goal.returns-in-Err-clause-spent
+returns-in-Err-clause-spent g c = grind (arith, common_steps)
+
+pub returns-in-Ok-clause-spent : goal.returns-in-Ok-clause-spent
+returns-in-Ok-clause-spent g c = grind (arith, common_steps)

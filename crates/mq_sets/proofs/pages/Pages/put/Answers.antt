@@ -1,5 +1,4 @@
-use Rattle.std.proofs.Common.{◌<◌, [], ap, ◌∙◌, arith, length, map, get_or, sym, subst}
-use Rattle.mq_sets.specs.NumberedKeys.{PagesState, AreFilled, numbers_in}
+use Rattle.mq_sets.proofs.Common.{◌<◌, [], ap, ◌∙◌, arith, length, map, get_or, sym, subst, PagesState, AreFilled, numbers_in}
 use Rattle.mq_sets.proofs.PagedNumbers.{numbers-insert, filled-insert}
 use Rattle.mq_sets.proofs.pages.Pages.put.Goals as goal
 

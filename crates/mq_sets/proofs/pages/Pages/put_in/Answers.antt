@@ -1,7 +1,5 @@
 use Rattle.std.proofs.Common.{ℕ, ◌≡◌, ◌<◌, ◌+◌, List, [], sym, ap, ◌∙◌, arith, length, map, set, get_or, length-set, Vec}
-use Rattle.std.specs.List.{insert}
-use Rattle.std.proofs.lemmas.List.{map-set, get_or-map, length-map}
-use Rattle.mq_sets.specs.NumberedKeys.{PagesState}
+use Rattle.mq_sets.proofs.Common.{insert, map-set, get_or-map, length-map, PagesState, common_steps}
 use Rattle.mq_sets.proofs.PagedNumbers.{paged, paged-same}
 use Rattle.mq_sets.proofs.pages.Pages.put_in.Goals as goal
 
@@ -19,3 +17,6 @@ returns-clause-pages g c =
     (map-set items used c.args.page c.insert_at_once.new.list ∙ ap (set (map items used) c.args.page) page)
     (ap (λ k. k + length c.self.inside.spare.items) (length-set used c.args.page c.insert_at_once.new.list))
     ∙ ap (λ (s : PagesState). paged (set s.pages c.args.page (insert (get_or s.pages c.args.page []) c.args.place c.args.number)) s.limit) c.self.view_is
+
+pub invariant_of-self : goal.invariant_of-self
+invariant_of-self g c = grind (arith, common_steps)

@@ -1,9 +1,6 @@
-use Rattle.std.proofs.Common.{◌+◌, ◌-◌, [], ap, ◌∙◌, arith, length, length-take, length-drop, set, get_or, rules}
-use Rattle.std.specs.List.{insert}
+use Rattle.mq_sets.proofs.Common.{◌+◌, ◌-◌, [], ap, ◌∙◌, arith, length, length-take, length-drop, set, get_or, rules, insert, le-leb, lt-leb, Spends-join}
+use Rattle.mq_sets.proofs.Common.{Spends-within, PagesState, moved_behind, common_steps}
 use Rattle.std.specs.Prelude.{cond}
-use Rattle.std.proofs.lemmas.Bool.{le-leb, lt-leb}
-use Rattle.mq_count.proofs.Spent.{Spends-join, Spends-within}
-use Rattle.mq_sets.specs.NumberedKeys.{PagesState, moved_behind}
 use Rattle.mq_sets.proofs.PagedNumbers.{halved, halved-is, room-halved, first-halved, second-halved, first-fits, first-room, second-fits, second-room}
 use Rattle.mq_sets.proofs.PagedNumbers.{numbers-first, filled-first, numbers-second, filled-second}
 use Rattle.mq_sets.proofs.pages.Pages.put_in_half.Goals as goal
@@ -97,3 +94,9 @@ returns-else-spot-le-FIRST_HALF g c =
           (omega (arith, is, at, size, branch, length-drop 255 (get_or c.args.self.now.pages c.args.spot.page []), c.requires.full));
       limit = search rules;
     }
+
+pub put_in-requires-else-spot-le-FIRST_HALF-clause-page : goal.put_in-requires-else-spot-le-FIRST_HALF-clause-page
+put_in-requires-else-spot-le-FIRST_HALF-clause-page g c = grind (arith, common_steps)
+
+pub put_in-requires-clause-page : goal.put_in-requires-clause-page
+put_in-requires-clause-page g c = grind (arith, common_steps)

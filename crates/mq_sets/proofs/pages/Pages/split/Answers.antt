@@ -1,11 +1,7 @@
-use Rattle.std.proofs.Common.{ℕ, ◌≡◌, ◌<◌, ◌≤◌, ◌+◌, List, [], ◌∷◌, sym, ap, ◌∙◌, arith, length, map, take, drop, set, get_or, subst, length-append}
+use Rattle.mq_sets.proofs.Common.{ℕ, ◌≡◌, ◌<◌, ◌≤◌, ◌+◌, List, [], ◌∷◌, sym, ap, ◌∙◌, arith, length, map, take, drop, set, get_or, subst, length-append}
+use Rattle.mq_sets.proofs.Common.{vec_capacity, insert, All, map-set, get_or-map, length-map, length-insert, All-append, All-cons, All-take, All-drop, All-set}
+use Rattle.mq_sets.proofs.Common.{All-pop, PagesState}
 use Rattle.std.proofs.Common.{length-take, length-drop, length-set, Vec}
-use Rattle.std.specs.Prelude.{vec_capacity}
-use Rattle.std.specs.List.{insert, All}
-use Rattle.std.proofs.lemmas.List.{map-set, get_or-map, length-map}
-use Rattle.std.proofs.lemmas.List.Edits.{length-insert}
-use Rattle.std.proofs.lemmas.List.Elements.{All-append, All-cons, All-take, All-drop, All-set, All-pop}
-use Rattle.mq_sets.specs.NumberedKeys.{PagesState}
 use Rattle.mq_sets.proofs.Stored.{map-insert}
 use Rattle.mq_sets.proofs.PagedNumbers.{paged, paged-same}
 use Rattle.mq_sets.proofs.pages.Pages.split.Goals as goal

@@ -1,6 +1,4 @@
-use Rattle.std.proofs.Common.{rules, arith, ◌≡◌, ◌≤◌, ℕ, List, [], ◌∷◌, length, map, ap, Vec}
-use Rattle.std.specs.Prelude.{vec_capacity}
-use Rattle.std.specs.List.{All}
+use Rattle.mq_sets.proofs.Common.{rules, arith, ◌≡◌, ◌≤◌, ℕ, List, [], ◌∷◌, length, map, ap, Vec, vec_capacity, All, common_steps}
 use Rattle.mq_sets.proofs.pages.Pages.with_room.Goals as goal
 
 one_empty : {A : Type 0} (pages : List (Vec ℕ A)) → length pages ≡ 1 → All (λ page. (511 ≤ vec_capacity page) × (page.items ≡ [])) pages →
@@ -13,3 +11,6 @@ pub returns-clause-pages : goal.returns-clause-pages
 returns-clause-pages g c =
     let one = one_empty c.in_ok-empty_pages.field-0.items c.in_ok-empty_pages.ensures.count.0 c.in_ok-empty_pages.ensures.empty in
     search rules
+
+pub invariant_of-result : goal.invariant_of-result
+invariant_of-result g c = grind (arith, common_steps)

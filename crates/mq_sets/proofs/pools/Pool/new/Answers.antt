@@ -1,6 +1,4 @@
-use Rattle.std.proofs.Common.{◌+◌, ◌-◌, ◌/◌, ◌≡◌, arith, refl}
-use Rattle.std.specs.Prelude.{replicate}
-use Rattle.std.proofs.lemmas.List.{length-replicate}
+use Rattle.mq_sets.proofs.Common.{◌+◌, ◌-◌, ◌/◌, ◌≡◌, arith, refl, replicate, length-replicate}
 use Rattle.mq_sets.proofs.PackedRows.{none}
 use Rattle.mq_sets.proofs.RowEdits.{IsStored-none, IsPlaced-none, rows_of-none}
 use Rattle.mq_sets.proofs.pools.Pool.new.Goals as goal

@@ -1,6 +1,4 @@
-use Rattle.std.proofs.Common.{◌∙◌, ap, arith, set, []}
-use Rattle.std.proofs.lemmas.List.{length-set}
-use Rattle.mq_sets.specs.Pools.{PoolState}
+use Rattle.mq_sets.proofs.Common.{◌∙◌, ap, arith, set, [], length-set, PoolState}
 use Rattle.mq_sets.proofs.RowEdits.{IsEmptied, IsStored-emptied, emptied-placed, emptied-rows, with_parts}
 use Rattle.mq_sets.proofs.Stored.{shows}
 use Rattle.mq_sets.proofs.pools.Pool.remove_row.Given.{Over}

@@ -1,8 +1,6 @@
-use Rattle.std.proofs.Common.{ℕ, ◌≡◌, sym, ◌<◌, ◌≤◌, arith, ap, ◌∙◌, length, map, set, ⊎_elim}
-use Rattle.std.proofs.lemmas.Bool.{cases_lt, false≢true, eq-eqb}
-use Rattle.std.proofs.lemmas.List.{length-map, length-set}
-use Rattle.mq_sets.specs.declared.extents.Extent.{Extent}
+use Rattle.mq_sets.proofs.Common.{ℕ, ◌≡◌, sym, ◌<◌, ◌≤◌, arith, ap, ◌∙◌, length, map, set, ⊎_elim, cases_lt, false≢true, eq-eqb, length-map, length-set, Extent}
 use Rattle.mq_sets.proofs.Stored.{IsStored-over, shows, whole_again}
+use Rattle.std.proofs.lemmas.Grind.{common_steps}
 use Rattle.mq_sets.proofs.pools.Pool.replace.Goals as goal
 
 pub invariant_of-self : goal.invariant_of-self
@@ -36,3 +34,21 @@ invariant_of-self g c =
       omega (arith, kept_rows, kept_cells, known.5),
       omega (arith, kept_rows, known.6),
     )
+
+pub returns-then-row-before-clause-rows : goal.returns-then-row-before-clause-rows
+returns-then-row-before-clause-rows g c = grind (arith, common_steps)
+
+pub write_over-requires-clause-place : goal.write_over-requires-clause-place
+write_over-requires-clause-place g c = grind (arith, common_steps)
+
+pub returns-then-row-before-clause-moves : goal.returns-then-row-before-clause-moves
+returns-then-row-before-clause-moves g c = grind (arith, common_steps)
+
+pub write_behind-requires-clause-longer : goal.write_behind-requires-clause-longer
+write_behind-requires-clause-longer g c = grind (arith, common_steps)
+
+pub overflow_sub-self : goal.overflow_sub-self
+overflow_sub-self g c = grind (arith, common_steps)
+
+pub returns-then-is_empty-clause-rows : goal.returns-then-is_empty-clause-rows
+returns-then-is_empty-clause-rows g c = grind (arith, common_steps)

@@ -1,5 +1,4 @@
-use Rattle.std.proofs.Common.{arith, ap}
-use Rattle.mq_sets.specs.Pools.{cells_in, PoolState}
+use Rattle.mq_sets.proofs.Common.{arith, ap, cells_in, PoolState}
 use Rattle.mq_sets.proofs.Stored.{cells_in-rows_of}
 use Rattle.mq_sets.proofs.pools.Pool.room.Goals as goal
 

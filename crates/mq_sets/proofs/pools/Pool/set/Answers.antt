@@ -1,6 +1,4 @@
-use Rattle.std.proofs.Common.{◌+◌, ◌∙◌, ap, arith, set, get_or, []}
-use Rattle.std.proofs.lemmas.List.{length-set}
-use Rattle.mq_sets.specs.Pools.{PoolState}
+use Rattle.mq_sets.proofs.Common.{◌+◌, ◌∙◌, ap, arith, set, get_or, [], length-set, PoolState}
 use Rattle.mq_sets.proofs.OneCell.{rows-one_cell}
 use Rattle.mq_sets.proofs.RowEdits.{with_parts}
 use Rattle.mq_sets.proofs.Stored.{shows}

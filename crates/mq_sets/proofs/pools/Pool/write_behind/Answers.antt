@@ -1,11 +1,6 @@
-use Rattle.std.proofs.Common.{ℕ, ◌+◌, ◌-◌, ◌/◌, ◌<◌, ◌≤◌, ◌≡◌, ◌++◌, ◌∙◌, ap, arith, subst, sym, length, length-append, map, set, refl, rules, []}
-use Rattle.std.proofs.lemmas.List.{length-map, length-set}
-use Rattle.std.proofs.lemmas.List.Elements.{All-set}
-use Rattle.std.proofs.lemmas.List.Sums.{sum_by-set}
-use Rattle.mq_count.specs.Spending.{Spends}
-use Rattle.mq_count.proofs.Spent.{Spends-join}
-use Rattle.mq_sets.specs.Pools.{cells_in, cells_said, rows_of, PoolState, IsPlaced, IsStored, cells_reserved, size_at}
-use Rattle.mq_sets.specs.declared.extents.Extent.{Extent}
+use Rattle.mq_sets.proofs.Common.{ℕ, ◌+◌, ◌-◌, ◌/◌, ◌<◌, ◌≤◌, ◌≡◌, ◌++◌, ◌∙◌, ap, arith, subst, sym, length, length-append, map, set, refl, rules, []}
+use Rattle.mq_sets.proofs.Common.{length-map, length-set, All-set, sum_by-set, Spends, Spends-join, cells_in, cells_said, rows_of, PoolState, IsPlaced}
+use Rattle.mq_sets.proofs.Common.{IsStored, cells_reserved, size_at, Extent, common_steps}
 use Rattle.mq_sets.proofs.RowEdits.{IsEmptied, emptied-apart, emptied-named, emptied-said, sizes-rows_of, with_parts, ahead-written, moved-written}
 use Rattle.mq_sets.proofs.Stored.{IsAppended, IsStored-appended, Shows, rows_of-appended, shows}
 use Rattle.mq_sets.proofs.pools.Pool.write_behind.Given.{Over}
@@ -33,29 +28,22 @@ emptied_so g c = record {
   at_first = c.extent_at.ensures.placed c.extent_at.ensures.length;
 }
 
-pub make_space_for-requires : goal.make_space_for-requires
-make_space_for-requires g c =
-    let at = (goal.at.make_space_for-requires g c).After-extent_at in
-    let e = emptied_so g at in
-    let extents = c.self.inside.extents.items in
+pub make_space_for-requires-clause-apart : goal.make_space_for-requires-clause-apart
+make_space_for-requires-clause-apart g c =
+    emptied-apart (emptied_so g (goal.at.make_space_for-requires-clause-apart g c).After-extent_at) c.self.invariant.0.apart
+
+pub make_space_for-requires-clause-named : goal.make_space_for-requires-clause-named
+make_space_for-requires-clause-named g c =
+    let sizes = ap (λ (s : PoolState _). map length s.rows) c.self.view_is in
+    let named = rw (← sizes, sizes-rows_of c.self.inside.cells.items c.self.inside.extents.items c.self.invariant.0.within) at c.requires.named in
+    emptied-named (emptied_so g (goal.at.make_space_for-requires-clause-named g c).After-extent_at) c.args.in_use.now named
+
+pub make_space_for-requires-clause-space : goal.make_space_for-requires-clause-space
+make_space_for-requires-clause-space g c =
+    let at = (goal.at.make_space_for-requires-clause-space g c).After-extent_at in
     let stored = c.self.invariant.0 in
-    record {
-      apart = emptied-apart e stored.apart;
-      named =
-          let sizes = ap (λ (s : PoolState _). map length s.rows) c.self.view_is in
-          let named = rw (← sizes, sizes-rows_of c.self.inside.cells.items extents stored.within) at c.requires.named in
-          emptied-named e c.args.in_use.now named;
-      space =
-          let count : c.len.result ≡ length extents = omega (arith, c.len.ensures, c.self.inside.extents.ok.0) in
-          omega (arith, fits_so g at, (shown_so g at).limit_is, count, stored.used_is, c.requires.fits, emptied-said e);
-      within = search rules;
-      placed = search rules;
-      empty = search rules;
-      filled = search rules;
-      numbered = search rules;
-      capacity = search rules;
-      spare_capacity = search rules;
-    }
+    let count : c.len.result ≡ length c.self.inside.extents.items = omega (arith, c.len.ensures, c.self.inside.extents.ok.0) in
+    omega (arith, fits_so g at, (shown_so g at).limit_is, count, stored.used_is, c.requires.fits, emptied-said (emptied_so g at))
 
 pub index_mut-requires-2 : goal.index_mut-requires-2
 index_mut-requires-2 g c =
@@ -163,3 +151,6 @@ returns g c =
           (omega (arith, is.used, is.size, emptied-said e)) in
           subst (λ (n : ℕ). Spends n n c.args.moves.now c.count.new.self) moved (Spends-join counted c.count.ensures);
     }
+
+pub overflow_sub-self : goal.overflow_sub-self
+overflow_sub-self g c = grind (arith, common_steps)

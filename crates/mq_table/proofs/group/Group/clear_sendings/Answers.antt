@@ -1,17 +1,10 @@
-use Rattle.std.proofs.Common.{ap, refl}
-use Rattle.mq_sets.proofs.Ascents.{IsAscending-map}
-use Rattle.mq_table.specs.Sendings.{source_cleared}
-use Rattle.mq_table.specs.MadeSources.{source_recounted}
-use Rattle.mq_table.specs.declared.sendings.Recount.TheVariants.{NoneLeft}
-use Rattle.mq_table.specs.Stored.{number_in}
-use Rattle.mq_table.proofs.Rows.{replaced_state}
-use Rattle.mq_table.proofs.Places.{between_in_row}
+use Rattle.mq_table.proofs.Common.{◌∙◌, ap, refl, IsAscending-map, item_has_sendings, source_cleared, source_recounted, NoneLeft, number_in}
+use Rattle.mq_table.proofs.{Rows.replaced_state, Places.all_between}
 use Rattle.mq_table.proofs.group.Group.clear_sendings.Goals as goal
 
 pub recount_each-requires : goal.recount_each-requires
 recount_each-requires g c =
-    between_in_row g.K.Key.number c.args.self.now.state c.self.inside.sources.items c.self.invariant (ap (λ s. s.state.sources) c.self.view_is)
-    c.all_places-places.result.first c.all_places-places.result.end c.all_places-places.ensures
+    all_between item_has_sendings c.self.inside.sources.items c.len-end.result (c.len-end.ensures ∙ c.self.inside.sources.ok.0)
 
 pub invariant_of-self : goal.invariant_of-self
 invariant_of-self g c =

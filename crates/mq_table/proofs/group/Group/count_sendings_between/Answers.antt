@@ -1,12 +1,5 @@
-use Rattle.std.proofs.Common.{ap, refl, sym, ◌∙◌, ltb}
-use Rattle.mq_sets.proofs.Ascents.{IsAscending-map}
-use Rattle.mq_table.specs.Group.{sendings_of}
-use Rattle.mq_table.specs.Sendings.{source_counted}
-use Rattle.mq_table.specs.MadeSources.{source_recounted}
-use Rattle.mq_table.specs.declared.sendings.Recount.TheVariants.{OneFewer}
-use Rattle.mq_table.specs.Stored.{number_in}
-use Rattle.mq_table.proofs.Rows.{any_in_row, replaced_state}
-use Rattle.mq_table.proofs.Places.{between_in_row}
+use Rattle.mq_table.proofs.Common.{ap, refl, sym, ◌∙◌, ltb, IsAscending-map, sendings_of, source_counted, source_recounted, OneFewer, number_in}
+use Rattle.mq_table.proofs.{Rows.any_in_row, Rows.replaced_state, Places.between_in_row}
 use Rattle.mq_table.proofs.group.Group.count_sendings_between.Goals as goal
 
 pub recount_each-requires : goal.recount_each-requires

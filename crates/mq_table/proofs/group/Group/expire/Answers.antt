@@ -1,14 +1,6 @@
-use Rattle.std.proofs.Common.{Some, sym, ap, ◌∙◌, not, arith}
-use Rattle.std.specs.Bool.{beq}
-use Rattle.mq_count.proofs.Spent.{Spends-join, Spends-within}
-use Rattle.mq_count.proofs.TimedMoments.{moments-few}
-use Rattle.mq_sets.proofs.Rules.{IsAscending-filter_map}
-use Rattle.mq_table.specs.Group.{deadline_of, FilterMode, is_include}
-use Rattle.mq_table.specs.MadeSources.{source_left}
-use Rattle.mq_table.specs.Stored.{number_in}
-use Rattle.mq_table.proofs.SourceLists.{len-timers_in}
-use Rattle.mq_table.proofs.Ended.{left_keeps, expired_of}
-use Rattle.mq_table.proofs.EndedFilters.{expired_changes}
+use Rattle.mq_table.proofs.Common.{Some, sym, ap, ◌∙◌, not, arith, beq, Spends-join, Spends-within, moments-few, IsAscending-filter_map, deadline_of}
+use Rattle.mq_table.proofs.Common.{FilterMode, is_include, source_left, number_in}
+use Rattle.mq_table.proofs.{SourceLists.len-timers_in, Ended.left_keeps, Ended.expired_of, EndedFilters.expired_changes}
 use Rattle.mq_table.proofs.group.Group.expire.Goals as goal
 
 pub invariant_of-self : goal.invariant_of-self

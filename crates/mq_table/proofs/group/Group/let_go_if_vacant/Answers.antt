@@ -1,6 +1,4 @@
-use Rattle.std.proofs.Common.{◌≡◌, true, None, ◌∙◌, ap, sym, cond}
-use Rattle.mq_table.specs.Group.{GroupState, vacant, is_vacant}
-use Rattle.mq_table.specs.Stored.{StoredGroup}
+use Rattle.mq_table.proofs.Common.{◌≡◌, true, None, ◌∙◌, ap, sym, cond, GroupState, vacant, is_vacant, StoredGroup}
 use Rattle.mq_table.proofs.SourceLists.{vacant_if}
 use Rattle.mq_table.proofs.group.Group.let_go_if_vacant.Goals as goal
 

@@ -1,11 +1,6 @@
-use Rattle.std.proofs.Common.{◌≡◌, ◌+◌, length, vec_capacity, IsSome, ap, refl, sym, subst, ◌∙◌, arith}
-use Rattle.std.specs.List.{filter_map}
-use Rattle.mq_sets.specs.Ascending.{IsAscending}
-use Rattle.mq_sets.specs.Merging.{merged_lists}
-use Rattle.mq_table.specs.Timing.{membership_interval}
-use Rattle.mq_table.specs.Stored.{number_in, named_in, state_of, timers_in}
-use Rattle.mq_table.specs.MergedRecord.{source_made, source_asked, LooksByHalves}
-use Rattle.mq_table.specs.Group.{GroupState, timer_at}
+use Rattle.mq_table.proofs.Common.{◌≡◌, ◌+◌, length, vec_capacity, IsSome, ap, refl, sym, subst, ◌∙◌, arith, filter_map, IsAscending, merged_lists}
+use Rattle.mq_table.proofs.Common.{membership_interval, number_in, named_in, state_of, timers_in, source_made, source_asked, LooksByHalves, GroupState}
+use Rattle.mq_table.proofs.Common.{timer_at, is_include, not, beq}
 use Rattle.mq_table.proofs.TableRows.{asked_is_held}
 use Rattle.mq_table.proofs.Changed.{made_ascends, asked_ascends, recorded_group, recorded_query, recorded_query_group, recorded_filter}
 use Rattle.mq_table.proofs.group.Group.load_changed.Given.{Over}
@@ -21,21 +16,21 @@ push_within-turned-requires-clause-asked_room g c =
     omega (arith, c.requires.asked_room, c.clear-2.ensures.capacity, ap length c.as_slice.ensures.members)
 
 -- the timers run up to the group membership interval from now
-interval_end : (g : Over) (c : goal.After-changes_mode g) → c.after.result ≡ c.args.now + membership_interval c.args.timing.now
+interval_end : (g : Over) (c : goal.After-is_unlike g) → c.after.result ≡ c.args.now + membership_interval c.args.timing.now
 interval_end g c = c.after.ensures.later ∙ ap (λ n. c.args.now + n) c.membership_interval.ensures
 
 -- the pushed sources
-made : (g : Over) (c : goal.After-changes_mode g) → c.push_within-turned.new.sources.items
+made : (g : Over) (c : goal.After-is_unlike g) → c.push_within-turned.new.sources.items
     ≡ filter_map (source_made (record { kind = c.args.kind; mode = c.args.head.now.mode; interval_end = c.after.result }))
     (merged_lists (number_in g.K.Key.number) g.K.Key.number c.args.row.now c.args.named.now.members)
 made g c = rw c.as_slice.ensures.members at c.push_within-turned.ensures.sources
 
-asked : (g : Over) (c : goal.After-changes_mode g) → c.push_within-turned.new.asked.items
+asked : (g : Over) (c : goal.After-is_unlike g) → c.push_within-turned.new.asked.items
     ≡ filter_map (source_asked (record { kind = c.args.kind; mode = c.args.head.now.mode; interval_end = c.after.result }))
     (merged_lists (number_in g.K.Key.number) g.K.Key.number c.args.row.now c.args.named.now.members)
 asked g c = rw c.as_slice.ensures.members at c.push_within-turned.ensures.asked
 
-named_ascends : (g : Over) (c : goal.After-changes_mode g) → IsAscending g.K.Key.number c.args.named.now.members
+named_ascends : (g : Over) (c : goal.After-is_unlike g) → IsAscending g.K.Key.number c.args.named.now.members
 named_ascends g c = rw c.as_slice.ensures.members at c.as_slice.ensures.ascending
 
 pub invariant_of-self : goal.invariant_of-self
@@ -85,6 +80,7 @@ returns-clause-changes_filter g c =
     sym (recorded_filter g.K.Key.number c.args.timing.now c.args.now c.args.head.now.mode c.args.kind c.args.head.now.v1 c.args.head.now.v2
     c.args.row.now c.args.named.now.members c.requires.row_ascending (named_ascends g c)
     (state_of c.args.head.now (timers_in g.K.Key.number c.args.row.now)) c.after.result (interval_end g c) refl
-    c.mode_after-self-inside.result c.push_within-turned.new.sources.items c.push_within-turned.result c.changes_mode.result
+    c.mode_after-self-inside.result c.push_within-turned.new.sources.items c.push_within-turned.result c.is_unlike.result
     c.mode_after-self-inside.ensures (made g c)
-    (rw c.as_slice.ensures.members at c.push_within-turned.ensures.turned) c.changes_mode.ensures)
+    (rw c.as_slice.ensures.members at c.push_within-turned.ensures.turned)
+    (c.is_unlike.ensures ∙ ap (λ m. not (beq (is_include c.args.head.now.mode) (is_include m))) c.mode_after-self-inside.ensures))

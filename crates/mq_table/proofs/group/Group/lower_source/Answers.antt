@@ -1,13 +1,7 @@
-use Rattle.std.proofs.Common.{◌≡◌, ℕ, ◌+◌, ◌∙◌, List, get_or, set, ap, subst, sym, arith}
-use Rattle.std.proofs.Math.Seq.{map-set_same}
-use Rattle.mq_count.proofs.Spent.{Spends-within, Spends-join_within}
-use Rattle.mq_sets.specs.Ascending.{IsAscending}
-use Rattle.mq_sets.proofs.Ascents.{IsAscending-map}
+use Rattle.mq_table.proofs.Common.{◌≡◌, ℕ, ◌+◌, ◌∙◌, List, get_or, set, ap, subst, sym, arith, map-set_same, Spends-within, Spends-join_within, IsAscending}
+use Rattle.mq_table.proofs.Common.{IsAscending-map, Source, lowered_to, source_lowered}
 use Rattle.mq_sets.proofs.SearchedPages.{IsAscending-unmap}
-use Rattle.mq_table.specs.declared.sources.Source.{Source}
-use Rattle.mq_table.specs.Lowering.{lowered_to, source_lowered}
-use Rattle.mq_table.proofs.SourceLists.{len-timers_in, get-absent}
-use Rattle.mq_table.proofs.MadeLists.{lowered_in_place, lowered_state, unlowered}
+use Rattle.mq_table.proofs.{SourceLists.len-timers_in, SourceLists.get-absent, MadeLists.lowered_in_place, MadeLists.lowered_state, MadeLists.unlowered}
 use Rattle.mq_table.proofs.group.Group.lower_source.Goals as goal
 
 -- an item in the place of one of the same number

@@ -1,14 +1,7 @@
-use Rattle.std.proofs.Common.{◌≡◌, cond, ◌+◌, ◌&&◌, ◌∙◌, ap, sym, refl}
-use Rattle.std.specs.List.{list_any}
-use Rattle.mq_sets.specs.Ascending.{set_of}
-use Rattle.mq_sets.proofs.Ascents.{IsAscending-map}
-use Rattle.mq_table.specs.Group.{is_ahead, deadline_of}
+use Rattle.mq_table.proofs.Common.{◌≡◌, cond, ◌+◌, ◌&&◌, ◌∙◌, ap, sym, refl, list_any, set_of, IsAscending-map, is_ahead, deadline_of, lowered_to}
+use Rattle.mq_table.proofs.Common.{source_if_asked, is_asked_above, number_in}
 use Rattle.mq_table.specs.Sendings.{source_asked}
-use Rattle.mq_table.specs.Lowering.{lowered_to}
-use Rattle.mq_table.specs.AskedSources.{source_if_asked, is_asked_above}
-use Rattle.mq_table.specs.Stored.{number_in}
-use Rattle.mq_table.proofs.SourceLists.{len-timers_in}
-use Rattle.mq_table.proofs.Rows.{held_in_row, any_in_row, replaced_state}
+use Rattle.mq_table.proofs.{SourceLists.len-timers_in, Rows.held_in_row, Rows.any_in_row, Rows.replaced_state}
 use Rattle.mq_table.proofs.group.Group.start_sendings.Goals as goal
 
 pub ask_among-requires-clause-held : goal.ask_among-requires-clause-held

@@ -1,8 +1,5 @@
-use Rattle.std.proofs.Common.{refl}
-use Rattle.std.proofs.lemmas.Result.{err_from_is_err_and}
-use Rattle.mq_wire.specs.Records.{record_spans}
-use Rattle.mq_wire.proofs.RecordLists.{no_record_yet, one_more_record, record_cut, all_records}
-use Rattle.mq_wire.proofs.Spans.{end_within}
+use Rattle.mq_wire.proofs.Common.{refl, err_from_is_err_and, record_spans}
+use Rattle.mq_wire.proofs.{RecordLists.no_record_yet, RecordLists.one_more_record, RecordLists.record_cut, RecordLists.all_records, Spans.end_within}
 use Rattle.mq_wire.proofs.records.Records.read_at.Goals as goal
 
 pub loop-init : goal.loop-init

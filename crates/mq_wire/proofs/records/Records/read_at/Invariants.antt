@@ -1,6 +1,4 @@
-use Rattle.std.proofs.Common.{◌≡◌, ◌≤◌, ◌-◌, length}
-use Rattle.mq_wire.specs.Fields.{first_cut}
-use Rattle.mq_wire.specs.Records.{spans_of_records}
+use Rattle.mq_wire.proofs.Common.{◌≡◌, ◌≤◌, ◌-◌, length, first_cut, spans_of_records}
 use Rattle.mq_wire.proofs.records.Records.read_at.Given as goal
 
 -- all records are whole where those that are left are

@@ -1,6 +1,4 @@
-use Rattle.std.proofs.Common.{◌≡◌, ◌∷◌, ◌-◌, ℕ, take, drop, sym, ◌∙◌, arith, ap}
-use Rattle.byteorder.specs.Endian.{big_number}
-use Rattle.mq_wire.specs.Fields.{addresses}
+use Rattle.mq_wire.proofs.Common.{◌≡◌, ◌∷◌, ◌-◌, ℕ, take, drop, sym, ◌∙◌, arith, ap, big_number, addresses}
 use Rattle.mq_wire.specs.Sources.{listed_in}
 use Rattle.mq_wire.proofs.Addresses.{first_address}
 use Rattle.mq_wire.proofs.sources.SourcesIterator.next.Goals as goal

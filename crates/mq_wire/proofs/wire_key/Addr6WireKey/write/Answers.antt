@@ -1,7 +1,5 @@
-use Rattle.std.proofs.Common.{◌≡◌, sym, ap, ◌∙◌, length}
-use Rattle.std.proofs.lemmas.List.{length-take-le}
+use Rattle.mq_wire.proofs.Common.{◌≡◌, sym, ap, ◌∙◌, length, length-take-le, length-bytes_high_first}
 use Rattle.std.specs.Int.{w128, to_be_bytes}
-use Rattle.byteorder.specs.Numbers.{length-bytes_high_first}
 use Rattle.mq_wire.proofs.wire_key.Addr6WireKey.write.Goals as goal
 
 pub copy_from_slice-requires : goal.copy_from_slice-requires

@@ -1,0 +1,13 @@
+-- what was made of the records so far, and then of those that are left, is what is made of all
+use Rattle.std.proofs.Common.{◌≡◌}
+use Rattle.std.specs.Prelude.{flat_map}
+use Rattle.mq_check.specs.Causes.{causes_by}
+use Rattle.mq_check.specs.Checking.{all_changed}
+use Rattle.mq_check.specs.Queries.{specific_terms}
+use Rattle.mq_check.proofs.checking.Checking.change_records.Given as goal
+
+abbrev pub invariant-loop-view : goal.invariant-loop-view
+invariant-loop-view g l =
+    let terms = specific_terms l.at.config.now l.at.in_force l.at.packet in
+    all_changed l.at.moment terms (flat_map (causes_by g.F.Family.FAMILY) l.fn.records) l.fn.self
+    ≡ all_changed l.at.moment terms (flat_map (causes_by g.F.Family.FAMILY) l.view-iterator) l.self

@@ -1,0 +1,14 @@
+-- what was made of the sources so far, and then of those that are left, is what is made of all
+use Rattle.std.proofs.Common.{◌≡◌}
+use Rattle.std.specs.Prelude.{map as list_map}
+use Rattle.mq_check.specs.declared.asked.Asked.TheVariants.{Source}
+use Rattle.mq_check.specs.Checking.{all_changed}
+use Rattle.mq_check.specs.Queries.{specific_terms}
+use Rattle.mq_check.proofs.checking.Checking.change_sources.Given as goal
+
+abbrev pub invariant-loop-source : goal.invariant-loop-source
+invariant-loop-source g l =
+    let number = g.F.Address.Key.number in
+    let terms = specific_terms l.at.config.now l.at.in_force l.at.packet in
+    all_changed l.at.moment terms (list_map (Source (number l.group)) l.fn.sources) l.fn.self
+    ≡ all_changed l.at.moment terms (list_map (Source (number l.group)) l.source-iterator) l.self

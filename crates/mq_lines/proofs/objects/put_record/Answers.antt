@@ -1,0 +1,26 @@
+use Rattle.std.proofs.Common.{[], ◌++◌, codes}
+use Rattle.std.proofs.lemmas.Result.{err_from_is_err_and}
+use Rattle.mq_wire.specs.Numbered.{numbered_record}
+use Rattle.mq_text.proofs.Passing.{broken_behind, broken_within, held_more, then_put}
+use Rattle.mq_lines.specs.Objects.{record_start, source_items}
+use Rattle.mq_lines.proofs.objects.put_record.Goals as goal
+
+pub returns-in_err-make_room-clause-text : goal.returns-in_err-make_room-clause-text
+returns-in_err-make_room-clause-text g c =
+    let p = err_from_is_err_and c.from_residual.result c.from_residual.ensures.1 in
+    rw p.1 (broken_within _ _ _ [] _ c.in_err-make_room.ensures.text)
+
+pub returns-in_err-put_sources-clause-text : goal.returns-in_err-put_sources-clause-text
+returns-in_err-put_sources-clause-text g c =
+    let p = err_from_is_err_and c.from_residual-in_err-put_sources.result c.from_residual-in_err-put_sources.ensures.1 in
+    let head = record_start g.K.LineKey.family c.args.is_first (numbered_record g.K.Key.number c.args.view) in
+    let sources = source_items g.K.LineKey.family c.args.view.sources in
+    let begun = held_more _ _ _ _ _ [] head c.in_ok-make_room.ensures.text c.put_record_start.ensures in
+    rw p.1 (broken_behind _ _ _ _ _ head (sources ++ codes "]}") begun (broken_within _ _ _ sources (codes "]}") c.in_err-put_sources.ensures.text))
+
+pub returns-clause-text : goal.returns-clause-text
+returns-clause-text g c =
+    let head = record_start g.K.LineKey.family c.args.is_first (numbered_record g.K.Key.number c.args.view) in
+    let sources = source_items g.K.LineKey.family c.args.view.sources in
+    let begun = held_more _ _ _ _ _ [] head c.in_ok-make_room.ensures.text c.put_record_start.ensures in
+    then_put _ _ _ _ _ _ head _ _ begun (then_put _ _ _ _ _ _ sources _ _ c.in_ok-put_sources.ensures.text c.put_object_end.ensures.text)

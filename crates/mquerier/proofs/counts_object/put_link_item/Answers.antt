@@ -1,0 +1,18 @@
+use Rattle.std.proofs.Common.{codes}
+use Rattle.mq_lines.specs.Objects.{comma_before}
+use Rattle.mq_lines.proofs.Parts.{four_parts}
+use Rattle.mquerier.specs.Failures.{count_field}
+use Rattle.mquerier.proofs.counts_object.put_link_item.Goals as goal
+
+pub returns-clause-text : goal.returns-clause-text
+returns-clause-text c =
+    let row = c.args.row.now in
+    rw (
+      c.put.ensures.text,
+      c.put_count-2.ensures.text,
+      c.put_count.ensures.text,
+      c.from.ensures,
+      c.put_comma.ensures.text,
+    )
+    (four_parts c.args.object.now.items (comma_before c.args.is_first) (count_field (codes "{\"link\":") row.link)
+    (count_field (codes ",\"packets\":") row.count) (codes "}"))

@@ -1,0 +1,6 @@
+use Rattle.std.proofs.Common.{[], refl, sym, append-nil, arith}
+use Rattle.std.proofs.lemmas.Bool.Decides.{nat_tests}
+use Rattle.mquerier.proofs.counts_object.put_link_items.Goals as goal
+
+pub loop-row-init : goal.loop-row-init
+loop-row-init c = record { text = ([], refl, sym (append-nil _)); size = grind (arith, nat_tests) }
