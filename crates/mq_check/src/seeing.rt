@@ -1,6 +1,6 @@
 //! Queries of the checked router that are seen.
 
-ghost use Rattle.std.specs.Prelude.{◌≡◌, ◌≤◌, ◌^◌, fold, map as list_map};
+ghost use Rattle.std.specs.Prelude.{◌≡◌, ◌≤◌, ◌^◌, fold, map as list_map, ⊤};
 ghost use Rattle.mq_wire.specs.Numbered.{numbered_query};
 ghost use Rattle.mq_check.specs.declared.asked.Asked.TheVariants.{Source};
 ghost use Rattle.mq_check.specs.Checking as spec;
@@ -28,22 +28,44 @@ use mq_lines::LineKey;
 use mq_link::{Family, Link};
 use mq_table::Timing;
 use mq_wire::{Query, Sources, WireKey};
-use std::alloc::Allocator;
+use std::alloc::{AllocError, Allocator};
 
 /// A packet with a query: its stamp, its number, and its destination.
-#[derive(Clone, Copy)]
 pub(crate) struct SeenPacket<K: WireKey> {
     pub(crate) stamp: Stamp,
     pub(crate) number: u64,
     pub(crate) to: K,
 }
 
+impl<K: WireKey> Clone for SeenPacket<K> {
+    ghost is_clone = { λ x y. y ≡ x };
+
+    ghost is_infallible = { λ _. ⊤ };
+
+    fn clone(&self) -> Result<Self, AllocError> {
+        Ok(*self)
+    }
+}
+
+impl<K: WireKey> Copy for SeenPacket<K> {}
+
 /// A seen query: its stamp and its terms.
-#[derive(Clone, Copy)]
 struct SeenQuery<K: WireKey> {
     stamp: Stamp,
     terms: Terms<K>,
 }
+
+impl<K: WireKey> Clone for SeenQuery<K> {
+    ghost is_clone = { λ x y. y ≡ x };
+
+    ghost is_infallible = { λ _. ⊤ };
+
+    fn clone(&self) -> Result<Self, AllocError> {
+        Ok(*self)
+    }
+}
+
+impl<K: WireKey> Copy for SeenQuery<K> {}
 
 /// Returns the reason why a query is extra that is seen while the router is querier.
 fn reason_of(is_muted: bool) -> ExtraReason
