@@ -85,9 +85,12 @@ impl Schedule {
         if let Some(query) = &self.group_query {
             if m.reached(query.due, now) {
                 let limit = now.after(timing.last_member_time());
-                let s = runs_on(group.mode().deadline(), limit, m);
+                let suppress = runs_on(group.mode().deadline(), limit, m);
                 let left = counted(query, now, timing);
-                let query: QueryParts<'a, K> = QueryParts::Group { group: address, s };
+                let query: QueryParts<'a, K> = QueryParts::Group {
+                    group: address,
+                    suppress,
+                };
                 sink.send(query);
                 self.group_query = left;
             }
