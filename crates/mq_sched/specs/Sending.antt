@@ -13,12 +13,12 @@ use Rattle.mq_sched.specs.Portions.{portions_of}
 use Rattle.mq_sched.specs.Schedule.{QuerySchedule, ScheduleState, ScheduledGroup, settled}
 
 -- A query that a router sends. It is general, to a group, or to a group for some of its sources, which ascend (RFC 3376
--- section 4.1.11, RFC 3810 section 5.1.13). `suppress` is the flag Suppress Router-Side Processing. Routers that receive
--- it lower nothing (sections 4.1.5 and 5.1.7).
+-- section 4.1.11, RFC 3810 section 5.1.13). `s` is the flag Suppress Router-Side Processing: routers that receive it
+-- lower nothing (sections 4.1.5 and 5.1.7).
 pub data SentQuery : Type 0 where
   GeneralQuery : SentQuery
-  GroupQuery : (group : ℕ) (suppress : Bool) → SentQuery
-  SourcesQuery : (group : ℕ) (suppress : Bool) (sources : List ℕ) → SentQuery
+  GroupQuery : (group : ℕ) (s : Bool) → SentQuery
+  SourcesQuery : (group : ℕ) (s : Bool) (sources : List ℕ) → SentQuery
 
 -- Send Q(G). The group timer is lowered, and the last member query count of queries are to go, the first now. INCLUDE
 -- has no group timer, and no row of the tables asks for its group.
@@ -75,7 +75,7 @@ sources_where test g = filter test (map.keys g.sources)
 
 -- The queries for a list of sources, in portions of what one message holds. No query has an empty list.
 abbrev pub sources_queries : (per_query group : ℕ) → Bool → List ℕ → List SentQuery
-sources_queries per_query group suppress sources = list_map (SourcesQuery group suppress) (portions_of per_query sources)
+sources_queries per_query group s sources = list_map (SourcesQuery group s) (portions_of per_query sources)
 
 abbrev pub group_messages : Timing → ℕ → ℕ → ScheduledGroup → List SentQuery
 group_messages timing now group e =

@@ -85,12 +85,9 @@ impl Schedule {
         if let Some(query) = &self.group_query {
             if m.reached(query.due, now) {
                 let limit = now.after(timing.last_member_time());
-                let suppress = runs_on(group.mode().deadline(), limit, m);
+                let s = runs_on(group.mode().deadline(), limit, m);
                 let left = counted(query, now, timing);
-                let query: QueryParts<'a, K> = QueryParts::Group {
-                    group: address,
-                    suppress,
-                };
+                let query: QueryParts<'a, K> = QueryParts::Group { group: address, s };
                 sink.send(query);
                 self.group_query = left;
             }
