@@ -188,7 +188,7 @@ vlan-test: live
 	@tools/needs --install $(MACHINE)
 	@daemon/machine daemon/vlans $(VLANS)
 
-# All cases of conform there, at an access port and in a VLAN of a trunk. It takes 40 minutes.
+# All cases of conform there, at an access port and in a VLAN of a trunk. It takes 20 minutes.
 vlan-conform: live bin/mquerier
 	@tools/needs --install $(MACHINE)
 	@MACHINE_SECONDS=6000 daemon/machine daemon/vlans whole
