@@ -33,7 +33,7 @@ $(error TARGET=$(TARGET): only `make lib` takes another processor than that of t
 endif
 endif
 
-.PHONY: all run try lib wheel quick test kept live live-checked live-test live-soak vlan-test conform-test page page-test bindings-test arm-test
+.PHONY: all run try lib wheel quick test kept live live-checked live-test live-soak vlan-test vlan-conform vlan-soak conform-test page page-test bindings-test arm-test
 .PHONY: mutants bench install install-strip uninstall dist clean
 
 # Both archives are of what is built in one folder, so one is made after the other. tools/build works side by side by itself.
@@ -183,9 +183,22 @@ live-soak: needs-live live-checked bin/mquerier
 # The querier at bridges with VLANs, in a virtual machine with a kernel of Debian. It installs what it needs, wants to be root, and
 # takes at most ten minutes. VLANS=quick is what the gate runs.
 VLANS :=
+MACHINE := qemu-system-x86_64 busybox cpio depmod mke2fs xz ip bridge nft chrt python3
 vlan-test: live
-	@tools/needs --install qemu-system-x86_64 busybox cpio depmod mke2fs xz ip bridge nft chrt python3
+	@tools/needs --install $(MACHINE)
 	@daemon/machine daemon/vlans $(VLANS)
+
+# All cases of conform there, at an access port and in a VLAN of a trunk. It takes 20 minutes.
+vlan-conform: live bin/mquerier
+	@tools/needs --install $(MACHINE)
+	@MACHINE_SECONDS=6000 daemon/machine daemon/vlans whole
+
+# So many seconds of random joins and leaves there, with changes of VLANs and killed queriers. Each datagram is judged by the program.
+VLAN_SOAK := 600
+vlan-soak: live bin/mquerier
+	@tools/needs --install $(MACHINE)
+	@daemon/machine daemon/vlan-soak planted
+	@MACHINE_SECONDS=$$(($(VLAN_SOAK) * 2 + 300)) daemon/machine daemon/vlan-soak $(VLAN_SOAK)
 
 # conform, which holds any router to the standards (docs/CONFORM.md), held to routers here: faulty ones of its own, each of which
 # has to be found by the cases that name its fault, and bin/mquerier-live, a bridge of the kernel and routers of Debian, which are

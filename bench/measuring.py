@@ -62,8 +62,8 @@ def best(*runs):
 
 def counted(words, name):
     """Counts the instructions and the mispredicted branches of a run, by valgrind. It would count one instruction for each byte that
-    `rep movsb` copies, so that instruction is turned off."""
-    plain = ["env", f"GLIBC_TUNABLES=glibc.cpu.x86_rep_movsb_threshold={2**40}"]
+    `rep movsb` copies and `rep stosb` sets, so these instructions are turned off."""
+    plain = ["env", "GLIBC_TUNABLES=" + ":".join(f"glibc.cpu.x86_rep_{it}_threshold={2**40}" for it in ("movsb", "stosb"))]
     said = told([*plain, "valgrind", "--tool=callgrind", "--branch-sim=yes", "--callgrind-out-file=/dev/null", *words], name)
     all_of_them, _, conditional, _, indirect = map(int, re.search(r"Collected : (.*)", said)[1].split())
     return all_of_them, conditional + indirect

@@ -14,7 +14,7 @@ from fabric import FAMILIES, MEMBERSHIP, QUERY_INTERVAL, Fabric, Stream, run
 from frames import igmp_frame, mld_frame, report_frame, summed
 from lab import GROUPS, MANY, SOURCES, TOP, Wrong, ip, is_true
 
-IS_EX = 2
+IS_IN, IS_EX, ALLOW = 1, 2, 5
 AGAIN = QUERY_INTERVAL + 3  # seconds in which all is right again, on a machine that has other work
 
 
@@ -242,5 +242,54 @@ def a_bridge_filters_vlans():
         is_true(not fabric.entries(), f"{fabric.entries()}")
 
 
-CASES = [the_clock_jumps, sockets_without_room, a_bridge_filters_vlans, full_queues_and_lost_notifications, malformed_frames, others_change_it]
+def killed_with_lists(fabric, env):
+    """Ports have lists of their own for one group when the querier is killed. The next one adds a source at each, and keeps the others
+    until hosts had time to answer."""
+    more = {"igmp": "10.9.9.3", "mld": "2001:db8::3"}
+    querier = fabric.querier("--qi", "20", env=env)
+    querier.settled()
+    before, during, after = {}, {}, {}
+    for family in FAMILIES:
+        one, other, third, group = *SOURCES[family], more[family], GROUPS[family]
+        for number, kind, sources in ((1, IS_IN, [one]), (2, IS_IN, [other]), (3, IS_EX, [one, other]), (4, IS_EX, [])):
+            fabric.hosts[f"b0h{number}"].put(report_frame(family, kind, group, sources))
+        before |= {("b0p1", group): ("include", one), ("b0p2", group): ("include", other), ("b0p3", group): ("exclude", one, other), ("b0p4", group): ("exclude",)}
+        during |= {("b0p1", group): ("include", one, third), ("b0p2", group): ("include", other, third), ("b0p3", group): ("exclude", one, other), ("b0p4", group): ("exclude",)}
+        after |= {(f"b0p{number}", group): ("include", third) for number in range(1, 5)}
+    for place, wanted in before.items():
+        fabric.comes(*place, wanted)
+    querier.end(signal.SIGKILL)
+    querier = fabric.querier("--qi", "20", env=env)
+    querier.until(lambda it: all("settles" in port[of] for port in it["ports"] for of in FAMILIES) and len(it["ports"]) == 4, "begun")
+    for family in FAMILIES:
+        for number in range(1, 5):
+            fabric.hosts[f"b0h{number}"].put(report_frame(family, ALLOW, GROUPS[family], [more[family]]))
+    querier.until(lambda it: all(port[of]["groups"] for port in it["ports"] for of in FAMILIES), "heard")
+    time.sleep(0.5)
+    for place, wanted in during.items():
+        fabric.comes(*place, wanted, 0.5)
+    for place, wanted in after.items():
+        fabric.comes(*place, wanted, 9)
+    return querier
+
+
+def each_port_inherits_its_list():
+    """After a kill, each port of a group inherits its own list."""
+    with Fabric(4, 1) as fabric:
+        killed_with_lists(fabric, None)
+
+
+def an_older_kernel():
+    """A kernel of 6.2 to 6.7 reads entries and removes them by older requests. Lists are inherited there too. All entries go if the bridge
+    begins to filter VLANs."""
+    with Fabric(4, 1) as fabric:
+        kernel = Kernel(fabric)
+        querier = killed_with_lists(fabric, {**kernel.env, "FAULTY_OLDER": "1"})
+        is_true(querier.status()["faults"]["netlink_refusals"] == 0, f"{querier.errors}")
+        kernel.does(filters=True)
+        querier.until(lambda it: not it["ports"], "VLANs", AGAIN + 20)
+        is_true(not fabric.entries(), f"{fabric.entries()}")
+
+
+CASES = [each_port_inherits_its_list, an_older_kernel, the_clock_jumps, sockets_without_room, a_bridge_filters_vlans, full_queues_and_lost_notifications, malformed_frames, others_change_it]
 CASES.append(nft_runs_after_changes_only)

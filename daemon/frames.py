@@ -47,23 +47,39 @@ def mld_frame(source, destination, message, hop_limit=1, alert=True, fragment=No
     return padded(mac + bytes.fromhex("020000000007 86dd") + header + options + message)
 
 
-def report_frame(family, kind, group, sources):
-    """Returns a Report of one record, of IGMPv3 (RFC 3376 section 4.2) or MLDv2 (RFC 3810 section 5.2)."""
-    record = struct.pack(">BBH", kind, 0, len(sources)) + ipaddress.ip_address(group).packed
-    body = struct.pack(">HHHH", 0, 0, 0, 1) + record + b"".join(ipaddress.ip_address(it).packed for it in sources)
+def report_of(family, records, host=7):
+    """Returns a Report of IGMPv3 (RFC 3376 section 4.2) or MLDv2 (RFC 3810 section 5.2), from a host by its number. A record is
+    (type, group, sources), and may have auxiliary data: words of four bytes."""
+    body = struct.pack(">HHHH", 0, 0, 0, len(records))
+    for kind, group, sources, *words in records:
+        body += struct.pack(">BBH", kind, sum(words), len(sources)) + ipaddress.ip_address(group).packed
+        body += b"".join(ipaddress.ip_address(it).packed for it in sources) + bytes(4 * sum(words))
     if family == "igmp":
-        return igmp_frame("10.0.0.7", "224.0.0.22", summed(b"\x22" + body[1:]))
-    return mld_frame("fe80::7", "ff02::16", b"\x8f" + body[1:])
+        return igmp_frame(f"10.0.0.{host}", "224.0.0.22", summed(b"\x22" + body[1:]))
+    return mld_frame(f"fe80::{host:x}", "ff02::16", b"\x8f" + body[1:])
 
 
-def data_frame(source, group):
-    """Returns a datagram of UDP without data, from port 9 to port 9."""
-    source, group = ipaddress.ip_address(source), ipaddress.ip_address(group)
+def report_frame(family, kind, group, sources):
+    """Returns a Report of one record."""
+    return report_of(family, [(kind, group, sources)])
+
+
+def older_frame(family, group, host=7):
+    """Returns a Report of IGMPv2 or MLDv1."""
+    packed = ipaddress.ip_address(group).packed
+    if family == "igmp":
+        return igmp_frame(f"10.0.0.{host}", group, summed(b"\x16\0\0\0" + packed))
+    return mld_frame(f"fe80::{host:x}", group, b"\x83" + bytes(7) + packed)
+
+
+def data_frame(source, group, data=b""):
+    """Returns a datagram of UDP, from port 9 to port 9."""
+    source, group, length = ipaddress.ip_address(source), ipaddress.ip_address(group), 8 + len(data)
     if group.version == 4:
-        header = struct.pack(">BBHHHBBH", 0x45, 0, 28, 0, 0, 4, 17, 0) + source.packed + group.packed
+        header = struct.pack(">BBHHHBBH", 0x45, 0, 20 + length, 0, 0, 4, 17, 0) + source.packed + group.packed
         header = header[:10] + struct.pack(">H", checksum(header)) + header[12:]
         mac = b"\x01\x00\x5e" + bytes([group.packed[1] & 0x7F]) + group.packed[2:] + bytes.fromhex("020000000007 0800")
     else:
-        header = struct.pack(">IHBB", 6 << 28, 8, 17, 4) + source.packed + group.packed
+        header = struct.pack(">IHBB", 6 << 28, length, 17, 4) + source.packed + group.packed
         mac = b"\x33\x33" + group.packed[12:] + bytes.fromhex("020000000007 86dd")
-    return mac + header + bytes.fromhex("0009000900080000")
+    return mac + header + struct.pack(">HHHH", 9, 9, length, 0) + data

@@ -20,6 +20,8 @@ struct keeper {
 
 /* Allocates the rows for a link with at most `groups` groups, unless they are allocated. Returns false if that fails. */
 bool keeper_open(struct keeper *keeper, size_t groups);
+/* Forgets all entries. The kernel removes them, or they are removed already. */
+void keeper_forget(struct keeper *keeper, const struct place *place);
 /* Makes the present entries inherited: until `settles`, none is removed or made narrower. The kernel's are inherited too if it learns
    no new ones. */
 void keeper_begin(struct keeper *keeper, uint64_t settles, bool inherits_others);

@@ -181,6 +181,7 @@ void loop_run(struct querier *querier, int count, char **words) {
         querier_hear(querier, now); /* before ticks: a Report that is read late still counts */
         querier_tick(querier, now);
         look_around(querier, now);
+        mdb_restore();
         if (is_asked && querier->options->is_interface) {
             querier_tick_all(querier, now);
             link_print_state(&querier->ports->served[!querier->options->serves[false]].link, now, stdout);

@@ -7,9 +7,11 @@ import socket
 import time
 
 from fabric import FAMILIES, PROTOCOL, Fabric, Host, Stream, inside, run, waiting
+from frames import report_frame
 from lab import GROUPS, SOURCES, ip, is_true
 
 PAUSE = 3  # seconds without a querier
+IS_IN, IS_EX, ALLOW, BLOCK = 1, 2, 5, 6
 
 
 def snooping(fabric, querier):
@@ -213,5 +215,37 @@ def the_tree_moves_elsewhere():
     the_tree_moves("br0")
 
 
-CASES = [a_slow_start, restarts_where_the_kernel_asks, restarts_where_the_kernel_floods, the_tree_moves_here, the_tree_moves_elsewhere]
+def a_source_goes():
+    """A port's list of sources changes, its entry goes, and a port leaves the bridge. Each time the kernel forgets that ports with
+    EXCLUDE entries get these sources, until their entries are made again. They miss nothing."""
+    with Fabric(6, 1) as fabric:
+        querier = fabric.querier("--qi", "20")
+        querier.settled()
+        for family in FAMILIES:
+            one, other, group = *SOURCES[family], GROUPS[family]
+
+            def put(number, kind, *sources, to=group, of=family):
+                fabric.hosts[f"b0h{number}"].put(report_frame(of, kind, to, sources))
+
+            def gets(its, others, cases=((one, group), (other, group))):
+                wanted = {case: {f"b0h{number}" for number in numbers} for case, numbers in zip(cases, (its, others))}
+                fabric.gets("b0h6", wanted, 25)
+
+            for number, kind, *sources in ((1, IS_IN, one), (2, IS_IN, one), (3, IS_EX), (4, IS_EX, one)):
+                put(number, kind, *sources)
+            gets((1, 2, 3), (3, 4))
+            put(4, ALLOW, one)
+            put(4, BLOCK, other)
+            gets((1, 2, 3, 4), (3,))
+            put(1, BLOCK, one)
+            gets((2, 3, 4), (3,))
+            put(5, IS_IN, one, other)
+            gets((2, 3, 4, 5), (3, 5))
+            ip("-n", fabric.near, "link", "set", "b0p5", "nomaster")
+            gets((2, 3, 4), (3,))
+            ip("-n", fabric.near, "link", "set", "b0p5", "master", "br0")
+        is_true(not querier.errors, f"{querier.errors}")
+
+
+CASES = [a_source_goes, a_slow_start, restarts_where_the_kernel_asks, restarts_where_the_kernel_floods, the_tree_moves_here, the_tree_moves_elsewhere]
 CASES += [without_an_address_where_the_kernel_asks, without_an_address_where_the_kernel_floods, without_ipv6]

@@ -3,6 +3,7 @@
 
 #include "faults.h"
 #include "netlink.h"
+#include "ring.h"
 #include "text.h"
 
 #include <arpa/inet.h>
@@ -26,7 +27,14 @@ enum { BESIDE_SOURCES = 2, BESIDE_MODE = 3, BESIDE_PROTOCOL = 4, LISTED_SOURCE =
 enum { PROTOCOL_IGMP = 211, PROTOCOL_MLD = 212 };
 /* No program has this number: removing its entries changes nothing. */
 enum { PROTOCOL_NOBODY = 213 };
+/* The most entries that one dump finds to be removed. */
+enum { FOUND = 256 };
+/* The most groups that wait for `mdb_restore`. */
+enum { LOST = 256 };
 const struct filter filter_of_all = {.mode = MODE_EXCLUDE};
+/* The kernel is one of 6.2 to 6.7. It lacks the request that removes all entries of a maker, and before 6.7 also that which
+   reads an entry. Dumps serve there. */
+static bool is_older;
 
 static uint8_t own_protocol(const struct place *place) {
     return place->is_mld ? PROTOCOL_MLD : PROTOCOL_IGMP;
@@ -101,16 +109,57 @@ void mdb_try(int netlink, int bridge, const char *name) {
     size_t beside = request_begin_nest(&request, MDBA_SET_ENTRY_ATTRS);
     request_put(&request, BESIDE_PROTOCOL, &protocol, sizeof protocol);
     request_end_nest(&request, beside);
-    if (netlink_ask(netlink, &request, &answer) == 0)
+    int error = netlink_ask(netlink, &request, &answer);
+    bool is_too_old = is_kernel_before(6, 2);
+    is_older = error == EOPNOTSUPP && !is_too_old && is_kernel_before(6, 8); /* the capability is tested before */
+    if (error == 0 || is_older)
         return;
     char why[LONGEST_WHY + 64];
-    snprintf(why, sizeof why, "%s%s", answer.why, is_kernel_before(6, 8) ? "; a bridge needs Linux 6.8 or later" : "");
+    snprintf(why, sizeof why, "%s%s", answer.why, is_too_old ? "; a bridge needs Linux 6.2 or later" : "");
     fail(STATUS_FAILED, name, why);
+}
+
+/* Our entries in one place, of all VLANs if its VLAN is 0: as many as there is room for. */
+struct found {
+    const struct place *place;
+    size_t count;
+    uint16_t vlans[FOUND];
+    uint8_t groups[FOUND][LONG_ADDRESS];
+};
+
+static void find_own(void *context, const struct entry *entry) {
+    struct found *found = context;
+    const struct place *its = found->place;
+    bool is_there = entry->port == its->port && entry->is_mld == its->is_mld && (its->vlan == 0 || entry->vlan == its->vlan);
+    if (!is_there || entry->maker != MAKER_US || found->count == FOUND)
+        return;
+    found->vlans[found->count] = entry->vlan;
+    memcpy(found->groups[found->count++], entry->group, LONG_ADDRESS);
+}
+
+/* Removes our entries one by one. */
+static void remove_each(const struct place *place) {
+    static struct found found;
+    bool is_done = true;
+    do {
+        found.place = place;
+        found.count = 0;
+        is_done = mdb_dump(place->netlink, find_own, &found);
+        for (size_t at = 0; at < found.count; at++) {
+            struct place its = *place;
+            its.vlan = found.vlans[at];
+            is_done &= mdb_remove(&its, found.groups[at]);
+        }
+    } while (found.count == FOUND && is_done);
 }
 
 void mdb_remove_all(const struct place *place) {
     struct request request;
     struct answer answer;
+    if (is_older) {
+        remove_each(place);
+        return;
+    }
     begin(place, &request, RTM_DELMDB, NLM_F_BULK, NULL, place->port, 0);
     put_beside(place, &request, NULL);
     int error = netlink_ask(place->netlink, &request, &answer);
@@ -182,29 +231,43 @@ static void read_entries(const uint8_t *at, const uint8_t *end, mdb_each *each, 
 }
 
 struct search {
-    int port;
+    const struct place *place;
+    const uint8_t *group;
     bool is_found;
     struct entry *entry;
 };
 
-static void compare_port(void *context, const struct entry *entry) {
+/* Keeps the entry of a group in a place, with its sources: those of the next entry take their room. */
+static void compare(void *context, const struct entry *entry) {
+    static uint8_t sources[PAGE_SOURCES][LONG_ADDRESS];
     struct search *search = context;
-    if (search->is_found || entry->port != search->port)
+    const struct place *its = search->place;
+    bool is_there = entry->port == its->port && entry->vlan == its->vlan && entry->is_mld == its->is_mld;
+    if (!is_there || memcmp(entry->group, search->group, LONG_ADDRESS) != 0)
         return;
+    memcpy(sources, entry->filter.sources, entry->filter.count * LONG_ADDRESS);
     *search->entry = *entry;
+    search->entry->filter.sources = (const uint8_t(*)[LONG_ADDRESS])sources;
     search->is_found = true;
 }
 
-int mdb_read(const struct place *place, const uint8_t *group, struct entry *entry) {
+/* Passes at least the entries of a group to `each`. Returns 0 or an error of <errno.h>. */
+static int read_group(const struct place *place, const uint8_t *group, mdb_each *each, void *context) {
     struct request request;
     struct answer answer;
-    struct search search = {.port = place->port, .entry = entry};
+    if (is_older)
+        return mdb_dump(place->netlink, each, context) ? 0 : EAGAIN;
     begin(place, &request, RTM_GETMDB, 0, group, 0, 0);
     int error = netlink_ask(place->netlink, &request, &answer);
-    if (error != 0)
-        return error;
-    read_entries(answer.message + NLMSG_ALIGN(sizeof(struct br_port_msg)), answer.message + answer.length, compare_port, &search);
-    return search.is_found ? 0 : ENOENT;
+    if (error == 0)
+        read_entries(answer.message + NLMSG_ALIGN(sizeof(struct br_port_msg)), answer.message + answer.length, each, context);
+    return error;
+}
+
+int mdb_read(const struct place *place, const uint8_t *group, struct entry *entry) {
+    struct search search = {.place = place, .group = group, .entry = entry};
+    int error = read_group(place, group, compare, &search);
+    return error != 0 ? error : search.is_found ? 0 : ENOENT;
 }
 
 struct dump {
@@ -264,6 +327,65 @@ bool mdb_remove(const struct place *place, const uint8_t *group) {
     if (error != 0 && error != ENOENT && error != ENODEV)
         mdb_fault(FAULT_REFUSED, place, group, answer.why);
     return error == 0 || error == ENOENT || error == ENODEV;
+}
+
+/* The groups whose EXCLUDE entries have to be made again, each with a place at any port. */
+static struct lost {
+    struct place place;
+    uint8_t group[LONG_ADDRESS];
+} lost[LOST];
+static size_t lost_count;
+
+void mdb_note_removal(const struct place *place, const uint8_t *group) {
+    for (size_t at = 0; at < lost_count; at++) {
+        const struct place *its = &lost[at].place;
+        bool is_it = its->bridge == place->bridge && its->vlan == place->vlan && its->is_mld == place->is_mld;
+        if (is_it && memcmp(lost[at].group, group, LONG_ADDRESS) == 0)
+            return;
+    }
+    if (lost_count == LOST)
+        mdb_restore();
+    lost[lost_count].place = *place;
+    memcpy(lost[lost_count++].group, group, LONG_ADDRESS);
+}
+
+/* The ports with EXCLUDE entries of a group. */
+struct excluding {
+    const struct lost *lost;
+    size_t count;
+    int ports[GREATEST_PORTS];
+};
+
+static void find_excluding(void *context, const struct entry *entry) {
+    struct excluding *found = context;
+    const struct place *its = &found->lost->place;
+    bool is_its =
+        entry->vlan == its->vlan && entry->is_mld == its->is_mld && memcmp(entry->group, found->lost->group, LONG_ADDRESS) == 0;
+    bool excludes = entry->maker == MAKER_US && !entry->is_temporary && entry->filter.mode == MODE_EXCLUDE;
+    if (is_its && excludes && found->count < GREATEST_PORTS)
+        found->ports[found->count++] = entry->port;
+}
+
+/* Makes the EXCLUDE entries of a group again, as they are. */
+static void restore(const struct lost *one) {
+    static struct excluding found;
+    struct answer answer;
+    struct entry entry;
+    found.lost = one;
+    found.count = 0;
+    read_group(&one->place, one->group, find_excluding, &found);
+    for (size_t at = 0; at < found.count; at++) {
+        struct place place = one->place;
+        place.port = found.ports[at];
+        if (mdb_read(&place, one->group, &entry) == 0 && entry.filter.count <= GREATEST_LIST)
+            put_entry(&place, one->group, &entry.filter, NLM_F_REPLACE, MDB_PERMANENT, &answer);
+    }
+}
+
+void mdb_restore(void) {
+    for (size_t at = 0; at < lost_count; at++)
+        restore(&lost[at]);
+    lost_count = 0;
 }
 
 void mdb_hand_over(const struct place *place, const uint8_t *group, const struct filter *filter) {

@@ -87,6 +87,8 @@ bool querier_equip(struct querier *querier, struct port *port) {
             served->memory = grab(family->link_size, 1);
         if (served->memory == NULL || !keeper_open(&served->keeper, family->configuration.groups))
             return false;
+        if (!querier->options->is_interface && !reported_open(&served->reported, family->configuration.groups))
+            return false;
     }
     return true;
 }
@@ -276,6 +278,7 @@ static void follow(struct querier *querier, struct port *port, bool is_mld, uint
     bool keeps = querier_place(querier, port, is_mld, &place), prints = querier->options->prints_changes;
     size_t count = keeps || prints || querier->route != NULL ? link_changed(&served->link, querier->changed) : 0;
     for (size_t at = 0; at < count; at++) {
+        reported_follow(&served->reported, &served->link, querier->changed[at], now);
         if (prints)
             print_change(querier, port, &served->link, querier->changed[at], filter_of(&served->link, querier->changed[at]), now);
         if (keeps)
@@ -333,6 +336,7 @@ void querier_begin(struct querier *querier, struct port *port, bool is_mld, uint
         route_inherit(querier, port, is_mld);
     uint32_t status = make_link(&querier->families[is_mld], served, configuration, now);
     served->is_on = served->is_first = status == MQ_DONE;
+    served->reported.count = 0;
     memcpy(served->own, port->vlan->own.address[is_mld], sizeof served->own);
     if (!served->is_on)
         fault(FAULT_MISSING, port->bridge->name, mq_status_text(status));
@@ -349,11 +353,16 @@ void querier_begin_all(struct querier *querier, bool is_mld, uint64_t now) {
 }
 
 void querier_forget(struct querier *querier, struct port *port) {
+    struct place place;
     for (int at = 0; at < 2; at++) {
         print_ends(querier, port, &port->served[at], moment());
         port->served[at].is_on = false;
         port->served[at].told = 0;
-        port->served[at].keeper.rows.count = 0;
+        port->served[at].reported.count = 0;
+        if (port->served[at].keeper.rows.count > 0) {
+            querier_place(querier, port, at == 1, &place);
+            keeper_forget(&port->served[at].keeper, &place);
+        }
         set_deadline(querier, port, at == 1);
     }
     if (querier->route != NULL)
@@ -403,6 +412,8 @@ static void hear(struct querier *querier, struct port *port, const struct frame 
     if (querier->options->is_interface)
         print_answer(querier, &port->served[is_mld].link, &datagram, answer, now);
     follow(querier, port, is_mld, now);
+    if (answer.applied > 0)
+        reported_hear(&port->served[is_mld].reported, &datagram);
 }
 
 /* Returns the port that a frame came in at, or NULL. At a bridge that filters VLANs, a frame without a tag or with VLAN 0 is in the

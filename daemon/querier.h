@@ -9,6 +9,7 @@
 #include "link.h"
 #include "netlink.h"
 #include "options.h"
+#include "reported.h"
 #include "ring.h"
 
 #include <net/if.h>
@@ -63,6 +64,7 @@ struct served {
     mq_link link;
     void *memory; /* the memory of `link` */
     struct keeper keeper;
+    struct reported_groups reported; /* for the status; no rows without one */
 };
 
 enum { LONGEST_LABEL = IF_NAMESIZE + 16 };

@@ -34,14 +34,14 @@ static uint64_t left(uint64_t deadline, uint64_t now) {
 }
 
 /* Calls `each` for each group of a link, and returns how many there are. */
-static size_t walk_groups(const mq_link *link, void (*each)(const mq_link *, const mq_group *, size_t, uint64_t, FILE *),
-                          uint64_t now, FILE *to) {
+static size_t walk_groups(const struct served *served,
+                          void (*each)(const struct served *, const mq_group *, size_t, uint64_t, FILE *), uint64_t now, FILE *to) {
     mq_group groups[PAGE_GROUPS];
     size_t first = 0;
     for (size_t count = 1; count > 0; first += count) {
-        count = link_groups(link, first, groups);
+        count = link_groups(&served->link, first, groups);
         for (size_t at = 0; at < count; at++)
-            each(link, &groups[at], first + at, now, to);
+            each(served, &groups[at], first + at, now, to);
     }
     return first;
 }
@@ -75,7 +75,9 @@ static void text_role(const mq_link *link, uint64_t now, FILE *to) {
         fprintf(to, "other querier %s for %" PRIu64 " ms", address_text(link, address), left(until, now));
 }
 
-static void text_group(const mq_link *link, const mq_group *group, size_t number, uint64_t now, FILE *to) {
+static void text_group(const struct served *served, const mq_group *group, size_t number, uint64_t now, FILE *to) {
+    const mq_link *link = &served->link;
+    const struct reported *reported = reported_find(&served->reported, group->address);
     (void)number;
     fprintf(to, "    %s", address_text(link, group->address));
     if (group->deadline == MQ_NONE)
@@ -92,6 +94,8 @@ static void text_group(const mq_link *link, const mq_group *group, size_t number
         fprintf(to, " v1 %" PRIu64 " ms", left(group->v1, now));
     if (group->v2 != MQ_NONE)
         fprintf(to, " v2 %" PRIu64 " ms", left(group->v2, now));
+    if (reported != NULL)
+        fprintf(to, ", held %" PRIu64 " ms, last reporter %s", now - reported->since, address_text(link, reported->reporter));
     putc('\n', to);
 }
 
@@ -110,7 +114,7 @@ static void text_link(const struct port *port, bool is_mld, uint64_t now, FILE *
     counters_of(&served->link, counters);
     for (int at = 0; at < COUNTERS; at++)
         fprintf(to, "%s %" PRIu64 "%s", counter_names[at], counters[at], at + 1 < COUNTERS ? " " : "\n");
-    walk_groups(&served->link, text_group, now, to);
+    walk_groups(served, text_group, now, to);
 }
 
 static void text_timing(const struct querier *querier, FILE *to) {
@@ -196,12 +200,17 @@ static void json_moment(const char *name, uint64_t deadline, uint64_t now, FILE 
         fprintf(to, ",\"%s\":%" PRIu64, name, left(deadline, now));
 }
 
-static void json_group(const mq_link *link, const mq_group *group, size_t number, uint64_t now, FILE *to) {
+static void json_group(const struct served *served, const mq_group *group, size_t number, uint64_t now, FILE *to) {
+    const mq_link *link = &served->link;
+    const struct reported *reported = reported_find(&served->reported, group->address);
     fprintf(to, "%s\n{\"group\":\"%s\",\"mode\":\"%s\"", number > 0 ? "," : "", address_text(link, group->address),
             group->deadline == MQ_NONE ? "include" : "exclude");
     json_moment("left", group->deadline, now, to);
     json_moment("v1", group->v1, now, to);
     json_moment("v2", group->v2, now, to);
+    if (reported != NULL)
+        fprintf(to, ",\"held\":%" PRIu64 ",\"last_reporter\":\"%s\"", now - reported->since,
+                address_text(link, reported->reporter));
     fputs(",\"sources\":[", to);
     for (size_t at = 0; at < group->count; at++) {
         fprintf(to, "%s{\"source\":\"%s\"", at > 0 ? "," : "", address_text(link, group->sources[at].address));
@@ -229,7 +238,7 @@ static void json_link(const struct port *port, bool is_mld, uint64_t now, FILE *
         for (int at = 0; at < COUNTERS; at++)
             fprintf(to, ",\"%s\":%" PRIu64, counter_names[at], counters[at]);
         fputs(",\"groups\":[", to);
-        walk_groups(&served->link, json_group, now, to);
+        walk_groups(served, json_group, now, to);
         putc(']', to);
     }
     putc('}', to);
@@ -276,8 +285,8 @@ static void report_json(const struct querier *querier, const struct bridge *brid
     fputs("}\n", to);
 }
 
-static void count_group(const mq_link *link, const mq_group *group, size_t number, uint64_t now, FILE *to) {
-    (void)link, (void)group, (void)number, (void)now, (void)to;
+static void count_group(const struct served *served, const mq_group *group, size_t number, uint64_t now, FILE *to) {
+    (void)served, (void)group, (void)number, (void)now, (void)to;
 }
 
 /* The gauges of a link, after its counters. */
@@ -286,7 +295,7 @@ enum { GROUPS = COUNTERS, ENTRIES, IS_QUERIER, METRICS };
 static uint64_t metric_of(const struct served *served, int which, FILE *to) {
     uint64_t counters[COUNTERS];
     switch (which) {
-    case GROUPS: return walk_groups(&served->link, count_group, 0, to);
+    case GROUPS: return walk_groups(served, count_group, 0, to);
     case ENTRIES: return served->keeper.rows.count;
     case IS_QUERIER: return mq_link_is_querier(&served->link);
     default: counters_of(&served->link, counters); return counters[which];

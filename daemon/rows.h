@@ -14,6 +14,7 @@ struct row {
     bool is_seen;      /* the last dump had the entry */
     bool is_right;     /* the dump had it with the link's filter */
     bool is_temporary; /* the dump had it as temporary */
+    bool has_sources;  /* the entry may list sources */
 };
 
 struct rows {
@@ -21,6 +22,8 @@ struct rows {
     size_t count, room;
 };
 
+/* Returns the number of the first item that isn't below a group. Each item begins with its group, and has `size` bytes. */
+size_t rows_place(const void *all, size_t size, size_t count, const uint8_t *group);
 /* Returns the row of a group, or NULL. */
 struct row *rows_find(const struct rows *rows, const uint8_t *group);
 /* Returns the row of a group, after making it if it is missing. Returns NULL if there is no room. */

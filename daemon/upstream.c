@@ -52,17 +52,8 @@ static struct upstream *upstream_of(const struct querier *querier, const struct 
     return upstreams + 2 * (size_t)(port - querier->ports) + is_mld;
 }
 
-/* Returns the first group that isn't below this one. */
 static struct told *place_of(const struct upstream *it, const uint8_t *group) {
-    size_t first = 0, last = it->count;
-    while (first < last) {
-        size_t middle = first + (last - first) / 2;
-        if (memcmp(it->all[middle].group, group, LONG_ADDRESS) < 0)
-            first = middle + 1;
-        else
-            last = middle;
-    }
-    return it->all + first;
+    return it->all + rows_place(it->all, sizeof *it->all, it->count, group);
 }
 
 static struct told *find(const struct upstream *it, const uint8_t *group) {

@@ -1,5 +1,5 @@
-/* A kernel with faults, for tests: its sockets have no room, its bridges filter VLANs, its clock jumps. LD_PRELOAD loads this file
-   into mquerier-live. The file that FAULTY names has its orders. */
+/* A kernel with faults, for tests: its sockets have no room, its bridges filter VLANs, its clock jumps, it lacks newer requests.
+   LD_PRELOAD loads this file into mquerier-live. The file that FAULTY names has its orders. */
 #define _GNU_SOURCE
 #include <dlfcn.h>
 #include <errno.h>
@@ -9,8 +9,10 @@
 #include <stdbool.h>
 #include <stdint.h>
 #include <stdlib.h>
+#include <string.h>
 #include <sys/mman.h>
 #include <sys/socket.h>
+#include <sys/utsname.h>
 #include <time.h>
 #include <unistd.h>
 
@@ -53,8 +55,31 @@ int socket(int family, int type, int protocol) {
     return BEHIND(socket)(family, type, protocol);
 }
 
+enum { UNKNOWN_TYPE = 0xfff0 };
+
+/* Gives a request that kernels of 6.2 to 6.7 lack a type that no kernel knows. */
+static void forget_type(struct nlmsghdr *request) {
+    bool reads_one = request->nlmsg_type == RTM_GETMDB && !(request->nlmsg_flags & NLM_F_DUMP);
+    bool removes_all = request->nlmsg_type == RTM_DELMDB && (request->nlmsg_flags & NLM_F_BULK);
+    if (reads_one || removes_all)
+        request->nlmsg_type = UNKNOWN_TYPE;
+}
+
+int uname(struct utsname *kernel) {
+    int status = BEHIND(uname)(kernel);
+    if (status == 0 && getenv("FAULTY_OLDER") != NULL)
+        strcpy(kernel->release, "6.6.100");
+    return status;
+}
+
 ssize_t send(int to, const void *bytes, size_t length, int flags) {
     static uint32_t calls;
+    char request[4096] __attribute__((aligned(NLMSG_ALIGNTO)));
+    if (getenv("FAULTY_OLDER") != NULL && length >= NLMSG_HDRLEN && length <= sizeof request) {
+        memcpy(request, bytes, length);
+        forget_type((struct nlmsghdr *)(void *)request);
+        bytes = request;
+    }
     return fails(&calls) ? -1 : BEHIND(send)(to, bytes, length, flags);
 }
 

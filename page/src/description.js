@@ -82,18 +82,27 @@ function wantedWords(family, message) {
   return { what: `Query that is wanted for ${subjectOf(family, message)}${s ? ", with S set" : ""}`, section: cited(family, sections[family]) };
 }
 
+// A value of a finding as in its line.
+const valueWord = (value) => (typeof value === "boolean" ? Number(value) : value);
+
+function headerWords(field, seen, wanted) {
+  if (seen === null) return "";
+  return field === "alert" ? ` ${seen}` : ` ${seen}, wanted ${wanted}`;
+}
+
 const FINDINGS = {
   missing: ({ subject }) => `missing ${subject}`,
   extra: ({ subject }) => `extra ${subject}`,
-  differs: ({ subject, field, seen, wanted }) => `differs ${subject}: ${field} ${seen}, wanted ${wanted}`,
+  differs: ({ subject, field, seen, wanted }) => `differs ${subject}: ${field === "destination" ? "to" : field} ${seen}, wanted ${wanted}`,
   interval: ({ seen, wanted }) => `general queries ${seen} ms apart, wanted ${wanted}`,
   silence: ({ seen, wanted }) => `no general query for ${seen} ms, wanted ${wanted}`,
-  header: ({ packet, field, seen, wanted }) => `packet ${packet}: ${field}${seen === null ? "" : ` ${seen}, wanted ${wanted}`}`,
+  header: ({ packet, field, seen, wanted }) => `packet ${packet}: ${field}${headerWords(field, seen, wanted)}`,
 };
 
 function findingWords(family, it) {
   const subject = it.source === null ? it.group : `${it.group} ${it.source}`;
-  return { what: `Finding: ${FINDINGS[it.finding]({ ...it, subject })}`, section: cited(family, it.sections.join(", ")) };
+  const [seen, wanted] = [it.seen, it.wanted].map(valueWord);
+  return { what: `Finding: ${FINDINGS[it.finding]({ ...it, subject, seen, wanted })}`, section: cited(family, it.sections.join(", ")) };
 }
 
 // A group at the end of a replay.

@@ -67,8 +67,20 @@ def gates(top):
     tries_edits_beside(top)
 
 
+# Tries edits until a command after `rt ci` ran.
+GOES_ON = """#!/usr/bin/env python3
+import os, sys, time
+is_well, until = sys.argv[1] == "--fit", time.monotonic() + 20
+while not is_well and time.monotonic() < until:
+    time.sleep(0.1)
+    is_well = "tools/links" in open("runs").read() and os.sched_getscheduler(0) == os.SCHED_IDLE
+print("2 passed, 0 failed" if is_well else "0 passed, 2 failed")
+sys.exit(0 if is_well else 1)
+"""
+
+
 def tries_edits_beside(top):
-    """Tries edits while `rt ci` runs: the gate counts them, they know its process, and they end if it fails."""
+    """Tries edits from the start of `rt ci` on, beside later commands. The gate counts them, they know its process, and they end if it fails."""
     stand_in(top, "tools/wrong-bodies", True)
     put(f"{top}/tools/wrong-bodies", '#!/bin/sh\n[ "$1" = --fit ] || echo "beside $*" >> ' + f"{top}/runs\necho 2 passed, 0 failed\n", 0o755)
     put(f"{top}/runs", "")
@@ -77,6 +89,10 @@ def tries_edits_beside(top):
     count = lambda it: int(it[1].split()[0])
     want((both[0], count(both)) == (0, count(alone) + 2), "the edits beside the proofs are not counted", printed)
     want(taken(f"{top}/runs").count("beside --drawn HEAD ") == 1, "edits are tried once, beside `rt ci`", taken(f"{top}/runs"))
+    put(f"{top}/runs", "")
+    put(f"{top}/tools/wrong-bodies", GOES_ON, 0o755)
+    both, printed = gate(top, "test", "drawn")
+    want((both[0], count(both)) == (0, count(alone) + 2), "edits hold up the commands after `rt ci`, or take their processors", printed)
     put(f"{top}/status", "1")
     put(f"{top}/said", "6 passed, 1 failed\n")
     put(f"{top}/tools/wrong-bodies", '#!/bin/sh\n[ "$1" = --fit ] || sleep 30\necho 2 passed, 0 failed\n', 0o755)
