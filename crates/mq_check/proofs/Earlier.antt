@@ -1,6 +1,6 @@
 -- Schedules from before the capture, in the terms of the code.
-use Rattle.std.proofs.Common.{◌≡◌, ℕ, ◌-◌, false, ap, sym, ◌∙◌}
-use Rattle.std.specs.Prelude.{Option, None}
+use Rattle.std.proofs.Common.{◌≡◌, ℕ, ◌-◌, false, ap, ◌∙◌}
+use Rattle.std.specs.Prelude.{Option}
 use Rattle.mq_check.specs.declared.asked.Asked.{Asked}
 use Rattle.mq_check.specs.declared.entry.Entry.{Entry}
 use Rattle.mq_check.specs.declared.entry.Entry.TheVariants.{Wanted}
@@ -30,12 +30,6 @@ next_dropped asked terms viewed old rest same is drops =
     let here : record viewed { next = rest } ≡ without_next asked viewed =
     λ i. record viewed { next = (drops ∙ ap (λ (t : Option (Terms ℕ)). dropped t asked viewed.next) is) i } in
     here ∙ ap (without_next asked) same
-
-pub none_dropped : (asked : Asked ℕ) (terms : Option (Terms ℕ)) (viewed old : SchedulesValue)
-    → viewed ≡ old → terms ≡ terms_of (next_in asked viewed) → terms ≡ None → viewed ≡ without_next asked old
-unfolding without_next
-none_dropped asked terms viewed old same is none = next_dropped asked terms viewed old viewed.next same is
-    (sym (ap (λ (t : Option (Terms ℕ)). dropped t asked viewed.next) none))
 
 pub went_on : (moment : ℕ) (seen terms : Terms ℕ) (asked : Asked ℕ) (left due : ℕ) (next : Option (Entry ℕ))
     (viewed old left_out new : SchedulesValue)

@@ -1,3 +1,4 @@
+pub mod Alike
 pub mod Announcing
 pub mod Bases
 pub mod CheckedOver
@@ -8,6 +9,7 @@ pub mod Entering
 pub mod Excusing
 pub mod LinkedSlots
 pub mod MarkedEntries
+pub mod Refreshing
 pub mod Repeating
 pub mod Rooms
 pub mod Scheduling

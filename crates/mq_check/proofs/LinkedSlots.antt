@@ -1,7 +1,7 @@
 -- How the entries of one slot stay linked.
 use Rattle.std.proofs.Common.{◌≡◌, ◌⊎◌, inl, inr, ℕ, ◌+◌, ◌-◌, ◌^◌, ◌<◌, ◌≤◌, List, [], ◌∷◌, ◌++◌, length, drop, set, get_or, refl, ap, sym, subst, ◌∙◌, arith}
 use Rattle.std.specs.Prelude.{replicate, min}
-use Rattle.std.proofs.lemmas.List.{get_or-set_same, get_or-set_other, length-set, get_or-replicate, get_or_past, length-replicate, length_push}
+use Rattle.std.proofs.lemmas.List.{get_or-set_same, get_or-set_other, get_or-replicate, get_or_past, length-replicate, length_push}
 use Rattle.std.proofs.lemmas.List.{get_or_push, get_or_append_left, length-drop}
 use Rattle.std.proofs.lemmas.Grind.{get_or_after_one}
 use Rattle.std.proofs.lemmas.Bool.{cases_eq, cases_lt}
@@ -87,24 +87,6 @@ reaches_popped slots nexts starts nears base next place are are_too small is bef
       let alike : get_or slots (1 + i) 0 ≡ get_or slots (1 + place) 0 = sym (get_or_after_one slots i 0) ∙ same ∙ get_or_after_one slots place 0 in
       omega (arith, get_or_after_one nexts i 0, before.links (1 + i) (omega (arith, earlier)) alike, are.fit (1 + i));
 }
-
--- a start of a slot goes on from the entry at a place to where that leads
--- an entry leads to where a later one led
--- the near start of a slot is moved
-pub closed_there : (nexts : List ℕ) (last next number : ℕ) → last < length nexts → next ≡ get_or nexts last 0 →
-    IsClosed nexts (set nexts last (min next number)) last number
-closed_there nexts last next number within is = record {
-  long = length-set nexts last (min next number);
-  lower = λ i. elim (cases_eq i last) [
-    | inl same ↦ subst (λ (k : ℕ). get_or (set nexts last (min next number)) k 0 ≤ get_or nexts k 0) (sym same)
-        (omega (arith, get_or-set_same nexts last (min next number) 0 within, is))
-    | inr other ↦ omega (arith, get_or-set_other nexts last i (min next number) 0 other)
-  ];
-  here = λ inside. omega (arith, get_or-set_same nexts last (min next number) 0 within);
-}
-
-pub closed_nowhere : (nexts : List ℕ) (last number : ℕ) → length nexts ≤ last → IsClosed nexts nexts last number
-closed_nowhere nexts last number beyond = record { long = refl; lower = λ i. omega arith; here = λ inside. absurd (omega arith) }
 
 -- a link of the slot isn't beyond the entry that is put behind the others
 led_up_to : (slots nexts more lasts : List ℕ) (base slot number last i : ℕ) → AreLinked slots nexts lasts base → length nexts ≡ length slots

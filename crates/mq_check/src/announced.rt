@@ -1,6 +1,6 @@
 //! The variables that the queries of a capture announce.
 
-ghost use Rattle.std.specs.Prelude.{◌≡◌, ◌≤◌, length, None, Some, Err};
+ghost use Rattle.std.specs.Prelude.{◌≡◌, ◌≤◌, length, None, Some, Err, ⊤};
 ghost use Rattle.mq_arena.specs.Vectors.{Takes, bytes_for};
 ghost use Rattle.mq_pcap.specs.Capture.{most_bytes};
 ghost use Rattle.mq_pcap.specs.Filling.{input_of};
@@ -26,7 +26,6 @@ use std::io::Read;
 /// The variables that a querier announces in its queries. A variable is None if no query has it, or if it is 0: then
 /// its default holds (RFC 3376 sections 4.1.6 and 4.1.7, RFC 3810 sections 5.1.8 and 5.1.9). If the code of an interval
 /// stands for several, the times between queries show the interval.
-#[derive(Clone, Copy)]
 pub struct Announced<K: WireKey> {
     /// The querier's address: the lowest source of general queries, which is elected.
     pub querier: K,
@@ -41,6 +40,18 @@ pub struct Announced<K: WireKey> {
     /// The lowest other source of general queries, if there is one.
     pub beside: Option<K>,
 }
+
+impl<K: WireKey> Clone for Announced<K> {
+    ghost is_clone = { λ x y. y ≡ x };
+
+    ghost is_infallible = { λ _. ⊤ };
+
+    fn clone(&self) -> Result<Self, AllocError> {
+        Ok(*self)
+    }
+}
+
+impl<K: WireKey> Copy for Announced<K> {}
 
 /// Returns what the querier of a capture announces, if the capture has a general query of the family.
 ///

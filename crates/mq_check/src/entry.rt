@@ -1,18 +1,18 @@
 //! Pending entries.
 
-ghost use Rattle.std.specs.Prelude.{◌≡◌};
+ghost use Rattle.std.specs.Prelude.{◌≡◌, ⊤};
 ghost use Rattle.mq_check.specs.Entries as spec;
 ghost use Rattle.mq_check.specs.Numbered.{numbered_entry, numbered_terms, numbered_terms_if, numbered_unpaired};
 
 use crate::asked::Asked;
 use crate::finding::ExtraReason;
 use crate::headers::HeaderFault;
-use crate::terms::Terms;
+use crate::terms::{Terms, with_right_s};
 use mq_count::Moment;
 use mq_wire::WireKey;
+use std::alloc::AllocError;
 
 /// A pending entry. It expires when more than the tolerance has passed since its moment.
-#[derive(Clone, Copy)]
 pub enum Entry<K: WireKey> {
     /// A wanted query: its moment, subject, terms and need, and whether it has a partner.
     Wanted(Moment, Asked<K>, Terms<K>, Need, bool),
@@ -26,6 +26,18 @@ pub enum Entry<K: WireKey> {
     Packet(Moment, u64, HeaderFault),
 }
 
+impl<K: WireKey> Clone for Entry<K> {
+    ghost is_clone = { λ x y. y ≡ x };
+
+    ghost is_infallible = { λ _. ⊤ };
+
+    fn clone(&self) -> Result<Self, AllocError> {
+        Ok(*self)
+    }
+}
+
+impl<K: WireKey> Copy for Entry<K> {}
+
 /// The need of a wanted query.
 #[derive(Clone, Copy)]
 pub enum Need {
@@ -38,7 +50,6 @@ pub enum Need {
 }
 
 /// The verdict on a seen query that finds no partner.
-#[derive(Clone, Copy)]
 pub enum Unpaired<K: WireKey> {
     /// An extra query, and the reason.
     Extra(ExtraReason),
@@ -49,6 +60,18 @@ pub enum Unpaired<K: WireKey> {
     /// A query that is still to come in a schedule from before the capture: the number of queries from it on.
     Next(u32),
 }
+
+impl<K: WireKey> Clone for Unpaired<K> {
+    ghost is_clone = { λ x y. y ≡ x };
+
+    ghost is_infallible = { λ _. ⊤ };
+
+    fn clone(&self) -> Result<Self, AllocError> {
+        Ok(*self)
+    }
+}
+
+impl<K: WireKey> Copy for Unpaired<K> {}
 
 impl<K: WireKey> Unpaired<K> {
     /// Returns whether another reading, or a state from before the capture, may explain the query.
@@ -113,6 +136,22 @@ impl<K: WireKey> Entry<K> {
         ensures { numbered_entry K.number result ≡ spec.excused_if may_come (numbered_entry K.number self) }
     {
         if may_come { self.excused() } else { self }
+    }
+
+    /// Returns the entry after a Report. `is_set` is set for a seen query if the Report set the timer of its subject.
+    pub(crate) fn refreshed_if(self, is_set: bool) -> Entry<K>
+        ensures { numbered_entry K.number result ≡ spec.refreshed_if is_set (numbered_entry K.number self) }
+    {
+        match self {
+            Entry::Seen(moment, asked, terms, partner, alone) => Entry::Seen(
+                moment,
+                asked,
+                terms,
+                with_right_s(is_set, terms, partner),
+                alone,
+            ),
+            other => other,
+        }
     }
 
     /// Returns the entry with a partner that has these terms.

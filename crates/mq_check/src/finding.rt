@@ -1,6 +1,6 @@
 //! Findings of a check.
 
-ghost use Rattle.std.specs.Prelude.{◌≡◌};
+ghost use Rattle.std.specs.Prelude.{◌≡◌, ⊤};
 ghost use Rattle.mq_check.specs.FindingLines.{is_possible, packet_in};
 ghost use Rattle.mq_check.specs.Numbered.{numbered_finding};
 
@@ -8,10 +8,10 @@ use crate::asked::Asked;
 use crate::headers::HeaderFault;
 use mq_count::Moment;
 use mq_wire::WireKey;
+use std::alloc::AllocError;
 
 /// A finding of a check. Each but `Silence` has the moment of its query and the number of a packet. It is certain: the
 /// querier is wrong whatever it held, and whatever hosts it had heard, before the capture. The two `Possibly` are not.
-#[derive(Clone, Copy)]
 pub enum Finding<K: WireKey> {
     /// A missing query: it is wanted at this moment, after this packet, and none was seen.
     Missing(Moment, u64, Asked<K>),
@@ -32,6 +32,18 @@ pub enum Finding<K: WireKey> {
     /// A fault in the headers of a query's packet: the number of the packet, and the fault.
     Packet(Moment, u64, HeaderFault),
 }
+
+impl<K: WireKey> Clone for Finding<K> {
+    ghost is_clone = { λ x y. y ≡ x };
+
+    ghost is_infallible = { λ _. ⊤ };
+
+    fn clone(&self) -> Result<Self, AllocError> {
+        Ok(*self)
+    }
+}
+
+impl<K: WireKey> Copy for Finding<K> {}
 
 impl<K: WireKey> Finding<K> {
     /// Returns the number of its packet if its text doesn't have it, and 0 otherwise.
@@ -72,7 +84,6 @@ pub enum ExtraReason {
 }
 
 /// A field of a query that differs: the seen value, then the wanted one.
-#[derive(Clone, Copy)]
 pub enum Difference<K: WireKey> {
     /// The version of the query.
     Version(u8, u8),
@@ -87,3 +98,15 @@ pub enum Difference<K: WireKey> {
     /// The destination.
     Destination(K, K),
 }
+
+impl<K: WireKey> Clone for Difference<K> {
+    ghost is_clone = { λ x y. y ≡ x };
+
+    ghost is_infallible = { λ _. ⊤ };
+
+    fn clone(&self) -> Result<Self, AllocError> {
+        Ok(*self)
+    }
+}
+
+impl<K: WireKey> Copy for Difference<K> {}

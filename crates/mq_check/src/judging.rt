@@ -1,6 +1,6 @@
 //! Findings of entries that are no longer pending.
 
-ghost use Rattle.std.specs.Prelude.{◌≡◌, ◌≤◌, ◌^◌, ◌==◌, [], ◌∷◌, IfSome, not};
+ghost use Rattle.std.specs.Prelude.{◌≡◌, ◌≤◌, ◌^◌, ◌==◌, [], ◌∷◌, IfSome, not, ⊤};
 ghost use Rattle.mq_text.specs.Printing.{output_of};
 ghost use Rattle.mq_check.specs.declared.finding.Difference.TheVariants as field;
 ghost use Rattle.mq_check.specs.Entries as spec;
@@ -17,15 +17,27 @@ use mq_lines::LineKey;
 use mq_link::Family;
 use mq_text::LineFault;
 use mq_wire::WireKey;
+use std::alloc::AllocError;
 use std::io::Write;
 
 /// The moment of a seen query, the number of its packet, and its subject.
-#[derive(Clone, Copy)]
 struct SeenAt<K: WireKey> {
     moment: Moment,
     packet: u64,
     asked: Asked<K>,
 }
+
+impl<K: WireKey> Clone for SeenAt<K> {
+    ghost is_clone = { λ x y. y ≡ x };
+
+    ghost is_infallible = { λ _. ⊤ };
+
+    fn clone(&self) -> Result<Self, AllocError> {
+        Ok(*self)
+    }
+}
+
+impl<K: WireKey> Copy for SeenAt<K> {}
 
 /// Returns whether the role changed within the tolerance of a moment.
 fn is_near_change(within: Span, moment: Moment, changed: &Option<Moment>) -> bool

@@ -1,6 +1,6 @@
 //! Queries of the checked router that are seen.
 
-ghost use Rattle.std.specs.Prelude.{◌≡◌, ◌≤◌, ◌^◌, fold, map as list_map};
+ghost use Rattle.std.specs.Prelude.{◌≡◌, ◌≤◌, ◌^◌, fold, map as list_map, ⊤};
 ghost use Rattle.mq_wire.specs.Numbered.{numbered_query};
 ghost use Rattle.mq_check.specs.declared.asked.Asked.TheVariants.{Source};
 ghost use Rattle.mq_check.specs.Checking as spec;
@@ -20,7 +20,7 @@ use crate::headers::{HeaderFault, Headers};
 use crate::schedules::{as_seen, first_of};
 use crate::stamp::Stamp;
 use crate::standing::{Standing, standing_in};
-use crate::terms::{Terms, general_terms, terms_of};
+use crate::terms::{Terms, general_terms, is_suppressed, terms_of, with_right_s};
 use crate::waiting::{Side, Waiting};
 use crate::wanting::{asked_without_sources, is_general, sources_of};
 use mq_count::Moment;
@@ -28,22 +28,44 @@ use mq_lines::LineKey;
 use mq_link::{Family, Link};
 use mq_table::Timing;
 use mq_wire::{Query, Sources, WireKey};
-use std::alloc::Allocator;
+use std::alloc::{AllocError, Allocator};
 
 /// A packet with a query: its stamp, its number, and its destination.
-#[derive(Clone, Copy)]
 pub(crate) struct SeenPacket<K: WireKey> {
     pub(crate) stamp: Stamp,
     pub(crate) number: u64,
     pub(crate) to: K,
 }
 
-/// A seen query: its moment and its terms.
-#[derive(Clone, Copy)]
+impl<K: WireKey> Clone for SeenPacket<K> {
+    ghost is_clone = { λ x y. y ≡ x };
+
+    ghost is_infallible = { λ _. ⊤ };
+
+    fn clone(&self) -> Result<Self, AllocError> {
+        Ok(*self)
+    }
+}
+
+impl<K: WireKey> Copy for SeenPacket<K> {}
+
+/// A seen query: its stamp and its terms.
 struct SeenQuery<K: WireKey> {
-    moment: Moment,
+    stamp: Stamp,
     terms: Terms<K>,
 }
+
+impl<K: WireKey> Clone for SeenQuery<K> {
+    ghost is_clone = { λ x y. y ≡ x };
+
+    ghost is_infallible = { λ _. ⊤ };
+
+    fn clone(&self) -> Result<Self, AllocError> {
+        Ok(*self)
+    }
+}
+
+impl<K: WireKey> Copy for SeenQuery<K> {}
 
 /// Returns the reason why a query is extra that is seen while the router is querier.
 fn reason_of(is_muted: bool) -> ExtraReason
@@ -54,6 +76,13 @@ fn reason_of(is_muted: bool) -> ExtraReason
     } else {
         ExtraReason::NoChange
     }
+}
+
+/// Returns whether S of a seen query is right by the timer of its subject.
+fn is_s_right<K: WireKey>(standing: Standing, terms: &Terms<K>) -> bool
+    ensures { result ≡ spec.is_s_right standing (numbered_terms K.number terms.now) }
+{
+    standing.is_set || is_suppressed(terms.querier) == standing.is_above
 }
 
 /// Returns the verdict on a seen query without a partner. `possible` has the terms of a query that another reading, or a state
@@ -119,8 +148,9 @@ impl<F: Family, A: Allocator> Checking<F, A> {
             caused,
         );
         let either = first_of(partner, next);
+        let found = with_right_s(is_s_right(standing, &terms), terms, either);
         self.waiting
-            .put(Entry::Seen(moment, asked, terms, either, alone));
+            .put(Entry::Seen(moment, asked, terms, found, alone));
     }
 
     /// Returns whether a query for a source shows that no older host mutes the changes of its group, and that isn't known. No
@@ -212,15 +242,14 @@ impl<F: Family, A: Allocator> Checking<F, A> {
         link: &Link<F, A>,
         query: &Query<'_, F::Address>,
     )
-        requires in_range { seen.moment ≤ 2 ^ 53 }
-        ensures { self.new ≡ fold (spec.one_seen seen.moment (numbered_terms F.Address.number seen.terms) (standing_in F.FAMILY link.now.state.groups link.now.state.election.timing seen.moment))
+        ensures { self.new ≡ fold (spec.one_seen seen.stamp (numbered_terms F.Address.number seen.terms) (standing_in F.FAMILY link.now.state.groups link.now.state.election.timing seen.stamp))
             self.old (queries.asked_in (numbered_query F.Address.number query.now)) }
     {
         let sources = sources_of(&query.version);
         if sources.is_empty() {
             let asked = asked_without_sources::<F>(query.group);
-            let standing = standing_in(link, seen.moment, asked);
-            self.see(seen.moment, seen.terms, standing, asked);
+            let standing = standing_in(link, seen.stamp, asked);
+            self.see(seen.stamp.moment(), seen.terms, standing, asked);
             return;
         }
         self.see_sources(seen, link, query.group, sources);
@@ -234,14 +263,13 @@ impl<F: Family, A: Allocator> Checking<F, A> {
         group: F::Address,
         sources: Sources<'_, F::Address>,
     )
-        requires in_range { seen.moment ≤ 2 ^ 53 }
-        ensures { self.new ≡ fold (spec.one_seen seen.moment (numbered_terms F.Address.number seen.terms) (standing_in F.FAMILY link.now.state.groups link.now.state.election.timing seen.moment))
+        ensures { self.new ≡ fold (spec.one_seen seen.stamp (numbered_terms F.Address.number seen.terms) (standing_in F.FAMILY link.now.state.groups link.now.state.election.timing seen.stamp))
             self.old (list_map (Source (F.Address.number group)) sources.entry) }
     {
         for source in sources {
             let asked = Asked::Source(group, source);
-            let standing = standing_in(link, seen.moment, asked);
-            self.see(seen.moment, seen.terms, standing, asked);
+            let standing = standing_in(link, seen.stamp, asked);
+            self.see(seen.stamp.moment(), seen.terms, standing, asked);
         }
     }
 
@@ -289,6 +317,7 @@ impl<F: Family, A: Allocator> Checking<F, A> {
         let standing = Standing {
             is_muted: false,
             is_above: false,
+            is_set: false,
         };
         self.see(stamp.moment(), terms, standing, Asked::AllGroups);
     }
@@ -316,8 +345,7 @@ impl<F: Family, A: Allocator> Checking<F, A> {
         link: &Link<F, A>,
         query: &Query<'_, F::Address>,
     )
-        requires in_range { seen.moment ≤ 2 ^ 53 }
-        ensures { self.new ≡ spec.specific_seen seen.moment (numbered_terms F.Address.number seen.terms) (standing_in F.FAMILY link.now.state.groups link.now.state.election.timing seen.moment)
+        ensures { self.new ≡ spec.specific_seen seen.stamp (numbered_terms F.Address.number seen.terms) (standing_in F.FAMILY link.now.state.groups link.now.state.election.timing seen.stamp)
             (queries.asked_in (numbered_query F.Address.number query.now)) self.old }
     {
         self.see_all(seen, link, query);
@@ -387,7 +415,7 @@ where
             return;
         }
         let seen = SeenQuery {
-            moment: packet.stamp.moment(),
+            stamp: packet.stamp,
             terms,
         };
         self.see_specific(seen, link, query);

@@ -1,6 +1,6 @@
 //! The search for the querier of a capture and its variables.
 
-ghost use Rattle.std.specs.Prelude.{◌≡◌, nat_lt};
+ghost use Rattle.std.specs.Prelude.{◌≡◌, nat_lt, ⊤};
 ghost use Rattle.mq_wire.specs.Numbered.{numbered_query};
 ghost use Rattle.mq_check.specs.Announced as spec;
 ghost use Rattle.mq_check.specs.Numbered.{number_if, numbered_announced_if, numbered_asked_last, numbered_asked_last_if, numbered_sought, numbered_sought_if};
@@ -13,10 +13,10 @@ use crate::wanting::{is_general, sources_of};
 use mq_count::{Key, Meter};
 use mq_lines::LineKey;
 use mq_wire::{Query, QueryVersion, WireKey};
+use std::alloc::AllocError;
 use std::cmp::Ordering;
 
 /// The querier by the packets so far.
-#[derive(Clone, Copy)]
 pub struct Sought<K: WireKey> {
     /// Its address.
     pub querier: K,
@@ -36,8 +36,19 @@ pub struct Sought<K: WireKey> {
     pub asked: Option<AskedLast<K>>,
 }
 
+impl<K: WireKey> Clone for Sought<K> {
+    ghost is_clone = { λ x y. y ≡ x };
+
+    ghost is_infallible = { λ _. ⊤ };
+
+    fn clone(&self) -> Result<Self, AllocError> {
+        Ok(*self)
+    }
+}
+
+impl<K: WireKey> Copy for Sought<K> {}
+
 /// A query for a group or for sources.
-#[derive(Clone, Copy)]
 pub struct AskedLast<K: WireKey> {
     /// The group.
     pub group: K,
@@ -46,6 +57,18 @@ pub struct AskedLast<K: WireKey> {
     /// The milliseconds of the query.
     pub at: u64,
 }
+
+impl<K: WireKey> Clone for AskedLast<K> {
+    ghost is_clone = { λ x y. y ≡ x };
+
+    ghost is_infallible = { λ _. ⊤ };
+
+    fn clone(&self) -> Result<Self, AllocError> {
+        Ok(*self)
+    }
+}
+
+impl<K: WireKey> Copy for AskedLast<K> {}
 
 /// Returns the querier and its variables, if a querier is known.
 pub(crate) fn found_in<K: WireKey>(sought: Option<Sought<K>>) -> Option<Announced<K>>

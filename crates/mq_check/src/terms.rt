@@ -1,11 +1,11 @@
 //! Fields of queries other than their subject.
 
-ghost use Rattle.std.specs.Prelude.{◌≡◌};
+ghost use Rattle.std.specs.Prelude.{◌≡◌, ⊤};
 ghost use Rattle.mq_wire.specs.Numbered.{numbered_query};
 ghost use Rattle.mq_wire.specs.RoundTrip.{interval_lowered};
 ghost use Rattle.mq_lines.specs.Text.{older_version};
 ghost use Rattle.mq_check.specs.Entries as entries;
-ghost use Rattle.mq_check.specs.Numbered.{numbered_terms};
+ghost use Rattle.mq_check.specs.Numbered.{numbered_terms, numbered_terms_if};
 ghost use Rattle.mq_check.specs.Queries as spec;
 
 use crate::checked_family::CheckedFamily;
@@ -13,9 +13,9 @@ use mq_lines::LineKey;
 use mq_link::Config;
 use mq_table::Timing;
 use mq_wire::{OlderVersion, Query, QueryVersion, WireKey};
+use std::alloc::AllocError;
 
 /// The version, the fields and the destination of a query, and its packet.
-#[derive(Clone, Copy)]
 pub struct Terms<K: WireKey> {
     /// The version: 1 to 3 for IGMP, 1 or 2 for MLD.
     pub version: u8,
@@ -29,6 +29,18 @@ pub struct Terms<K: WireKey> {
     /// it, or which started its schedule.
     pub packet: u64,
 }
+
+impl<K: WireKey> Clone for Terms<K> {
+    ghost is_clone = { λ x y. y ≡ x };
+
+    ghost is_infallible = { λ _. ⊤ };
+
+    fn clone(&self) -> Result<Self, AllocError> {
+        Ok(*self)
+    }
+}
+
+impl<K: WireKey> Copy for Terms<K> {}
 
 /// The further fields of an IGMPv3 or MLDv2 query (RFC 3376 sections 4.1.5 to 4.1.7, RFC 3810 sections 5.1.7 to 5.1.9).
 #[derive(Clone, Copy)]
@@ -182,5 +194,26 @@ pub(crate) fn with_s_of<K: WireKey>(seen: &Terms<K>, wanted: &Terms<K>) -> Terms
         querier: with_suppress(is_suppressed(seen.querier), wanted.querier),
         to: wanted.to,
         packet: wanted.packet,
+    }
+}
+
+/// Returns the terms of the partner of a seen query, if it has one. If S of the query is right, the partner has it too.
+pub(crate) fn with_right_s<K: WireKey>(
+    is_right: bool,
+    seen: Terms<K>,
+    partner: Option<Terms<K>>,
+) -> Option<Terms<K>>
+    ensures { numbered_terms_if K.number result
+        ≡ entries.with_right_s is_right (numbered_terms K.number seen) (numbered_terms_if K.number partner) }
+{
+    match partner {
+        Some(wanted) => {
+            if is_right {
+                Some(with_s_of(&seen, &wanted))
+            } else {
+                Some(wanted)
+            }
+        }
+        None => None,
     }
 }

@@ -3,7 +3,7 @@ use Rattle.mq_laws.proofs.Common.{◌≡◌, ℕ, Bool, true, List, [], ◌∷�
 use Rattle.mq_laws.proofs.Common.{Ask, Expected, Sent, LeftOut, all_sent, kept_for, missing_of, sent_but, seen_about, CheckEvent, HasRoom, found_by, AreAhead}
 use Rattle.mq_laws.proofs.Common.{AreInOrder, IsOnTime, IsAsWanted, AreSeen, AreSeenWithin, TakesOut, all_missing, all_seen_in, all_wanted_in, CheckedCapture}
 use Rattle.mq_laws.proofs.Common.{Tells, TellsWhatHappened, ahead_in, end_in, events_in}
-use Rattle.mq_check.specs.{declared.repeated.LastDifferences.LastDifferences, FindingLines.certain_in, FindingLines.possible_in}
+use Rattle.mq_check.specs.{declared.repeated.LastDifferences.LastDifferences, FindingLines.possible_in}
 use Rattle.mq_laws.proofs.{Found.found_is, Moved.moved_as, Moved.all_pair_up, Moved.all_but_some_pair_up, Moved.asks_of-sent, Moved.asks_of-sent_but}
 use Rattle.mq_laws.proofs.{Moved.missing_of-sent, Moved.missing_of-sent_but, Moved.missed-sent, Moved.missed-sent_but}
 
@@ -53,11 +53,6 @@ missing_reported once last (LeftOut ask ∷ xs) =
     ap (λ (l : List (Finding ℕ)). Missing ask.moment ask.terms.packet ask.asked ∷ l) (missing_reported once last xs)
 
 -- no finding is possible if all are missing queries
-pub certain_missing : (xs : List Expected) → certain_in (missing_of xs) ≡ missing_of xs
-certain_missing [] = refl
-certain_missing (Sent ask ∷ xs) = certain_missing xs
-certain_missing (LeftOut ask ∷ xs) = ap (λ (l : List (Finding ℕ)). Missing ask.moment ask.terms.packet ask.asked ∷ l) (certain_missing xs)
-
 pub none_possible : (xs : List Expected) → possible_in (missing_of xs) ≡ []
 none_possible [] = refl
 none_possible (Sent ask ∷ xs) = none_possible xs
