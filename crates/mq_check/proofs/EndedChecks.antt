@@ -147,7 +147,14 @@ ended_open family told mid number c rests found last is additions lasts counts =
     ap (λ (fs : List (Finding ℕ)). counted_by fs told.count) both ∙ counted_more first more told.count ∙ ap (counted_by more) (sym counts) in
     let before = counted_behind told.count c rests all in
     let totals : before ≡ counted_behind mid.count c rests more =
-    λ i. record { general = c.general; specific = c.specific; findings = (counted i).certain; possible = (counted i).possible; basis = rests } in
+    λ i. record {
+      general = c.general;
+      specific = c.specific;
+      findings = (counted i).certain;
+      possible = (counted i).possible;
+      kinds = (counted i).kinds;
+      basis = rests;
+    } in
     rw is (λ i. record {
       text = (ap (λ (fs : List (Finding ℕ)). end_text family told.additions fs before) both ∙ both_texts family told.additions first more before
           ∙ ap (λ (t : Totals). finding_lines family told.additions first ++ end_text family told.additions more t) totals) i;
