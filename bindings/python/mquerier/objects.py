@@ -259,6 +259,29 @@ class PacketCounts:
 
 
 @dataclasses.dataclass(frozen=True)
+class KindCounts:
+    """The numbers of certain findings of each kind."""
+
+    missing: int
+    extra: int
+    differs: int
+    interval: int
+    silence: int
+    header: int
+
+
+@dataclasses.dataclass(frozen=True)
+class Variables:
+    """The variables of a check: the Robustness Variable, the Query Interval in seconds, the Query Response Interval and the Last Member
+    (Last Listener) Query Interval in milliseconds."""
+
+    rv: int
+    qi: int
+    qri: int
+    lmqi: int
+
+
+@dataclasses.dataclass(frozen=True)
 class Summary:
     """The end of a check. `why` is the reason if nothing was judged, as for a mistyped address. `general` and `specific` count the queries
     of the router, `findings` the certain ones, `possible` the others."""
@@ -269,7 +292,9 @@ class Summary:
     specific: int
     findings: int
     possible: int
+    kinds: KindCounts
     querier: Address
+    variables: Variables
     roles: Roles
     packets: PacketCounts
 
@@ -346,7 +371,7 @@ OTHERS = [
     (name, maker(kind))
     for name, kind in (
         ("message", Packet), ("skipped", Skipped), ("finding", Finding), ("timer", HeldSource), ("judged", Summary), ("lost", Roles),
-        ("messages", PacketCounts), ("beside", Taken), ("links", Converted), ("link", LinkType),
+        ("messages", PacketCounts), ("missing", KindCounts), ("beside", Taken), ("rv", Variables), ("links", Converted), ("link", LinkType),
     )
 ]  # fmt: skip
 record_of = maker(Record)

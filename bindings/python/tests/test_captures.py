@@ -2,6 +2,7 @@
 
 import collections
 import concurrent.futures
+import dataclasses
 import glob
 import gzip
 import io
@@ -410,6 +411,9 @@ def test_findings_are_counted():
     *found, summary = mquerier.check(SAMPLE, "10.9.0.1", possible=True, **VARIABLES)
     assert (summary.findings, summary.possible) == (sum(it.certain for it in found), sum(not it.certain for it in found))
     assert summary.findings > 0 and summary.possible > 0
+    certain = collections.Counter(it.finding for it in found if it.certain)
+    assert dataclasses.asdict(summary.kinds) == {kind: certain[kind] for kind in typing.get_args(objects.FindingKind)}
+    assert summary.variables == mquerier.Variables(rv=2, qi=125, qri=2000, lmqi=500)
     assert [it for it in found if it.certain] == [*mquerier.check(SAMPLE, "10.9.0.1", **VARIABLES)][:-1]
     assert str(found[0]) == "999 differs 0.0.0.0 s: True, wanted False, packet 4 (RFC 3376 section 4.1.5)"
 

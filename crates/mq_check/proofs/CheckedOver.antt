@@ -19,14 +19,14 @@ use Rattle.mq_check.specs.declared.finding.Finding.{Finding}
 use Rattle.mq_check.specs.declared.totals.FindingCounts.{FindingCounts}
 use Rattle.mq_check.specs.declared.totals.Totals.{Totals}
 use Rattle.mq_check.specs.Check.{Checked, Outcome, at_the_start, behind, check_of, concluded, ended_at, found_text, looked_ahead, quiet, settled_through}
-use Rattle.mq_check.specs.Check.{basis_at_end, totals_of, with_packet}
+use Rattle.mq_check.specs.Check.{basis_at_end, kinds_of, totals_of, with_packet}
 use Rattle.mq_check.specs.Checking.{CheckingValue, counted_up, told_at_end}
 use Rattle.mq_check.specs.Coming.{CheckState, ChecksPacket, Comes, TakesChecked, checked_in}
 use Rattle.mq_check.specs.Ending.{counted_behind, end_text, ended_behind}
-use Rattle.mq_check.specs.FindingLines.{certain_in, finding_lines, last_lines, possible_in}
+use Rattle.mq_check.specs.FindingLines.{certain_in, finding_lines, last_lines, of_kind, possible_in}
 use Rattle.mq_check.specs.General.{silence_up_to}
 use Rattle.mq_check.specs.Repeated.{all_reported, no_differences, reported, with_findings}
-use Rattle.mq_check.specs.Telling.{FindingWriterState, Tells, counted_by, counted_times, none_counted, nothing_told, reported_by}
+use Rattle.mq_check.specs.Telling.{FindingWriterState, Tells, counted_by, counted_kinds, counted_times, no_kinds, none_counted, nothing_told, reported_by}
 use Rattle.mq_check.proofs.Repeating.{reported_of_both}
 use Rattle.mq_check.proofs.Tellings.{counted_more, lines_of_both, none_told, then_told}
 
@@ -35,13 +35,24 @@ counted_to : (n : ℕ) → counted_times n 0 ≡ min n (2 ^ 64 - 1)
 counted_to zero = refl
 counted_to (suc n) = ap counted_up (counted_to n) ∙ (grind arith)
 
+kinds_to : (found : List (Finding ℕ)) → counted_kinds found no_kinds ≡ kinds_of found
+kinds_to found = λ i. record {
+  missing = counted_to (length (of_kind 1 found)) i;
+  extra = counted_to (length (of_kind 2 found)) i;
+  differs = counted_to (length (of_kind 3 found)) i;
+  interval = counted_to (length (of_kind 4 found)) i;
+  silence = counted_to (length (of_kind 5 found)) i;
+  header = counted_to (length (of_kind 6 found)) i;
+}
+
 totals_are : (c : CheckingValue) (rests : Basis) (found rest : List (Finding ℕ)) (count : FindingCounts) → count ≡ counted_by found none_counted →
     totals_of c rests (found ++ rest) ≡ counted_behind count c rests rest
 totals_are c rests found rest count counts =
     let all = counted_more found rest none_counted ∙ ap (counted_by rest) (sym counts) in
     let findings = sym (counted_to (length (certain_in (found ++ rest)))) ∙ ap (λ (n : FindingCounts). n.certain) all in
     let possible = sym (counted_to (length (possible_in (found ++ rest)))) ∙ ap (λ (n : FindingCounts). n.possible) all in
-    λ i. record { general = c.general; specific = c.specific; findings = findings i; possible = possible i; basis = rests }
+    let kinds = sym (kinds_to (found ++ rest)) ∙ ap (λ (n : FindingCounts). n.kinds) all in
+    λ i. record { general = c.general; specific = c.specific; findings = findings i; possible = possible i; kinds = kinds i; basis = rests }
 
 -- the end of a check behind what was found before
 ended_joined : (config : Configuration) (within : ℕ) (told : FindingWriterState) (moment number : ℕ) (found : List (Finding ℕ)) (r : Checked)

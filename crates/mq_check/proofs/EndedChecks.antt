@@ -75,7 +75,7 @@ all_broken family found old new a b e totals tells = broken_within a.held b.held
 -- what was counted
 pub totals_counted : (general specific : ℕ) (counted count : FindingCounts) (state other checking : CheckingValue) (rests : Basis)
     (found : List (Finding ℕ)) → state ≡ checking → other ≡ checking → general ≡ state.general → specific ≡ other.specific → counted ≡ counted_by found count
-    → record { general = general; specific = specific; findings = counted.certain; possible = counted.possible; basis = rests }
+    → record { general = general; specific = specific; findings = counted.certain; possible = counted.possible; kinds = counted.kinds; basis = rests }
     ≡ counted_behind count checking rests found
 totals_counted general specific counted count state other checking rests found is is_too is_general is_specific counts =
     λ i. record {
@@ -83,6 +83,7 @@ totals_counted general specific counted count state other checking rests found i
       specific = (is_specific ∙ ap (λ (c : CheckingValue). c.specific) is_too) i;
       findings = (counts i).certain;
       possible = (counts i).possible;
+      kinds = (counts i).kinds;
       basis = rests;
     }
 
@@ -146,7 +147,14 @@ ended_open family told mid number c rests found last is additions lasts counts =
     ap (λ (fs : List (Finding ℕ)). counted_by fs told.count) both ∙ counted_more first more told.count ∙ ap (counted_by more) (sym counts) in
     let before = counted_behind told.count c rests all in
     let totals : before ≡ counted_behind mid.count c rests more =
-    λ i. record { general = c.general; specific = c.specific; findings = (counted i).certain; possible = (counted i).possible; basis = rests } in
+    λ i. record {
+      general = c.general;
+      specific = c.specific;
+      findings = (counted i).certain;
+      possible = (counted i).possible;
+      kinds = (counted i).kinds;
+      basis = rests;
+    } in
     rw is (λ i. record {
       text = (ap (λ (fs : List (Finding ℕ)). end_text family told.additions fs before) both ∙ both_texts family told.additions first more before
           ∙ ap (λ (t : Totals). finding_lines family told.additions first ++ end_text family told.additions more t) totals) i;

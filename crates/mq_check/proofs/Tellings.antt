@@ -1,6 +1,6 @@
 -- Findings that were told, one after the other.
 use Rattle.std.proofs.Common.{◌≡◌, ℕ, zero, suc, ◌+◌, Bool, true, false, ◌||◌, List, [], ◌∷◌, ◌++◌, length, Result, Ok, Err, IfOk, is_err, append-nil}
-use Rattle.std.proofs.Common.{length-append, refl, ap, sym, subst, ◌∙◌, arith}
+use Rattle.std.proofs.Common.{filter, length-append, refl, ap, sym, subst, ◌∙◌, arith}
 use Rattle.std.proofs.Math.Bool.{or-false}
 use Rattle.std.proofs.lemmas.Grind.{flat_map-append}
 use Rattle.std.proofs.lemmas.List.{map-append}
@@ -12,14 +12,15 @@ use Rattle.mq_check.specs.declared.asked.Asked.{Asked}
 use Rattle.mq_check.specs.declared.check_terms.Additions.{Additions}
 use Rattle.mq_check.specs.declared.finding.Difference.{Difference}
 use Rattle.mq_check.specs.declared.finding.Finding.{Finding}
-use Rattle.mq_check.specs.declared.finding.Finding.TheVariants.{Differs}
+use Rattle.mq_check.specs.declared.finding.Finding.TheVariants.{Missing, Extra, PossiblyMissing, PossiblyExtra, Differs, Interval, Silence, Packet}
 use Rattle.mq_check.specs.Checking.{counted_up}
 use Rattle.mq_check.specs.Entries.{differ_at}
-use Rattle.mq_check.specs.FindingLines.{certain_in, finding_line, finding_lines, is_certain, is_possible, possible_in}
+use Rattle.mq_check.specs.FindingLines.{finding_line, finding_lines, is_certain, is_kind, is_possible}
 use Rattle.mq_check.specs.declared.repeated.LastDifferences.{LastDifferences}
 use Rattle.mq_check.specs.declared.totals.FindingCounts.{FindingCounts}
+use Rattle.mq_check.specs.declared.totals.KindCounts.{KindCounts}
 use Rattle.mq_check.specs.Repeated.{is_left_out, reported, unless, with_finding, with_findings}
-use Rattle.mq_check.specs.Telling.{FindingWriterState, Tells, counted_by, counted_if, counted_times, reported_by}
+use Rattle.mq_check.specs.Telling.{FindingWriterState, Tells, counted_by, counted_kinds, counted_one, counted_times, reported_by}
 use Rattle.mq_check.proofs.Repeating.{last_of_both, reported_of_both}
 
 -- a count that went up so many times, and then so many more
@@ -49,12 +50,29 @@ both_noted xs ys old mid new (Ok x) first second = second ∙ ap (with_findings 
 both_noted xs ys old mid new (Err e) first second = tt
 
 -- the counts of two lists, one after the other
+more_of : (is_counted : Finding ℕ → Bool) (xs ys : List (Finding ℕ)) (count : ℕ) → counted_times (length (filter is_counted (xs ++ ys))) count
+    ≡ counted_times (length (filter is_counted ys)) (counted_times (length (filter is_counted xs)) count)
+more_of is_counted xs ys count =
+    let first = filter is_counted xs in
+    let more = filter is_counted ys in
+    ap (λ (n : ℕ). counted_times n count) (ap length (filter-append is_counted xs ys) ∙ length-append first more)
+    ∙ times_more (length first) (length more) count
+
+kinds_more : (xs ys : List (Finding ℕ)) (k : KindCounts) → counted_kinds (xs ++ ys) k ≡ counted_kinds ys (counted_kinds xs k)
+kinds_more xs ys k = λ i. record {
+  missing = more_of (is_kind 1) xs ys k.missing i;
+  extra = more_of (is_kind 2) xs ys k.extra i;
+  differs = more_of (is_kind 3) xs ys k.differs i;
+  interval = more_of (is_kind 4) xs ys k.interval i;
+  silence = more_of (is_kind 5) xs ys k.silence i;
+  header = more_of (is_kind 6) xs ys k.header i;
+}
+
 pub counted_more : (xs ys : List (Finding ℕ)) (count : FindingCounts) → counted_by (xs ++ ys) count ≡ counted_by ys (counted_by xs count)
 counted_more xs ys count = λ i. record {
-  certain = (ap (λ (n : ℕ). counted_times n count.certain) (ap length (filter-append is_certain xs ys) ∙ length-append (certain_in xs) (certain_in ys))
-      ∙ times_more (length (certain_in xs)) (length (certain_in ys)) count.certain) i;
-  possible = (ap (λ (n : ℕ). counted_times n count.possible) (ap length (filter-append is_possible xs ys) ∙ length-append (possible_in xs) (possible_in ys))
-      ∙ times_more (length (possible_in xs)) (length (possible_in ys)) count.possible) i;
+  certain = more_of is_certain xs ys count.certain i;
+  possible = more_of is_possible xs ys count.possible i;
+  kinds = kinds_more xs ys count.kinds i;
 }
 
 both_counted : {T E : Type 0} (xs ys all : List (Finding ℕ)) (old mid new : FindingCounts) (r : Result T E) → all ≡ xs ++ ys → mid ≡ counted_by xs old
@@ -105,16 +123,23 @@ noted : {T E : Type 0} (new last : LastDifferences) (r : Result T E) → new ≡
 noted new last (Ok x) is = is
 noted new last (Err e) is = tt
 
-one_counted : {T E : Type 0} (x : Finding ℕ) (old new : FindingCounts) (r : Result T E) → new ≡ counted_if (is_possible x) old →
+counted_alone : (x : Finding ℕ) (old : FindingCounts) → counted_one x old ≡ counted_by (x ∷ []) old
+counted_alone (Missing moment packet asked) old = refl
+counted_alone (Extra moment packet asked reason) old = refl
+counted_alone (PossiblyMissing moment packet asked) old = refl
+counted_alone (PossiblyExtra moment packet asked) old = refl
+counted_alone (Differs moment packet asked difference) old = refl
+counted_alone (Interval moment packet after wanted) old = refl
+counted_alone (Silence moment after wanted) old = refl
+counted_alone (Packet moment number fault) old = refl
+
+one_counted : {T E : Type 0} (x : Finding ℕ) (old new : FindingCounts) (r : Result T E) → new ≡ counted_one x old →
     IfOk r (λ _. new ≡ counted_by (x ∷ []) old)
-one_counted x old new (Ok y) is = elim (is_possible x) as (λ b. is_possible x ≡ b → new ≡ counted_by (x ∷ []) old) [
-  | true ↦ λ same. is ∙ ap (λ (b : Bool). counted_if b old) same ∙ rw same refl
-  | false ↦ λ same. is ∙ ap (λ (b : Bool). counted_if b old) same ∙ rw same refl
-] refl
+one_counted x old new (Ok y) is = is ∙ counted_alone x old
 one_counted x old new (Err e) is = tt
 
 pub one_told : {T E : Type 0} (family : Family) (x : Finding ℕ) (old counted new : FindingWriterState) (a b : OutputState) (r : Result T E) →
-    is_left_out old.additions.once old.last x ≡ false → counted ≡ record old { last = with_finding x old.last; count = counted_if (is_possible x) old.count } →
+    is_left_out old.additions.once old.last x ≡ false → counted ≡ record old { last = with_finding x old.last; count = counted_one x old.count } →
     new.additions ≡ counted.additions → new.last ≡ counted.last → new.count ≡ counted.count
     → Puts a.held b.held counted.held new.held (finding_line family counted.additions x) r →
     b.failed ≡ a.failed || is_err r → Tells family (x ∷ []) old new a b r

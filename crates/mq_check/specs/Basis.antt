@@ -16,6 +16,7 @@ use Rattle.mq_link.specs.Configuration.{Configuration}
 use Rattle.mq_link.specs.Receive.{pseudo_of, read_of}
 use Rattle.mq_replay.specs.Report.{Datagram}
 use Rattle.mq_check.specs.declared.basis.Basis.{Basis}
+use Rattle.mq_check.specs.declared.basis.CheckedVariables.{CheckedVariables}
 use Rattle.mq_check.specs.declared.querier_address.QuerierAddress.{QuerierAddress}
 use Rattle.mq_check.specs.declared.querier_address.QuerierAddress.TheVariants.{V4, V6}
 use Rattle.mq_check.specs.declared.totals.Totals.{Totals}
@@ -29,9 +30,19 @@ abbrev pub named : Family → (address : ℕ) → QuerierAddress
 named family.Igmp address = V4 address
 named family.Mld address = V6 address
 
+-- the variables of a configuration
+abbrev pub variables_in : Configuration → CheckedVariables
+variables_in config = record {
+  rv = config.timing.robustness;
+  qi = config.timing.query_seconds;
+  qri = config.timing.response_interval;
+  lmqi = config.timing.last_member_interval;
+}
+
 -- the basis before the first packet, with the checked router as querier from 0
-abbrev pub basis_at_start : (own : QuerierAddress) → Basis
-basis_at_start own = record {
+abbrev pub basis_at_start : CheckedVariables → (own : QuerierAddress) → Basis
+basis_at_start variables own = record {
+  variables = variables;
   packets = 0;
   messages = 0;
   malformed = 0;

@@ -25,12 +25,13 @@ use Rattle.mq_check.specs.declared.check_terms.CheckTerms.{CheckTerms}
 use Rattle.mq_check.specs.declared.finding.Finding.{Finding}
 use Rattle.mq_check.specs.declared.headers.HeaderFault.{HeaderFault}
 use Rattle.mq_check.specs.declared.headers.Headers.{Headers}
+use Rattle.mq_check.specs.declared.totals.KindCounts.{KindCounts}
 use Rattle.mq_check.specs.declared.totals.Totals.{Totals}
-use Rattle.mq_check.specs.Basis.{basis_at_start, named, with_frame, with_other_querier}
+use Rattle.mq_check.specs.Basis.{basis_at_start, named, variables_in, with_frame, with_other_querier}
 use Rattle.mq_check.specs.Basis as basis
 use Rattle.mq_check.specs.Causes.{causes_in}
 use Rattle.mq_check.specs.Checking.{CheckingValue, checking_at_start, told, settled, faults_seen, with_all_excused, with_messages, role_changed, role_after_tick, query_came, all_changed, told_at_end, with_timers_set}
-use Rattle.mq_check.specs.FindingLines.{certain_in, finding_lines, last_lines, possible_in}
+use Rattle.mq_check.specs.FindingLines.{certain_in, finding_lines, last_lines, of_kind, possible_in}
 use Rattle.mq_check.specs.General.{silence_up_to}
 use Rattle.mq_check.specs.Headers.{faults_if, faults_of, headers4_in, headers6_in, is_broken_query, is_own_query}
 use Rattle.mq_check.specs.Queries.{query_seen, specific_terms}
@@ -48,7 +49,7 @@ abbrev pub at_the_start : Configuration → (within : ℕ) → CheckFlags → Ch
 at_the_start config within flags = record {
   link = link_at config 0;
   checking = checking_at_start within config.timing flags;
-  basis = basis_at_start (named config.family config.own);
+  basis = basis_at_start (variables_in config) (named config.family config.own);
 }
 
 -- The outcome of a step: the check after it, and its findings.
@@ -207,6 +208,20 @@ with_packet config link within moment number goes_back frame r =
     behind before.found
     (with_datagram config link within moment number frame datagram (noted config link goes_back frame datagram before.checked))
 
+-- the numbers of certain findings of each kind
+abbrev pub count_of : (kind : ℕ) → List (Finding ℕ) → ℕ
+count_of kind found = min (length (of_kind kind found)) (2 ^ 64 - 1)
+
+abbrev pub kinds_of : List (Finding ℕ) → KindCounts
+kinds_of found = record {
+  missing = count_of 1 found;
+  extra = count_of 2 found;
+  differs = count_of 3 found;
+  interval = count_of 4 found;
+  silence = count_of 5 found;
+  header = count_of 6 found;
+}
+
 -- The totals of a check with these reported findings. All possible findings are reported. Those have their own count.
 abbrev pub totals_of : CheckingValue → Basis → List (Finding ℕ) → Totals
 totals_of c basis found = record {
@@ -214,6 +229,7 @@ totals_of c basis found = record {
   specific = c.specific;
   findings = min (length (certain_in found)) (2 ^ 64 - 1);
   possible = min (length (possible_in found)) (2 ^ 64 - 1);
+  kinds = kinds_of found;
   basis = basis;
 }
 

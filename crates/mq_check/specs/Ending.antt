@@ -22,6 +22,7 @@ counted_behind count c basis found = record {
   specific = c.specific;
   findings = (counted_by found count).certain;
   possible = (counted_by found count).possible;
+  kinds = (counted_by found count).kinds;
   basis = basis;
 }
 

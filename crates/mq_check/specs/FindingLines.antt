@@ -20,6 +20,8 @@ use Rattle.mq_check.specs.declared.headers.HeaderFault.TheVariants.{TimeToLive, 
 use Rattle.mq_check.specs.declared.querier_address.QuerierAddress.{QuerierAddress}
 use Rattle.mq_check.specs.declared.querier_address.QuerierAddress.TheVariants.{V4, V6}
 use Rattle.mq_check.specs.declared.basis.Basis.{Basis}
+use Rattle.mq_check.specs.declared.basis.CheckedVariables.{CheckedVariables}
+use Rattle.mq_check.specs.declared.totals.KindCounts.{KindCounts}
 use Rattle.mq_check.specs.declared.totals.Totals.{Totals}
 use Rattle.mq_check.specs.declared.unjudged.Unjudged.{Unjudged}
 use Rattle.mq_check.specs.declared.unjudged.Unjudged.TheVariants.{NotUnderstood, OutOfOrder, NoMessage, LimitsExceeded, NoQuery}
@@ -261,6 +263,21 @@ is_possible (Interval moment packet after wanted) = false
 is_possible (Silence moment after wanted) = false
 is_possible (Packet moment number fault) = false
 
+-- The number of its kind: a missing or an extra query, a field that differs, an interval, a silence, a fault of headers.
+-- A possible finding has none.
+abbrev pub kind_number : Finding ℕ → ℕ
+kind_number (Missing moment packet asked) = 1
+kind_number (Extra moment packet asked reason) = 2
+kind_number (PossiblyMissing moment packet asked) = 0
+kind_number (PossiblyExtra moment packet asked) = 0
+kind_number (Differs moment packet asked difference) = 3
+kind_number (Interval moment packet after wanted) = 4
+kind_number (Silence moment after wanted) = 5
+kind_number (Packet moment number fault) = 6
+
+abbrev pub is_kind : (kind : ℕ) → Finding ℕ → Bool
+is_kind kind finding = kind_number finding == kind
+
 abbrev pub is_certain : Finding ℕ → Bool
 is_certain finding = not (is_possible finding)
 
@@ -269,6 +286,10 @@ certain_in findings = filter is_certain findings
 
 abbrev pub possible_in : List (Finding ℕ) → List (Finding ℕ)
 possible_in findings = filter is_possible findings
+
+-- the certain ones of a kind
+abbrev pub of_kind : (kind : ℕ) → List (Finding ℕ) → List (Finding ℕ)
+of_kind kind findings = filter (is_kind kind) findings
 
 -- a finding as a line of text, or as an object of JSON
 abbrev pub finding_in_form : (json : Bool) → Family → Additions → Finding ℕ → List ℕ
@@ -349,7 +370,7 @@ unseen_text b = if is_unseen b then codes ", unseen" else []
 abbrev pub querier_line : Basis → List ℕ
 querier_line b = codes "querier " ++ querier_text b.own ++ codes " from 0" ++ unseen_text b ++ lost_text b ++ codes "\n"
 
--- The object of the totals: what was judged, the queries seen, the findings, and the checked router.
+-- The object of the totals: what was judged, the queries seen, and the findings.
 abbrev pub why_object : Option Unjudged → List ℕ
 why_object None = codes "null"
 why_object (Some NotUnderstood) = codes "\"unread\""
@@ -368,7 +389,23 @@ abbrev pub summary_start : Totals → List ℕ
 summary_start totals =
     judged_fields (unjudged_by totals) ++ count_text (codes ",\"general\":") totals.general
     ++ count_text (codes ",\"specific\":") totals.specific ++ count_text (codes ",\"findings\":") totals.findings
-    ++ count_text (codes ",\"possible\":") totals.possible ++ codes ",\"querier\":" ++ querier_object totals.basis.own
+    ++ count_text (codes ",\"possible\":") totals.possible
+
+-- the numbers of findings of each kind
+abbrev pub kinds_field : KindCounts → List ℕ
+kinds_field kinds =
+    count_text (codes ",\"kinds\":{\"missing\":") kinds.missing ++ count_text (codes ",\"extra\":") kinds.extra
+    ++ count_text (codes ",\"differs\":") kinds.differs ++ count_text (codes ",\"interval\":") kinds.interval
+    ++ count_text (codes ",\"silence\":") kinds.silence ++ count_text (codes ",\"header\":") kinds.header ++ codes "}"
+
+-- the checked router, and the variables with which it is checked
+abbrev pub variables_field : CheckedVariables → List ℕ
+variables_field v =
+    count_text (codes ",\"variables\":{\"rv\":") v.rv ++ count_text (codes ",\"qi\":") v.qi ++ count_text (codes ",\"qri\":") v.qri
+    ++ count_text (codes ",\"lmqi\":") v.lmqi ++ codes "}"
+
+abbrev pub checked_fields : Basis → List ℕ
+checked_fields b = codes ",\"querier\":" ++ querier_object b.own ++ variables_field b.variables
 
 -- the moment since which the router is querier again, and the last loss of the role
 abbrev pub again_object : Basis → List ℕ
@@ -395,5 +432,7 @@ packets_field b =
 
 -- the totals and their basis at the end, as lines of text or as an object of JSON
 abbrev pub last_lines : (json : Bool) → Totals → List ℕ
-last_lines true totals = summary_start totals ++ (roles_field totals.basis ++ packets_field totals.basis)
+last_lines true totals =
+    summary_start totals
+    ++ (kinds_field totals.kinds ++ (checked_fields totals.basis ++ (roles_field totals.basis ++ packets_field totals.basis)))
 last_lines false totals = totals_line totals ++ packets_line totals.basis ++ querier_line totals.basis

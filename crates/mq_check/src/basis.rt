@@ -14,9 +14,42 @@ use mq_replay::{CapturedDatagram, CapturedFamily};
 use mq_wire::WireFault;
 use std::cmp::Ordering;
 
-/// The basis of a verdict: the packets of a capture, and who was querier. A count stays at the greatest u64.
+/// The variables with which a router is checked.
+#[derive(Clone, Copy)]
+pub struct CheckedVariables {
+    /// The Robustness Variable.
+    pub rv: u64,
+    /// The Query Interval in seconds.
+    pub qi: u64,
+    /// The Query Response Interval in milliseconds.
+    pub qri: u64,
+    /// The Last Member (Last Listener) Query Interval in milliseconds.
+    pub lmqi: u64,
+}
+
+impl CheckedVariables {
+    /// Returns the variables of a configuration.
+    pub(crate) fn of<F: CapturedFamily>(config: &Config<F>) -> CheckedVariables
+    where
+        F::Address: LineKey,
+        ensures { result ≡ spec.variables_in config.now }
+    {
+        let timing = config.timing();
+        CheckedVariables {
+            rv: u64::from(timing.robustness()),
+            qi: u64::from(timing.query_seconds()),
+            qri: u64::from(config.response_interval()),
+            lmqi: u64::from(config.last_member_interval()),
+        }
+    }
+}
+
+/// The basis of a verdict: the variables, the packets of a capture, and who was querier. A count stays at the greatest
+/// u64.
 #[derive(Clone, Copy)]
 pub struct Basis {
+    /// The variables with which the router is checked.
+    pub variables: CheckedVariables,
     /// The number of packets.
     pub packets: u64,
     /// The number of packets that are messages of the family.
@@ -99,12 +132,18 @@ where
 
 impl Basis {
     /// Returns the basis before the first packet. No other querier is known yet, so `other` is the router itself.
-    pub(crate) fn at_start(own: QuerierAddress, other: QuerierAddress, start: Moment) -> Basis
+    pub(crate) fn at_start(
+        variables: CheckedVariables,
+        own: QuerierAddress,
+        other: QuerierAddress,
+        start: Moment,
+    ) -> Basis
         requires same { other ≡ own }
         requires at_0 { start ≡ 0 }
-        ensures { result ≡ spec.basis_at_start own }
+        ensures { result ≡ spec.basis_at_start variables own }
     {
         Basis {
+            variables,
             packets: 0,
             messages: 0,
             malformed: 0,

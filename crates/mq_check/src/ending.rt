@@ -109,6 +109,7 @@ where
             specific: other_queries,
             findings: counts.certain,
             possible: counts.possible,
+            kinds: counts.kinds,
             basis: rests_on,
         };
         self.told.tell_last(&totals, writer)?;

@@ -6,12 +6,12 @@ ghost use Rattle.mq_check.specs.FindingLines as spec;
 ghost use Rattle.mq_check.specs.Numbered.{numbered_asked, numbered_difference, numbered_finding};
 
 use crate::asked::Asked;
-use crate::basis::Basis;
+use crate::basis::{Basis, CheckedVariables};
 use crate::finding::{Difference, Finding};
 use crate::finding_lines::{put_count, put_moment, put_of_family, put_querier, put_section};
 use crate::headers::HeaderFault;
 use crate::querier_address::QuerierAddress;
-use crate::totals::Totals;
+use crate::totals::{KindCounts, Totals};
 use crate::unjudged::Unjudged;
 use mq_count::Moment;
 use mq_lines::{LineKey, put_address_object, put_truth};
@@ -256,9 +256,9 @@ fn put_number(text: &mut Text, number: u64)
     }
 }
 
-/// Appends the start of the summary: what was judged, the queries seen, the findings, and the checked router.
+/// Appends the start of the summary: what was judged, the queries seen, and the findings.
 pub(crate) fn put_summary_start(text: &mut Text, totals: &Totals)
-    requires { array_vec_len text.old + 240 ≤ 4096 }
+    requires { array_vec_len text.old + 200 ≤ 4096 }
     ensures { text.new.items ≡ text.old.items ++ spec.summary_start totals.now }
 {
     put_judged(text, totals.unjudged());
@@ -266,8 +266,42 @@ pub(crate) fn put_summary_start(text: &mut Text, totals: &Totals)
     put_count(text, b",\"specific\":", totals.specific);
     put_count(text, b",\"findings\":", totals.findings);
     put_count(text, b",\"possible\":", totals.possible);
+}
+
+/// Appends the numbers of findings of each kind.
+pub(crate) fn put_kinds(text: &mut Text, kinds: &KindCounts)
+    requires { array_vec_len text.old + 200 ≤ 4096 }
+    ensures { text.new.items ≡ text.old.items ++ spec.kinds_field kinds.now }
+{
+    put_count(text, b",\"kinds\":{\"missing\":", kinds.missing);
+    put_count(text, b",\"extra\":", kinds.extra);
+    put_count(text, b",\"differs\":", kinds.differs);
+    put_count(text, b",\"interval\":", kinds.interval);
+    put_count(text, b",\"silence\":", kinds.silence);
+    put_count(text, b",\"header\":", kinds.header);
+    put(text, b"}");
+}
+
+/// Appends the checked router, and the variables with which it is checked.
+pub(crate) fn put_checked(text: &mut Text, basis: &Basis)
+    requires { array_vec_len text.old + 180 ≤ 4096 }
+    ensures { text.new.items ≡ text.old.items ++ spec.checked_fields basis.now }
+{
     put(text, b",\"querier\":");
-    put_querier_object(text, &totals.basis.own);
+    put_querier_object(text, &basis.own);
+    put_variables(text, &basis.variables);
+}
+
+/// Appends the variables of a check.
+fn put_variables(text: &mut Text, variables: &CheckedVariables)
+    requires { array_vec_len text.old + 122 ≤ 4096 }
+    ensures { text.new.items ≡ text.old.items ++ spec.variables_field variables.now }
+{
+    put_count(text, b",\"variables\":{\"rv\":", variables.rv);
+    put_count(text, b",\"qi\":", variables.qi);
+    put_count(text, b",\"qri\":", variables.qri);
+    put_count(text, b",\"lmqi\":", variables.lmqi);
+    put(text, b"}");
 }
 
 /// Appends whether something was judged, and the reason if nothing was.

@@ -3,10 +3,10 @@
 ghost use Rattle.std.specs.Prelude.{◌≡◌, ◌||◌, [], ◌∷◌, IfOk, false, true, is_err};
 ghost use Rattle.mq_count.specs.Streams.{inner_of, has_failed};
 ghost use Rattle.mq_text.specs.Printing.{Puts, output_of};
-ghost use Rattle.mq_check.specs.FindingLines.{finding_in_form, finding_line, is_possible, last_lines};
+ghost use Rattle.mq_check.specs.FindingLines.{finding_in_form, finding_line, last_lines};
 ghost use Rattle.mq_check.specs.Numbered.{numbered_finding};
 ghost use Rattle.mq_check.specs.Repeated.{is_left_out, with_finding};
-ghost use Rattle.mq_check.specs.Telling.{Tells, counted_if, nothing_told};
+ghost use Rattle.mq_check.specs.Telling.{Tells, counted_one, nothing_told};
 
 use crate::check_terms::Additions;
 use crate::finding::Finding;
@@ -14,10 +14,11 @@ use crate::finding_lines::{
     put_citation, put_finding, put_packet, put_packets, put_querier_line, put_totals,
 };
 use crate::finding_objects::{
-    put_finding_rest, put_finding_start, put_packets_field, put_roles, put_summary_start,
+    put_checked, put_finding_rest, put_finding_start, put_kinds, put_packets_field, put_roles,
+    put_summary_start,
 };
 use crate::repeated::LastDifferences;
-use crate::totals::{FindingCounts, Totals};
+use crate::totals::{FindingCounts, KindCounts, Totals};
 use mq_count::Watched;
 use mq_lines::LineKey;
 use mq_link::Family;
@@ -55,6 +56,14 @@ impl FindingWriter {
             count: FindingCounts {
                 certain: 0,
                 possible: 0,
+                kinds: KindCounts {
+                    missing: 0,
+                    extra: 0,
+                    differs: 0,
+                    interval: 0,
+                    silence: 0,
+                    header: 0,
+                },
             },
         }
     }
@@ -88,10 +97,9 @@ impl FindingWriter {
 
     /// Counts a reported finding.
     fn count_one<K: WireKey>(&mut self, finding: &Finding<K>)
-        ensures { self.new ≡ record self.old {
-          count = counted_if (is_possible (numbered_finding K.number finding.now)) self.old.count;
-        } }
+        ensures { self.new ≡ record self.old { count = counted_one (numbered_finding K.number finding.now) self.old.count } }
     {
+        self.count.kinds.count(finding);
         if finding.is_possible() {
             self.count.possible = self.count.possible.saturating_add(1);
         } else {
@@ -284,6 +292,10 @@ fn put_summary<W: Write>(
 {
     make_room(buffer, writer)?;
     put_summary_start(buffer, totals);
+    make_room(buffer, writer)?;
+    put_kinds(buffer, &totals.kinds);
+    make_room(buffer, writer)?;
+    put_checked(buffer, &totals.basis);
     make_room(buffer, writer)?;
     put_roles(buffer, &totals.basis);
     make_room(buffer, writer)?;

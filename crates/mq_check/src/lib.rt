@@ -67,6 +67,6 @@ pub use repeated::{LastDifferences, LastOfKind, Values};
 pub use schedules::Repeats;
 pub use standing::Standing;
 pub use terms::{QuerierTerms, Terms};
-pub use totals::{FindingCounts, Totals};
+pub use totals::{FindingCounts, KindCounts, Totals};
 pub use unjudged::Unjudged;
 pub use waiting::Side;

@@ -7,6 +7,7 @@ ghost use Rattle.mq_check.specs.Checking.{checking_at_start};
 ghost use Rattle.mq_check.specs.Coming.{checked_in};
 ghost use Rattle.mq_check.specs.Telling.{nothing_told};
 
+use crate::basis::CheckedVariables;
 use crate::check_terms::CheckTerms;
 use crate::checked_family::CheckedFamily;
 use crate::checking::Checking;
@@ -47,8 +48,9 @@ where
         ensures told { result.told ≡ nothing_told result.terms.additions }
     {
         link.config().is_faultless();
+        let variables = CheckedVariables::of(link.config());
         let own = link.config().own();
-        let queries = WantedQueries::new(checking, own, first_moment());
+        let queries = WantedQueries::new(checking, variables, own, first_moment());
         Check {
             link,
             queries,

@@ -12,7 +12,7 @@ ghost use Rattle.mq_check.specs.Queries.{specific_terms};
 ghost use Rattle.mq_check.specs.Standing.{is_set, set_from};
 ghost use Rattle.mq_check.specs.Telling.{Tells};
 
-use crate::basis::Basis;
+use crate::basis::{Basis, CheckedVariables};
 use crate::causes::Changed;
 use crate::checked_family::CheckedFamily;
 use crate::checking::Checking;
@@ -67,15 +67,16 @@ where
     /// Returns an outlet for the router at `own`. Its queries are wanted at the moment that `begin` sets.
     pub(crate) fn new(
         checking: Checking<F, A>,
+        variables: CheckedVariables,
         own: F::Address,
         moment: Moment,
     ) -> WantedQueries<F, A>
         requires { moment ≡ 0 }
-        ensures { result ≡ record { checking = checking; basis = basis.basis_at_start (basis.named F.FAMILY (F.Address.number own)); moment = moment; by_tick = false; is_returning = false } }
+        ensures { result ≡ record { checking = checking; basis = basis.basis_at_start variables (basis.named F.FAMILY (F.Address.number own)); moment = moment; by_tick = false; is_returning = false } }
     {
         WantedQueries {
             checking,
-            basis: Basis::at_start(F::named(own), F::named(own), moment),
+            basis: Basis::at_start(variables, F::named(own), F::named(own), moment),
             moment,
             by_tick: false,
             is_returning: false,

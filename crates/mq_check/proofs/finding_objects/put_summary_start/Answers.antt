@@ -4,8 +4,6 @@ use Rattle.mq_check.proofs.finding_objects.put_summary_start.Goals as goal
 pub returns : goal.returns
 returns c =
     rw (
-      c.put_querier_object.ensures.text,
-      c.put.ensures.text,
       c.put_count-4.ensures.text,
       c.put_count-3.ensures.text,
       c.put_count-2.ensures.text,

@@ -1,8 +1,7 @@
 -- A finding that is left out, or whose line is put.
 use Rattle.std.proofs.Common.{ap, sym, ◌∙◌}
-use Rattle.mq_check.specs.FindingLines.{is_possible}
 use Rattle.mq_check.specs.Numbered.{numbered_finding}
-use Rattle.mq_check.specs.Telling.{FindingWriterState, counted_if}
+use Rattle.mq_check.specs.Telling.{FindingWriterState, counted_one}
 use Rattle.mq_check.proofs.Tellings.{one_left_out, one_told}
 use Rattle.mq_check.proofs.finding_writer.FindingWriter.tell.Goals as goal
 
@@ -13,7 +12,7 @@ pub returns : goal.returns
 returns g c =
     let finding = numbered_finding g.F.Address.Key.number c.args.finding in
     let counts = c.count_one.ensures
-    ∙ ap (λ (t : FindingWriterState). record t { count = counted_if (is_possible finding) t.count }) c.note.ensures in
+    ∙ ap (λ (t : FindingWriterState). record t { count = counted_one finding t.count }) c.note.ensures in
     let it = c.put_line.ensures in
     one_told _ finding _ _ _ _ _ c.put_line.result (sym c.leaves_out-is_left_out.ensures ∙ c.if-is_left_out.false)
     counts it.additions it.last it.count it.text it.failed

@@ -1,0 +1,13 @@
+use Rattle.std.proofs.Common.{append_assoc}
+use Rattle.mq_check.proofs.finding_objects.put_variables.Goals as goal
+
+pub returns : goal.returns
+returns c =
+    rw (
+      c.put.ensures.text,
+      c.put_count-4.ensures.text,
+      c.put_count-3.ensures.text,
+      c.put_count-2.ensures.text,
+      c.put_count.ensures.text,
+    )
+    (simp append_assoc)
