@@ -17,8 +17,7 @@ bool keeper_open(struct keeper *keeper, size_t groups) {
 
 void keeper_forget(struct keeper *keeper, const struct place *place) {
     for (size_t at = 0; at < keeper->rows.count; at++)
-        if (keeper->rows.all[at].has_sources)
-            mdb_note_removal(place, keeper->rows.all[at].group);
+        mdb_note_removal(place, keeper->rows.all[at].group);
     keeper->rows.count = 0;
 }
 
@@ -54,15 +53,10 @@ static struct filter wanted_of(const struct keeper *keeper, const mq_link *link,
 static void make_entry(struct keeper *keeper, const struct place *place, const uint8_t *group, const struct filter *filter,
                        bool is_inherited) {
     struct row *row = rows_find(&keeper->rows, group);
-    if (row != NULL && row->has_sources)
-        mdb_note_removal(place, group);
-    if (row == NULL && keeper->rows.count == keeper->rows.room) {
+    if (row == NULL && keeper->rows.count == keeper->rows.room)
         fault(FAULT_REFUSED, "mdb", "too many entries of an earlier run");
-    } else if (mdb_set(place, group, filter, row != NULL)) {
-        row = rows_put(&keeper->rows, group);
-        row->is_inherited = is_inherited;
-        row->has_sources = filter->count > 0;
-    }
+    else if (mdb_set(place, group, filter, row != NULL))
+        rows_put(&keeper->rows, group)->is_inherited = is_inherited;
 }
 
 void keeper_update(struct keeper *keeper, const mq_link *link, const struct place *place, const uint8_t *group) {
@@ -82,13 +76,10 @@ void keeper_update(struct keeper *keeper, const mq_link *link, const struct plac
     bool inherits = error == 0 && entry.maker != MAKER_OTHER;
     if (inherits)
         filter = filter_join(&filter, &entry.filter);
-    if (filter.mode != MODE_NONE) {
+    if (filter.mode != MODE_NONE)
         make_entry(keeper, place, group, &filter, inherits);
-    } else if (row != NULL && mdb_remove(place, group)) {
-        if (row->has_sources)
-            mdb_note_removal(place, group);
+    else if (row != NULL && mdb_remove(place, group))
         rows_remove(&keeper->rows, row);
-    }
 }
 
 struct filter keeper_filter(const struct keeper *keeper, const mq_link *link, const struct place *place, const uint8_t *group) {
@@ -143,7 +134,6 @@ void keeper_note(struct keeper *keeper, const mq_link *link, const struct entry 
         wanted = filter_of_all;
     row->is_seen = true;
     row->is_temporary = entry->is_temporary;
-    row->has_sources = entry->filter.count > 0;
     row->is_right = !row->is_temporary && filter_equal(&wanted, &entry->filter);
     if (!is_known)
         row->is_inherited = link == NULL || keeper->settles != MQ_NONE;

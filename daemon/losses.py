@@ -11,7 +11,7 @@ from frames import report_frame
 from lab import GROUPS, SOURCES, ip, is_true
 
 PAUSE = 3  # seconds without a querier
-IS_IN, IS_EX, ALLOW, BLOCK = 1, 2, 5, 6
+IS_IN, IS_EX, TO_IN, ALLOW, BLOCK = 1, 2, 3, 5, 6
 
 
 def snooping(fabric, querier):
@@ -238,6 +238,10 @@ def a_source_goes():
             put(4, BLOCK, other)
             gets((1, 2, 3, 4), (3,))
             put(1, BLOCK, one)
+            gets((2, 3, 4), (3,))
+            put(1, IS_EX)
+            gets((1, 2, 3, 4), (1, 3))
+            put(1, TO_IN)
             gets((2, 3, 4), (3,))
             put(5, IS_IN, one, other)
             gets((2, 3, 4, 5), (3, 5))

@@ -310,6 +310,8 @@ bool mdb_set(const struct place *place, const uint8_t *group, const struct filte
         filter = &filter_of_all;
     }
     int error = put_entry(place, group, filter, is_ours ? NLM_F_REPLACE : NLM_F_EXCL, MDB_PERMANENT, &answer);
+    if (is_ours || error == EEXIST)
+        mdb_note_removal(place, group);
     if (error == EEXIST && mdb_read(place, group, &found) == 0 && found.maker != MAKER_OTHER)
         error = put_entry(place, group, filter, NLM_F_REPLACE, MDB_PERMANENT, &answer);
     if (error == EEXIST)
@@ -326,6 +328,7 @@ bool mdb_remove(const struct place *place, const uint8_t *group) {
     int error = netlink_ask(place->netlink, &request, &answer);
     if (error != 0 && error != ENOENT && error != ENODEV)
         mdb_fault(FAULT_REFUSED, place, group, answer.why);
+    mdb_note_removal(place, group);
     return error == 0 || error == ENOENT || error == ENODEV;
 }
 
@@ -352,6 +355,7 @@ void mdb_note_removal(const struct place *place, const uint8_t *group) {
 /* The ports with EXCLUDE entries of a group. */
 struct excluding {
     const struct lost *lost;
+    bool has_sources; /* an entry of the group lists some */
     size_t count;
     int ports[GREATEST_PORTS];
 };
@@ -362,6 +366,7 @@ static void find_excluding(void *context, const struct entry *entry) {
     bool is_its =
         entry->vlan == its->vlan && entry->is_mld == its->is_mld && memcmp(entry->group, found->lost->group, LONG_ADDRESS) == 0;
     bool excludes = entry->maker == MAKER_US && !entry->is_temporary && entry->filter.mode == MODE_EXCLUDE;
+    found->has_sources |= is_its && entry->filter.count > 0;
     if (is_its && excludes && found->count < GREATEST_PORTS)
         found->ports[found->count++] = entry->port;
 }
@@ -373,8 +378,9 @@ static void restore(const struct lost *one) {
     struct entry entry;
     found.lost = one;
     found.count = 0;
+    found.has_sources = false;
     read_group(&one->place, one->group, find_excluding, &found);
-    for (size_t at = 0; at < found.count; at++) {
+    for (size_t at = 0; found.has_sources && at < found.count; at++) {
         struct place place = one->place;
         place.port = found.ports[at];
         if (mdb_read(&place, one->group, &entry) == 0 && entry.filter.count <= GREATEST_LIST)

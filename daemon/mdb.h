@@ -46,8 +46,8 @@ bool mdb_set(const struct place *place, const uint8_t *group, const struct filte
 /* Makes our entry temporary. The kernel's snooping goes on with it, and removes it if no host reports for
    `mcast_membership_interval`. */
 void mdb_hand_over(const struct place *place, const uint8_t *group, const struct filter *filter);
-/* Notes that an entry with sources is changed or removed. The kernel then forgets, for each of these sources, the ports with EXCLUDE
-   entries of the group, as if they excluded it. `mdb_restore` makes these entries again. */
+/* Notes that an entry is changed or removed. The kernel then no longer forwards sources that entries of the group list to ports with
+   EXCLUDE entries of it. `mdb_restore` makes these entries again. */
 void mdb_note_removal(const struct place *place, const uint8_t *group);
 void mdb_restore(void);
 /* Removes our entry of a group. Returns whether it is gone. */

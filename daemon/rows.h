@@ -14,7 +14,6 @@ struct row {
     bool is_seen;      /* the last dump had the entry */
     bool is_right;     /* the dump had it with the link's filter */
     bool is_temporary; /* the dump had it as temporary */
-    bool has_sources;  /* the entry may list sources */
 };
 
 struct rows {
