@@ -81,13 +81,13 @@ function chosen({ number = null, name = "", vlan = NO_END, once = 0 }) {
 }
 
 // Calls an export with memory for so much text and so much work, and behind the text four bytes that have to stay.
-function call(name, capture, { querier = null, choice = null, json = 0, room = PAGE + 4 * capture.length, work = 2 ** 27 } = {}) {
+function call(name, capture, { querier = null, choice = null, json = 0, skip = 0, room = PAGE + 4 * capture.length, work = 2 ** 27 } = {}) {
   const lent = new Lent();
   const [answer, text] = [lent.lend(24), lent.lend(room + 4)];
   new Uint8Array(lent.memory.buffer, text + room, 4).fill(7);
   const memory = lent.put(new Uint8Array(new BigUint64Array([BigInt(lent.lend(work)), BigInt(work / UNIT)]).buffer));
   const handed = querier ? [lent.put(querier.own), lent.put(packed(querier.settings))] : choice ? [lent.put(chosen(choice))] : name === "page_show" ? [json] : [];
-  lent.exports[name](BigInt(answer), ...handed, lent.put(capture), BigInt(capture.length), memory, BigInt(text), BigInt(room));
+  lent.exports[name](BigInt(answer), ...handed, BigInt(skip), lent.put(capture), BigInt(capture.length), memory, BigInt(text), BigInt(room));
   const [status, written, number] = Array.from(new BigUint64Array(lent.memory.buffer.slice(answer, answer + 24)), Number);
   const sentence = lent.lend(PAGE);
   const said = Number(lent.exports.page_fault_text(BigInt(answer), BigInt(sentence), BigInt(PAGE)));
@@ -149,7 +149,7 @@ function all_of(file) {
   }
 }
 
-// The text is cut where its memory ends, and that is told where there is more.
+// The text is cut where its memory ends, and that is told where there is more. What follows its first bytes is written alone.
 function text_memory(capture) {
   for (const [name, querier] of [["page_show", null], ["page_convert", null], ["page_replay_igmp", SEEN], ["page_check_igmp", SEEN]]) {
     const whole = call(name, capture, { querier }).text;
@@ -157,6 +157,14 @@ function text_memory(capture) {
       const { status, text } = call(name, capture, { querier, room });
       want(status === (room < whole.length ? 1 : 0), `${name}: status ${status} with memory for ${room} of ${whole.length} bytes`);
       want(text.equals(whole.subarray(0, room)), `${name}: another text in memory for ${room} of ${whole.length} bytes`);
+    }
+    for (const skip of [1, 4095, 4096, 4097, whole.length - 1, whole.length, whole.length + 1]) {
+      for (const room of [0, 1, 1000, whole.length]) {
+        const { status, text } = call(name, capture, { querier, skip, room });
+        const part = whole.subarray(skip);
+        want(status === (room < part.length ? 1 : 0), `${name}: status ${status} with memory for ${room} bytes from byte ${skip} on`);
+        want(text.equals(part.subarray(0, room)), `${name}: another text in memory for ${room} bytes from byte ${skip} on`);
+      }
     }
   }
 }

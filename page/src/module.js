@@ -1,7 +1,8 @@
 // All calls of the module, which consists of the proved crates. It runs in the Worker.
 //
 // The module's memory has addresses of 64 bits. A call receives addresses and lengths: of the capture, the settings, memory for its
-// work, and memory for its text. The first address is that of the result.
+// work, and memory for its text. The first address is that of the result. The number of bytes of the text before those to be written
+// is before the capture.
 
 import { addressBytes } from "./addresses.js";
 
@@ -83,6 +84,13 @@ function choiceBytes(number) {
   return new Uint8Array(view.buffer);
 }
 
+function joinedParts(parts) {
+  if (parts.length === 1) return parts[0];
+  const whole = new Uint8Array(parts.reduce((sum, it) => sum + it.length, 0));
+  parts.reduce((at, it) => (whole.set(it, at), at + it.length), 0);
+  return whole;
+}
+
 export class Module {
   constructor(compiled) {
     this.compiled = compiled;
@@ -115,18 +123,25 @@ export class Module {
     return status < STATUS.unjudged ? { text, fault, unjudged: "" } : { text, fault: "", unjudged: fault };
   }
 
-  // Runs an export until its text fits and its memory suffices, each time with more. The work needs room for the text too. `request` lends
-  // the arguments before the capture.
+  // Runs an export until its text is whole and its memory suffices. A text that doesn't fit is asked for again from where it stopped, in a
+  // memory of its own, which is three times what came so far. The work needs room for that part too. `request` lends the arguments before
+  // the number of bytes.
   run(name, bytes, request = () => []) {
-    for (let room = LEAST_TEXT + TEXT_A_BYTE * bytes.length, work = LEAST_WORK; ; ) {
+    const parts = [];
+    for (let skip = 0, room = LEAST_TEXT + TEXT_A_BYTE * bytes.length, work = LEAST_WORK; ; ) {
       const call = new Call(this.compiled);
       const [answer, capture, text] = [call.lend(ANSWER), call.lendBytes(bytes), call.lend(room)];
       const memory = call.lendWork(work + UNIT * Math.ceil(room / UNIT));
-      call.exports[name](answer.at, ...request(call), capture.at, capture.length, memory, text.at, text.length);
+      call.exports[name](answer.at, ...request(call), BigInt(skip), capture.at, capture.length, memory, text.at, text.length);
       const { status, written } = call.answer(answer);
-      if (status === STATUS.full) room *= 4;
-      else if (status === STATUS.memory) work *= 2;
-      else return { status, text: call.bytes({ at: text.at, length: written }).slice(), fault: this.sentence(call, answer) };
+      if (status === STATUS.memory) {
+        work *= 2;
+        continue;
+      }
+      parts.push(call.bytes({ at: text.at, length: written }).slice());
+      if (status !== STATUS.full) return { status, text: joinedParts(parts), fault: this.sentence(call, answer) };
+      skip += Number(written);
+      room = 3 * skip;
     }
   }
 

@@ -1,5 +1,5 @@
--- The results of the calls.
-use Rattle.std.specs.Prelude.{false, ◌≡◌, ◌⊎◌, ℕ, Bool, List, [], Option, Some, Result, Ok, Err}
+-- The results of the calls. Each call writes the part of its text after the first `skip` bytes.
+use Rattle.std.specs.Prelude.{false, ◌≡◌, ◌⊎◌, ℕ, Bool, List, [], drop, Option, Some, Result, Ok, Err}
 use Rattle.mq_check.specs.declared.check_terms.CheckTerms.{CheckTerms}
 use Rattle.mq_check.specs.CheckedCaptures.{Checks}
 use Rattle.mq_convert.specs.declared.choice.Choice.{Choice}
@@ -31,17 +31,17 @@ IsMade {X} {E} Does done fault capture text outcome =
     × Does (unread capture) after (Some []) (Some text) r)
 
 -- the listing of a capture was written
-pub record ListsInto (json : Bool) (capture old new : List ℕ) (answer : Answer) : Type 0 where
+pub record ListsInto (json : Bool) (skip : ℕ) (capture old new : List ℕ) (answer : Answer) : Type 0 where
   pub text : List ℕ
   pub outcome : Result ℕ PageFault
-  pub told : IsTold outcome text old new answer
+  pub told : IsTold outcome (drop skip text) old new answer
   pub lists : IsMade (Shows json) Ok of_capture capture text outcome
 
 -- all packets of a capture were written as one classic capture
-pub record ConvertsInto (choice : Choice) (capture old new : List ℕ) (answer : Answer) : Type 0 where
+pub record ConvertsInto (choice : Choice) (skip : ℕ) (capture old new : List ℕ) (answer : Answer) : Type 0 where
   pub text : List ℕ
   pub outcome : Result ℕ PageFault
-  pub told : IsTold outcome text old new answer
+  pub told : IsTold outcome (drop skip text) old new answer
   pub converts : IsMade (Converts choice) (λ counts. Ok counts.unread.count) of_conversion capture text outcome
 
 -- the request was refused, before anything was written
@@ -50,17 +50,17 @@ IsRefusal config until text outcome =
     (fault : PageFault) × IsRefused config until fault × (outcome ≡ Err fault) × (text ≡ [])
 
 -- a capture was replayed
-pub record ReplaysInto (config : Configuration) (asked : Asked) (capture old new : List ℕ) (answer : Answer) : Type 0 where
+pub record ReplaysInto (config : Configuration) (asked : Asked) (skip : ℕ) (capture old new : List ℕ) (answer : Answer) : Type 0 where
   pub text : List ℕ
   pub outcome : Result ℕ PageFault
-  pub told : IsTold outcome text old new answer
+  pub told : IsTold outcome (drop skip text) old new answer
   pub replays : IsRefusal config asked.until text outcome
       ⊎ (IsAccepted config asked.until × IsMade (Replays config asked) (λ (counters : Counters). Ok 0) of_capture capture text outcome)
 
 -- a capture was checked
-pub record ChecksInto (config : Configuration) (terms : CheckTerms) (capture old new : List ℕ) (answer : Answer) : Type 0 where
+pub record ChecksInto (config : Configuration) (terms : CheckTerms) (skip : ℕ) (capture old new : List ℕ) (answer : Answer) : Type 0 where
   pub text : List ℕ
   pub outcome : Result ℕ PageFault
-  pub told : IsTold outcome text old new answer
+  pub told : IsTold outcome (drop skip text) old new answer
   pub checks : IsRefusal config terms.until text outcome
       ⊎ (IsAccepted config terms.until × IsMade (Checks config terms) concluded of_capture capture text outcome)

@@ -4,3 +4,4 @@ pub mod Faults
 pub mod Sentences
 pub mod Statuses
 pub mod Telling
+pub mod TextRooms

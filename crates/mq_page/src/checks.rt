@@ -13,23 +13,24 @@ use mq_count::Watched;
 use mq_lines::LineKey;
 use mq_pcap::Ready;
 
-/// Checks the querier of a capture that has the address `own`.
+/// Checks the querier of a capture that has the address `own`. It writes what follows the first `skip` bytes of the text.
 pub(crate) fn check_at<F: CheckedFamily>(
     own: F::Address,
     settings: &Settings,
+    skip: usize,
     capture: &[u8],
     memory: &'static mut [u128],
     text: &mut [u8],
 ) -> Answer
 where
     F::Address: LineKey,
-    ensures { ChecksInto (configuration_asked F.FAMILY (F.Address.number own) settings.now) (check_asked settings.now) capture.now text.old text.new result }
+    ensures { ChecksInto (configuration_asked F.FAMILY (F.Address.number own) settings.now) (check_asked settings.now) skip capture.now text.old text.new result }
 {
     let querier = match querier_of::<F>(own, settings) {
         Ok(querier) => querier,
         Err(fault) => return told(Err(fault), &[], text),
     };
-    let Some(room) = WorkRoom::of(memory, text.len()) else {
+    let Some(room) = WorkRoom::of(memory, skip, text.len()) else {
         return told(Err(PageFault::Memory), &[], text);
     };
     let WorkRoom {
@@ -64,5 +65,9 @@ where
         Ok(totals) => concluded(&totals),
         Err(fault) => Err(of_capture(fault)),
     };
-    told(outcome, writer.into_inner().written(), text)
+    let room = writer.into_inner();
+    let Some(part) = room.part(skip) else {
+        return told(Err(PageFault::Memory), &[], text);
+    };
+    told(outcome, part, text)
 }

@@ -10,16 +10,17 @@ use mq_convert::{Choice, convert};
 use mq_count::Watched;
 use mq_pcap::Ready;
 
-/// Writes the chosen packets of a capture as one classic capture of Ethernet.
+/// Writes the chosen packets of a capture as one classic capture of Ethernet, after its first `skip` bytes.
 pub(crate) fn convert_chosen(
     choice: Choice,
+    skip: usize,
     capture: &[u8],
     memory: &'static mut [u128],
     text: &mut [u8],
 ) -> Answer
-    ensures { ConvertsInto choice capture.now text.old text.new result }
+    ensures { ConvertsInto choice skip capture.now text.old text.new result }
 {
-    let Some(room) = WorkRoom::of(memory, text.len()) else {
+    let Some(room) = WorkRoom::of(memory, skip, text.len()) else {
         return told(Err(PageFault::Memory), &[], text);
     };
     let WorkRoom {
@@ -32,5 +33,9 @@ pub(crate) fn convert_chosen(
         Ok(counts) => Ok(counts.unread.count),
         Err(fault) => Err(of_conversion(fault)),
     };
-    told(outcome, writer.into_inner().written(), text)
+    let room = writer.into_inner();
+    let Some(part) = room.part(skip) else {
+        return told(Err(PageFault::Memory), &[], text);
+    };
+    told(outcome, part, text)
 }

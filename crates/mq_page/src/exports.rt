@@ -1,4 +1,4 @@
-//! The calls, as the page makes them.
+//! The calls, as the page makes them. Each writes what follows the first `skip` bytes of its text, as far as there is room.
 
 ghost use Rattle.std.specs.Prelude.{◌≡◌, ◌≤◌, ◌==◌, not, None, false, length, min};
 ghost use Rattle.std.specs.Int.{w32, w128, from_be_bytes};
@@ -29,39 +29,46 @@ use mq_link::{Igmp, Mld};
 #[unsafe(no_mangle)]
 pub extern "C" fn page_show(
     json: u32,
+    skip: usize,
     capture: &[u8],
     memory: LentMemory,
     text: &mut [u8],
 ) -> Answer
-    ensures { ListsInto (not (json == 0)) capture.now text.old text.new result }
+    ensures { ListsInto (not (json == 0)) skip capture.now text.old text.new result }
 {
-    list(json != 0, capture, memory.into_units(), text)
+    list(json != 0, skip, capture, memory.into_units(), text)
 }
 
 /// Writes all packets of a capture as one classic capture of Ethernet.
 #[unsafe(no_mangle)]
-pub extern "C" fn page_convert(capture: &[u8], memory: LentMemory, text: &mut [u8]) -> Answer
-    ensures { ConvertsInto (record { interface = None; vlan = None; once = false }) capture.now text.old text.new result }
+pub extern "C" fn page_convert(
+    skip: usize,
+    capture: &[u8],
+    memory: LentMemory,
+    text: &mut [u8],
+) -> Answer
+    ensures { ConvertsInto (record { interface = None; vlan = None; once = false }) skip capture.now text.old text.new result }
 {
     let choice = Choice {
         interface: None,
         vlan: None,
         once: false,
     };
-    convert_chosen(choice, capture, memory.into_units(), text)
+    convert_chosen(choice, skip, capture, memory.into_units(), text)
 }
 
 /// Writes the chosen packets of a capture as one classic capture of Ethernet.
 #[unsafe(no_mangle)]
 pub extern "C" fn page_convert_chosen(
     chosen: &Chosen,
+    skip: usize,
     capture: &[u8],
     memory: LentMemory,
     text: &mut [u8],
 ) -> Answer
-    ensures { ConvertsInto (choice_asked chosen.now) capture.now text.old text.new result }
+    ensures { ConvertsInto (choice_asked chosen.now) skip capture.now text.old text.new result }
 {
-    convert_chosen(chosen.choice(), capture, memory.into_units(), text)
+    convert_chosen(chosen.choice(), skip, capture, memory.into_units(), text)
 }
 
 /// Replays a capture to a querier of IGMP.
@@ -69,15 +76,17 @@ pub extern "C" fn page_convert_chosen(
 pub extern "C" fn page_replay_igmp(
     own: &[u8; 4],
     settings: &Settings,
+    skip: usize,
     capture: &[u8],
     memory: LentMemory,
     text: &mut [u8],
 ) -> Answer
-    ensures { ReplaysInto (configuration_asked FamilyIgmp (from_be_bytes w32 own.now) settings.now) (replay_asked settings.now) capture.now text.old text.new result }
+    ensures { ReplaysInto (configuration_asked FamilyIgmp (from_be_bytes w32 own.now) settings.now) (replay_asked settings.now) skip capture.now text.old text.new result }
 {
     replay_to::<Igmp>(
         Addr4::from_octets(*own),
         settings,
+        skip,
         capture,
         memory.into_units(),
         text,
@@ -89,15 +98,17 @@ pub extern "C" fn page_replay_igmp(
 pub extern "C" fn page_replay_mld(
     own: &[u8; 16],
     settings: &Settings,
+    skip: usize,
     capture: &[u8],
     memory: LentMemory,
     text: &mut [u8],
 ) -> Answer
-    ensures { ReplaysInto (configuration_asked FamilyMld (from_be_bytes w128 own.now) settings.now) (replay_asked settings.now) capture.now text.old text.new result }
+    ensures { ReplaysInto (configuration_asked FamilyMld (from_be_bytes w128 own.now) settings.now) (replay_asked settings.now) skip capture.now text.old text.new result }
 {
     replay_to::<Mld>(
         Addr6::from_octets(*own),
         settings,
+        skip,
         capture,
         memory.into_units(),
         text,
@@ -109,15 +120,17 @@ pub extern "C" fn page_replay_mld(
 pub extern "C" fn page_check_igmp(
     own: &[u8; 4],
     settings: &Settings,
+    skip: usize,
     capture: &[u8],
     memory: LentMemory,
     text: &mut [u8],
 ) -> Answer
-    ensures { ChecksInto (configuration_asked FamilyIgmp (from_be_bytes w32 own.now) settings.now) (check_asked settings.now) capture.now text.old text.new result }
+    ensures { ChecksInto (configuration_asked FamilyIgmp (from_be_bytes w32 own.now) settings.now) (check_asked settings.now) skip capture.now text.old text.new result }
 {
     check_at::<Igmp>(
         Addr4::from_octets(*own),
         settings,
+        skip,
         capture,
         memory.into_units(),
         text,
@@ -129,15 +142,17 @@ pub extern "C" fn page_check_igmp(
 pub extern "C" fn page_check_mld(
     own: &[u8; 16],
     settings: &Settings,
+    skip: usize,
     capture: &[u8],
     memory: LentMemory,
     text: &mut [u8],
 ) -> Answer
-    ensures { ChecksInto (configuration_asked FamilyMld (from_be_bytes w128 own.now) settings.now) (check_asked settings.now) capture.now text.old text.new result }
+    ensures { ChecksInto (configuration_asked FamilyMld (from_be_bytes w128 own.now) settings.now) (check_asked settings.now) skip capture.now text.old text.new result }
 {
     check_at::<Mld>(
         Addr6::from_octets(*own),
         settings,
+        skip,
         capture,
         memory.into_units(),
         text,

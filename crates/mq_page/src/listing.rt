@@ -10,16 +10,17 @@ use mq_count::Watched;
 use mq_pcap::Ready;
 use mq_replay::show;
 
-/// Lists a capture: a line or an object of JSON for each packet.
+/// Lists a capture: a line or an object of JSON for each packet. It writes what follows the first `skip` bytes of the text.
 pub(crate) fn list(
     json: bool,
+    skip: usize,
     capture: &[u8],
     memory: &'static mut [u128],
     text: &mut [u8],
 ) -> Answer
-    ensures { ListsInto json capture.now text.old text.new result }
+    ensures { ListsInto json skip capture.now text.old text.new result }
 {
-    let Some(room) = WorkRoom::of(memory, text.len()) else {
+    let Some(room) = WorkRoom::of(memory, skip, text.len()) else {
         return told(Err(PageFault::Memory), &[], text);
     };
     let WorkRoom {
@@ -32,5 +33,9 @@ pub(crate) fn list(
         Ok(count) => Ok(count),
         Err(fault) => Err(of_capture(fault)),
     };
-    told(outcome, writer.into_inner().written(), text)
+    let room = writer.into_inner();
+    let Some(part) = room.part(skip) else {
+        return told(Err(PageFault::Memory), &[], text);
+    };
+    told(outcome, part, text)
 }

@@ -13,23 +13,24 @@ use mq_lines::LineKey;
 use mq_pcap::Ready;
 use mq_replay::{Asked, CapturedFamily, replay};
 
-/// Replays a capture to a querier with the address `own`.
+/// Replays a capture to a querier with the address `own`. It writes what follows the first `skip` bytes of the text.
 pub(crate) fn replay_to<F: CapturedFamily>(
     own: F::Address,
     settings: &Settings,
+    skip: usize,
     capture: &[u8],
     memory: &'static mut [u128],
     text: &mut [u8],
 ) -> Answer
 where
     F::Address: LineKey,
-    ensures { ReplaysInto (configuration_asked F.FAMILY (F.Address.number own) settings.now) (replay_asked settings.now) capture.now text.old text.new result }
+    ensures { ReplaysInto (configuration_asked F.FAMILY (F.Address.number own) settings.now) (replay_asked settings.now) skip capture.now text.old text.new result }
 {
     let querier = match querier_of::<F>(own, settings) {
         Ok(querier) => querier,
         Err(fault) => return told(Err(fault), &[], text),
     };
-    let Some(room) = WorkRoom::of(memory, text.len()) else {
+    let Some(room) = WorkRoom::of(memory, skip, text.len()) else {
         return told(Err(PageFault::Memory), &[], text);
     };
     let WorkRoom {
@@ -54,5 +55,9 @@ where
         Ok(_counts) => Ok(0),
         Err(fault) => Err(of_capture(fault)),
     };
-    told(outcome, writer.into_inner().written(), text)
+    let room = writer.into_inner();
+    let Some(part) = room.part(skip) else {
+        return told(Err(PageFault::Memory), &[], text);
+    };
+    told(outcome, part, text)
 }

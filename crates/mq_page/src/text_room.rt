@@ -1,40 +1,78 @@
-//! Memory for a text, which takes as much of it as there is room for.
+//! Memory for a part of a text, which takes as much of it as there is room for.
 
-ghost use Rattle.std.specs.Prelude.{◌≡◌, ◌-◌, ◌≤◌, [], Some};
+ghost use Rattle.std.specs.Prelude.{◌≡◌, ◌+◌, ◌<◌, ◌≤◌, ◌++◌, [], Some, IfSome, drop, length, take};
+ghost use Rattle.mq_page.specs.TextRooms.{passed_in};
 
+use http_server::Log;
 use mq_arena::Lodged;
+use mq_text::{Text, put};
 use std::io;
 use std::io::Write;
 
-/// Memory for a text, and as much of the text as was written.
+/// Memory for the part of a text after its first bytes, and as much of the part as was written. The bytes before the part
+/// are counted; only proofs read them in the log.
 #[derive(Drop)]
 pub(crate) struct TextRoom {
     bytes: Vec<u8, Lodged>,
+    skip: usize,
+    left: usize,
+    passed: Log<Text, usize>,
+    ghost counted: { length (passed_in passed.items) + left ≡ skip },
+    ghost nothing: { 0 < left → bytes.items ≡ [] },
 }
 
 impl TextRoom {
-    /// Returns the memory of an empty vector.
-    pub(crate) fn of(bytes: Vec<u8, Lodged>) -> TextRoom
-        ensures { result.bytes ≡ bytes }
+    /// Returns the memory of an empty vector, for the part of a text after its first `skip` bytes.
+    pub(crate) fn of(bytes: Vec<u8, Lodged>, skip: usize) -> TextRoom
+        requires { bytes.items ≡ [] }
+        ensures bytes { result.bytes ≡ bytes }
+        ensures skip { result.skip ≡ skip }
+        ensures nothing { result.passed.items ≡ [] }
     {
-        TextRoom { bytes }
+        TextRoom {
+            bytes,
+            skip,
+            left: skip,
+            passed: Log::new(),
+        }
     }
 
-    /// Returns the written text.
-    pub(crate) fn written(&self) -> &[u8]
-        ensures { result.now ≡ self.now.bytes.items }
+    /// Returns the written part of the text after its first `skip` bytes, or None if the memory is for another part.
+    pub(crate) fn part(&self, skip: usize) -> Option<&[u8]>
+        ensures { IfSome result (λ part. part.now ≡ drop skip (passed_in self.now.passed.items ++ self.now.bytes.items)) }
     {
-        self.bytes.as_slice()
+        if self.skip != skip {
+            return None;
+        }
+        Some(self.bytes.as_slice())
+    }
+
+    /// Passes over bytes before the part, and returns how many.
+    fn pass(&mut self, more: &[u8]) -> usize
+        requires { 0 < self.old.left }
+        ensures passed { passed_in self.new.passed.items ≡ passed_in self.old.passed.items ++ take result more.now }
+        ensures bytes { self.new.bytes ≡ self.old.bytes }
+        ensures within { result ≤ length more.now }
+    {
+        let count = self.left.min(more.len()).min(4096);
+        let mut before = Text::new();
+        put(&mut before, &more[..count]);
+        self.passed = self.passed.and(&before, &count);
+        self.left -= count;
+        count
     }
 }
 
-/// Writing takes as many bytes as there is room for, and none without room.
+/// Writing passes over the bytes before the part, then takes as many bytes as there is room for, and none without room.
 impl Write for TextRoom {
-    ghost contents = { λ room. Some room.bytes.items };
+    ghost contents = { λ room. Some (passed_in room.passed.items ++ room.bytes.items) };
 
     fn write(&mut self, more: &[u8]) -> io::Result<usize> {
-        let left = self.bytes.capacity().saturating_sub(self.bytes.len());
-        let count = more.len().min(left);
+        if self.left > 0 {
+            return Ok(self.pass(more));
+        }
+        let room = self.bytes.capacity().saturating_sub(self.bytes.len());
+        let count = more.len().min(room);
         self.bytes.extend_from_slice(&more[..count])?;
         Ok(count)
     }

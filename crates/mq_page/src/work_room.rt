@@ -15,10 +15,12 @@ pub(crate) struct WorkRoom {
 }
 
 impl WorkRoom {
-    /// Returns the memory of a call whose text goes to `size` bytes, or None if there isn't room for as much text.
-    pub(crate) fn of(memory: &'static mut [u128], size: usize) -> Option<WorkRoom>
+    /// Returns the memory of a call for the part of a text after its first `skip` bytes, if the part goes to `size` bytes.
+    /// Returns None if there isn't room for as much text.
+    pub(crate) fn of(memory: &'static mut [u128], skip: usize, size: usize) -> Option<WorkRoom>
         ensures granted { IsSome result ↔ (size ≤ 16 * length memory.old) }
-        ensures text { IfSome result (λ room. (room.text.bytes.items ≡ []) × (vec_capacity room.text.bytes ≡ size)) }
+        ensures text { IfSome result (λ room. (room.text.bytes.items ≡ []) × (room.text.passed.items ≡ []) × (vec_capacity room.text.bytes ≡ size)) }
+        ensures skip { IfSome result (λ room. room.text.skip ≡ skip) }
         ensures rest { IfSome result (λ room. memory_of room.rest + size_of_block size ≡ 16 * length memory.old) }
     {
         let mut unused = Unused::of(memory);
@@ -30,7 +32,7 @@ impl WorkRoom {
             return None;
         };
         Some(WorkRoom {
-            text: TextRoom::of(bytes),
+            text: TextRoom::of(bytes, skip),
             rest: Arena::new(rest),
         })
     }
