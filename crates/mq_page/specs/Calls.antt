@@ -30,19 +30,27 @@ IsMade {X} {E} Does done fault capture text outcome =
     ⊎ ((after : InputState) × (r : Result X E) × (outcome ≡ outcome_of done fault r)
     × Does (unread capture) after (Some []) (Some text) r)
 
+-- the part of a text after its first `skip` bytes; no text has no part
+abbrev pub IsPart : (skip : ℕ) → (text part : List ℕ) → Type 0
+IsPart skip text part = (part ≡ drop skip text) ⊎ ((text ≡ []) × (part ≡ []))
+
 -- the listing of a capture was written
 pub record ListsInto (json : Bool) (skip : ℕ) (capture old new : List ℕ) (answer : Answer) : Type 0 where
   pub text : List ℕ
   pub outcome : Result ℕ PageFault
-  pub told : IsTold outcome (drop skip text) old new answer
+  pub part : List ℕ
+  pub told : IsTold outcome part old new answer
   pub lists : IsMade (Shows json) Ok of_capture capture text outcome
+  pub is_part : IsPart skip text part
 
 -- all packets of a capture were written as one classic capture
 pub record ConvertsInto (choice : Choice) (skip : ℕ) (capture old new : List ℕ) (answer : Answer) : Type 0 where
   pub text : List ℕ
   pub outcome : Result ℕ PageFault
-  pub told : IsTold outcome (drop skip text) old new answer
+  pub part : List ℕ
+  pub told : IsTold outcome part old new answer
   pub converts : IsMade (Converts choice) (λ counts. Ok counts.unread.count) of_conversion capture text outcome
+  pub is_part : IsPart skip text part
 
 -- the request was refused, before anything was written
 abbrev pub IsRefusal : Configuration → (until : Option ℕ) → (text : List ℕ) → (outcome : Result ℕ PageFault) → Type 0
@@ -53,14 +61,18 @@ IsRefusal config until text outcome =
 pub record ReplaysInto (config : Configuration) (asked : Asked) (skip : ℕ) (capture old new : List ℕ) (answer : Answer) : Type 0 where
   pub text : List ℕ
   pub outcome : Result ℕ PageFault
-  pub told : IsTold outcome (drop skip text) old new answer
+  pub part : List ℕ
+  pub told : IsTold outcome part old new answer
   pub replays : IsRefusal config asked.until text outcome
       ⊎ (IsAccepted config asked.until × IsMade (Replays config asked) (λ (counters : Counters). Ok 0) of_capture capture text outcome)
+  pub is_part : IsPart skip text part
 
 -- a capture was checked
 pub record ChecksInto (config : Configuration) (terms : CheckTerms) (skip : ℕ) (capture old new : List ℕ) (answer : Answer) : Type 0 where
   pub text : List ℕ
   pub outcome : Result ℕ PageFault
-  pub told : IsTold outcome (drop skip text) old new answer
+  pub part : List ℕ
+  pub told : IsTold outcome part old new answer
   pub checks : IsRefusal config terms.until text outcome
       ⊎ (IsAccepted config terms.until × IsMade (Checks config terms) concluded of_capture capture text outcome)
+  pub is_part : IsPart skip text part

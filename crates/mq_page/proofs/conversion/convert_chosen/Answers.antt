@@ -1,0 +1,11 @@
+use Rattle.std.proofs.Common.{refl, inl, inr, [], Err}
+use Rattle.mq_page.specs.declared.page_fault.PageFault.TheVariants.{Memory}
+use Rattle.mq_page.proofs.conversion.convert_chosen.Goals as goal
+
+pub returns-in_default : goal.returns-in_default
+returns-in_default c =
+    record { text = []; outcome = Err Memory; part = []; told = c.told.ensures; converts = inl (refl, refl); is_part = inr (refl, refl) }
+
+pub returns-in_default-part : goal.returns-in_default-part
+returns-in_default-part c =
+    record { text = []; outcome = Err Memory; part = []; told = c.told-in_default-part.ensures; converts = inl (refl, refl); is_part = inr (refl, refl) }
