@@ -22,7 +22,7 @@ def replayed(frames, family, until, own, *options):
             capture.write(struct.pack("=IIII", stamp // 10**9, stamp % 10**9, len(frame), len(frame)) + frame)
         capture.flush()
         capture.seek(0)
-        words = [REPLAY, "replay", "--json", *options, family, "--own", own, *SHORT, "--until", str((until - frames[0][0]) // 10**6)]
+        words = [REPLAY, "replay", "--json", *options, family, "--own", own, *SHORT, "--until", str(max(0, until - frames[0][0]) // 10**6)]
         ran = subprocess.run(words, stdin=capture, capture_output=True, text=True, check=False)
     if ran.returncode:
         raise Wrong(f"replay: {ran.stderr}")
