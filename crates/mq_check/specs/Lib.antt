@@ -11,7 +11,6 @@ pub mod FindingLines
 pub mod General
 pub mod Headers
 pub mod Numbered
-pub mod Partners
 pub mod Places
 pub mod Queries
 pub mod Repeated

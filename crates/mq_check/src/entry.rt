@@ -3,12 +3,11 @@
 ghost use Rattle.std.specs.Prelude.{◌≡◌, ⊤};
 ghost use Rattle.mq_check.specs.Entries as spec;
 ghost use Rattle.mq_check.specs.Numbered.{numbered_entry, numbered_terms, numbered_terms_if, numbered_unpaired};
-ghost use Rattle.mq_check.specs.Partners as partners;
 
 use crate::asked::Asked;
 use crate::finding::ExtraReason;
 use crate::headers::HeaderFault;
-use crate::terms::{Terms, is_suppressed, with_right_s};
+use crate::terms::{Terms, with_right_s};
 use mq_count::Moment;
 use mq_wire::WireKey;
 use std::alloc::AllocError;
@@ -117,18 +116,6 @@ impl<K: WireKey> Entry<K> {
         match self {
             Entry::Seen(_, _, _, _, Unpaired::Scheduled(left) | Unpaired::Next(left)) => *left,
             _ => 0,
-        }
-    }
-
-    /// Returns whether it is a seen query whose S is another than that of its partner.
-    pub(crate) fn has_other_s(&self) -> bool
-        ensures { result ≡ partners.has_other_s (numbered_entry K.number self.now) }
-    {
-        match self {
-            Entry::Seen(_, _, terms, Some(wanted), _) => {
-                is_suppressed(terms.querier) != is_suppressed(wanted.querier)
-            }
-            _ => false,
         }
     }
 

@@ -173,23 +173,6 @@ fn is_seen_on<F: Family, A: Allocator>(
     }
 }
 
-/// Returns an entry after a Report. Its timer is searched for only if the partner may get another S, since many queries may
-/// come in a millisecond.
-fn refreshed<F: Family, A: Allocator>(
-    link: &Link<F, A>,
-    limit: Moment,
-    entry: Entry<F::Address>,
-) -> Entry<F::Address>
-    ensures { numbered_entry F.Address.number result
-        ≡ waits.refreshed_at (is_timer_set link.now.state.groups limit) (numbered_entry F.Address.number entry) }
-{
-    if !entry.has_other_s() {
-        return entry;
-    }
-    let is_set = is_seen_on(link, limit, &entry);
-    entry.refreshed_if(is_set)
-}
-
 /// Handles a Report, back to the first entry before `from`.
 fn refresh_each<F: Family, A: Allocator>(
     entries: &mut VecDeque<Entry<F::Address>, A>,
@@ -208,7 +191,8 @@ fn refresh_each<F: Family, A: Allocator>(
             return;
         }
         end -= 1;
-        entries[end] = refreshed(link, limit, entry);
+        let is_set = is_seen_on(link, limit, &entry);
+        entries[end] = entry.refreshed_if(is_set);
     }
 }
 

@@ -1,6 +1,7 @@
-use Rattle.std.proofs.Common.{ℕ, refl, ap, sym, ◌∙◌, arith}
+use Rattle.std.proofs.Common.{ℕ, Bool, refl, ap, sym, ◌∙◌, arith}
 use Rattle.std.specs.Prelude.{nat_le}
 use Rattle.std.proofs.lemmas.List.{length-set}
+use Rattle.mq_check.specs.Entries.{refreshed_if}
 use Rattle.mq_check.specs.Numbered.{numbered_entry}
 use Rattle.mq_check.proofs.Refreshing.{all_were_refreshed, last_were_refreshed, none_refreshed, refreshed_more}
 use Rattle.mq_check.proofs.waiting.refresh_each.Goals as goal
@@ -18,7 +19,8 @@ loop-end-preserved g c =
     let now = c.loop-end.invariant in
     let reached = ap (λ (m : ℕ). nat_le c.args.from.now m) (sym c.moment.ensures) ∙ sym c.is_reached.ensures ∙ c.if-not-is_reached.false in
     record {
-      refreshed = refreshed_more _ _ f _ _ _ c.loop-end.end _ _ (omega arith) now.refreshed c.index.ensures reached refl c.refreshed.ensures;
+      refreshed = refreshed_more _ _ f _ _ _ c.loop-end.end _ _ (omega arith) now.refreshed c.index.ensures reached refl
+          (c.refreshed_if.ensures ∙ ap (λ (b : Bool). refreshed_if b (f c.index.result.now)) c.is_seen_on-is_set.ensures);
       long = length-set _ _ _ ∙ now.long;
       capacity = omega (arith, now.capacity);
     }
