@@ -1,5 +1,5 @@
 -- Entries that differ in nothing by which they are searched.
-use Rattle.std.proofs.Common.{◌≡◌, ℕ, zero, suc, List, [], ◌∷◌, length, get_or, refl, ap, sym, ◌∙◌, arith}
+use Rattle.std.proofs.Common.{◌≡◌, ℕ, zero, suc, Bool, true, false, List, [], ◌∷◌, length, get_or, refl, ap, sym, ◌∙◌, arith}
 use Rattle.std.specs.Prelude.{map as list_map, ◌&&◌, nat_le}
 use Rattle.std.proofs.lemmas.List.{length-map as mapped_long}
 use Rattle.mq_check.specs.declared.asked.Asked.{Asked}

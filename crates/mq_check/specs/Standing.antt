@@ -36,8 +36,8 @@ is_above groups in_force now (Group group) =
 is_above groups in_force now (Source group source) =
     is_ahead (lowered_to in_force now) (deadline_of (timer_at (group_at groups group).group source))
 
--- A Report sets the timer of a subject to a Group Membership Interval. So a timer that was set at most a millisecond before a moment
--- ends at this moment or later. A stamp may be a millisecond off: then the Report may stand on either side of a query.
+-- A Report has set the timer of a subject, at most a millisecond before a moment. Such a timer ends a Group Membership Interval
+-- later. A stamp may be a millisecond off, so the Report may stand before or after a query of that moment.
 abbrev pub set_from : (in_force : Timing) → (now : ℕ) → ℕ
 set_from in_force now = now - 1 + membership_interval in_force
 

@@ -1,5 +1,5 @@
 -- Queries whose fields are alike, and that have the same S.
-use Rattle.mq_laws.proofs.Common.{◌≡◌, Bool, true, false, List, [], ◌∷◌, ◌++◌, refl, ap, difference_if, fields_differ, is_unlike, queriers_differ}
+use Rattle.mq_laws.proofs.Common.{◌≡◌, Bool, true, false, List, [], ◌∷◌, ◌++◌, refl, ap, ◌∙◌, difference_if, fields_differ, is_unlike, queriers_differ}
 use Rattle.mq_laws.proofs.Common.{responses_differ, terms_differ, Terms}
 use Rattle.std.specs.Prelude.{ℕ, Option, None, Some, ◌==◌, not}
 use Rattle.mq_check.specs.declared.finding.Difference.{Difference}

@@ -29,8 +29,7 @@ returns-clause-receives g c =
     let after = c.receive.new.self.state in
     let role =
     ap (λ (w : WantingValue). w.checking) c.name_other.ensures ∙ ap (λ (w : WantingValue). w.checking) c.refresh.ensures
-    ∙ ap (λ (w : WantingValue). with_timers_set c.args.stamp (is_set after.groups (set_from after.election.timing c.args.stamp)) w.checking)
-    c.change_role.ensures
+    ∙ ap (λ (w : WantingValue). with_timers_set c.args.stamp (is_set after.groups (set_from after.election.timing c.args.stamp)) w.checking) c.change_role.ensures
     ∙ (λ i. with_timers_set (sym c.moment-now.ensures.same i) (is_set after.groups (set_from after.election.timing (sym c.moment-now.ensures.same i)))
     (role_changed c.args.self.now.terms.within (configured i) (sym c.moment-now.ensures.same i) (c.is_querier-was_querier.ensures i)
     (c.is_querier-stays_querier.ensures i) c.receive.new.outlet.checking)) in
