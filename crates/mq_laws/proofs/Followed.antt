@@ -278,7 +278,7 @@ follows-datagram config within moment number to datagram None faults r =
     let role = role_by_datagram was (is_querier step.state.election.role) in
     let after = answered (all_sent (outgoing_of config step)) step in
     let changed = role_changed within config.timing moment was (is_querier step.state.election.role) wanted in
-    let rest = wanted_by config r.basis.packets false r.link step ++ (role ++ timers_set moment after) in
+    let rest = wanted_by config r.basis.packets false r.link step ++ role ++ timers_set moment after in
     follows-still within config.timing moment _ _ (fault_events number faults ++ Changes terms changes ∷ rest) r
     (received config within moment datagram (with_faults moment number faults (settled_at moment r))) refl
     (other_packets config.family step.state.election.role _ ∙ role_packets moment was (is_querier step.state.election.role) r.basis)

@@ -175,8 +175,8 @@ ordered-datagram known config moment number to datagram None faults packets link
         omega arith,
         order-append moment moment (fault_events number faults)
             (Changes (specific_terms config link.election.timing packets) (causes_in config.family datagram) ∷ wanted_by config packets false link step
-            ++ (role_by_datagram (is_querier link.election.role) (is_querier step.state.election.role)
-            ++ timers_set moment after)) moment (order-faults moment number faults)
+            ++ role_by_datagram (is_querier link.election.role) (is_querier step.state.election.role)
+            ++ timers_set moment after) moment (order-faults moment number faults)
             (order-append moment moment (wanted_by config packets false link step)
             (role_by_datagram (is_querier link.election.role) (is_querier step.state.election.role) ++ timers_set moment after) moment
             (order-wanted moment packets config false (not (is_querier link.election.role)) (outgoing_of config step))

@@ -116,7 +116,7 @@ datagram_passage config moment to datagram None faults packets link =
       packets = packets;
       events =
           Comes moment ∷ faults
-          ++ (Changes (specific_terms config link.election.timing packets) (causes_in config.family datagram) ∷ wanted_by config packets false link step ++ (role_by_datagram (is_querier link.election.role) (is_querier step.state.election.role) ++ timers_set moment after));
+          ++ (Changes (specific_terms config link.election.timing packets) (causes_in config.family datagram) ∷ wanted_by config packets false link step ++ role_by_datagram (is_querier link.election.role) (is_querier step.state.election.role) ++ timers_set moment after);
     }
 
 -- a frame, if it carries a datagram; the faults of the headers of a query come first
