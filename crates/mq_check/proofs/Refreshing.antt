@@ -1,8 +1,7 @@
 -- What waits after a Report, by which partners of the last seen queries change.
 use Rattle.std.proofs.Common.{◌≡◌, ℕ, zero, suc, ◌+◌, ◌<◌, Bool, true, false, List, [], ◌∷◌, ◌++◌, length, take, drop, set, get_or, refl, ap, sym}
-use Rattle.std.proofs.Common.{◌-◌, ◌∙◌, append-nil, subst, arith}
+use Rattle.std.proofs.Common.{◌-◌, ◌∙◌, subst, arith}
 use Rattle.std.specs.Prelude.{map as list_map, ◌&&◌, nat_le, if◌then◌else◌, None, Some}
-use Rattle.std.proofs.Math.Seq.{drop-length, take-length}
 use Rattle.std.proofs.lemmas.List.{length-map as mapped_long, map-set}
 use Rattle.mq_check.specs.declared.asked.Asked.{Asked}
 use Rattle.mq_check.specs.declared.entry.Entry.{Entry}
@@ -49,19 +48,6 @@ pub record AreRefreshed {X : Type 0} (from : ℕ) (is_set : Asked ℕ → Bool) 
   pub within : end < suc (length old)
   pub are : list_map f items ≡ take end (list_map f old) ++ last_refreshed from is_set (drop end (list_map f old))
   pub recent : are_recent from (drop end (list_map f old)) ≡ true
-
--- none so far
-pub none_refreshed : {X : Type 0} (from : ℕ) (is_set : Asked ℕ → Bool) (f : X → Entry ℕ) (old : List X) (end : ℕ) → end ≡ length old →
-    AreRefreshed from is_set f old old end
-none_refreshed from is_set f old end all =
-    let es = list_map f old in
-    let last : end ≡ length es = omega (arith, all, mapped_long old f) in
-    record {
-      within = omega (arith, all);
-      are = sym (ap (λ (n : ℕ). take n es ++ last_refreshed from is_set (drop n es)) last
-          ∙ (λ i. take-length es i ++ last_refreshed from is_set (drop-length es i)) ∙ append-nil es);
-      recent = ap (λ (n : ℕ). are_recent from (drop n es)) last ∙ ap (are_recent from) (drop-length es);
-    }
 
 -- the entry before them, as it was read
 read_there : {X : Type 0} (from : ℕ) (is_set : Asked ℕ → Bool) (f : X → Entry ℕ) (old items : List X) (n : ℕ) (entry : X)

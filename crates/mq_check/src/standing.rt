@@ -136,7 +136,7 @@ fn is_from(limit: Moment, deadline: Option<Moment>) -> bool
     ensures { result ≡ spec.is_from limit deadline }
 {
     match deadline {
-        Some(deadline) => Meter::new().reached(limit, deadline),
+        Some(deadline) => Meter::new().reached(deadline, limit),
         None => false,
     }
 }

@@ -207,13 +207,7 @@ pub(crate) fn with_right_s<K: WireKey>(
         ≡ entries.with_right_s is_right (numbered_terms K.number seen) (numbered_terms_if K.number partner) }
 {
     match partner {
-        Some(wanted) => {
-            if is_right {
-                Some(with_s_of(&seen, &wanted))
-            } else {
-                Some(wanted)
-            }
-        }
-        None => None,
+        Some(wanted) if is_right => Some(with_s_of(&seen, &wanted)),
+        other => other,
     }
 }

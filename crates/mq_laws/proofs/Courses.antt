@@ -13,8 +13,7 @@ use Rattle.mq_check.specs.declared.schedules.Repeats.{Repeats}
 use Rattle.mq_check.specs.declared.standing.Standing.{Standing}
 use Rattle.mq_check.specs.declared.terms.Terms.{Terms}
 use Rattle.mq_check.specs.Checking.{CheckingValue, all_changed, alone_in, is_querier_in, near, subject_wanted, with_seen, one_seen, with_general}
-use Rattle.mq_check.specs.Checking.{general_compared, general_seen, specific_seen, role_lost, role_returned, settled, told, with_fault}
-use Rattle.mq_check.specs.Checking.{is_s_right, with_timers_set}
+use Rattle.mq_check.specs.Checking.{general_compared, general_seen, specific_seen, role_lost, role_returned, settled, told, with_fault, is_s_right, with_timers_set}
 use Rattle.mq_check.specs.Entries.{is_free_seen, is_free_wanted, terms_differ}
 use Rattle.mq_check.specs.General.{wrong_interval, phase_again, phase_behind, silence_up_to}
 use Rattle.mq_check.specs.Queries.{is_same}
@@ -198,8 +197,7 @@ sees_all within keep now terms standing (a ∷ more) c free wanted rest is_fresh
     let one : StepsTo within keep now next.waiting.entries (free ++ wanted) wanted (asks_at now terms more ++ rest)
     (if is_same AllGroups a then return_seen now r.due r.early else r) =
     rw (part.entries is_fresh near_is) (stepped within keep now a (return_seen now) _ _ free (free ++ wanted) wanted (asks_at now terms more ++ rest)
-    (see_one within keep now a terms (alone_in now terms (standing a) a c) (is_s_right (standing a) terms) c.waiting.entries free wanted
-    (asks_at now terms more ++ rest) st)) in
+    (see_one within keep now a terms (alone_in now terms (standing a) a c) (is_s_right (standing a) terms) c.waiting.entries free wanted (asks_at now terms more ++ rest) st)) in
     let all = sees_all within keep now terms standing more next one.left wanted rest (part.fresh is_fresh)
     (ap (λ (r : Repeats). r.within) part.repeats ∙ within_is) room one.stands in
     record {
@@ -383,8 +381,7 @@ general_all within keep timing now terms partner c free wanted rest is_fresh wit
           (general_returned false now r.due r.early) =
           rw (part.entries is_fresh near_is)
           (general_step within keep now (return_seen now) _ _ free (free ++ wanted) wanted rest
-          (see_one within keep now AllGroups terms (alone_in now terms plain AllGroups c) (is_s_right plain terms) c.waiting.entries free wanted
-          rest before)) in
+          (see_one within keep now AllGroups terms (alone_in now terms plain AllGroups c) (is_s_right plain terms) c.waiting.entries free wanted rest before)) in
           rw same (record {
             step = one;
             phase = part.phase ∙ sym (no_phase_behind within timing now c.phase is);

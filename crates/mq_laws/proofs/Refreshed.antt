@@ -1,7 +1,7 @@
 -- What waits in the midst of a check whose queries pair up, after Reports set timers.
 use Rattle.mq_laws.proofs.Common.{◌≡◌, ℕ, ◌+◌, ◌-◌, ◌≤◌, Bool, true, false, List, [], ◌∷◌, ◌++◌, refl, ap, sym, ◌∙◌, subst, Asked, Entry, Wanted, Seen}
-use Rattle.mq_laws.proofs.Common.{Interval, Silence, Packet, Unpaired, Terms, terms_differ, Ask, Expected, CheckingValue, seen_about, wanted_about}
-use Rattle.mq_laws.proofs.Common.{AllByRecursion, PairUp, Returns, still_due, WaitingValue, ◌⊎◌}
+use Rattle.mq_laws.proofs.Common.{Interval, Silence, Packet, Unpaired, Terms, terms_differ, Ask, Expected, CheckingValue, seen_about, wanted_about, WaitingValue}
+use Rattle.mq_laws.proofs.Common.{AllByRecursion, PairUp, Returns, still_due, ◌⊎◌}
 use Rattle.std.specs.Prelude.{None, Some, if◌then◌else◌}
 use Rattle.mq_check.specs.Checking.{with_timers_set}
 use Rattle.mq_check.specs.Entries.{moment_of, with_right_s}

@@ -6,12 +6,12 @@ use Rattle.mq_check.specs.Standing.{is_set}
 use Rattle.mq_check.proofs.Refreshing.{AreRefreshed}
 use Rattle.mq_check.proofs.waiting.refresh_each.Given as goal
 
-abbrev pub invariant-loop-end : goal.invariant-loop-end
-invariant-loop-end g l = record {
+abbrev pub invariant-loop : goal.invariant-loop
+invariant-loop g l = record {
   refreshed : AreRefreshed l.from (is_set l.fn.link.state.groups l.limit) (numbered_entry g.F.Address.Key.number) l.fn.entries.items l.entries.items l.end;
   long : length l.entries.items ≡ length l.fn.entries.items;
   capacity : deque_capacity l.entries ≡ deque_capacity l.fn.entries;
 }
 
-abbrev pub decreases-loop-end : goal.decreases-loop-end
-decreases-loop-end g l = l.end
+abbrev pub decreases-loop : goal.decreases-loop
+decreases-loop g l = l.end
