@@ -281,7 +281,6 @@ see_one within keep now asked terms alone is_right es free wanted seen st =
     alike : (one : OneWanted within keep now asked terms es free) (w : Ask) → one.first ≡ Sent w → Answers within w (ask now asked terms) →
         terms_differ terms (ask_of one.first).terms ≡ []
     alike one w is answers = ap (λ (x : Expected). terms_differ terms (ask_of x).terms) is ∙ answers.alike
-
     paired : (right : Bool) (one : OneWanted within keep now asked terms es free)
         → Stepped within keep now asked (return_seen now) es (first_joined (is_free_wanted asked) terms es ++
         Seen now asked terms (with_right_s right terms (Some (ask_of one.first).terms)) alone ∷ []) free (free ++ wanted) wanted seen
