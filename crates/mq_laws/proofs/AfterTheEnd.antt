@@ -19,7 +19,7 @@ use Rattle.mq_check.specs.Queries.{is_same}
 use Rattle.mq_check.specs.Schedules.{terms_wanted}
 use Rattle.mq_check.specs.Waiting.{WaitingValue, all_excused, excused_at, may_still_come}
 use Rattle.mq_laws.specs.Pairing.{Ask, Expected, Sent, LeftOut, PairUp, missing_of, seen_about, wanted_about}
-use Rattle.mq_laws.specs.Events.{CheckEvent, Comes, Wants, Sees, SeesGeneral, LosesRole, HasRoleAgain, SeesFault, Changes, Sets, check_by_all, told_by_all}
+use Rattle.mq_laws.specs.Events.{CheckEvent, Comes, Wants, Sees, SeesGeneral, LosesRole, HasRoleAgain, SeesFault, Changes, check_by_all, told_by_all}
 use Rattle.mq_laws.specs.OnTime.{AreInOrder, IsOfTick}
 use Rattle.mq_laws.proofs.Same.{is_same-self}
 use Rattle.mq_laws.proofs.Held.{Holds, free_seen, passed_joined, seen_here, wanted_here}
@@ -154,7 +154,6 @@ in_time now (LosesRole ∷ es) end order = in_time now es end order
 in_time now (HasRoleAgain ∷ es) end order = in_time now es end order
 in_time now (SeesFault number fault ∷ es) end order = in_time now es end order
 in_time now (Changes terms asked ∷ es) end order = in_time now es end order
-in_time now (Sets is_set ∷ es) end order = in_time now es end order
 
 pub ticks_find_nothing : (within limit : ℕ) (timing : Timing) (now : ℕ) (es : List CheckEvent) (c : CheckingValue) → IsFresh c.schedules →
     within ≤ c.schedules.repeats.keep → limit ≤ now + within → AreInOrder now es limit → AllByRecursion IsOfTick es
@@ -188,7 +187,6 @@ ticks_find_nothing within limit timing now (SeesGeneral terms wanted ∷ es) c f
 ticks_find_nothing within limit timing now (LosesRole ∷ es) c fresh long far order ticks are room = absurd ticks.0
 ticks_find_nothing within limit timing now (SeesFault number fault ∷ es) c fresh long far order ticks are room = absurd ticks.0
 ticks_find_nothing within limit timing now (Changes terms asked ∷ es) c fresh long far order ticks are room = absurd ticks.0
-ticks_find_nothing within limit timing now (Sets is_set ∷ es) c fresh long far order ticks are room = absurd ticks.0
 
 -- a wanted query that may be left out, and a pair
 none_found : (within end m : ℕ) (a : Asked ℕ) (t : Terms ℕ) (o : Need) (f : Bool) (changed : Option ℕ) → IsQuiet within (end + within) (Wanted m a t o f) →

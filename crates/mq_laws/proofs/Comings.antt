@@ -26,7 +26,6 @@ use Rattle.mq_laws.proofs.Same.{is_same-self}
 use Rattle.mq_laws.proofs.Held.{ask, Holds, free_seen, IsAscending, wanted_here, wanted_other, seen_here, seen_other, wanted_about-append}
 use Rattle.mq_laws.proofs.Held.{seen_about-append, ascending-from, none_over-ascending, moments_wanted}
 use Rattle.mq_laws.proofs.Steps.{Stands, by_asked, moments_seen, returns_of, to_pairs}
-use Rattle.mq_laws.proofs.RightS.{none_after, none_before}
 
 -- all that is still to come comes at a moment or later
 abbrev pub WantedFrom : (moment : ℕ) → List Expected → Type 0
@@ -217,6 +216,15 @@ no_seen_over within keep low moment m asked terms alone es free wanted seen long
     (w.pairs asked)) (wanted_from-about moment asked wanted from) over
 
 -- what is found of those that are over
+-- nothing differs in either part if nothing differs in both
+none_before : (xs ys : List (Difference ℕ)) → xs ++ ys ≡ [] → xs ≡ []
+none_before [] ys none = refl
+none_before (x ∷ xs) ys none = absurd (cc)
+
+none_after : (xs ys : List (Difference ℕ)) → xs ++ ys ≡ [] → ys ≡ []
+none_after [] ys none = none
+none_after (x ∷ xs) ys none = absurd (cc)
+
 same_flag : (b : Bool) (difference : Difference ℕ) → difference_if b difference ≡ [] → b ≡ false
 same_flag true difference none = absurd (cc)
 same_flag false difference none = refl

@@ -107,7 +107,7 @@ pub use Rattle.mq_laws.specs.Captures.{nothing_happens, packet_passage, Passage,
 pub use Rattle.mq_laws.specs.Captures.{wanted_for, wanted_of}
 pub use Rattle.mq_laws.specs.Events.{at_the_end, Changes, check_by, check_by_all, checked_ahead, checked_by, CheckEvent, Comes, found_by, found_from}
 pub use Rattle.mq_laws.specs.Events.{HasRoleAgain, HasRoom, LosesRole, moment_behind, moment_behind_all, Sees, SeesFault, SeesGeneral, told_by, told_by_all}
-pub use Rattle.mq_laws.specs.Events.{Sets, Wants}
+pub use Rattle.mq_laws.specs.Events.{Wants}
 pub use Rattle.mq_laws.specs.Following.{AllFollowed, filter_at, FilterTable, IsTableOf, nothing_of_any, taken_over}
 pub use Rattle.mq_laws.specs.Groups.{ForwardsAfter, group_after, IsNoLater}
 pub use Rattle.mq_laws.specs.Laws.{AllAfter, ChangesNothing, CountsAnswer, CountsDropped, CountsRecords, CountsTaken, DifferAt, DifferInAnswers, HappenAlike}

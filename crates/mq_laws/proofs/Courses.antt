@@ -13,7 +13,7 @@ use Rattle.mq_check.specs.declared.schedules.Repeats.{Repeats}
 use Rattle.mq_check.specs.declared.standing.Standing.{Standing}
 use Rattle.mq_check.specs.declared.terms.Terms.{Terms}
 use Rattle.mq_check.specs.Checking.{CheckingValue, all_changed, alone_in, is_querier_in, near, subject_wanted, with_seen, one_seen, with_general}
-use Rattle.mq_check.specs.Checking.{general_compared, general_seen, specific_seen, role_lost, role_returned, settled, told, with_fault, is_s_right, with_timers_set}
+use Rattle.mq_check.specs.Checking.{general_compared, general_seen, specific_seen, role_lost, role_returned, settled, told, with_fault}
 use Rattle.mq_check.specs.Entries.{is_free_seen, is_free_wanted, terms_differ}
 use Rattle.mq_check.specs.General.{wrong_interval, phase_again, phase_behind, silence_up_to}
 use Rattle.mq_check.specs.Queries.{is_same}
@@ -21,7 +21,7 @@ use Rattle.mq_check.specs.Schedules.{SchedulesValue, keep_in, more_in, repeats_i
 use Rattle.mq_check.specs.Standing.{plain}
 use Rattle.mq_check.specs.Waiting.{WaitingValue}
 use Rattle.mq_laws.specs.Pairing.{Ask, Expected, Sent, LeftOut, ask_of, asks_of, kept_for, missing_of, wanted_about}
-use Rattle.mq_laws.specs.Events.{CheckEvent, Comes, Wants, Sees, SeesGeneral, LosesRole, HasRoleAgain, SeesFault, Changes, Sets, moment_behind, check_by}
+use Rattle.mq_laws.specs.Events.{CheckEvent, Comes, Wants, Sees, SeesGeneral, LosesRole, HasRoleAgain, SeesFault, Changes, moment_behind, check_by}
 use Rattle.mq_laws.specs.Events.{told_by, moment_behind_all, check_by_all, told_by_all}
 use Rattle.mq_laws.specs.WantedAndSeen.{asks_at, asks_wanted, wanted_in, seen_in, general_ask, general_returned, all_seen, all_wanted, return_seen}
 use Rattle.mq_laws.specs.WantedAndSeen.{return_wanted, still_due, Returns}
@@ -30,7 +30,6 @@ use Rattle.mq_laws.specs.AsWanted.{AreMissed}
 use Rattle.mq_laws.proofs.Held.{ask, IsKept, ascending-to, moments_wanted, still_later}
 use Rattle.mq_laws.proofs.Same.{same_asked}
 use Rattle.mq_laws.proofs.Partners.{SameFrom}
-use Rattle.mq_laws.proofs.Refreshed.{returns_set, set_entries, set_free, stands_set}
 use Rattle.mq_laws.proofs.Steps.{Stands, Stepped, general_one, returns_of, see_one, seen_near, want_one, wanted_near}
 use Rattle.mq_laws.proofs.Comings.{WantedFrom, SeenFrom, Waits, comes, left_of, told_of}
 use Rattle.mq_laws.proofs.Rooms.{IsFresh, fresh_as, fresh_settled, entered, wanted_part, seen_part, general_part, lost_part}
@@ -197,7 +196,7 @@ sees_all within keep now terms standing (a ∷ more) c free wanted rest is_fresh
     let one : StepsTo within keep now next.waiting.entries (free ++ wanted) wanted (asks_at now terms more ++ rest)
     (if is_same AllGroups a then return_seen now r.due r.early else r) =
     rw (part.entries is_fresh near_is) (stepped within keep now a (return_seen now) _ _ free (free ++ wanted) wanted (asks_at now terms more ++ rest)
-    (see_one within keep now a terms (alone_in now terms (standing a) a c) (is_s_right (standing a) terms) c.waiting.entries free wanted (asks_at now terms more ++ rest) st)) in
+    (see_one within keep now a terms (alone_in now terms (standing a) a c) c.waiting.entries free wanted (asks_at now terms more ++ rest) st)) in
     let all = sees_all within keep now terms standing more next one.left wanted rest (part.fresh is_fresh)
     (ap (λ (r : Repeats). r.within) part.repeats ∙ within_is) room one.stands in
     record {
@@ -230,7 +229,6 @@ all_free within timing now (HasRoleAgain ∷ es) c free = returned_free within n
 all_free within timing now (SeesFault number fault ∷ es) c free = (entered _ _ (all_free within timing now es (with_fault now number c fault) free)).was
 all_free within timing now (Changes terms asked ∷ es) c free =
     changed_free now terms asked c (all_free within timing now es (all_changed now terms asked c) free)
-all_free within timing now (Sets is_set ∷ es) c free = set_free now is_set c (all_free within timing now es (with_timers_set now is_set c) free)
 
 -- What waits at the end, and that no less is missing than was told and is missing still.
 pub record Ended (within : ℕ) (timing : Timing) (flags : CheckFlags) (end now : ℕ) (events : List CheckEvent) (c : CheckingValue)
@@ -273,7 +271,6 @@ wanted-from within timing now (LosesRole ∷ es) c end order = wanted-from withi
 wanted-from within timing now (HasRoleAgain ∷ es) c end order = wanted-from within timing now es (role_returned within now c) end order
 wanted-from within timing now (SeesFault number fault ∷ es) c end order = wanted-from within timing now es (with_fault now number c fault) end order
 wanted-from within timing now (Changes terms asked ∷ es) c end order = wanted-from within timing now es (all_changed now terms asked c) end order
-wanted-from within timing now (Sets is_set ∷ es) c end order = wanted-from within timing now es (with_timers_set now is_set c) end order
 
 general-from : (is_querier : Bool) (due : List ℕ) (now : ℕ) (terms : Terms ℕ) (rest : List Ask) → SeenFrom now rest →
     SeenFrom now (general_ask is_querier due now terms ++ rest)
@@ -294,7 +291,6 @@ seen-from within q r now (LosesRole ∷ es) end order = seen-from within false r
 seen-from within q r now (HasRoleAgain ∷ es) end order = seen-from within true r now es end order
 seen-from within q r now (SeesFault number fault ∷ es) end order = seen-from within q r now es end order
 seen-from within q r now (Changes terms asked ∷ es) end order = seen-from within q r now es end order
-seen-from within q r now (Sets is_set ∷ es) end order = seen-from within q r now es end order
 
 expected-from : (now : ℕ) (expected : List Expected) (asks : List Ask) → asks_of expected ≡ asks → SeenFrom now asks → WantedFrom now expected
 expected-from now [] asks is from = tt
@@ -381,7 +377,7 @@ general_all within keep timing now terms partner c free wanted rest is_fresh wit
           (general_returned false now r.due r.early) =
           rw (part.entries is_fresh near_is)
           (general_step within keep now (return_seen now) _ _ free (free ++ wanted) wanted rest
-          (see_one within keep now AllGroups terms (alone_in now terms plain AllGroups c) (is_s_right plain terms) c.waiting.entries free wanted rest before)) in
+          (see_one within keep now AllGroups terms (alone_in now terms plain AllGroups c) c.waiting.entries free wanted rest before)) in
           rw same (record {
             step = one;
             phase = part.phase ∙ sym (no_phase_behind within timing now c.phase is);
@@ -540,15 +536,3 @@ course within timing flags end now (Changes terms asked ∷ es) c free expected 
     (time_as within timing c.phase next.phase c.last_general next.last_general now es end part.phase part.last general) room
     (seen_as within _ now next.waiting.entries free expected (is_querier_in c.phase) _ r _ es (ap is_querier_in part.phase)
     (ap (general_returns within now free) entries) (rw entries st)))
-course within timing flags end now (Sets is_set ∷ es) c free expected is_fresh keeps asks missed order general room st =
-    let next = with_timers_set now is_set c in
-    let r = general_returns within now free c.waiting.entries in
-    let seen = seen_in within (is_querier_in c.phase) r now es in
-    let entries = set_entries now is_set c in
-    let still : Stands within (kept_for within timing flags) now next.waiting.entries free expected seen =
-    rw entries (stands_set within (kept_for within timing flags) now (now - 1) is_set c.waiting.entries free expected seen st) in
-    let returns : general_returns within now free next.waiting.entries ≡ r =
-    ap (general_returns within now free) entries ∙ returns_set within now (now - 1) is_set AllGroups free c.waiting.entries in
-    ended_behind within timing flags end now (Sets is_set) es c (missing_of (free ++ expected)) (missing_of (free ++ expected)) refl
-    (course within timing flags end now es next free expected is_fresh keeps asks missed order general room
-    (seen_as within _ now next.waiting.entries free expected (is_querier_in c.phase) _ r _ es refl returns still))

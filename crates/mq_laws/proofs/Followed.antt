@@ -7,16 +7,16 @@ use Rattle.mq_laws.proofs.Common.{destination_in, faults_in, noted, CheckingValu
 use Rattle.mq_laws.proofs.Common.{with_messages, one_wanted, role_after_tick, role_changed, is_general, query_seen, specific_terms, Passage, nothing_happens}
 use Rattle.mq_laws.proofs.Common.{happening_behind, wanted_for, wanted_of, wanted_by, role_by_tick, role_by_datagram, tick_passage, ticks_through, event_of}
 use Rattle.mq_laws.proofs.Common.{fault_events, datagram_passage, frame_passage, packet_passage, CheckEvent, Comes, Changes, moment_behind, check_by, told_by}
-use Rattle.mq_laws.proofs.Common.{answered, moment_behind_all, check_by_all, told_by_all}
+use Rattle.mq_laws.proofs.Common.{moment_behind_all, check_by_all, told_by_all}
 use Rattle.std.specs.Prelude.{Option, None, Some, Result, Ok, Err}
 use Rattle.mq_pcap.specs.Frame.{Carried, carried_in}
 use Rattle.mq_wire.specs.declared.message.WireFault.TheVariants.{Truncated, Checksum, UnknownType, QueryLength}
-use Rattle.mq_replay.specs.{Report.Datagram, Report.all_sent, Ticks.ticked_within}
+use Rattle.mq_replay.specs.{Report.Datagram, Ticks.ticked_within}
 use Rattle.mq_replay.proofs.Ticking.{none_within}
 use Rattle.mq_check.specs.{declared.basis.Basis.Basis, declared.headers.HeaderFault.HeaderFault, Causes.causes_in, Check.ticked, Check.received, Check.seen_at}
 use Rattle.mq_check.specs.{Check.with_packet, Checking.query_came}
 use Rattle.mq_check.proofs.TickedChecks.{next_in, one_ticked, rest_of, tick_in}
-use Rattle.mq_laws.specs.Captures.{ticks_passage, timers_set}
+use Rattle.mq_laws.specs.Captures.{ticks_passage}
 use Rattle.mq_pcap.specs.Frame as carried
 use Rattle.mq_check.specs.Basis as basis
 
@@ -275,20 +275,17 @@ follows-datagram config within moment number to datagram None faults r =
     let changes = causes_in config.family datagram in
     let noted = all_changed moment terms changes c in
     let wanted = with_messages config.family moment r.basis.packets false (not was) (outgoing_of config step) noted in
-    let role = role_by_datagram was (is_querier step.state.election.role) in
-    let after = answered (all_sent (outgoing_of config step)) step in
-    let changed = role_changed within config.timing moment was (is_querier step.state.election.role) wanted in
-    let rest = wanted_by config r.basis.packets false r.link step ++ role ++ timers_set moment after in
+    let rest = wanted_by config r.basis.packets false r.link step ++ role_by_datagram was (is_querier step.state.election.role) in
     follows-still within config.timing moment _ _ (fault_events number faults ++ Changes terms changes ∷ rest) r
     (received config within moment datagram (with_faults moment number faults (settled_at moment r))) refl
     (other_packets config.family step.state.election.role _ ∙ role_packets moment was (is_querier step.state.election.role) r.basis)
     (still-append within config.timing moment (fault_events number faults) (Changes terms changes ∷ rest) begun c _
     (still-faults within config.timing moment number faults begun)
     (still-append within config.timing moment (Changes terms changes ∷ []) rest c noted _ (record { check = refl; told = refl; moment = refl })
-    (still-append within config.timing moment (wanted_by config r.basis.packets false r.link step) (role ++ timers_set moment after) noted wanted _
+    (still-append within config.timing moment (wanted_by config r.basis.packets false r.link step)
+    (role_by_datagram was (is_querier step.state.election.role)) noted wanted _
     (still-messages within config moment r.basis.packets false (not was) (outgoing_of config step) noted)
-    (still-append within config.timing moment role (timers_set moment after) wanted changed _
-    (still-datagram within config.timing moment was (is_querier step.state.election.role) wanted) (record { check = refl; told = refl; moment = refl })))))
+    (still-datagram within config.timing moment was (is_querier step.state.election.role) wanted))))
 
 follows-frame : (config : Configuration) (link : LinkType) (within moment number : ℕ) (frame : List ℕ) (datagram : Option Datagram) (r : Checked)
     → Follows within config.timing (frame_passage config link moment number frame datagram r.basis.packets r.link) r

@@ -19,11 +19,9 @@ pub mod SpokenGroups
 pub mod Same
 pub mod Held
 pub mod Partners
-pub mod RightS
 pub mod Steps
 pub mod Comings
 pub mod Rooms
-pub mod Refreshed
 pub mod Courses
 pub mod AfterTheEnd
 pub mod Found

@@ -5,12 +5,12 @@ use Rattle.mq_laws.proofs.Common.{IsFaultless, Envelope, receipt_of, answered, O
 use Rattle.mq_laws.proofs.Common.{datagram_of, destination_in, faults_in, asked_in, is_general, terms_of, query_seen, Passage, happening_behind, wanted_for}
 use Rattle.mq_laws.proofs.Common.{wanted_of, wanted_by, role_by_tick, role_by_datagram, tick_passage, ticks_through, event_of, fault_events, datagram_passage}
 use Rattle.mq_laws.proofs.Common.{frame_passage, packet_passage, last_of, end_of, events_ahead, events_of, specific_terms, CheckEvent, Comes, Wants, Sees}
-use Rattle.mq_laws.proofs.Common.{SeesGeneral, LosesRole, HasRoleAgain, SeesFault, Changes, Sets, AreAhead, AreInOrder, IsOfTick}
+use Rattle.mq_laws.proofs.Common.{SeesGeneral, LosesRole, HasRoleAgain, SeesFault, Changes, AreAhead, AreInOrder, IsOfTick}
 use Rattle.std.specs.Prelude.{◌^◌, Option, None, Some, min, unwrap_or}
 use Rattle.mq_pcap.specs.{Capture.Captured, Frame.carried_in}
 use Rattle.mq_replay.specs.{Listing.moment_of, Report.Datagram, Report.all_sent}
 use Rattle.mq_check.specs.{declared.headers.HeaderFault.HeaderFault, Causes.causes_in}
-use Rattle.mq_laws.specs.Captures.{ticks_passage, packets_passage, timers_set}
+use Rattle.mq_laws.specs.Captures.{ticks_passage, packets_passage}
 use Rattle.mq_link.specs.Tick as tick
 use Rattle.mq_laws.proofs.Followed.{none_passes, one_passes}
 
@@ -41,7 +41,6 @@ order-later now later (LosesRole ∷ es) end before order = order-later now late
 order-later now later (HasRoleAgain ∷ es) end before order = order-later now later es end before order
 order-later now later (SeesFault number fault ∷ es) end before order = order-later now later es end before order
 order-later now later (Changes terms asked ∷ es) end before order = order-later now later es end before order
-order-later now later (Sets is_set ∷ es) end before order = order-later now later es end before order
 
 order-append : (now middle : ℕ) (xs ys : List CheckEvent) (end : ℕ) → AreInOrder now xs middle → AreInOrder middle ys end → AreInOrder now (xs ++ ys) end
 order-append now middle [] ys end first second = order-later now middle ys end first second
@@ -53,7 +52,6 @@ order-append now middle (LosesRole ∷ es) ys end first second = order-append no
 order-append now middle (HasRoleAgain ∷ es) ys end first second = order-append now middle es ys end first second
 order-append now middle (SeesFault number fault ∷ es) ys end first second = order-append now middle es ys end first second
 order-append now middle (Changes terms asked ∷ es) ys end first second = order-append now middle es ys end first second
-order-append now middle (Sets is_set ∷ es) ys end first second = order-append now middle es ys end first second
 
 -- what happens at one moment
 order-wanted_for : (now packets : ℕ) (family : Family) (by_tick is_returning : Bool) (to : ℕ) (query : Query ℕ) →
@@ -169,24 +167,21 @@ ordered-datagram known config moment number to datagram (Some query) faults pack
     }
 ordered-datagram known config moment number to datagram None faults packets link faultless formed later =
     let step = (receipt_of config datagram.envelope datagram.body moment link).step in
-    let after = answered (all_sent (outgoing_of config step)) step in
     record {
       order = (
         omega arith,
         order-append moment moment (fault_events number faults)
             (Changes (specific_terms config link.election.timing packets) (causes_in config.family datagram) ∷ wanted_by config packets false link step
-            ++ role_by_datagram (is_querier link.election.role) (is_querier step.state.election.role)
-            ++ timers_set moment after) moment (order-faults moment number faults)
+            ++ role_by_datagram (is_querier link.election.role)
+            (is_querier step.state.election.role)) moment (order-faults moment number faults)
             (order-append moment moment (wanted_by config packets false link step)
-            (role_by_datagram (is_querier link.election.role) (is_querier step.state.election.role) ++ timers_set moment after) moment
+            (role_by_datagram (is_querier link.election.role) (is_querier step.state.election.role)) moment
             (order-wanted moment packets config false (not (is_querier link.election.role)) (outgoing_of config step))
-            (order-append moment moment (role_by_datagram (is_querier link.election.role) (is_querier step.state.election.role))
-            (timers_set moment after) moment
-            (order-datagram moment (is_querier link.election.role) (is_querier step.state.election.role)) (omega arith))),
+            (order-datagram moment (is_querier link.election.role) (is_querier step.state.election.role))),
       );
       formed = counted_formed config (all_sent (outgoing_of config step)) step
           (known.received config datagram.envelope datagram.body moment link faultless formed);
-      later = let then = known.later_datagram config datagram.envelope datagram.body moment link faultless formed in omega (arith, then);
+      later = let after = known.later_datagram config datagram.envelope datagram.body moment link faultless formed in omega (arith, after);
     }
 
 ordered-frame : KnownOfLinks → (config : Configuration) (link_type : LinkType) (moment number : ℕ) (frame : List ℕ) (datagram : Option Datagram)
@@ -299,7 +294,6 @@ order-until now (LosesRole ∷ es) end later before order = order-until now es e
 order-until now (HasRoleAgain ∷ es) end later before order = order-until now es end later before order
 order-until now (SeesFault number fault ∷ es) end later before order = order-until now es end later before order
 order-until now (Changes terms asked ∷ es) end later before order = order-until now es end later before order
-order-until now (Sets is_set ∷ es) end later before order = order-until now es end later before order
 
 -- the ticks behind the end, where the end is in range and where it isn't
 order-ahead : KnownOfLinks → (config : Configuration) (within end limit packets : ℕ) (link : LinkState) → IsFaultless config →

@@ -18,11 +18,11 @@ use Rattle.mq_check.specs.declared.phase.Phase.TheVariants.{NotQuerier}
 use Rattle.mq_check.specs.declared.terms.Terms.{Terms}
 use Rattle.mq_check.specs.declared.waiting.Side.TheVariants.{OfWanted, OfSeen}
 use Rattle.mq_check.specs.Checking.{CheckingValue, all_changed, alone_in, group_of, is_late, is_querier_in, may_be_missing, may_be_muted, near, need_by}
-use Rattle.mq_check.specs.Checking.{is_s_right, one_changed, paired, partner_of, with_wanted}
+use Rattle.mq_check.specs.Checking.{one_changed, paired, partner_of, with_wanted}
 use Rattle.mq_check.specs.Checking.{with_seen, with_general, general_compared, role_lost, role_returned, with_interval, with_silence}
 use Rattle.mq_check.specs.Standing.{plain}
 use Rattle.mq_check.specs.Checking as checking
-use Rattle.mq_check.specs.Entries.{first_entry, first_terms, first_joined, is_free_seen, is_free_wanted, is_possible, may_be_left_out, moment_of, with_right_s}
+use Rattle.mq_check.specs.Entries.{first_entry, first_terms, first_joined, is_free_seen, is_free_wanted, is_possible, may_be_left_out, moment_of}
 use Rattle.mq_check.specs.General.{phase_again, wrong_interval, phase_behind, silence_up_to}
 use Rattle.mq_check.specs.Schedules.{SchedulesValue, begun, cause_in, caused, caused_by, dropped, first_of, followed, gone_on, is_close, is_next, last_in}
 use Rattle.mq_check.specs.Schedules.{placed, placed_alone, recent, schedules_changed, schedules_seen, schedules_wanted, terms_of, unclear}
@@ -339,8 +339,7 @@ pub record SeenPart (now : ℕ) (terms : Terms ℕ) (standing : Standing) (c : C
   pub repeats : (with_seen now terms standing c asked).schedules.repeats ≡ c.schedules.repeats
   pub fresh : IsFresh c.schedules → IsFresh (with_seen now terms standing c asked).schedules
   pub entries : IsFresh c.schedules → SameFrom (is_free_wanted asked) (near now c) c.waiting.entries → (with_seen now terms standing c asked).waiting.entries
-      ≡ first_joined (is_free_wanted asked) terms c.waiting.entries ++
-      Seen now asked terms (with_right_s (is_s_right standing terms) terms (first_terms (is_free_wanted asked) c.waiting.entries))
+      ≡ first_joined (is_free_wanted asked) terms c.waiting.entries ++ Seen now asked terms (first_terms (is_free_wanted asked) c.waiting.entries)
       (alone_in now terms standing asked c) ∷ []
 
 or_none : (o : Option (Terms ℕ)) → first_of o None ≡ o
@@ -354,8 +353,7 @@ seen_part now terms standing c asked free =
     let before = recent now c.schedules in
     let alone = alone_in now terms standing asked c in
     let next = followed now standing.is_above asked before in
-    let right = with_right_s (is_s_right standing terms) terms in
-    let e = Seen now asked terms (right (first_of (partner_of now terms asked c) next)) alone in
+    let e = Seen now asked terms (first_of (partner_of now terms asked c) next) alone in
     let put = entered e (paired now terms asked c) free in
     let repeats = placed_repeats now terms asked (is_some (partner_of now terms asked c)) (is_some next) (is_possible alone) (caused now asked before) before ∙
     recent_repeats now c.schedules in
@@ -377,8 +375,8 @@ seen_part now terms standing c asked free =
       entries = λ is same.
           let none = none_followed now standing.is_above asked before (fresh_recent now c.schedules is) in
           put.entries ∙
-          (λ i. paired_is now terms asked c same i ++ Seen now asked terms (right (first_of (partner_is now terms asked c same i) (none i))) alone ∷ []) ∙
-          ap (λ (o : Option (Terms ℕ)). first_joined (is_free_wanted asked) terms c.waiting.entries ++ Seen now asked terms (right o) alone ∷ [])
+          (λ i. paired_is now terms asked c same i ++ Seen now asked terms (first_of (partner_is now terms asked c same i) (none i)) alone ∷ []) ∙
+          ap (λ (o : Option (Terms ℕ)). first_joined (is_free_wanted asked) terms c.waiting.entries ++ Seen now asked terms o alone ∷ [])
           (or_none (first_terms (is_free_wanted asked) c.waiting.entries));
     }
 

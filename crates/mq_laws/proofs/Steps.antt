@@ -1,14 +1,12 @@
 -- One step of a check whose queries pair up: something is wanted, something was seen, or a moment comes.
 use Rattle.mq_laws.proofs.Common.{◌≡◌, ℕ, ◌+◌, ◌-◌, ◌<◌, ◌≤◌, true, false, List, [], ◌∷◌, ◌++◌, refl, ap, sym, ◌∙◌, arith, subst, append_assoc, append-nil, ◌⊎◌}
-use Rattle.mq_laws.proofs.Common.{Bool, is_some, nat_lt, and_left, and_right, lt-leb, ltb-true, Asked, AllGroups, Entry, Need, Wanted, Seen, Interval, Silence}
+use Rattle.mq_laws.proofs.Common.{is_some, nat_lt, and_left, and_right, lt-leb, ltb-true, Asked, AllGroups, Entry, Need, Wanted, Seen, Interval, Silence}
 use Rattle.mq_laws.proofs.Common.{Packet, Unpaired, Terms, first_terms, first_joined, is_free_seen, is_free_wanted, terms_differ, is_same, Ask, Expected, Sent}
 use Rattle.mq_laws.proofs.Common.{LeftOut, Answers, PairUp, ask_of, seen_about, wanted_about, missing_of, Returns, return_seen, return_wanted, general_ask}
 use Rattle.mq_laws.proofs.Common.{general_returned, still_due}
 use Rattle.std.specs.Prelude.{None, Some}
 use mathlib.Core.Logic.{inl, inr}
 use Rattle.mq_check.specs.{declared.entry.Unpaired.TheVariants.Extra, declared.finding.ExtraReason.TheVariants.NoChange, Entries.moment_of}
-use Rattle.mq_check.specs.Entries.{with_right_s, with_s_of}
-use Rattle.mq_laws.proofs.RightS.{alike_with_s}
 use Rattle.mq_laws.proofs.Same.{is_same-self, same_asked}
 use Rattle.mq_laws.proofs.Held.{ask, IsKept, Holds, free_seen, IsAscending, NoneOver, kept_ask, wanted_here, wanted_other, seen_here, seen_other}
 use Rattle.mq_laws.proofs.Held.{wanted_about-append, seen_about-append, ascending-put, ascending-joined, none_over-joined, none_over-put}
@@ -267,27 +265,17 @@ see_partner step gone within keep now asked terms partner alone es free wanted s
     }
 
 -- something was seen
-pub see_one : (within keep now : ℕ) (asked : Asked ℕ) (terms : Terms ℕ) (alone : Unpaired ℕ) (is_right : Bool) (es : List (Entry ℕ))
-    (free wanted : List Expected) (seen : List Ask)
+pub see_one : (within keep now : ℕ) (asked : Asked ℕ) (terms : Terms ℕ) (alone : Unpaired ℕ) (es : List (Entry ℕ)) (free wanted : List Expected)
+    (seen : List Ask)
     → Stands within keep now es free wanted (ask now asked terms ∷ seen)
     → Stepped within keep now asked (return_seen now) es (first_joined (is_free_wanted asked) terms es ++
-    Seen now asked terms (with_right_s is_right terms (first_terms (is_free_wanted asked) es)) alone ∷ []) free (free ++ wanted) wanted seen
-see_one within keep now asked terms alone is_right es free wanted seen st =
-    elim (find_wanted 0 within keep now asked terms es free st.holds st.ascending st.none_over) [
-      | inl none ↦ rw (none.joined terms, none.terms) (see_none within keep now asked terms alone es free wanted seen none st)
-      | inr one ↦ rw one.terms (paired is_right one)
-    ]
-  where
-    alike : (one : OneWanted within keep now asked terms es free) (w : Ask) → one.first ≡ Sent w → Answers within w (ask now asked terms) →
-        terms_differ terms (ask_of one.first).terms ≡ []
-    alike one w is answers = ap (λ (x : Expected). terms_differ terms (ask_of x).terms) is ∙ answers.alike
-    paired : (right : Bool) (one : OneWanted within keep now asked terms es free)
-        → Stepped within keep now asked (return_seen now) es (first_joined (is_free_wanted asked) terms es ++
-        Seen now asked terms (with_right_s right terms (Some (ask_of one.first).terms)) alone ∷ []) free (free ++ wanted) wanted seen
-    paired false one = see_partner (return_seen now) (λ d due early. refl) within keep now asked terms (ask_of one.first).terms alone es free wanted seen one
-        (alike one) st
-    paired true one = see_partner (return_seen now) (λ d due early. refl) within keep now asked terms (with_s_of terms (ask_of one.first).terms) alone es free
-        wanted seen one (λ w is answers. alike_with_s terms (ask_of one.first).terms (alike one w is answers)) st
+    Seen now asked terms (first_terms (is_free_wanted asked) es) alone ∷ []) free (free ++ wanted) wanted seen
+see_one within keep now asked terms alone es free wanted seen st = elim (find_wanted 0 within keep now asked terms es free st.holds st.ascending st.none_over) [
+  | inl none ↦ rw (none.joined terms, none.terms) (see_none within keep now asked terms alone es free wanted seen none st)
+  | inr one ↦ rw one.terms
+      (see_partner (return_seen now) (λ d due early. refl) within keep now asked terms (ask_of one.first).terms alone es free wanted seen one
+      (λ w is answers. ap (λ (x : Expected). terms_differ terms (ask_of x).terms) is ∙ answers.alike) st)
+]
 
 -- where none was seen before, one that is wanted waits
 waiting_here : (now : ℕ) (before after : List Ask) (due more : List ℕ) → before ≡ [] → after ≡ [] → more ≡ due ++ now ∷ [] →

@@ -21,8 +21,8 @@ use Rattle.mq_check.specs.Causes.{causes_in}
 use Rattle.mq_check.specs.Check.{destination_in, faults_in}
 use Rattle.mq_check.specs.Checking.{counted_up}
 use Rattle.mq_check.specs.Queries.{asked_in, is_general, terms_of, general_terms, query_seen, specific_terms}
-use Rattle.mq_check.specs.Standing.{is_set, set_from, standing_in}
-use Rattle.mq_laws.specs.Events.{CheckEvent, Comes, Wants, Sees, SeesGeneral, LosesRole, HasRoleAgain, SeesFault, Changes, Sets}
+use Rattle.mq_check.specs.Standing.{standing_in}
+use Rattle.mq_laws.specs.Events.{CheckEvent, Comes, Wants, Sees, SeesGeneral, LosesRole, HasRoleAgain, SeesFault, Changes}
 
 -- a link after a part of a capture, the number of packets so far, and the events of the check
 pub record Passage : Type 0 where
@@ -63,10 +63,6 @@ role_by_datagram true true = []
 role_by_datagram true false = LosesRole ∷ []
 role_by_datagram false true = HasRoleAgain ∷ []
 role_by_datagram false false = []
-
--- the timers that a datagram set
-abbrev pub timers_set : (moment : ℕ) → LinkState → List CheckEvent
-timers_set moment link = Sets (is_set link.groups (set_from link.election.timing moment)) ∷ []
 
 -- a tick at a moment
 abbrev pub tick_passage : Configuration → (moment packets : ℕ) → LinkState → Passage
@@ -110,13 +106,12 @@ datagram_passage config moment to datagram (Some query) faults packets link =
     record { link = link; packets = packets; events = Comes moment ∷ faults ++ event_of config link moment packets to query ∷ [] }
 datagram_passage config moment to datagram None faults packets link =
     let step = (receipt_of config datagram.envelope datagram.body moment link).step in
-    let after = answered (all_sent (outgoing_of config step)) step in
     record {
-      link = after;
+      link = answered (all_sent (outgoing_of config step)) step;
       packets = packets;
       events =
           Comes moment ∷ faults
-          ++ (Changes (specific_terms config link.election.timing packets) (causes_in config.family datagram) ∷ wanted_by config packets false link step ++ role_by_datagram (is_querier link.election.role) (is_querier step.state.election.role) ++ timers_set moment after);
+          ++ (Changes (specific_terms config link.election.timing packets) (causes_in config.family datagram) ∷ wanted_by config packets false link step ++ role_by_datagram (is_querier link.election.role) (is_querier step.state.election.role));
     }
 
 -- a frame, if it carries a datagram; the faults of the headers of a query come first

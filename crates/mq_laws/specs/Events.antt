@@ -8,13 +8,13 @@ use Rattle.mq_check.specs.declared.headers.HeaderFault.{HeaderFault}
 use Rattle.mq_check.specs.declared.standing.Standing.{Standing}
 use Rattle.mq_check.specs.declared.terms.Terms.{Terms}
 use Rattle.mq_check.specs.General.{silence_up_to}
-use Rattle.mq_check.specs.Checking.{CheckingValue, checking_at_start, told, settled, subject_wanted, specific_seen, general_seen, with_fault, role_lost, role_returned, all_changed, told_at_end, with_all_excused, with_timers_set}
+use Rattle.mq_check.specs.Checking.{CheckingValue, checking_at_start, told, settled, subject_wanted, specific_seen, general_seen, with_fault, role_lost, role_returned, all_changed, told_at_end, with_all_excused}
 
 -- An event of a check. A moment comes, the link sends a query about these things, which is expected, or a query about
 -- these was seen. `is_again` is set if a tick of the link sends it again. For a seen query `standing` has the standing of
 -- each of them in the link. A general query was seen, with the expected one. The router loses the role of querier, or is
 -- querier again. A query's packet has a fault in its headers. Hosts make changes that may make a querier ask for these
--- things, or none; `terms` has the terms of a query for each group, or for its sources. Reports set the timers of these.
+-- things, or none; `terms` has the terms of a query for each group, or for its sources.
 pub data CheckEvent : Type 0 where
   Comes : (moment : ℕ) → CheckEvent
   Wants : (is_again : Bool) → Terms ℕ → List (Asked ℕ) → CheckEvent
@@ -24,7 +24,6 @@ pub data CheckEvent : Type 0 where
   HasRoleAgain : CheckEvent
   SeesFault : (number : ℕ) → HeaderFault → CheckEvent
   Changes : (terms : ℕ → Terms ℕ) → List (Asked ℕ) → CheckEvent
-  Sets : (is_set : Asked ℕ → Bool) → CheckEvent
 
 -- the moment after an event
 abbrev pub moment_behind : (now : ℕ) → CheckEvent → ℕ
@@ -36,7 +35,6 @@ moment_behind now LosesRole = now
 moment_behind now HasRoleAgain = now
 moment_behind now (SeesFault number fault) = now
 moment_behind now (Changes terms asked) = now
-moment_behind now (Sets is_set) = now
 
 -- a check after one event, and the findings by it
 abbrev pub check_by : (within : ℕ) → Timing → (now : ℕ) → CheckEvent → CheckingValue → CheckingValue
@@ -48,7 +46,6 @@ check_by within timing now LosesRole c = role_lost within timing now c
 check_by within timing now HasRoleAgain c = role_returned within now c
 check_by within timing now (SeesFault number fault) c = with_fault now number c fault
 check_by within timing now (Changes terms asked) c = all_changed now terms asked c
-check_by within timing now (Sets is_set) c = with_timers_set now is_set c
 
 abbrev pub told_by : (within : ℕ) → CheckEvent → CheckingValue → List (Finding ℕ)
 told_by within (Comes moment) c = told within moment c
@@ -59,7 +56,6 @@ told_by within LosesRole c = []
 told_by within HasRoleAgain c = []
 told_by within (SeesFault number fault) c = []
 told_by within (Changes terms asked) c = []
-told_by within (Sets is_set) c = []
 
 -- the moment, the check and the findings after several events
 abbrev pub moment_behind_all : (now : ℕ) → List CheckEvent → ℕ

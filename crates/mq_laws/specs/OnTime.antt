@@ -9,7 +9,7 @@ use Rattle.mq_check.specs.declared.terms.Terms.{Terms}
 use Rattle.mq_check.specs.Checking.{is_querier_in}
 use Rattle.mq_check.specs.Entries.{terms_differ}
 use Rattle.mq_check.specs.General.{phase_again, phase_at_start, wrong_interval, phase_behind, silence_up_to}
-use Rattle.mq_laws.specs.Events.{CheckEvent, Comes, Wants, Sees, SeesGeneral, LosesRole, HasRoleAgain, SeesFault, Changes, Sets}
+use Rattle.mq_laws.specs.Events.{CheckEvent, Comes, Wants, Sees, SeesGeneral, LosesRole, HasRoleAgain, SeesFault, Changes}
 
 -- moments come in order, up to the end
 abbrev pub AreInOrder : (now : ℕ) → List CheckEvent → (end : ℕ) → Type 0
@@ -22,7 +22,6 @@ AreInOrder now (LosesRole ∷ es) end = AreInOrder now es end
 AreInOrder now (HasRoleAgain ∷ es) end = AreInOrder now es end
 AreInOrder now (SeesFault number fault ∷ es) end = AreInOrder now es end
 AreInOrder now (Changes terms asked ∷ es) end = AreInOrder now es end
-AreInOrder now (Sets is_set ∷ es) end = AreInOrder now es end
 
 -- An event of a tick. After the end of a capture there are only these, in order, up to the tolerance after the end.
 abbrev pub IsOfTick : CheckEvent → Type 0
@@ -34,7 +33,6 @@ IsOfTick LosesRole = ⊥
 IsOfTick HasRoleAgain = ⊤
 IsOfTick (SeesFault number fault) = ⊥
 IsOfTick (Changes terms asked) = ⊥
-IsOfTick (Sets is_set) = ⊥
 
 pub record AreAhead (within end : ℕ) (ahead : List CheckEvent) : Type 0 where
   pub order : AreInOrder end ahead (end + within)
@@ -61,7 +59,6 @@ AreOnTime within timing phase last now (LosesRole ∷ es) end =
 AreOnTime within timing phase last now (HasRoleAgain ∷ es) end = AreOnTime within timing (phase_again within now last) last now es end
 AreOnTime within timing phase last now (SeesFault number fault ∷ es) end = ⊥
 AreOnTime within timing phase last now (Changes terms asked ∷ es) end = AreOnTime within timing phase last now es end
-AreOnTime within timing phase last now (Sets is_set ∷ es) end = AreOnTime within timing phase last now es end
 
 abbrev pub IsOnTime : (within : ℕ) → Timing → (end : ℕ) → List CheckEvent → Type 0
 IsOnTime within timing end events = AreOnTime within timing (phase_at_start timing) None 0 events end
