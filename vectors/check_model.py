@@ -96,13 +96,11 @@ class Wanted(Asked):
 @dataclasses.dataclass
 class Seen(Asked):
     """A seen query. Without a partner it is extra, unless another reading, or a querier that held something before the capture, may send it
-    with the fields `possible`. `is_muted` says that an older host mutes what asks for the query, and `s` is S by the timers of the link. If
-    `is_set`, a Report set the timer at most a millisecond before."""
+    with the fields `possible`. `is_muted` says that an older host mutes what asks for the query, and `s` is S by the timers of the link."""
 
     in_role: bool = True
     is_muted: bool = False
     s: bool = False
-    is_set: bool = False
     possible: Terms | None = None
 
     def extra(self):
@@ -365,20 +363,11 @@ class Observed(Querier):
         to = group if any(group) else self.family.everyone
         return Terms(self.family.version, said, (int(s), self.rv, interval), to)
 
-    def timer(self, group, source):
-        """The deadline of a group, or of a source of it, or None."""
+    def is_above(self, group, source):
+        """Whether the timer of a group, or of a source of it, exceeds the Last Member Query Time."""
         held = self.groups.get(group)
-        return None if held is None else held.until if source is None else held.sources.get(source, (None, 0))[0]
-
-    def is_above(self, group, source, at):
-        """Whether the timer of a group, or of a source of it, exceeds the Last Member Query Time at a moment."""
-        timer = self.timer(group, source)
-        return timer is not None and timer > at + self.asking_time()
-
-    def is_set(self, group, source, at):
-        """Whether a Report has set the timer of a group, or of a source of it, at most a millisecond before a moment."""
-        timer = self.timer(group, source)
-        return timer is not None and timer >= max(at - 1, 0) + self.interval()
+        timer = None if held is None else held.until if source is None else held.sources.get(source, (None, 0))[0]
+        return timer is not None and timer > self.now + self.asking_time()
 
     def mutes(self, group, source):
         """Whether an older host mutes what asks for a query: BLOCK for a source, Leave and TO_IN for a group."""
@@ -580,29 +569,14 @@ class Check:
         """A query for a group or a source is seen, or a general one while another router is querier."""
         unclear = None
         if any(it.group):
-            it.is_muted, it.s = self.link.mutes(it.group, it.source), self.link.is_above(it.group, it.source, it.at)
-            it.is_set = self.link.is_set(it.group, it.source, it.at)
+            it.is_muted, it.s = self.link.mutes(it.group, it.source), self.link.is_above(it.group, it.source)
             unclear = self.unclear(it.at, it.group, it.source)
             it.possible = unclear and with_s_of(it.terms, unclear)
         subject, own = self.subject(it.thing()), self.subject(it.thing()).cause
         causes = [own, self.subject((it.group, None)).cause] if it.source is not None else [own]
         subject.see(it, causes, self.link.next_order())
-        if it.is_set or it.terms.querier and bool(it.terms.querier[0]) == it.s:
-            self.accept_s(it)
         if it.in_role and it.source is not None and own and it.at <= own[0] + self.within and not unclear:
             self.unmuted.add(it.group)
-
-    def accept_s(self, it):
-        """S of a seen query is right, so its partner has it too."""
-        it.partner = it.partner and with_s_of(it.terms, it.partner)
-
-    def refresh(self, moment):
-        """Reports may have set timers. A query that was seen at most a millisecond before may come after them."""
-        for it in reversed(self.seen):
-            if it.at < moment - 1:
-                break
-            if any(it.group) and moment <= it.at + self.keep and self.link.is_set(it.group, it.source, moment):
-                self.accept_s(it)
 
     def unclear(self, now, group, source):
         """The fields of a query that some reading may want, if changes of the group, or of its sources, came close together."""
@@ -860,7 +834,6 @@ def check(data, family, options, within=100, flags=Flags()):
             else:
                 it.change(moment, packet)
                 it.step(it.link.receive, packet, moment)
-                it.refresh(moment)
     except CaptureFault as fault:
         return None, fault.text
     ending = max(last, options.until or 0)

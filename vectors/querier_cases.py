@@ -21,7 +21,7 @@ import functools
 import wire
 from wire import IGMP
 
-IS_EX, TO_IN, TO_EX, ALLOW, BLOCK = 2, 3, 4, 5, 6
+TO_IN, TO_EX, ALLOW, BLOCK = 3, 4, 5, 6
 GENERAL, LEFT, BLOCKED = "general", "left", "blocked"
 WITHIN, AGAIN = 100, 1000
 ROUTER_ALERT = b"\x94\x04\0\0"
@@ -169,17 +169,6 @@ def as_it_is(queries):
     return queries
 
 
-def beside_reports(b):
-    """Retransmissions beside a Report that sets the timer: the moment of the query, its subject, S, the Report and its moment, and whether S is right.
-    A stamp may be a millisecond off."""
-    for at, subject, record in ((41000, (b.A,), (IS_EX, b.A, ())), (51000, (b.B, b.S), (ALLOW, b.B, (b.S,)))):
-        for later, s, is_right in ((0.4, True, True), (1.4, True, True), (2, True, False), (-0.4, False, True), (-1, False, True), (-1.4, False, False)):
-            with_s = lambda queries, at=at, s=s: [dataclasses.replace(it, s=s) if it.at == at else it for it in queries]
-            how = f"{'sets' if s else 'clears'} S {abs(later)} ms {'before' if later > 0 else 'after'} a Report for {' '.join(map(wire.text_of, subject))}"
-            found = () if is_right else differing((at,), " ".join(map(wire.text_of, subject)), f"s {int(s)}, wanted {int(not s)}")
-            yield is_right, Case(how, with_s, found, hosts=((at + later, b.report(record)),))
-
-
 def differing(moments, what, *fields):
     return tuple(f"{at} differs {what}: {field}" for at in moments for field in fields)
 
@@ -223,7 +212,6 @@ def wrong(b):
         general=5,
         specific=2,
     )
-    yield from (case for is_right, case in beside_reports(b) if not is_right)
     # For a source that is blocked.
     yield Case("doesn't ask for a blocked source at once", without(50000), (f"50000 missing {s}",), specific=3)
     yield Case("doesn't ask again for a blocked source", without(51000), (f"51000 missing {s}",), specific=3)
@@ -332,11 +320,6 @@ def right(b):
     yield Case("is as late as the tolerance allows", both(*(each(why, later=WITHIN) for why in (GENERAL, LEFT, BLOCKED))))
     yield Case("answers before the leave is captured", moved(m40000=39900, m41000=40900))
     yield Case("is late at a leave and early behind it", moved(m40000=40100, m41000=40900))
-    yield from (case for is_right, case in beside_reports(b) if is_right)
-    answered = ((41030, b.report((IS_EX, b.A, ()))),)
-    for what, s in (("sets", True), ("clears", False)):
-        late = lambda queries, s=s: [dataclasses.replace(it, at=41060, s=s) if it.at == 41000 else it for it in queries]
-        yield Case(f"{what} S in a late query after a Report that comes meanwhile", late, hosts=answered)
     yield Case("sends nothing but its start", without(156250), general=2)
     yield Case("starts with the capture under way", without(0), general=2)
     yield Case("is silent for an interval at the start of the capture", moved(m0=125000, m31250=250000, m156250=375000))

@@ -15,9 +15,9 @@ use Rattle.mq_check.specs.declared.phase.Phase.TheVariants.{NotQuerier}
 use Rattle.mq_check.specs.declared.terms.Terms.{Terms}
 use Rattle.mq_check.specs.declared.waiting.Side.TheVariants.{OfWanted, OfSeen}
 use Rattle.mq_check.specs.Checking.{CheckingValue, with_wanted, with_seen, with_interval, with_silence, with_general, role_lost, role_returned}
-use Rattle.mq_check.specs.Checking.{alone_after, all_changed, one_changed, counted_up, is_late_in, is_s_right, may_be_missing, near, need_by, paired, paired_if}
+use Rattle.mq_check.specs.Checking.{alone_after, all_changed, one_changed, counted_up, is_late_in, may_be_missing, near, need_by, paired, paired_if}
 use Rattle.mq_check.specs.Checking.{partner_if, partner_of, with_unmuted, without_all_next}
-use Rattle.mq_check.specs.Entries.{first_terms, is_possible, may_be_left_out, with_right_s}
+use Rattle.mq_check.specs.Entries.{first_terms, is_possible, may_be_left_out}
 use Rattle.mq_check.specs.General.{wrong_interval, phase_behind, phase_again, silence_up_to}
 use Rattle.mq_check.specs.Numbered.{numbered_terms_if}
 use Rattle.mq_check.specs.Schedules.{SchedulesValue, caused, first_of, followed, placed, recent, schedules_wanted, without_next}
@@ -51,7 +51,7 @@ wanted_put moment is_again terms asked from viewed scheduling recently old partn
 -- `recently` is the check behind the removal of old schedules, `noting` the one behind the note of its group, and `pairing` the
 -- one behind the search for a partner
 pub seen_put : (moment : ℕ) (terms : Terms ℕ) (standing : Standing) (asked : Asked ℕ) (from : ℕ) (viewed pairing noting recently old : CheckingValue)
-    (put : WaitingValue) (partner next either shown may_cause : Option (Terms ℕ)) (alone : Unpaired ℕ)
+    (put : WaitingValue) (partner next either may_cause : Option (Terms ℕ)) (alone : Unpaired ℕ)
     (has_partner follows possible : Bool) (scheduled : SchedulesValue)
     → from ≡ near moment old → viewed ≡ pairing → recently ≡ record old { schedules = recent moment old.schedules } →
     alone ≡ alone_after moment terms standing asked recently
@@ -60,13 +60,12 @@ pub seen_put : (moment : ℕ) (terms : Terms ℕ) (standing : Standing) (asked :
     → partner ≡ partner_if (is_late_in from moment asked noting.waiting noting.schedules) from terms asked noting.waiting
     → pairing ≡ record noting { waiting = paired_if (is_late_in from moment asked noting.waiting noting.schedules) from terms asked noting.waiting }
     → has_partner ≡ is_some partner → follows ≡ is_some next → possible ≡ is_possible alone → either ≡ first_of partner next
-    → shown ≡ with_right_s (is_s_right standing terms) terms either
     → scheduled ≡ placed moment terms asked has_partner follows possible may_cause viewed.schedules
-    → put ≡ with_entry (Seen moment asked terms shown alone) viewed.waiting
+    → put ≡ with_entry (Seen moment asked terms either alone) viewed.waiting
     → record viewed { waiting = put; schedules = scheduled } ≡ with_seen moment terms standing old asked
 unfolding with_seen
-seen_put moment terms standing asked from viewed pairing noting recently old put partner next either shown may_cause alone has_partner follows
-    possible scheduled is_from same recents without goes_on causes notes found joined has has_next possibly is_either is_shown places is =
+seen_put moment terms standing asked from viewed pairing noting recently old put partner next either may_cause alone has_partner follows possible
+    scheduled is_from same recents without goes_on causes notes found joined has has_next possibly is_either places is =
     let before = recent moment old.schedules in
     let there : CheckingValue = record old { schedules = before } in
     let noted : noting ≡ record there { unmuted = with_unmuted moment terms asked there } =
@@ -85,9 +84,9 @@ seen_put moment terms standing asked from viewed pairing noting recently old put
     let has_too = has ∙ ap is_some found_too in
     let has_next_too = has_next ∙ ap is_some next_too in
     let possibly_too = possibly ∙ ap is_possible without_too in
-    let shown_too = is_shown ∙ ap (with_right_s (is_s_right standing terms) terms) (is_either ∙ (λ i. first_of (found_too i) (next_too i))) in
+    let either_too = is_either ∙ (λ i. first_of (found_too i) (next_too i)) in
     λ i. record (all i) {
-      waiting = (is ∙ (λ j. with_entry (Seen moment asked terms (shown_too j) (without_too j)) (all j).waiting)) i;
+      waiting = (is ∙ (λ j. with_entry (Seen moment asked terms (either_too j) (without_too j)) (all j).waiting)) i;
       schedules =
           (places ∙ (λ j. placed moment terms asked (has_too j) (has_next_too j) (possibly_too j) (cause_too j) (all j).schedules)) i;
     }

@@ -1,4 +1,3 @@
-pub mod Alike
 pub mod Announcing
 pub mod Bases
 pub mod CheckedOver
@@ -9,7 +8,6 @@ pub mod Entering
 pub mod Excusing
 pub mod LinkedSlots
 pub mod MarkedEntries
-pub mod Refreshing
 pub mod Repeating
 pub mod Rooms
 pub mod Scheduling

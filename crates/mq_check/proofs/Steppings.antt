@@ -15,10 +15,9 @@ use Rattle.mq_replay.specs.Report.{Datagram, all_sent}
 use Rattle.mq_check.specs.Check.{Checked, Outcome, settled_at, settled_through, wanted_by, ticked, ticked_through, received}
 use Rattle.mq_check.specs.Basis as basis
 use Rattle.mq_check.specs.Causes.{causes_in}
-use Rattle.mq_check.specs.Checking.{all_changed, settled, told, with_messages, with_timers_set, role_after_tick, role_changed}
+use Rattle.mq_check.specs.Checking.{all_changed, settled, told, with_messages, role_after_tick, role_changed}
 use Rattle.mq_check.specs.Coming.{Comes, checked_in}
 use Rattle.mq_check.specs.Queries.{specific_terms}
-use Rattle.mq_check.specs.Standing.{is_set, set_from}
 use Rattle.mq_check.specs.Telling.{FindingWriterState, Tells}
 use Rattle.mq_check.specs.Wanting.{WantingValue, TakesMessage}
 use Rattle.mq_check.proofs.Tellings.{broken_as, tells_as, then_told, told_broken}
@@ -74,8 +73,7 @@ pub received_is : (family : Family) (within now : ℕ) (datagram : Datagram) (be
     } → begun ≡ begun_at now false before noted
     → HandsOut before.config (receipt_of before.config datagram.envelope datagram.body now before.state).step messages answers after.state →
     HandsOver (TakesMessage family) begun messages answers new
-    → last.checking ≡ with_timers_set now (is_set after.state.groups (set_from after.state.election.timing now))
-    (role_changed within before.config.timing now (is_querier before.state.election.role) (is_querier after.state.election.role) new.checking)
+    → last.checking ≡ role_changed within before.config.timing now (is_querier before.state.election.role) (is_querier after.state.election.role) new.checking
     → last.basis ≡ basis.with_other_querier before.config.family after.state.election.role
     (basis.role_changed now (is_querier before.state.election.role) (is_querier after.state.election.role) new.basis)
     → checked_in after last ≡ received before.config within now datagram (checked_in before old)
@@ -89,9 +87,8 @@ received_is family within now datagram before after old noted begun new last mes
     ap (λ (w : WantingValue). w.basis) notes in
     λ i. record {
       link = left i;
-      checking = (role ∙ (λ j. with_timers_set now (is_set (left j).groups (set_from (left j).election.timing now))
-          (role_changed within before.config.timing now (is_querier before.state.election.role)
-          (is_querier (left j).election.role) (wanted j)))) i;
+      checking = (role ∙ (λ j. role_changed within before.config.timing now (is_querier before.state.election.role)
+          (is_querier (left j).election.role) (wanted j))) i;
       basis = (rests ∙ (λ j. basis.with_other_querier before.config.family (left j).election.role
           (basis.role_changed now (is_querier before.state.election.role) (is_querier (left j).election.role) (kept j)))) i;
     }

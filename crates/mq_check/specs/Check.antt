@@ -30,13 +30,12 @@ use Rattle.mq_check.specs.declared.totals.Totals.{Totals}
 use Rattle.mq_check.specs.Basis.{basis_at_start, named, variables_in, with_frame, with_other_querier}
 use Rattle.mq_check.specs.Basis as basis
 use Rattle.mq_check.specs.Causes.{causes_in}
-use Rattle.mq_check.specs.Checking.{CheckingValue, checking_at_start, told, settled, faults_seen, with_all_excused, with_messages, role_changed, role_after_tick, query_came, all_changed, told_at_end, with_timers_set}
+use Rattle.mq_check.specs.Checking.{CheckingValue, checking_at_start, told, settled, faults_seen, with_all_excused, with_messages, role_changed, role_after_tick, query_came, all_changed, told_at_end}
 use Rattle.mq_check.specs.FindingLines.{certain_in, finding_lines, last_lines, of_kind, possible_in}
 use Rattle.mq_check.specs.General.{silence_up_to}
 use Rattle.mq_check.specs.Headers.{faults_if, faults_of, headers4_in, headers6_in, is_broken_query, is_own_query}
 use Rattle.mq_check.specs.Queries.{query_seen, specific_terms}
 use Rattle.mq_check.specs.Repeated.{all_reported}
-use Rattle.mq_check.specs.Standing.{is_set, set_from}
 
 -- A check in progress: the link, its treatment of queries, and the basis of the verdict.
 pub record Checked : Type 0 where
@@ -158,13 +157,11 @@ noting_changes config moment datagram r =
 unfoldable pub received : Configuration → (within moment : ℕ) → Datagram → Checked → Checked
 received config within moment datagram r =
     let step = (receipt_of config datagram.envelope datagram.body moment r.link).step in
-    let link = answered (all_sent (outgoing_of config step)) step in
     record {
-      link = link;
+      link = answered (all_sent (outgoing_of config step)) step;
       checking =
-          with_timers_set moment (is_set link.groups (set_from link.election.timing moment))
-          (role_changed within config.timing moment (is_querier r.link.election.role) (is_querier step.state.election.role)
-          (wanted_by config moment false step (noting_changes config moment datagram r)));
+          role_changed within config.timing moment (is_querier r.link.election.role) (is_querier step.state.election.role)
+          (wanted_by config moment false step (noting_changes config moment datagram r));
       basis =
           with_other_querier config.family step.state.election.role
           (basis.role_changed moment (is_querier r.link.election.role) (is_querier step.state.election.role) r.basis);

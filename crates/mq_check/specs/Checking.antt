@@ -27,7 +27,7 @@ use Rattle.mq_check.specs.declared.phase.Phase.TheVariants.{Starting, Heard, Ret
 use Rattle.mq_check.specs.declared.standing.Standing.{Standing}
 use Rattle.mq_check.specs.declared.terms.Terms.{Terms}
 use Rattle.mq_check.specs.declared.waiting.Side.TheVariants.{OfWanted, OfSeen}
-use Rattle.mq_check.specs.Entries.{moment_of, first_terms, may_be_left_out, excused_if, findings_of, is_possible, is_suppressed, is_unlike, with_right_s}
+use Rattle.mq_check.specs.Entries.{moment_of, first_terms, may_be_left_out, excused_if, findings_of, is_possible}
 use Rattle.mq_check.specs.General.{phase_at_start, wrong_interval, phase_behind, silence_up_to, phase_again}
 use Rattle.mq_check.specs.Standing.{plain, standing_in}
 use Rattle.mq_check.specs.Schedules.{SchedulesValue, schedules_at_start, schedules_wanted, schedules_changed, recent, as_seen, before_in, is_next, terms_wanted}
@@ -193,11 +193,6 @@ with_unmuted moment terms (Group group) c = c.unmuted
 with_unmuted moment terms (Source group source) c =
     if shows_unmuted moment group source c then with_entry (Wanted moment (Group group) terms Optional false) c.unmuted else c.unmuted
 
--- S of a seen query is right if the timer of its subject says so then: a querier may be late within the tolerance, and a Report
--- may come meanwhile. Either S is right if a Report set the timer at most a millisecond before.
-abbrev pub is_s_right : Standing → Terms ℕ → Bool
-is_s_right standing terms = standing.is_set || not (is_unlike (is_suppressed terms.querier) standing.is_above)
-
 -- The check after a query was seen. Its partner is a wanted query, or it is the next one of a schedule from before the
 -- capture.
 unfoldable pub with_seen : (moment : ℕ) → Terms ℕ → Standing → CheckingValue → Asked ℕ → CheckingValue
@@ -206,9 +201,8 @@ with_seen moment terms standing c asked =
     let partner = partner_of moment terms asked c in
     let next = followed moment standing.is_above asked before in
     let alone = alone_in moment terms standing asked c in
-    let found = with_right_s (is_s_right standing terms) terms (first_of partner next) in
     record c {
-      waiting = with_entry (Seen moment asked terms found alone) (paired moment terms asked c);
+      waiting = with_entry (Seen moment asked terms (first_of partner next) alone) (paired moment terms asked c);
       unmuted = with_unmuted moment terms asked (record c { schedules = before });
       schedules =
           placed moment terms asked (is_some partner) (is_some next) (is_possible alone) (caused moment asked before) before;
@@ -329,11 +323,6 @@ one_changed moment terms c asked =
 
 abbrev pub all_changed : (moment : ℕ) → (terms : ℕ → Terms ℕ) → List (Asked ℕ) → CheckingValue → CheckingValue
 all_changed moment terms asked c = fold (one_changed moment terms) c asked
-
--- The check after Reports set the timers of these subjects. A query that was seen at most a millisecond before may come after
--- the Report.
-abbrev pub with_timers_set : (moment : ℕ) → (is_set : Asked ℕ → Bool) → CheckingValue → CheckingValue
-with_timers_set moment is_set c = record c { waiting = waits.all_refreshed (moment - 1) is_set c.waiting }
 
 -- The check at the end of a capture. Afterwards the partners of wanted queries may come, and the next queries of schedules
 -- from before the capture.

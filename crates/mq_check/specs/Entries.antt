@@ -193,27 +193,6 @@ with_suppress suppress (Some wanted) = Some (record wanted { suppress = suppress
 abbrev pub with_s_of : (seen wanted : Terms ℕ) → Terms ℕ
 with_s_of seen wanted = record wanted { querier = with_suppress (is_suppressed seen.querier) wanted.querier }
 
--- The partner of a seen query. If S of the query is right by the timer of its subject, the partner has it too.
-abbrev pub with_right_s : (is_right : Bool) → (seen : Terms ℕ) → (partner : Option (Terms ℕ)) → Option (Terms ℕ)
-with_right_s is_right seen None = None
-with_right_s false seen (Some wanted) = Some wanted
-with_right_s true seen (Some wanted) = Some (with_s_of seen wanted)
-
--- The entry after a Report. `is_set` is set for a subject whose timer it set.
-abbrev pub is_seen_on : (is_set : Asked ℕ → Bool) → Entry ℕ → Bool
-is_seen_on is_set (Wanted moment asked terms need is_found) = false
-is_seen_on is_set (Seen moment asked terms partner alone) = is_set asked
-is_seen_on is_set (Interval moment packet after wanted) = false
-is_seen_on is_set (Silence moment after wanted) = false
-is_seen_on is_set (Packet moment number fault) = false
-
-abbrev pub refreshed_if : (is_set : Bool) → Entry ℕ → Entry ℕ
-refreshed_if is_set (Wanted moment asked terms need is_found) = Wanted moment asked terms need is_found
-refreshed_if is_set (Seen moment asked terms partner alone) = Seen moment asked terms (with_right_s is_set terms partner) alone
-refreshed_if is_set (Interval moment packet after wanted) = Interval moment packet after wanted
-refreshed_if is_set (Silence moment after wanted) = Silence moment after wanted
-refreshed_if is_set (Packet moment number fault) = Packet moment number fault
-
 -- The findings of a seen query with a partner. If the query is possibly another one, another S makes it possibly extra.
 abbrev pub findings_of_pair : (moment : ℕ) → Asked ℕ → (seen wanted : Terms ℕ) → Unpaired ℕ → List (Finding ℕ)
 findings_of_pair moment asked seen wanted alone =

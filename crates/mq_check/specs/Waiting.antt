@@ -8,7 +8,7 @@ use Rattle.mq_check.specs.declared.finding.Finding.{Finding}
 use Rattle.mq_check.specs.declared.terms.Terms.{Terms}
 use Rattle.mq_check.specs.declared.waiting.Side.{Side}
 use Rattle.mq_check.specs.declared.waiting.Side.TheVariants.{OfWanted, OfSeen}
-use Rattle.mq_check.specs.Entries.{moment_of, is_over, is_free_wanted, is_free_seen, first_terms, first_joined, excused_if, findings_of, is_seen_on, refreshed_if}
+use Rattle.mq_check.specs.Entries.{moment_of, is_over, is_free_wanted, is_free_seen, first_terms, first_joined, excused_if, findings_of}
 
 -- the most pending entries
 abbrev pub room : ℕ
@@ -65,22 +65,6 @@ excused_at within end sent entry = excused_if (may_still_come within end sent en
 
 unfoldable pub all_excused : (within end : ℕ) → (sent : WaitingValue) → WaitingValue → WaitingValue
 all_excused within end sent w = record w { entries = list_map (excused_at within end sent) w.entries }
-
--- The last entries after a Report, back to the first one before `from`.
-abbrev pub are_recent : (from : ℕ) → List (Entry ℕ) → Bool
-are_recent from [] = true
-are_recent from (entry ∷ entries) = nat_le from (moment_of entry) && are_recent from entries
-
-abbrev pub refreshed_at : (is_set : Asked ℕ → Bool) → Entry ℕ → Entry ℕ
-refreshed_at is_set entry = refreshed_if (is_seen_on is_set entry) entry
-
-abbrev pub last_refreshed : (from : ℕ) → (is_set : Asked ℕ → Bool) → List (Entry ℕ) → List (Entry ℕ)
-last_refreshed from is_set [] = []
-last_refreshed from is_set (entry ∷ entries) =
-    (if are_recent from (entry ∷ entries) then refreshed_at is_set entry else entry) ∷ last_refreshed from is_set entries
-
-unfoldable pub all_refreshed : (from : ℕ) → (is_set : Asked ℕ → Bool) → WaitingValue → WaitingValue
-all_refreshed from is_set w = record w { entries = last_refreshed from is_set w.entries }
 
 -- The findings of the entries that have expired at a moment, and the list after their removal. An entry expires after
 -- the time `keep`. If an entry had no room, nothing more is found.

@@ -9,8 +9,6 @@ ghost use Rattle.mq_check.specs.Numbered.{numbered_asked, numbered_terms};
 ghost use Rattle.mq_check.specs.Queries as queries;
 ghost use Rattle.mq_check.specs.Schedules.{recent, schedules_changed};
 ghost use Rattle.mq_check.specs.Sizes.{bytes_of_checking};
-ghost use Rattle.mq_check.specs.Standing as standing;
-ghost use Rattle.mq_check.specs.Standing.{is_set};
 ghost use Rattle.mq_check.specs.Telling.{Tells};
 
 use crate::asked::Asked;
@@ -24,13 +22,12 @@ use crate::phase::Phase;
 use crate::schedules::Schedules;
 use crate::settling::{Expiry, settle, tell_rest};
 use crate::stamp::Stamp;
-use crate::standing::set_from;
 use crate::terms::Terms;
 use crate::waiting::Waiting;
 use mq_arena::VectorSource;
 use mq_count::{Meter, Moment, Span, Watched};
 use mq_lines::LineKey;
-use mq_link::{Family, Link};
+use mq_link::Family;
 use mq_table::Timing;
 use mq_text::LineFault;
 use mq_wire::Query;
@@ -157,16 +154,6 @@ impl<F: Family, A: Allocator> Checking<F, A> {
     {
         self.forget(moment);
         self.schedules.change(moment, terms, asked);
-    }
-
-    /// Handles a datagram, by which Reports may have set timers of the link.
-    pub(crate) fn refresh(&mut self, link: &Link<F, A>, stamp: Stamp)
-        ensures { self.new
-            ≡ spec.with_timers_set stamp (is_set link.now.state.groups (standing.set_from link.now.state.election.timing stamp)) self.old }
-    {
-        let from = EarliestPartner::near(Span::from_ms(1), stamp.moment());
-        let limit = set_from(link.timing(), stamp);
-        self.waiting.refresh(link, &from, limit);
     }
 
     /// Returns the time without general queries up to a moment, if it is too long.

@@ -7,7 +7,7 @@ ghost use Rattle.mq_check.specs.Numbered.{numbered_entry, numbered_terms, number
 use crate::asked::Asked;
 use crate::finding::ExtraReason;
 use crate::headers::HeaderFault;
-use crate::terms::{Terms, with_right_s};
+use crate::terms::Terms;
 use mq_count::Moment;
 use mq_wire::WireKey;
 use std::alloc::AllocError;
@@ -136,22 +136,6 @@ impl<K: WireKey> Entry<K> {
         ensures { numbered_entry K.number result ≡ spec.excused_if may_come (numbered_entry K.number self) }
     {
         if may_come { self.excused() } else { self }
-    }
-
-    /// Returns the entry after a Report. `is_set` is set for a seen query if the Report set the timer of its subject.
-    pub(crate) fn refreshed_if(self, is_set: bool) -> Entry<K>
-        ensures { numbered_entry K.number result ≡ spec.refreshed_if is_set (numbered_entry K.number self) }
-    {
-        match self {
-            Entry::Seen(moment, asked, terms, partner, alone) => Entry::Seen(
-                moment,
-                asked,
-                terms,
-                with_right_s(is_set, terms, partner),
-                alone,
-            ),
-            other => other,
-        }
     }
 
     /// Returns the entry with a partner that has these terms.

@@ -20,7 +20,7 @@ use crate::headers::{HeaderFault, Headers};
 use crate::schedules::{as_seen, first_of};
 use crate::stamp::Stamp;
 use crate::standing::{Standing, standing_in};
-use crate::terms::{Terms, general_terms, is_suppressed, terms_of, with_right_s};
+use crate::terms::{Terms, general_terms, terms_of};
 use crate::waiting::{Side, Waiting};
 use crate::wanting::{asked_without_sources, is_general, sources_of};
 use mq_count::Moment;
@@ -49,9 +49,9 @@ impl<K: WireKey> Clone for SeenPacket<K> {
 
 impl<K: WireKey> Copy for SeenPacket<K> {}
 
-/// A seen query: its stamp and its terms.
+/// A seen query: its moment and its terms.
 struct SeenQuery<K: WireKey> {
-    stamp: Stamp,
+    moment: Moment,
     terms: Terms<K>,
 }
 
@@ -76,13 +76,6 @@ fn reason_of(is_muted: bool) -> ExtraReason
     } else {
         ExtraReason::NoChange
     }
-}
-
-/// Returns whether S of a seen query is right by the timer of its subject.
-fn is_s_right<K: WireKey>(standing: Standing, terms: &Terms<K>) -> bool
-    ensures { result ≡ spec.is_s_right standing (numbered_terms K.number terms.now) }
-{
-    standing.is_set || is_suppressed(terms.querier) == standing.is_above
 }
 
 /// Returns the verdict on a seen query without a partner. `possible` has the terms of a query that another reading, or a state
@@ -148,9 +141,8 @@ impl<F: Family, A: Allocator> Checking<F, A> {
             caused,
         );
         let either = first_of(partner, next);
-        let found = with_right_s(is_s_right(standing, &terms), terms, either);
         self.waiting
-            .put(Entry::Seen(moment, asked, terms, found, alone));
+            .put(Entry::Seen(moment, asked, terms, either, alone));
     }
 
     /// Returns whether a query for a source shows that no older host mutes the changes of its group, and that isn't known. No
@@ -242,14 +234,15 @@ impl<F: Family, A: Allocator> Checking<F, A> {
         link: &Link<F, A>,
         query: &Query<'_, F::Address>,
     )
-        ensures { self.new ≡ fold (spec.one_seen seen.stamp (numbered_terms F.Address.number seen.terms) (standing_in F.FAMILY link.now.state.groups link.now.state.election.timing seen.stamp))
+        requires in_range { seen.moment ≤ 2 ^ 53 }
+        ensures { self.new ≡ fold (spec.one_seen seen.moment (numbered_terms F.Address.number seen.terms) (standing_in F.FAMILY link.now.state.groups link.now.state.election.timing seen.moment))
             self.old (queries.asked_in (numbered_query F.Address.number query.now)) }
     {
         let sources = sources_of(&query.version);
         if sources.is_empty() {
             let asked = asked_without_sources::<F>(query.group);
-            let standing = standing_in(link, seen.stamp, asked);
-            self.see(seen.stamp.moment(), seen.terms, standing, asked);
+            let standing = standing_in(link, seen.moment, asked);
+            self.see(seen.moment, seen.terms, standing, asked);
             return;
         }
         self.see_sources(seen, link, query.group, sources);
@@ -263,13 +256,14 @@ impl<F: Family, A: Allocator> Checking<F, A> {
         group: F::Address,
         sources: Sources<'_, F::Address>,
     )
-        ensures { self.new ≡ fold (spec.one_seen seen.stamp (numbered_terms F.Address.number seen.terms) (standing_in F.FAMILY link.now.state.groups link.now.state.election.timing seen.stamp))
+        requires in_range { seen.moment ≤ 2 ^ 53 }
+        ensures { self.new ≡ fold (spec.one_seen seen.moment (numbered_terms F.Address.number seen.terms) (standing_in F.FAMILY link.now.state.groups link.now.state.election.timing seen.moment))
             self.old (list_map (Source (F.Address.number group)) sources.entry) }
     {
         for source in sources {
             let asked = Asked::Source(group, source);
-            let standing = standing_in(link, seen.stamp, asked);
-            self.see(seen.stamp.moment(), seen.terms, standing, asked);
+            let standing = standing_in(link, seen.moment, asked);
+            self.see(seen.moment, seen.terms, standing, asked);
         }
     }
 
@@ -317,7 +311,6 @@ impl<F: Family, A: Allocator> Checking<F, A> {
         let standing = Standing {
             is_muted: false,
             is_above: false,
-            is_set: false,
         };
         self.see(stamp.moment(), terms, standing, Asked::AllGroups);
     }
@@ -345,7 +338,8 @@ impl<F: Family, A: Allocator> Checking<F, A> {
         link: &Link<F, A>,
         query: &Query<'_, F::Address>,
     )
-        ensures { self.new ≡ spec.specific_seen seen.stamp (numbered_terms F.Address.number seen.terms) (standing_in F.FAMILY link.now.state.groups link.now.state.election.timing seen.stamp)
+        requires in_range { seen.moment ≤ 2 ^ 53 }
+        ensures { self.new ≡ spec.specific_seen seen.moment (numbered_terms F.Address.number seen.terms) (standing_in F.FAMILY link.now.state.groups link.now.state.election.timing seen.moment)
             (queries.asked_in (numbered_query F.Address.number query.now)) self.old }
     {
         self.see_all(seen, link, query);
@@ -415,7 +409,7 @@ where
             return;
         }
         let seen = SeenQuery {
-            stamp: packet.stamp,
+            moment: packet.stamp.moment(),
             terms,
         };
         self.see_specific(seen, link, query);

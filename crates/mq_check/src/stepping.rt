@@ -85,7 +85,6 @@ where
             was_querier,
             stays_querier,
         );
-        self.queries.refresh(&self.link, stamp);
         self.queries.name_other(self.link.other_querier());
     }
 

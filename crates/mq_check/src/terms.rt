@@ -5,7 +5,7 @@ ghost use Rattle.mq_wire.specs.Numbered.{numbered_query};
 ghost use Rattle.mq_wire.specs.RoundTrip.{interval_lowered};
 ghost use Rattle.mq_lines.specs.Text.{older_version};
 ghost use Rattle.mq_check.specs.Entries as entries;
-ghost use Rattle.mq_check.specs.Numbered.{numbered_terms, numbered_terms_if};
+ghost use Rattle.mq_check.specs.Numbered.{numbered_terms};
 ghost use Rattle.mq_check.specs.Queries as spec;
 
 use crate::checked_family::CheckedFamily;
@@ -194,20 +194,5 @@ pub(crate) fn with_s_of<K: WireKey>(seen: &Terms<K>, wanted: &Terms<K>) -> Terms
         querier: with_suppress(is_suppressed(seen.querier), wanted.querier),
         to: wanted.to,
         packet: wanted.packet,
-    }
-}
-
-/// Returns the terms of the partner of a seen query, if it has one. If S of the query is right, the partner has it too.
-pub(crate) fn with_right_s<K: WireKey>(
-    is_right: bool,
-    seen: Terms<K>,
-    partner: Option<Terms<K>>,
-) -> Option<Terms<K>>
-    ensures { numbered_terms_if K.number result
-        ≡ entries.with_right_s is_right (numbered_terms K.number seen) (numbered_terms_if K.number partner) }
-{
-    match partner {
-        Some(wanted) if is_right => Some(with_s_of(&seen, &wanted)),
-        other => other,
     }
 }

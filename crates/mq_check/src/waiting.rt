@@ -9,7 +9,6 @@ ghost use Rattle.mq_check.specs.Numbered.{numbered_asked, numbered_entry, number
 ghost use Rattle.mq_check.specs.Places.{IsFirstFree, IsFirstOver, IsNoneFree, IsNoneOver};
 ghost use Rattle.mq_check.specs.Sizes.{bytes_of_waiting};
 ghost use Rattle.mq_check.specs.Slots.{AreNoneOf};
-ghost use Rattle.mq_check.specs.Standing.{is_set as is_timer_set};
 ghost use Rattle.mq_check.specs.Waiting as waits;
 
 use crate::asked::{Asked, is_same};
@@ -17,12 +16,11 @@ use crate::earliest_partner::{EarliestPartner, is_near};
 use crate::entry::Entry;
 use crate::slots::{SLOTS, last_group_by, slot_in, slot_of, wanted_moment, wanted_slot};
 use crate::stamp::Stamp;
-use crate::standing::is_set;
 use crate::terms::Terms;
 use crate::trails::Trails;
 use mq_arena::{VectorSource, filled};
 use mq_count::{Meter, Moment, Span};
-use mq_link::{Family, Link};
+use mq_link::Family;
 use std::alloc::{AllocError, Allocator};
 use std::collections::VecDeque;
 use std::marker::Model;
@@ -156,43 +154,6 @@ fn excuse_each<F: Family, A: Allocator>(
         let entry = entries[place];
         let may_come = sent.may_still_come(within, end, &entry);
         entries[place] = entry.excused_if(may_come);
-    }
-}
-
-/// Returns whether an entry is a seen query and a timer of its subject runs to a moment or longer.
-fn is_seen_on<F: Family, A: Allocator>(
-    link: &Link<F, A>,
-    limit: Moment,
-    entry: &Entry<F::Address>,
-) -> bool
-    ensures { result ≡ spec.is_seen_on (is_timer_set link.now.state.groups limit) (numbered_entry F.Address.number entry.now) }
-{
-    match entry {
-        Entry::Seen(_, asked, ..) => is_set(link, limit, *asked),
-        _ => false,
-    }
-}
-
-/// Handles a Report, back to the first entry before `from`.
-fn refresh_each<F: Family, A: Allocator>(
-    entries: &mut VecDeque<Entry<F::Address>, A>,
-    link: &Link<F, A>,
-    from: &EarliestPartner,
-    limit: Moment,
-)
-    ensures entries { list_map (numbered_entry F.Address.number) entries.new.items
-        ≡ waits.last_refreshed from.now (is_timer_set link.now.state.groups limit) (list_map (numbered_entry F.Address.number) entries.old.items) }
-    ensures capacity { deque_capacity entries.new ≡ deque_capacity entries.old }
-{
-    let mut end = entries.len();
-    while 0 < end {
-        let entry = entries[end - 1];
-        if !from.is_reached(entry.moment()) {
-            return;
-        }
-        end -= 1;
-        let is_set = is_seen_on(link, limit, &entry);
-        entries[end] = entry.refreshed_if(is_set);
     }
 }
 
@@ -436,14 +397,6 @@ impl<F: Family, A: Allocator> Waiting<F, A> {
         ensures { self.new ≡ waits.emptied self.old }
     {
         while let Some(_entry) = self.pop() {}
-    }
-
-    /// Handles a Report, after which a timer that it set runs to `limit` or longer. It changes the partners of queries that were
-    /// seen from `from` on.
-    pub(crate) fn refresh(&mut self, link: &Link<F, A>, from: &EarliestPartner, limit: Moment)
-        ensures { self.new ≡ waits.all_refreshed from.now (is_timer_set link.now.state.groups limit) self.old }
-    {
-        refresh_each(&mut self.entries, link, from, limit);
     }
 
     /// Returns whether a query for this group is wanted at this moment.

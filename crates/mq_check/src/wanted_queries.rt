@@ -9,7 +9,6 @@ ghost use Rattle.mq_check.specs.Causes.{causes_in};
 ghost use Rattle.mq_check.specs.Checking as spec;
 ghost use Rattle.mq_check.specs.Headers.{faults_of};
 ghost use Rattle.mq_check.specs.Queries.{specific_terms};
-ghost use Rattle.mq_check.specs.Standing.{is_set, set_from};
 ghost use Rattle.mq_check.specs.Telling.{Tells};
 
 use crate::basis::{Basis, CheckedVariables};
@@ -234,17 +233,6 @@ where
     {
         self.checking.lose_role(within, configured, stamp);
         self.basis.lose_role(stamp.moment());
-    }
-
-    /// Handles a datagram, by which Reports may have set timers of the link.
-    pub(crate) fn refresh(&mut self, link: &Link<F, A>, stamp: Stamp)
-        ensures { self.new ≡ record self.old {
-          checking =
-              spec.with_timers_set stamp (is_set link.now.state.groups (set_from link.now.state.election.timing stamp))
-              self.old.checking;
-        } }
-    {
-        self.checking.refresh(link, stamp);
     }
 
     /// Handles the headers of a packet with a query of the checked router.

@@ -1,4 +1,4 @@
-use Rattle.std.proofs.Common.{refl, ap, sym, ◌∙◌}
+use Rattle.std.proofs.Common.{ap, sym, ◌∙◌}
 use Rattle.mq_wire.specs.Family.{Family}
 use Rattle.mq_wire.specs.Numbered.{numbered_query}
 use Rattle.mq_link.specs.Configuration.{Configuration}
@@ -24,4 +24,4 @@ returns g c =
     let terms = c.terms_of-terms.ensures ∙
     ap (λ (f : Family). terms_of f c.args.packet.number (g.F.Address.Key.number c.args.packet.to)
     (numbered_query g.F.Address.Key.number c.args.query.now)) family in
-    specific_came _ _ _ _ _ _ _ _ _ _ _ _ (sym c.is_general.ensures ∙ c.if-is_general.false) family terms refl c.see_specific.ensures
+    specific_came _ _ _ _ _ _ _ _ _ _ _ _ (sym c.is_general.ensures ∙ c.if-is_general.false) family terms c.moment.ensures.same c.see_specific.ensures

@@ -1,7 +1,6 @@
-use Rattle.std.proofs.Common.{Bool, ap, sym, ◌∙◌}
+use Rattle.std.proofs.Common.{ap, sym, ◌∙◌}
 use Rattle.mq_check.specs.Checking.{CheckingValue}
-use Rattle.mq_check.specs.Entries.{with_right_s}
-use Rattle.mq_check.specs.Numbered.{numbered_asked, numbered_terms, numbered_terms_if}
+use Rattle.mq_check.specs.Numbered.{numbered_asked, numbered_terms}
 use Rattle.mq_check.specs.Schedules.{caused, followed}
 use Rattle.mq_check.proofs.Entering.{has_terms, seen_put}
 use Rattle.mq_check.proofs.checking.Checking.see.Goals as goal
@@ -16,10 +15,8 @@ returns g c =
     let goes_on = c.followed-next.ensures
     ∙ ap (λ (v : CheckingValue). followed c.args.moment c.args.standing.is_above asked v.schedules) c.self.view_is in
     let causes = c.caused-caused.ensures ∙ ap (λ (v : CheckingValue). caused c.args.moment asked v.schedules) c.self.view_is in
-    let shows = c.with_right_s-found.ensures ∙
-    ap (λ (b : Bool). with_right_s b terms (numbered_terms_if number c.first_of-either.result)) c.is_s_right.ensures in
-    seen_put c.args.moment terms c.args.standing asked _ _ _ _ _ _ _ _ _ _ _ _ _ _ _ _ _
+    seen_put c.args.moment terms c.args.standing asked _ _ _ _ _ _ _ _ _ _ _ _ _ _ _ _
     c.near-from.ensures c.self-2.view_is c.forget.ensures c.alone-alone.ensures goes_on
     causes c.note_unmuted.ensures c.pair-partner.ensures.partner c.pair-partner.ensures.paired has follows
-    c.is_possible-is_possible.ensures c.first_of-either.ensures shows
+    c.is_possible-is_possible.ensures c.first_of-either.ensures
     c.place.ensures c.put.ensures

@@ -4,9 +4,8 @@ use Rattle.mq_replay.specs.Report.{Datagram}
 use Rattle.mq_check.specs.Basis.{with_other_querier}
 use Rattle.mq_check.specs.Basis as basis
 use Rattle.mq_check.specs.Causes.{causes_in}
-use Rattle.mq_check.specs.Checking.{all_changed, role_changed, with_timers_set}
+use Rattle.mq_check.specs.Checking.{all_changed, role_changed}
 use Rattle.mq_check.specs.Queries.{specific_terms}
-use Rattle.mq_check.specs.Standing.{is_set, set_from}
 use Rattle.mq_check.specs.Wanting.{WantingValue}
 use Rattle.mq_check.proofs.Bases.{other_named}
 use Rattle.mq_check.proofs.Steppings.{received_at, received_is}
@@ -26,18 +25,14 @@ returns-clause-receives g c =
     (λ i. record c.change_all.new.self { moment = now; by_tick = false; is_returning = not (c.is_querier-was_querier.ensures i) }) in
     let receives = c.receive.ensures.receives in
     let configured = c.timing-configured.ensures ∙ ap (λ (config : Configuration). config.timing) c.config-2.ensures in
-    let after = c.receive.new.self.state in
     let role =
-    ap (λ (w : WantingValue). w.checking) c.name_other.ensures ∙ ap (λ (w : WantingValue). w.checking) c.refresh.ensures
-    ∙ ap (λ (w : WantingValue). with_timers_set c.args.stamp (is_set after.groups (set_from after.election.timing c.args.stamp)) w.checking) c.change_role.ensures
-    ∙ (λ i. with_timers_set (sym c.moment-now.ensures.same i) (is_set after.groups (set_from after.election.timing (sym c.moment-now.ensures.same i)))
-    (role_changed c.args.self.now.terms.within (configured i) (sym c.moment-now.ensures.same i) (c.is_querier-was_querier.ensures i)
-    (c.is_querier-stays_querier.ensures i) c.receive.new.outlet.checking)) in
+    ap (λ (w : WantingValue). w.checking) c.name_other.ensures ∙ ap (λ (w : WantingValue). w.checking) c.change_role.ensures
+    ∙ (λ i. role_changed c.args.self.now.terms.within (configured i) (sym c.moment-now.ensures.same i) (c.is_querier-was_querier.ensures i)
+    (c.is_querier-stays_querier.ensures i) c.receive.new.outlet.checking) in
     let rests =
     ap (λ (w : WantingValue). w.basis) c.name_other.ensures
-    ∙ other_named g.F.Family.FAMILY g.F.Address.Key.number c.receive.new.self.state.election.role _ c.refresh.new.self.basis c.other_querier.ensures
-    ∙ ap (with_other_querier g.F.Family.FAMILY c.receive.new.self.state.election.role)
-    (ap (λ (w : WantingValue). w.basis) c.refresh.ensures ∙ ap (λ (w : WantingValue). w.basis) c.change_role.ensures)
+    ∙ other_named g.F.Family.FAMILY g.F.Address.Key.number c.receive.new.self.state.election.role _ c.change_role.new.queries.basis c.other_querier.ensures
+    ∙ ap (with_other_querier g.F.Family.FAMILY c.receive.new.self.state.election.role) (ap (λ (w : WantingValue). w.basis) c.change_role.ensures)
     ∙ (λ i. with_other_querier (is_family i) c.receive.new.self.state.election.role
     (basis.role_changed (sym c.moment-now.ensures.same i) (c.is_querier-was_querier.ensures i)
     (c.is_querier-stays_querier.ensures i) c.receive.new.outlet.basis)) in
