@@ -81,7 +81,7 @@ try:
 	@tools/try $(ARGS)
 
 # The links as a library for C, whose header is include/mquerier.h: the archive lib/libmquerier.a, and beside it the shared library
-# lib/libmquerier.so.2 for languages that load one. `make lib TARGET=aarch64-unknown-linux-gnu` makes them for that processor, of the
+# lib/libmquerier.so.3 for languages that load one. `make lib TARGET=aarch64-unknown-linux-gnu` makes them for that processor, of the
 # same proofs, in lib/aarch64-unknown-linux-gnu.
 lib: $(ARCHIVE) $(SHARED)
 

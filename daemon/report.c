@@ -11,14 +11,15 @@
 static const char *const family_names[2] = {"igmp", "mld"};
 
 /* The counters of a link, by name. */
-enum { COUNTERS = 7 };
-static const char *const counter_names[COUNTERS] = {"received", "dropped", "applied", "ignored", "refused", "sent", "unsent"};
+enum { COUNTERS = 8 };
+static const char *const counter_names[COUNTERS] = {"received", "dropped", "applied", "ignored",
+                                                    "refused",  "sent",    "unsent",  "denied"};
 
 static void counters_of(const mq_link *link, uint64_t counters[COUNTERS]) {
     mq_counts counts;
     mq_link_counts(link, &counts, sizeof counts);
     const uint64_t found[COUNTERS] = {counts.received, counts.dropped, counts.applied, counts.ignored,
-                                      counts.refused,  counts.sent,    counts.unsent};
+                                      counts.refused,  counts.sent,    counts.unsent,  counts.denied};
     memcpy(counters, found, sizeof found);
 }
 

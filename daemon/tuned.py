@@ -54,6 +54,27 @@ def fast_leave():
             fabric.comes("b0p1", GROUPS[family], ("exclude",), 1)
 
 
+def ranges_of_groups():
+    """Hosts may not ask for groups that ranges deny, of all ports or of one. Records for them are counted."""
+    words = []
+    for family, bits in (("igmp", 32), ("mld", 128)):
+        words += ["--deny", f"b0p1={OTHERS[family][1]}/{bits}", "--deny", f"{OTHERS[family][2]}/{bits}"]
+    with Fabric(3, 1) as fabric:
+        querier = fabric.querier(*words)
+        querier.settled()
+        for family in FAMILIES:
+            for end in ("b0h1", "b0h2"):
+                for group in reversed(OTHERS[family]):
+                    fabric.hosts[end].put(report_frame(family, IS_EX, group, []))
+            fabric.comes("b0p1", OTHERS[family][0], ("exclude",))
+            fabric.comes("b0p2", OTHERS[family][0], ("exclude",))
+            fabric.comes("b0p2", OTHERS[family][1], ("exclude",))
+            for port, group in (("b0p1", 1), ("b0p1", 2), ("b0p2", 2)):
+                is_true(fabric.entry(port, OTHERS[family][group]) is None, f"{port} has {OTHERS[family][group]}")
+            found = [port[family]["denied"] for port in querier.status()["ports"]]
+            is_true(found == [2, 1, 0], f"{family}: {found}")
+
+
 def static_groups():
     """Static groups are forwarded whatever hosts say: all sources of one, one source of another, beside what hosts want."""
     words = []
@@ -120,6 +141,9 @@ def a_file_is_read_again():
         for text, what in (
             ("lmqi 600\nstatic b0p3=10.0.0.1\n", "br0.conf:2: no group that can have an entry"),
             ("\n\nlimit b0p3=0\n", "br0.conf:3: a limit is GROUPS or GROUPS,SOURCES"),
+            ("deny b0p3=239.1.0.0\n", "br0.conf:1: a range is PREFIX/LENGTH"),
+            ("allow 239.1.0.0/33\n", "br0.conf:1: the length of a range is 0 to 32"),
+            ("deny b0p3:10=239.1.0.0/16\n" + 16 * "deny 239.1.0.0/16\n", "br0.conf:17: more than 16 ranges of a port"),
             ("wrong 1\n", "br0.conf:1: no such option"),
             ("lmqi 600\nlmqi 1 2\n", "br0.conf:2: a line has one option and its value"),
             ("run /tmp\n", "br0.conf:1: this option is for the command line alone"),
@@ -142,4 +166,4 @@ def a_file_is_read_again():
         is_true(not querier.status()["ports"][1].get("fast_leave"), "fast leave stays")
 
 
-CASES = [limits_of_ports, fast_leave, static_groups, a_file_is_read_again]
+CASES = [limits_of_ports, fast_leave, ranges_of_groups, static_groups, a_file_is_read_again]

@@ -7,6 +7,9 @@
 
 /* The Last Member Query Interval of a port with fast leave, in milliseconds: the least that a query of IGMP can have. */
 enum { FAST_LEAVE = 100, GREATEST_VLAN = 4094 };
+/* The rules of ranges by the kind of option, and the bits of an address by the family. */
+static const uint8_t RULES[] = {[TUNED_ALLOW] = MQ_ALLOW, [TUNED_DENY] = MQ_DENY};
+static const unsigned BITS[2] = {32, 128};
 
 /* Reads a number from 1 on, and moves `*at` after it. */
 static bool read_number(const char **at, uint32_t most, uint32_t *number) {
@@ -68,15 +71,67 @@ static const char *read_static(struct tuning *tuning, const char *at) {
     return NULL;
 }
 
-const char *tunings_read(struct tunings *tunings, enum tuned kind, const char *text) {
-    struct tuning tuning = {.kind = kind};
-    const char *at = text, *why = read_port(&tuning, &at);
+static bool is_range(enum tuned kind) {
+    return kind == TUNED_ALLOW || kind == TUNED_DENY;
+}
+
+/* Reads PREFIX/LENGTH. */
+static const char *read_range(struct tuning *tuning, const char *at) {
+    char prefix[INET6_ADDRSTRLEN] = "";
+    size_t length = strcspn(at, "/");
+    uint32_t bits = 0;
+    if (length < sizeof prefix)
+        memcpy(prefix, at, length);
+    tuning->is_mld = strchr(prefix, ':') != NULL;
+    if (inet_pton(tuning->is_mld ? AF_INET6 : AF_INET, prefix, tuning->group) != 1 || at[length] != '/')
+        return "a range is PREFIX/LENGTH, like 239.1.0.0/16";
+    at += length + 1;
+    if (strcmp(at, "0") != 0 && (!read_number(&at, BITS[tuning->is_mld], &bits) || *at != '\0'))
+        return "the length of a range is 0 to 32, for MLD to 128";
+    tuning->length = (uint8_t)bits;
+    return NULL;
+}
+
+/* Returns how many ranges a port has at most, whatever its VLAN. */
+static size_t ranges_of(const struct tunings *tunings, bool is_mld, const char *port) {
+    size_t count = 0;
+    for (size_t at = 0; at < tunings->count; at++) {
+        const struct tuning *it = &tunings->all[at];
+        count += is_range(it->kind) && it->is_mld == is_mld && (*it->port == '\0' || strcmp(it->port, port) == 0);
+    }
+    return count;
+}
+
+/* Reads a range, for all ports or for one. */
+static const char *read_rule(struct tunings *tunings, struct tuning *tuning, const char *text) {
+    const char *at = text, *why = NULL;
+    if (strchr(text, '=') != NULL)
+        why = read_port(tuning, &at);
+    if (why != NULL || (*tuning->port != '\0' && *at++ != '='))
+        return why != NULL ? why : "PORT= or PORT:VLAN= is needed";
+    why = read_range(tuning, at);
+    size_t most = ranges_of(tunings, tuning->is_mld, tuning->port);
+    for (size_t other = 0; *tuning->port == '\0' && other < tunings->count; other++) {
+        size_t count = ranges_of(tunings, tuning->is_mld, tunings->all[other].port);
+        most = count > most ? count : most;
+    }
+    return why == NULL && most >= MQ_RANGES ? "more than 16 ranges of a port" : why;
+}
+
+/* Reads the option of a port. */
+static const char *read_of_port(struct tuning *tuning, const char *text) {
+    enum tuned kind = tuning->kind;
+    const char *at = text, *why = read_port(tuning, &at);
     if (why != NULL)
         return why;
     if (kind == TUNED_FAST_LEAVE ? *at != '\0' : *at++ != '=')
         return kind == TUNED_FAST_LEAVE ? "a port is needed, and nothing else" : "PORT= or PORT:VLAN= is needed";
-    if (kind != TUNED_FAST_LEAVE)
-        why = (kind == TUNED_LIMIT ? read_limit : read_static)(&tuning, at);
+    return kind == TUNED_FAST_LEAVE ? NULL : (kind == TUNED_LIMIT ? read_limit : read_static)(tuning, at);
+}
+
+const char *tunings_read(struct tunings *tunings, enum tuned kind, const char *text) {
+    struct tuning tuning = {.kind = kind};
+    const char *why = is_range(kind) ? read_rule(tunings, &tuning, text) : read_of_port(&tuning, text);
     if (why == NULL && tunings->count == GREATEST_TUNINGS)
         why = "more than 1024 options of ports";
     if (why == NULL)
@@ -94,10 +149,22 @@ bool tunings_exceed(const struct tunings *tunings, const mq_config *configuratio
 }
 
 static bool is_its(const struct tuning *it, enum tuned kind, const struct tuned_port *port) {
-    return it->kind == kind && (it->vlan == 0 || it->vlan == port->vlan) && strcmp(it->port, port->name) == 0;
+    return it->kind == kind && (it->vlan == 0 || it->vlan == port->vlan)
+           && (*it->port == '\0' || strcmp(it->port, port->name) == 0);
+}
+
+/* Puts the ranges of a port into its configuration, in their order. */
+static void configure_ranges(const struct tuned_port *port, mq_config *configuration) {
+    size_t count = 0;
+    for (size_t at = 0; at < port->tunings->count && count < MQ_RANGES; at++) {
+        const struct tuning *it = &port->tunings->all[at];
+        if (is_range(it->kind) && is_its(it, it->kind, port) && it->is_mld == configuration->is_mld)
+            mq_put_range(&configuration->ranges[count++], it->group, it->is_mld ? 16 : 4, it->length, RULES[it->kind]);
+    }
 }
 
 void tunings_configure(const struct tuned_port *port, mq_config *configuration) {
+    configure_ranges(port, configuration);
     for (size_t at = 0; at < port->tunings->count; at++) { /* the last one counts */
         const struct tuning *it = &port->tunings->all[at];
         if (!is_its(it, TUNED_LIMIT, port))

@@ -378,7 +378,7 @@ static void counters(void) {
     memset(all, 0x55, sizeof all);
     CHECK(mq_igmp_counters(&it.link, NULL, 0) == COUNTERS);
     CHECK(mq_igmp_counters(&it.link, all, 1) == COUNTERS && all[0] == 1 && all[1] == UINT64_C(0x5555555555555555));
-    CHECK(mq_igmp_counters(&it.link, all, MORE) == COUNTERS && all[COUNTERS - 1] == 1
+    CHECK(mq_igmp_counters(&it.link, all, MORE) == COUNTERS && all[COUNTERS - 2] == 1
           && all[COUNTERS] == UINT64_C(0x5555555555555555));
     mq_igmp_counts(&it.link, &counts, sizeof counts);
     CHECK(!memcmp(&counts, all, sizeof counts) && counts.received == 1 && counts.parsed[MQ_PARSED_OLDER_REPORT] == 1);
@@ -392,6 +392,31 @@ static void counters(void) {
     mq_igmp_free(&it);
 }
 
+/* Ranges of groups that hosts may ask for: of the start, and others of a running link, whose groups stay. */
+static void ranged(void) {
+    mq_igmp_config c = mq_igmp_defaults(own), next = c;
+    mq_igmp_on_heap it;
+    mq_counts counts;
+    mq_answer a;
+    for (size_t at = 0; at < MQ_RANGES; at++)
+        CHECK(c.ranges[at].rule == MQ_UNUSED);
+    c.ranges[1] = (mq_igmp_range){{239, 1, 9, 9}, 16, MQ_DENY}; /* the place before it is unused */
+    next.ranges[MQ_RANGES - 1] = (mq_igmp_range){{239, 1, 2, 0}, 24, MQ_ALLOW};
+    CHECK(MQ_UNUSED == 0 && MQ_ALLOW == 1 && MQ_DENY == 2 && mq_igmp_new(c, 0, &it) == MQ_DONE);
+    a = mq_igmp_receive(&it.link, &it.workspace, host, join, sizeof join, 10, NULL, 0);
+    CHECK(a.status == MQ_DONE && !a.dropped && a.applied == 0 && a.ignored == 1 && !a.refused);
+    CHECK(mq_igmp_receive(&it.link, &it.workspace, host, leave, sizeof leave, 10, NULL, 0).ignored == 1);
+    CHECK(mq_igmp_receive(&it.link, &it.workspace, host, allow, sizeof allow, 10, NULL, 0).applied == 1);
+    CHECK(!mq_igmp_forwards(&it.link, group, source) && mq_igmp_forwards(&it.link, other, source));
+    CHECK(mq_igmp_configure(&it.link, next) == MQ_DONE && mq_igmp_forwards(&it.link, other, source));
+    CHECK(mq_igmp_receive(&it.link, &it.workspace, host, join, sizeof join, 20, NULL, 0).applied == 1);
+    CHECK(mq_igmp_receive(&it.link, &it.workspace, host, allow, sizeof allow, 20, NULL, 0).ignored == 1);
+    CHECK(mq_igmp_forwards(&it.link, group, source) && mq_igmp_forwards(&it.link, other, source));
+    mq_igmp_counts(&it.link, &counts, sizeof counts);
+    CHECK(counts.ignored == 3 && counts.denied == 3 && counts.applied == 2 && counts.dropped == 0);
+    mq_igmp_free(&it);
+}
+
 int main(void) {
     most_queries(8);
     most_queries(1480);
@@ -401,6 +426,7 @@ int main(void) {
     changed();
     configurations();
     configured();
+    ranged();
     queries();
     asking();
     lines();

@@ -23,6 +23,8 @@ static void make(void) {
     memcpy(own, is_mld ? own6 : own4, width);
     mq_config config = mq_config_defaults(is_mld, own), other;
     config.groups = 24, config.group_sources = 16, config.sources = 64, config.scheduled = 4, config.source_specific = 1;
+    static const uint8_t few4[4] = {239, 0, 0, 8}, few6[16] = {0xff, 0x0e, [15] = 8};
+    mq_put_range(&config.ranges[3], is_mld ? few6 : few4, width, is_mld ? 126 : 30, MQ_DENY);
     mq_igmp_config config4 = mq_igmp_config_of(config);
     mq_mld_config config6 = mq_mld_config_of(config);
     size_t size = is_mld ? mq_mld_size(config6) : mq_igmp_size(config4);

@@ -45,9 +45,9 @@ def test_no_library(folder):
 
 
 def test_library_of_another_version(folder, monkeypatch):
-    shutil.copy(os.path.join(_library.NATIVE, NAME), folder / "libmquerier.so.3")
-    monkeypatch.setattr(_library, "VERSION", 3)
-    assert why(link) == f"{folder}/libmquerier.so.3 has version 2, and this package is for version 3"
+    shutil.copy(os.path.join(_library.NATIVE, NAME), folder / "libmquerier.so.4")
+    monkeypatch.setattr(_library, "VERSION", 4)
+    assert why(link) == f"{folder}/libmquerier.so.4 has version 3, and this package is for version 4"
 
 
 def test_program_of_the_package(folder):

@@ -98,6 +98,24 @@ def test_another_configuration():
     assert fault.value.field == "held"
 
 
+def test_ranges_of_groups():
+    link = made(ranges=[("deny", "239.1.2.3/32"), ("allow", ipaddress.ip_network("239.1.0.0/16"))])
+    for body, applied in ((JOIN, 0), (bytes.fromhex("1600f8f9ef010204"), 1), (bytes.fromhex("1600f8f9ef000205"), 0)):
+        answer = link.receive(HOST, body, 40)
+        assert (answer.dropped, answer.applied, answer.ignored) == (None, applied, 1 - applied)
+    assert link.counts.denied == link.counts.ignored == 2 and [str(it.address) for it in link.groups()] == ["239.1.2.4"]
+    link.configure(ranges=[])
+    assert link.receive(HOST, JOIN, 50).applied == 1
+    for ranges in ([("deny", "ff00::/8")], [("deny", "239.1.2.3/33")], [("refuse", "239.1.2.3/32")], [("deny", "239.0.0.0/8")] * 17, ["deny"]):
+        with pytest.raises(Fault) as fault:
+            link.configure(ranges=ranges)
+        assert fault.value.field == "ranges" and link.receive(HOST, JOIN, 60).applied == 1
+    with pytest.raises(TypeError, match="ranges"):
+        link.configure(ranges="239.0.0.0/8")
+    link = Link("mld", "fe80::9", ranges=[("deny", "ff00::/8")])
+    assert link.counts.denied == 0
+
+
 def ip(text):
     return ipaddress.ip_address(text).packed
 

@@ -2,10 +2,14 @@
 
 use core::ffi::c_void;
 
-pub(crate) const VERSION: u32 = 2;
+pub(crate) const VERSION: u32 = 3;
 pub(crate) const DONE: u32 = 0;
+pub(crate) const RANGES: usize = 16;
+pub(crate) const UNUSED: u8 = 0;
+pub(crate) const ALLOW: u8 = 1;
+pub(crate) const DENY: u8 = 2;
 pub(crate) const NONE: u64 = u64::MAX;
-pub(crate) const COUNTERS: usize = 29;
+pub(crate) const COUNTERS: usize = 30;
 
 /// A link, or a workspace.
 #[repr(C)]
@@ -17,6 +21,15 @@ pub struct Handle(pub(crate) *mut c_void);
 pub struct Units {
     pub(crate) first: *mut c_void,
     pub(crate) units: usize,
+}
+
+/// A range of groups; a rule of 0 is an unused place.
+#[repr(C)]
+#[derive(Clone, Copy, Debug)]
+pub struct Range<A> {
+    pub(crate) address: A,
+    pub(crate) length: u8,
+    pub(crate) rule: u8,
 }
 
 #[repr(C)]
@@ -32,6 +45,7 @@ pub struct Config<A> {
     pub(crate) scheduled: u32,
     pub(crate) own: A,
     pub(crate) source_specific: u8,
+    pub(crate) ranges: [Range<A>; RANGES],
 }
 
 #[repr(C)]

@@ -3,6 +3,8 @@
 
 ghost use Rattle.std.specs.Prelude.{◌≡◌, ◌<◌, ◌^◌};
 
+use mq_link::MOST_RANGES;
+
 /// The settings of a link, for both families.
 #[repr(C)]
 #[derive(Clone, Copy)]
@@ -17,6 +19,24 @@ pub struct Settings {
     pub scheduled: u32,
 }
 
+/// A range of groups of IGMP. A `rule` of 0 is an unused place, 1 allows its groups, and others deny them.
+#[repr(C)]
+#[derive(Clone, Copy)]
+pub struct IgmpRange {
+    pub address: [u8; 4],
+    pub length: u8,
+    pub rule: u8,
+}
+
+/// A range of groups of MLD.
+#[repr(C)]
+#[derive(Clone, Copy)]
+pub struct MldRange {
+    pub address: [u8; 16],
+    pub length: u8,
+    pub rule: u8,
+}
+
 /// The configuration of an IGMP link.
 #[repr(C)]
 #[derive(Clone, Copy)]
@@ -24,6 +44,7 @@ pub struct IgmpConfig {
     pub settings: Settings,
     pub own: [u8; 4],
     pub source_specific: u8,
+    pub ranges: [IgmpRange; MOST_RANGES],
 }
 
 /// The configuration of an MLD link.
@@ -33,6 +54,7 @@ pub struct MldConfig {
     pub settings: Settings,
     pub own: [u8; 16],
     pub source_specific: u8,
+    pub ranges: [MldRange; MOST_RANGES],
 }
 
 /// The result of a call.

@@ -34,7 +34,7 @@ ghost use Rattle.mq_c.specs.Statuses as status;
 use crate::changed::put_changed;
 use crate::configuring::configure;
 use crate::counting::{few, put_counters};
-use crate::forms::{Answer, IgmpConfig, IgmpGroup, IgmpSource, Page};
+use crate::forms::{Answer, IgmpConfig, IgmpGroup, IgmpRange, IgmpSource, Page};
 use crate::igmp_objects::{IgmpLink, IgmpLinkPlace, IgmpWorkspace, IgmpWorkspacePlace};
 use crate::lines::put_igmp_line;
 use crate::making::{
@@ -43,11 +43,12 @@ use crate::making::{
 use crate::milliseconds::milliseconds;
 use crate::other_querier::other_querier;
 use crate::pages::{put_group, put_groups};
+use crate::ranges::ranges_of;
 use crate::statuses::DONE;
 use crate::{bounds, calls};
 use mq_arena::{LentMemory, Lodged, Unused};
 use mq_count::Addr4;
-use mq_link::{BareLink, Igmp, IgmpEnvelope, Workspace};
+use mq_link::{BareLink, Igmp, IgmpEnvelope, MOST_RANGES, Workspace};
 use std::marker::Brand;
 
 /// Returns the default configuration, with this own address.
@@ -59,6 +60,11 @@ pub extern "C" fn mq_igmp_defaults(own: &[u8; 4]) -> IgmpConfig
         settings: default_settings::<Igmp>(),
         own: *own,
         source_specific: 0,
+        ranges: [IgmpRange {
+            address: [0; 4],
+            length: 0,
+            rule: 0,
+        }; MOST_RANGES],
     }
 }
 
@@ -71,6 +77,7 @@ pub extern "C" fn mq_igmp_size(config: IgmpConfig) -> usize
         config.settings,
         Addr4::from_octets(config.own),
         config.source_specific,
+        ranges_of::<Igmp>(&config.ranges),
     ))
 }
 
@@ -93,6 +100,7 @@ pub extern "C" fn mq_igmp_init_units(
         config.settings,
         Addr4::from_octets(config.own),
         config.source_specific,
+        ranges_of::<Igmp>(&config.ranges),
         start,
     ) {
         Ok(link) => {
@@ -112,6 +120,7 @@ pub extern "C" fn mq_igmp_workspace_size(config: IgmpConfig) -> usize
         config.settings,
         Addr4::from_octets(config.own),
         config.source_specific,
+        ranges_of::<Igmp>(&config.ranges),
     ))
 }
 
@@ -133,6 +142,7 @@ pub extern "C" fn mq_igmp_workspace_init_units(
         config.settings,
         Addr4::from_octets(config.own),
         config.source_specific,
+        ranges_of::<Igmp>(&config.ranges),
     ) {
         Ok(workspace) => {
             *place = IgmpWorkspacePlace::of(workspace);
@@ -154,6 +164,7 @@ pub extern "C" fn mq_igmp_configure(link: &mut IgmpLink, config: IgmpConfig) -> 
         config.settings,
         Addr4::from_octets(config.own),
         config.source_specific,
+        ranges_of::<Igmp>(&config.ranges),
     )
 }
 

@@ -35,7 +35,7 @@ ghost use Rattle.mq_c.specs.Statuses as status;
 use crate::changed::put_changed;
 use crate::configuring::configure;
 use crate::counting::{few, put_counters};
-use crate::forms::{Answer, MldConfig, MldGroup, MldSource, Page};
+use crate::forms::{Answer, MldConfig, MldGroup, MldRange, MldSource, Page};
 use crate::lines::put_mld_line;
 use crate::making::{
     default_settings, link_in, link_size, with_object, workspace_in, workspace_size,
@@ -44,11 +44,12 @@ use crate::milliseconds::milliseconds;
 use crate::mld_objects::{MldLink, MldLinkPlace, MldWorkspace, MldWorkspacePlace};
 use crate::other_querier::other_querier;
 use crate::pages::{put_group, put_groups};
+use crate::ranges::ranges_of;
 use crate::statuses::DONE;
 use crate::{bounds, calls};
 use mq_arena::{LentMemory, Lodged, Unused};
 use mq_count::Addr6;
-use mq_link::{BareLink, Mld, MldEnvelope, Workspace};
+use mq_link::{BareLink, MOST_RANGES, Mld, MldEnvelope, Workspace};
 use std::marker::Brand;
 
 /// Returns the default configuration, with this own address.
@@ -60,6 +61,11 @@ pub extern "C" fn mq_mld_defaults(own: &[u8; 16]) -> MldConfig
         settings: default_settings::<Mld>(),
         own: *own,
         source_specific: 0,
+        ranges: [MldRange {
+            address: [0; 16],
+            length: 0,
+            rule: 0,
+        }; MOST_RANGES],
     }
 }
 
@@ -72,6 +78,7 @@ pub extern "C" fn mq_mld_size(config: MldConfig) -> usize
         config.settings,
         Addr6::from_octets(config.own),
         config.source_specific,
+        ranges_of::<Mld>(&config.ranges),
     ))
 }
 
@@ -94,6 +101,7 @@ pub extern "C" fn mq_mld_init_units(
         config.settings,
         Addr6::from_octets(config.own),
         config.source_specific,
+        ranges_of::<Mld>(&config.ranges),
         start,
     ) {
         Ok(link) => {
@@ -113,6 +121,7 @@ pub extern "C" fn mq_mld_workspace_size(config: MldConfig) -> usize
         config.settings,
         Addr6::from_octets(config.own),
         config.source_specific,
+        ranges_of::<Mld>(&config.ranges),
     ))
 }
 
@@ -134,6 +143,7 @@ pub extern "C" fn mq_mld_workspace_init_units(
         config.settings,
         Addr6::from_octets(config.own),
         config.source_specific,
+        ranges_of::<Mld>(&config.ranges),
     ) {
         Ok(workspace) => {
             *place = MldWorkspacePlace::of(workspace);
@@ -155,6 +165,7 @@ pub extern "C" fn mq_mld_configure(link: &mut MldLink, config: MldConfig) -> u32
         config.settings,
         Addr6::from_octets(config.own),
         config.source_specific,
+        ranges_of::<Mld>(&config.ranges),
     )
 }
 

@@ -18,7 +18,7 @@ use std::alloc::{AllocError, Global};
 use std::convert::AsStr;
 
 /// The version, as `MQ_VERSION_TEXT` of include/mquerier.h has it.
-pub const VERSION: &str = "2.1.0";
+pub const VERSION: &str = "3.0.0";
 
 /// A command of the command line, with its arguments.
 #[derive(Clone, Copy)]

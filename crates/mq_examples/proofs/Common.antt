@@ -32,8 +32,8 @@ pub use Rattle.mq_sched.specs.Sending.{acted, after_change, after_round, General
 pub use Rattle.mq_sched.specs.Sending.{SentQuery, sources_asked, sources_due_next, sources_queries}
 pub use Rattle.mq_link.proofs.Known.{by_rule-known, Entries, entries-known, find-ordered, find-with_values, kept-known, kept_as, kept_in, keys-known, keys_of}
 pub use Rattle.mq_link.proofs.Known.{len-known, ordered, ordered-known, ordered-with_values, remove-known, sorted-ordered, with_values, without}
-pub use Rattle.mq_link.specs.Configuration.{Configuration}
-pub use Rattle.mq_link.specs.Counters.{Applied, count_answers, count_dropped, count_verdicts, Counters, Ignored, no_counts, Refused, Verdict}
+pub use Rattle.mq_link.specs.Configuration.{Configuration, is_allowed}
+pub use Rattle.mq_link.specs.Counters.{Applied, count_answers, count_dropped, count_verdicts, Counters, Denied, Ignored, no_counts, Refused, Verdict}
 pub use Rattle.mq_link.specs.Family.{per_query, v1_mutes_leave}
 pub use Rattle.mq_link.specs.Receive.{count_read, drop_reason, Envelope, pseudo_of, read_of, reason_of_fault, Receipt, receipt_after, setting_of, taken}
 pub use Rattle.mq_link.specs.Receive.{taken_or_dropped, with_outcomes, with_state}

@@ -2,8 +2,9 @@
 use Rattle.mq_examples.proofs.Common.{◌≡◌, ℕ, ◌+◌, Bool, true, false, cond, not, ◌&&◌, refl, List, [], ◌∷◌, ◌++◌, length, Option, None, Some, sym, ap, ◌∙◌, leb}
 use Rattle.mq_examples.proofs.Common.{eqb, suc, arith, list_map, nat_cmp_total, option_map, unwrap_or, is_some, sum_by, find, nat_cmp, eq_by_cmp, RecordView}
 use Rattle.mq_examples.proofs.Common.{IsEx, ToIn, Timing, Set, ∅, lowered_by_query, older_host_present, ScheduledGroup, SentQuery, after_change, ElectionState}
-use Rattle.mq_examples.proofs.Common.{is_querier, loses_role, Limits, v1_mutes_leave, per_query, Configuration, Verdict, Applied, Ignored, Refused, Groups}
-use Rattle.mq_examples.proofs.Common.{LinkState, unheld, group_at, with_group, sources_of, schedules_of, one_if, Statement, RecordOf, OlderJoin, OlderLeave}
+use Rattle.mq_examples.proofs.Common.{is_querier, loses_role, Limits, v1_mutes_leave, per_query, Configuration, is_allowed, Verdict, Applied, Denied, Ignored}
+use Rattle.mq_examples.proofs.Common.{Refused, Groups, LinkState, unheld, group_at, with_group, sources_of, schedules_of, one_if, Statement, RecordOf}
+use Rattle.mq_examples.proofs.Common.{OlderJoin, OlderLeave}
 use Rattle.mq_examples.proofs.Common.{change_stated, limit_passed_by, limit_passed, Outcome, Setting, leaving, unless_passed, sent_at_once, after_sending}
 use Rattle.mq_examples.proofs.Common.{changed_or_refused, is_muted, asking_nothing, Seen, met, Entrance, Stops, GoesOn, entrance, seen_by, judged_from}
 use Rattle.mq_examples.proofs.Common.{Outcomes, and_then, all_judged, Entries, ordered, ordered-known, entries-known, len-known, kept_in, kept_as, without}
@@ -14,9 +15,9 @@ use Rattle.mq_count.specs.declared.versions.OlderVersion.TheVariants.{V1, V2}
 use Rattle.mq_wire.specs.{declared.query.Query.Query, declared.query.QueryVersion.QueryVersion, declared.query.QueryVersion.TheVariants.Older}
 use Rattle.mq_wire.specs.{declared.query.QueryVersion.TheVariants.Current}
 use Rattle.mq_table.specs.{declared.kind.Kind.Kind, OlderHosts.older_host}
-use Rattle.mq_link.specs.{declared.answers.Refusal.Refusal, declared.answers.Refusal.TheVariants.Repeated, Record.stated, Record.judged, Heard.election_after}
+use Rattle.mq_link.specs.{declared.answers.Refusal.Refusal, declared.answers.Refusal.TheVariants.Repeated, Record.stated, Record.judged, Record.stated_alone}
 use Rattle.mq_link.specs.{Heard.suppresses, Heard.some_named, Heard.asked_by, Heard.groups_cleared, Heard.group_lowered, Heard.groups_lowered}
-use Rattle.mq_link.specs.{Heard.query_heard}
+use Rattle.mq_link.specs.{Heard.election_after, Heard.query_heard}
 use Rattle.mq_examples.proofs.KnownGroups.{Known, KnownChange, as_held, as_change, group_of, nothing_known, is_empty, is_empty-known, named_in}
 use Rattle.mq_examples.proofs.KnownGroups.{change_in as table_in, change-known, translated_change_in, translated-known}
 use Rattle.mq_examples.proofs.KnownSendings.{changed_in, changed-known, sent_in, sent-known, round_in, round-known, cleared_in, cleared-known}
@@ -214,6 +215,20 @@ stated-known at group st gs =
 
     muted : Bool
     muted = is_muted at.config group (as_statement st)
+
+-- a message of an older version
+abbrev pub stated_alone_known : Setting → ℕ → KnownStatement → KnownGroups → KnownOutcome
+stated_alone_known at group st gs =
+    cond (is_allowed at.config group) (stated_known at group st gs) (record { verdict = Denied; groups = gs; queries = [] })
+
+pub stated_alone-known : (at : Setting) (group : ℕ) (st : KnownStatement) (gs : KnownGroups) → stated_alone at group (as_statement st) (as_groups gs)
+    ≡ as_outcome (stated_alone_known at group st gs)
+stated_alone-known at group st gs = by_test (is_allowed at.config group)
+  where
+    by_test : (b : Bool) → cond b (stated at group (as_statement st) (as_groups gs)) (leaving (as_groups gs) Denied)
+        ≡ as_outcome (cond b (stated_known at group st gs) (record { verdict = Denied; groups = gs; queries = [] }))
+    by_test true = stated-known at group st gs
+    by_test false = refl
 
 -- records with the count of those that met each group
 abbrev pub as_seen : Entries ℕ → Seen

@@ -51,15 +51,16 @@ pub use Rattle.mq_sched.specs.Sending.{acted, after_change, after_round, General
 pub use Rattle.mq_sched.specs.Sending.{SentQuery, source_messages, sources_asked, sources_queries, sources_where, SourcesQuery}
 pub use Rattle.mq_link.proofs.{Faultless.IsWellFormed-link_at, Faultless.timing_in_range, KeptFilters.alike_after, KeptFilters.filter_of_unheld}
 pub use Rattle.mq_link.proofs.{KeptFilters.unchanged, Ticked.IsWellFormed-tick_at}
-pub use Rattle.mq_link.specs.Configuration.{Configuration, IsFaultless}
-pub use Rattle.mq_link.specs.Counters.{Applied, count_dropped, count_verdict, count_verdicts, counted_at, Counters, Ignored, is_applied, is_ignored, is_refused}
+pub use Rattle.mq_link.specs.Configuration.{Configuration, is_allowed, IsFaultless}
+pub use Rattle.mq_link.specs.Counters.{Applied, count_dropped, count_verdict, count_verdicts, counted_at, Counters, Denied, Ignored, is_applied, is_ignored}
+pub use Rattle.mq_link.specs.Counters.{is_refused}
 pub use Rattle.mq_link.specs.Counters.{kind_number, Refused, Verdict}
 pub use Rattle.mq_link.specs.Heard.{announced_by, asked_by, election_after, group_lowered, group_lowered as heard_by, groups_cleared, query_heard, suppresses}
 pub use Rattle.mq_link.specs.Receive.{count_read, counting_read, drop_reason, Envelope, kind_of, pseudo_of, read_of, reason_of_fault, Receipt, receipt_after}
 pub use Rattle.mq_link.specs.Receive.{receipt_of, setting_of, taken_or_dropped, with_outcomes}
 pub use Rattle.mq_link.specs.Record.{after_sending, all_judged, alone, change_in, change_stated, changed_by, changed_or_refused, Entrance, entrance}
 pub use Rattle.mq_link.specs.Record.{entrance_as, GoesOn, is_muted, is_repeated, judged, judged_from, kind_named, leaving, limit_passed, OlderJoin, OlderLeave}
-pub use Rattle.mq_link.specs.Record.{Outcomes, RecordOf, seen_after, sent_at_once, Setting, stated, Statement, Stops, unless_passed}
+pub use Rattle.mq_link.specs.Record.{Outcomes, RecordOf, seen_after, sent_at_once, Setting, stated, stated_alone, Statement, Stops, unless_passed}
 pub use Rattle.mq_link.specs.Run.{answer_to, answered, Datagram, Event, events_alone, Happening, Happens, RunFrom, step_of, Tick}
 pub use Rattle.mq_link.specs.Sent.{Outgoing, outgoing, outgoing_of}
 pub use Rattle.mq_link.specs.State.{forwards, group_at, Groups, IsWellFormed, link_at, LinkState, schedules_in, sources_in, sources_of, unheld}

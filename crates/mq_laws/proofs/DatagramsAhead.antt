@@ -12,8 +12,9 @@ use Rattle.mq_laws.proofs.Common.{seen_after, is_muted, LinkState, IsWellFormed,
 use Rattle.mq_held.specs.Groups.{Groups, group_at, unheld, with_group}
 use Rattle.mq_link.proofs.{HeldAs.All, HeldAs.all-kept, Later.later_after_tick, Quiet.AllAbove, Quiet.IsBeyond, Quiet.above_least, Quiet.least_above}
 use Rattle.mq_link.proofs.{Quiet.above_values, Quiet.values_above, Quiet.beyond, Quiet.above_beyond, Receipts.carried_where_read}
-use Rattle.mq_link.proofs.{Receipts.IsWellFormed-receipt_after, Recorded.all-with_group, Silent.each-entry, Silent.from-each}
+use Rattle.mq_link.proofs.{Receipts.IsWellFormed-receipt_after, Recorded.all-with_group, Silent.each-entry, Silent.from-each, StatedAlone.alone_by}
 use Rattle.mq_link.specs.{Family.v1_mutes_leave, Heard.groups_cleared, Heard.groups_lowered, Receive.taken_in, Record.Seen, Record.stated}
+use Rattle.mq_link.specs.{Record.stated_alone}
 use Rattle.mq_laws.proofs.{AheadChanges.ChangesAhead, AheadChanges.stated_ahead, AheadChanges.query_ahead, AheadChanges.after_change_ahead, Unchanged.judged_by}
 use Rattle.std.specs.FinMap as map
 use Rattle.std.specs.FinSet as set
@@ -107,6 +108,11 @@ stated_beyond at group statement groups spans all =
     (stated_ahead (v1_mutes_leave at.config.family) (is_muted at.config group statement) at.election.timing at.now statement
     (group_at groups group).group (omega (arith, spans.membership)) (omega (arith, spans.older))
     (met_ahead at.now (map.get groups group) (held_beyond at.now group groups all (map.get groups group) refl)))
+
+alone_beyond : (at : Setting) (group : ℕ) (statement : Statement) (groups : Groups) → AreSpans at.election.timing → AllBeyond at.now groups
+    → AllBeyond at.now (stated_alone at group statement groups).groups
+alone_beyond at group statement groups spans all =
+    alone_by (λ o. AllBeyond at.now o.groups) at group statement groups (stated_beyond at group statement groups spans all) all
 
 judged_beyond : (at : Setting) (seen : Seen) (r : RecordView ℕ) (groups : Groups) → AreSpans at.election.timing → AllBeyond at.now groups
     → AllBeyond at.now (judged at seen r groups).groups
@@ -203,9 +209,9 @@ unfolding taken_in
 taken_later config envelope (QueryMessage query) step before after h = heard_later config step.state.last envelope.source query step.state (spans_of _ after) h
 taken_later config envelope (OldReport version group) step before after h =
     outcomes_later config step.state _ _
-    (stated_beyond (setting_of config step.state) group (OlderJoin version) step.state.groups (spans_of _ before) h.groups) h
+    (alone_beyond (setting_of config step.state) group (OlderJoin version) step.state.groups (spans_of _ before) h.groups) h
 taken_later config envelope (LeaveMessage group) step before after h =
-    outcomes_later config step.state _ _ (stated_beyond (setting_of config step.state) group OlderLeave step.state.groups (spans_of _ before) h.groups) h
+    outcomes_later config step.state _ _ (alone_beyond (setting_of config step.state) group OlderLeave step.state.groups (spans_of _ before) h.groups) h
 taken_later config envelope (ReportMessage records) step before after h =
     outcomes_later config step.state _ _ (all_judged_beyond (setting_of config step.state) map.empty records step.state.groups (spans_of _ before) h.groups) h
 

@@ -1,9 +1,11 @@
 -- The outlet's answers, which don't change the next work of a link.
 use Rattle.mq_laws.proofs.Common.{◌≡◌, ℕ, ◌+◌, not, refl, List, [], ◌∷◌, length, Option, None, Some, Result, Ok, Err, sym, ap, ◌∙◌, arith, count_by, list_map}
-use Rattle.mq_laws.proofs.Common.{Message, QueryMessage, OldReport, LeaveMessage, ReportMessage, WireFault, Configuration, Counters, Verdict, Applied, Ignored}
+use Rattle.mq_laws.proofs.Common.{Message, QueryMessage, OldReport, LeaveMessage, ReportMessage, WireFault, Configuration, Counters, Verdict, Applied, Denied}
+use Rattle.mq_laws.proofs.Common.{Ignored}
 use Rattle.mq_laws.proofs.Common.{Refused, count_verdict, count_verdicts, Envelope, Receipt, with_outcomes, setting_of, counting_read, taken_or_dropped}
-use Rattle.mq_laws.proofs.Common.{drop_reason, read_of, pseudo_of, OlderJoin, OlderLeave, Outcomes, stated, all_judged, alone, Event, Tick, Datagram, step_of}
-use Rattle.mq_laws.proofs.Common.{answer_to, Happening, Happens, RunFrom, events_alone, outgoing, outgoing_of, LinkState, Step, tick_of, DropReason, unanswered}
+use Rattle.mq_laws.proofs.Common.{drop_reason, read_of, pseudo_of, OlderJoin, OlderLeave, Outcomes, stated_alone, all_judged, alone, Event, Tick, Datagram}
+use Rattle.mq_laws.proofs.Common.{step_of, answer_to, Happening, Happens, RunFrom, events_alone, outgoing, outgoing_of, LinkState, Step, tick_of, DropReason}
+use Rattle.mq_laws.proofs.Common.{unanswered}
 use Rattle.mq_laws.proofs.Common.{DifferInAnswers, HappensAlike, HappenAlike}
 use Rattle.mq_count.specs.Streams.{counted_on}
 use Rattle.mq_link.specs.Receive.{taken_in}
@@ -31,6 +33,7 @@ verdicts_answers : (vs : List Verdict) (c : Counters) → answers_in (count_verd
 verdicts_answers [] c = refl
 verdicts_answers (Applied ∷ vs) c = verdicts_answers vs (count_verdict Applied c)
 verdicts_answers (Ignored ∷ vs) c = verdicts_answers vs (count_verdict Ignored c)
+verdicts_answers (Denied ∷ vs) c = verdicts_answers vs (count_verdict Denied c)
 verdicts_answers (Refused name ∷ vs) c = verdicts_answers vs (count_verdict (Refused name) c)
 
 -- The state, the queries and the answer, without the counters of sent and unsent queries.
@@ -61,8 +64,9 @@ taken_alike : (config : Configuration) (envelope : Envelope) (message : Message 
 unfolding taken_in
 taken_alike config envelope (QueryMessage query) step = record { state = refl; queries = refl; timing = refl; answer = refl; answers = refl }
 taken_alike config envelope (OldReport version group) step =
-    outcomes_alike step (alone (stated (setting_of config step.state) group (OlderJoin version) step.state.groups))
-taken_alike config envelope (LeaveMessage group) step = outcomes_alike step (alone (stated (setting_of config step.state) group OlderLeave step.state.groups))
+    outcomes_alike step (alone (stated_alone (setting_of config step.state) group (OlderJoin version) step.state.groups))
+taken_alike config envelope (LeaveMessage group) step =
+    outcomes_alike step (alone (stated_alone (setting_of config step.state) group OlderLeave step.state.groups))
 taken_alike config envelope (ReportMessage records) step = outcomes_alike step (all_judged (setting_of config step.state) map.empty records step.state.groups)
 
 decided_alike : (config : Configuration) (envelope : Envelope) (step : Step) (read : Result (Message ℕ) WireFault) (by : Option DropReason)

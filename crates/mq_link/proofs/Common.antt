@@ -121,10 +121,10 @@ pub use Rattle.mq_held.specs.Restarted.{has_each, most_looked, most_set, restart
 pub use Rattle.mq_link.specs.Applying.{CanApply, HasEffect}
 pub use Rattle.mq_link.specs.Blocked.{blocks, CanBlock, has_older_hosts, has_schedule_left, is_block}
 pub use Rattle.mq_link.specs.Changing.{acts_as, change_written, statement_of}
-pub use Rattle.mq_link.specs.Configuration.{as_fault, Configuration, else_fault, is_outside, IsFaultless, IsWithinRoom, limit_fault, timing_fault}
+pub use Rattle.mq_link.specs.Configuration.{as_fault, Configuration, else_fault, is_allowed, is_outside, IsFaultless, IsWithinRoom, limit_fault, timing_fault}
 pub use Rattle.mq_link.specs.Cost.{cost_by, cost_of, least_length, own_cost, record_cost, search_cost, work_cost}
-pub use Rattle.mq_link.specs.Counters.{Applied, count_dropped, count_verdict, count_verdicts, counted_at, Counters, Ignored, is_applied, is_ignored, is_refused}
-pub use Rattle.mq_link.specs.Counters.{reason_number, refusal_number, Refused, Verdict}
+pub use Rattle.mq_link.specs.Counters.{Applied, count_dropped, count_verdict, count_verdicts, counted_at, Counters, Denied, Ignored, is_applied, is_ignored}
+pub use Rattle.mq_link.specs.Counters.{is_refused, reason_number, refusal_number, Refused, Verdict}
 pub use Rattle.mq_link.specs.Events.{answers_of, event_of, HasRun, left_by, messages_of}
 pub use Rattle.mq_link.specs.Family.{general_destination, greatest_response, is_admitted, is_router_address, per_query, response_unit, v1_mutes_leave}
 pub use Rattle.mq_link.specs.Forwarding.{AreThose, changed_by_all, changed_by_message, changed_by_read, changed_by_tick, changes}
@@ -132,8 +132,8 @@ pub use Rattle.mq_link.specs.Handing.{FitsOne, HandsAll, HandsOver, KeepsInterva
 pub use Rattle.mq_link.specs.Heard.{announced_by, asked_by, election_after, group_lowered, groups_heard, query_heard, some_named, suppresses}
 unfoldable pub use Rattle.mq_link.specs.Heard.{groups_cleared, groups_lowered}
 pub use Rattle.mq_link.specs.Judging.{verdict_of}
-pub use Rattle.mq_link.specs.LeastCost.{least_after, least_all, least_by, least_judged, least_merge, least_of, least_received, least_search, least_stated}
-pub use Rattle.mq_link.specs.LeastCost.{least_ticked, least_unless, least_work}
+pub use Rattle.mq_link.specs.LeastCost.{least_after, least_all, least_alone, least_by, least_judged, least_merge, least_of, least_received, least_search}
+pub use Rattle.mq_link.specs.LeastCost.{least_stated, least_ticked, least_unless, least_work}
 pub use Rattle.mq_link.specs.Link.{HasReceived, HasTicked, LinkValue}
 pub use Rattle.mq_link.specs.Moved.{HasMoved, IsPaid, most_moved, most_moved_by_tick, moved_by_edit, moves_by, MovesWithin, own_moves, record_moves}
 pub use Rattle.mq_link.specs.Reading.{IsCarriedIn, most_records, numbered_read, records_in}
@@ -143,7 +143,7 @@ unfoldable pub use Rattle.mq_link.specs.Receive.{read_of, taken_in}
 pub use Rattle.mq_link.specs.Record.{after_sending, all_judged, asking_nothing, change_in, change_stated, changed_by, changed_or_refused, Entrance, entrance}
 pub use Rattle.mq_link.specs.Record.{entrance_as, GoesOn, is_exclude_kind, is_muted, is_repeated, judged_from, kind_named, leaving, limit_passed}
 pub use Rattle.mq_link.specs.Record.{limit_passed_by, met, OlderJoin, OlderJoin as StatesJoin, OlderLeave, OlderLeave as StatesLeave, Outcome, Outcomes}
-pub use Rattle.mq_link.specs.Record.{RecordOf, Seen, seen_after, seen_by, sent_at_once, Setting, Statement, Stops, unless_passed}
+pub use Rattle.mq_link.specs.Record.{RecordOf, Seen, seen_after, seen_by, sent_at_once, Setting, stated_alone, Statement, Stops, unless_passed}
 unfoldable pub use Rattle.mq_link.specs.Record.{judged, stated}
 pub use Rattle.mq_link.specs.Refreshed.{is_restart, most_asked, most_blocked, most_changed, most_copied, most_hosts, most_merged, most_started, most_tried}
 pub use Rattle.mq_link.specs.Refreshed.{restarts}

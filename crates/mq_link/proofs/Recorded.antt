@@ -7,8 +7,9 @@ use Rattle.mq_link.proofs.Common.{IsAnyGroup, size_of, membership_interval, Name
 use Rattle.mq_link.proofs.Common.{translated_change, older_host, older_report, lowered_to, IsAnyGroup-change_of, IsWellFormed-older_report, has_sendings}
 use Rattle.mq_link.proofs.Common.{sendings_counted, ScheduleState, ScheduledGroup, no_schedule, settled, IsScheduleOf, acted, after_change, is_due, after_round}
 use Rattle.mq_link.proofs.Common.{is_querier, fits_after_record, fits_acted, fits_after_round, held_acted, held_after_round, AreSound, Limits, Refusal}
-use Rattle.mq_link.proofs.Common.{TooManyGroups, GroupSources, Sources, Scheduled, Repeated, Long, is_admitted, v1_mutes_leave, Configuration, Ignored, Refused}
-use Rattle.mq_link.proofs.Common.{IsHeldAs, IsSilent, AreWithin, Statement, RecordOf, OlderJoin, OlderLeave, is_exclude_kind, is_muted, asking_nothing}
+use Rattle.mq_link.proofs.Common.{TooManyGroups, GroupSources, Sources, Scheduled, Repeated, Long, is_admitted, v1_mutes_leave, Configuration, is_allowed}
+use Rattle.mq_link.proofs.Common.{Denied, Ignored}
+use Rattle.mq_link.proofs.Common.{Refused, IsHeldAs, IsSilent, AreWithin, Statement, RecordOf, OlderJoin, OlderLeave, is_exclude_kind, is_muted, asking_nothing}
 use Rattle.mq_link.proofs.Common.{change_stated, limit_passed, Setting, leaving, unless_passed, changed_by, after_sending, sent_at_once, changed_or_refused}
 use Rattle.mq_link.proofs.Common.{change_in, stated, Seen, Entrance, Stops, GoesOn, entrance, entrance_as, kind_named, is_repeated, seen_after, judged_from}
 use Rattle.mq_link.proofs.Common.{judged, all_judged, first_named}
@@ -313,7 +314,8 @@ entered config r None so is = cc
 entered config r (Some kind) so is = by_test (is_admitted config.family r.group) is
   where
     by_test : (b : Bool) →
-        cond (not b) (Stops Ignored) (cond (ltb config.limits.group_sources (length r.sources)) (Stops (Refused Long)) (GoesOn kind)) ≡ GoesOn so → b ≡ true
+        cond (not b) (Stops Ignored) (cond (not (is_allowed config r.group)) (Stops Denied)
+        (cond (ltb config.limits.group_sources (length r.sources)) (Stops (Refused Long)) (GoesOn kind))) ≡ GoesOn so → b ≡ true
     by_test true is = refl
     by_test false is = cc
 

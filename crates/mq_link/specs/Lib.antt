@@ -1,5 +1,6 @@
 pub mod Tests
 pub mod Family
+pub mod Ranges
 pub mod Configuration
 pub mod Counters
 pub mod State

@@ -37,12 +37,13 @@ use Rattle.mq_link.specs.Forwarding.{AreThose, changed_by_all, changed_by_datagr
 use Rattle.mq_link.specs.Receive.{Envelope, drop_reason, pseudo_of, read_of, setting_of}
 use Rattle.mq_link.specs.Record.{Entrance, Stops, GoesOn, Seen, Setting, Statement, RecordOf, after_sending, change_in, changed_by}
 use Rattle.mq_link.specs.Record.{changed_or_refused, entrance, is_repeated, judged, judged_from, leaving, limit_passed, seen_after, sent_at_once}
-use Rattle.mq_link.specs.Record.{stated, unless_passed}
+use Rattle.mq_link.specs.Record.{stated, stated_alone, unless_passed}
 use Rattle.mq_link.specs.State.{LinkState}
 use Rattle.mq_link.specs.Tick.{groups_after_round, groups_expired, tick_of}
 use Rattle.mq_link.proofs.ChangedRecords.{other_then}
 use Rattle.mq_link.proofs.KeptFilters.{unchanged}
 use Rattle.mq_link.proofs.KeptGroups.{absent_unheld, group_absent}
+use Rattle.mq_link.proofs.StatedAlone.{alone_by}
 use Rattle.mq_replay.specs.Report.{Datagram, changed_at, in_order, spoken_of, those_among}
 
 -- the test of a number for a list
@@ -185,13 +186,14 @@ module _ (at : Setting) (address : ℕ) where
       by_group false differs rest =
           rest (ap (λ b. b || changed_by_all at (seen_after at.config r groups seen) rs left address) (sym (judged_others seen r groups differs)) ∙ changed)
 
-  alone_spoken_of : (group : ℕ) (statement : Statement) (groups : Groups) → changes groups (stated at group statement groups).groups address ≡ true →
+  alone_spoken_of : (group : ℕ) (statement : Statement) (groups : Groups) → changes groups (stated_alone at group statement groups).groups address ≡ true →
       is_among (group ∷ []) address ≡ true
   alone_spoken_of group statement groups changed = by_group (eq_by_cmp nat_cmp address group) refl
     where
       by_group : (b : Bool) → eq_by_cmp nat_cmp address group ≡ b → (b || false) ≡ true
       by_group true same = refl
-      by_group false differs = absurd (true≢false (sym changed ∙ stated_others group statement groups differs))
+      by_group false differs = absurd (true≢false (sym changed
+          ∙ alone_by (λ o. changes groups o.groups address ≡ false) at group statement groups (stated_others group statement groups differs) (left_as groups)))
 
   read_spoken_of : (read : Result (Message ℕ) WireFault) (reason : Option DropReason) (groups : Groups) →
       changed_by_read at read reason groups address ≡ true → is_among (spoken_of read) address ≡ true

@@ -8,7 +8,8 @@
 //! configure 2 20 10000 1000 1024 366 16384 256 10.0.0.9 0
 //! ```
 //!
-//! The first line has whether the outlet sends the queries, and the configuration in the order of `Config::new`. A
+//! The first line has whether the outlet sends the queries, and the configuration in the order of `Config::new`, with `allow
+//! ADDRESS LENGTH` or `deny ADDRESS LENGTH` for each range of groups. A
 //! configuration that is refused changes nothing. The program prints the queries in the form of the library for C, then the groups, the counters and the rest of the state.
 #![tactic(auto)]
 

@@ -9,7 +9,7 @@ use Rattle.mq_c.proofs.making.link_in.Goals as goal
 
 pub returns-in-Err-clause-granted : goal.returns-in-Err-clause-granted
 returns-in-Err-clause-granted g c for_memory =
-    let asked = asked_of g.F.Family.FAMILY c.args.settings (g.F.Address.Key.number c.args.own) c.args.source_specific in
+    let asked = asked_of g.F.Family.FAMILY c.args.settings (g.F.Address.Key.number c.args.own) c.args.source_specific c.args.ranges in
     absurd (not_for_memory asked _ c.in-Err.ensures for_memory)
 
 pub returns-then-not-has_room-clause-granted : goal.returns-then-not-has_room-clause-granted

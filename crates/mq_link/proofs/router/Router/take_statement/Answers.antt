@@ -3,12 +3,12 @@ use Rattle.mq_link.proofs.router.Router.take_statement.Goals as goal
 
 pub returns-clause-receipt : goal.returns-clause-receipt
 returns-clause-receipt g c =
-    let applied = c.apply_older-verdict.ensures in
+    let applied = c.apply_allowed-verdict.ensures in
     let counted = c.count_verdict.ensures in
     let kept = applied.kept in
     let groups = applied.outcome.groups_are in
     let verdict = applied.outcome.verdict_is in
-    let tallied : c.received.result ≡ taken (verdict_of c.apply_older-verdict.result ∷ []) =
+    let tallied : c.received.result ≡ taken (verdict_of c.apply_allowed-verdict.result ∷ []) =
     c.received.ensures ∙ (λ i. Taken ((c.add.ensures.applied ∙ zero-add _) i) ((c.add.ensures.ignored ∙ zero-add _) i) ((c.add.ensures.refused ∙ zero-add _) i))
     in
     record {
@@ -24,7 +24,7 @@ returns-clause-receipt g c =
 
 pub returns-clause-spent : goal.returns-clause-spent
 returns-clause-spent g c = subst (Spends _ _ c.args.self.now.spent)
-    (sym (ap (λ (r : RouterValue). r.spent) c.count_verdict.ensures)) c.apply_older-verdict.ensures.spent
+    (sym (ap (λ (r : RouterValue). r.spent) c.count_verdict.ensures)) c.apply_allowed-verdict.ensures.spent
 
 pub returns-clause-moved : goal.returns-clause-moved
-returns-clause-moved g c = rw c.count_verdict.ensures c.apply_older-verdict.ensures.moved
+returns-clause-moved g c = rw c.count_verdict.ensures c.apply_allowed-verdict.ensures.moved
