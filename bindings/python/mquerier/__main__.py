@@ -20,7 +20,7 @@ def arguments(words: Optional[List[str]]) -> argparse.Namespace:
     commands = parser.add_subparsers(dest="command", required=True)
     text = "prints an object of JSON for each finding, and a summary; the status is 3 if a finding is certain, 4 if a check judged nothing, 1 if a capture has a fault"
     of_check = commands.add_parser("check", help=text, description=text)
-    of_check.add_argument("files", nargs="+", metavar="FILE", help="a classic capture")
+    of_check.add_argument("files", nargs="+", metavar="FILE", help="a capture")
     whose = of_check.add_mutually_exclusive_group(required=True)
     whose.add_argument("--querier", metavar="ADDR", help="the querier's address, which says the family")
     whose.add_argument("--auto", choices=("igmp", "mld"), help="the capture names the querier of this family")
@@ -30,9 +30,9 @@ def arguments(words: Optional[List[str]]) -> argparse.Namespace:
     of_check.add_argument("--began", action="store_true", help="the capture begins before the querier")
     of_check.add_argument("--strict", action="store_true", help="only one reading of the standards is accepted")
     of_check.add_argument("--possible", action="store_true", help="also what another reading or a state from before may explain")
-    of_check.add_argument("--interface", metavar="WHICH", help="converts the packets of this interface first")
-    of_check.add_argument("--vlan", type=int, metavar="ID", help="converts the packets of this network first")
-    of_check.add_argument("--once", action="store_true", help="converts first, and leaves out packets that come again")
+    of_check.add_argument("--interface", metavar="WHICH", help="only packets of this interface")
+    of_check.add_argument("--vlan", type=int, metavar="ID", help="only packets of this network")
+    of_check.add_argument("--once", action="store_true", help="leaves out packets that come again")
     for name in VARIABLES:
         of_check.add_argument(f"--{name.replace('_', '-')}", type=int, metavar="N", help="as of a link (default: the standards')")
     of_check.add_argument("--source-specific", action="store_true", default=None, help="the range for it is kept")

@@ -65,7 +65,10 @@ WORDS = {
 
 def words_of(said: str) -> str:
     """Returns the words for a fault on standard error, as `record 46: the file ends within a packet`."""
-    first, second = [*said.splitlines(), "", ""][:2]
+    lines = said.splitlines()
+    # A capture that is converted while it is checked has a second fault, which is the reason for the first.
+    last = max((at for at, line in enumerate(lines) if line.startswith("mquerier: ")), default=0)
+    first, second = [*lines[last:], "", ""][:2]
     match = LINE.fullmatch(first)
     if match is None:
         return said.strip()

@@ -387,7 +387,7 @@ def test_fault_names_another_kind_of_file():
     with open(f"{TOP}/samples/igmp.pcapng", "rb") as file:
         pcapng = file.read()
     unknown = "it is no classic capture file"
-    for call in (mquerier.show, lambda it: mquerier.replay(it, "10.0.0.9"), lambda it: mquerier.check(it, "10.0.0.9")):
+    for call in (mquerier.show, lambda it: mquerier.replay(it, "10.0.0.9")):
         assert fault_of(call, pcapng) == f"{unknown}: the file is pcapng, which convert() reads"
         path = f"{TOP}/samples/igmp.pcapng"
         assert fault_of(call, path) == f"{path}: {unknown}: the file is pcapng, which convert() reads"

@@ -4,8 +4,9 @@ ghost use Rattle.std.specs.Prelude.{IfSome};
 ghost use Rattle.mq_command.specs.Requests.{IsCheckOf};
 
 use crate::arguments::{Argument, FILE, Form, JSON, Kind};
+use crate::convert::interface_in;
 use crate::replay::{SPAN, VARIABLES, settings_in};
-use crate::{Request, protocol_in};
+use crate::{Packets, Request, protocol_in};
 use clap::ArgMatches;
 
 /// The flags of a check.
@@ -43,6 +44,11 @@ pub(crate) fn request_in<'a>(words: &ArgMatches<'a>) -> Option<Request<'a>>
             json: words.get_flag("json"),
         },
         until: words.get_one::<u64>("until"),
+        packets: Packets {
+            interface: interface_in(words),
+            vlan: words.get_one::<u64>("vlan"),
+            once: words.get_flag("once"),
+        },
         file: words.get_str("FILE"),
     })
 }
@@ -58,6 +64,9 @@ const ARGUMENTS: &[Argument] = &[
     ("FAMILY", Kind::Family, "The querier's protocol"),
     FILE,
     ("querier", Kind::NeededText("ADDR|auto"), QUERIER_HELP),
+    ("interface", Kind::Text("WHICH"), INTERFACE_HELP),
+    ("vlan", Kind::Long("ID"), VLAN_HELP),
+    ("once", Kind::Flag, ONCE_HELP),
     ("within", Kind::Number("MS"), WITHIN_HELP),
     ("began", Kind::Flag, BEGAN_HELP),
     ("possible", Kind::Flag, POSSIBLE_HELP),
@@ -95,6 +104,17 @@ The address of the querier; for mld a link-local one, in fe80::/10. auto takes
 it and the variables that aren't given from the capture. Of standard input the
 first 64 MiB are kept for that";
 
+const INTERFACE_HELP: &str = "\
+Check only the packets of this interface, by its number or its name, as
+convert --help explains them [default: all]";
+
+const VLAN_HELP: &str =
+    "Check only packets whose outermost tag names this network, 0 to 4095 [default: all]";
+
+const ONCE_HELP: &str = "\
+Leave out packets that come again, as convert does, and take all interfaces
+and tags for one network";
+
 const WITHIN_HELP: &str = "How many milliseconds earlier or later a query may be [default: 100]";
 
 const BEGAN_HELP: &str =
@@ -123,7 +143,7 @@ Examples:
           checked general 1 specific 2: 3 findings
           packets 9 messages 9 malformed 0 cut 0 unread 0; groups held before 0 are unknown
           querier 10.0.0.1 from 0
-  mquerier convert --once any.pcap | mquerier check igmp --querier 10.0.0.1
+  mquerier check igmp --querier 10.0.0.1 --once any.pcap
       checks a capture that has packets twice, as tcpdump -i any and mirror ports make them
 
 A querier with this address and these variables starts with the first packet and hears all other messages. A
@@ -182,7 +202,7 @@ with a second line that names the option:
   6 --own or --querier has to be an address of a router: for igmp not 0.0.0.0 and below 224.0.0.0, for mld in fe80::/10
 
 A fault of the capture is a line on standard error, \"mquerier: capture fault K\", for K of 5 to 7 with
-\"at record N\". The next line has its words below. A third names pcapng, gzip and zstd. The findings before it
+\"at record N\". The next line has its words below. A third names gzip and zstd. The findings before it
 are printed, without totals. The status is 1:
   1 a read of the capture failed
   2 it is no classic capture file; mquerier convert makes one of a pcapng file
@@ -192,6 +212,10 @@ are printed, without totals. The status is 1:
   6 the file ends within a packet
   7 the packet has more than 262144 bytes
   8 the file has more than 4294967295 packets
+It converts a pcapng file, a file of another link type, and chosen packets while it reads them. A fault of
+these is one more line after capture fault 1, \"mquerier: conversion fault K at block N\", as convert --help
+has it. The line \"mquerier: more than one network at block N\" says that a message of the family is of another
+interface or VLAN than those before it.
 So it is with \"mquerier: gap before record N\": this packet, or the end, comes more than a day after the packet
 before it. And with \"mquerier: too many wait at record N\": more than 65536 queries wait for their partners.
 

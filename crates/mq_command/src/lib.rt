@@ -87,9 +87,22 @@ pub enum Request<'a> {
         flags: CheckFlags,
         /// The time until which the capture lasts at least, in milliseconds after the first packet, if given.
         until: Option<u64>,
+        /// The packets of the capture that are checked.
+        packets: Packets<'a>,
         /// The file that the capture is in.
         file: Option<&'a str>,
     },
+}
+
+/// The packets of a capture that are read. The rest is left out.
+#[derive(Clone, Copy)]
+pub struct Packets<'a> {
+    /// The interface of the packets. None stands for all interfaces.
+    pub interface: Option<Interface<'a>>,
+    /// The network that the outermost tag of each packet names, if given.
+    pub vlan: Option<u64>,
+    /// Leaves out a packet whose frame was already read, at nearly the same time.
+    pub once: bool,
 }
 
 impl<'a> Request<'a> {

@@ -1,11 +1,12 @@
 pub mod AnyOf
-pub mod Begun
+pub mod BlocksBegun
 mod Common
-pub mod Converted
+pub mod Conversions
 pub mod Filled
 pub mod Named
 pub mod NextBlocks
 pub mod Options
+pub mod PartsRead
 pub mod Passed
 pub mod Powers
 pub mod Printed
@@ -16,4 +17,5 @@ pub mod SoFar
 pub mod StoredDrops
 pub mod TagWalk
 pub mod Tallied
+pub mod TextsAhead
 pub mod WrittenEarly

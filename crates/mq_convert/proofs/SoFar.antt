@@ -7,7 +7,7 @@ use Rattle.mq_convert.proofs.Common.{PutsCapture, ReadsBlock, block_text, held_o
 use Rattle.mq_convert.proofs.Common.{written_of, Gone, gone_behind, going_out, HasSieved, SieveState, IsWhole, most_seen, seen_of}
 use Rattle.mq_convert.specs.declared.fault.ConvertFault.TheVariants as answer
 use Rattle.mq_convert.specs.declared.packet.Packet.{Packet}
-use Rattle.mq_convert.proofs.Begun.{begun_ends}
+use Rattle.mq_convert.proofs.BlocksBegun.{begun_ends}
 use Rattle.mq_convert.proofs.NextBlocks.{some_head}
 use Rattle.mq_convert.proofs.Sifted.{going_out-more}
 

@@ -1,3 +1,5 @@
+pub mod Ahead
+pub mod Begun
 pub mod Blocks
 pub mod Choices
 pub mod Contexts
@@ -15,4 +17,5 @@ pub mod Records
 pub mod Repeats
 pub mod Sieving
 pub mod Sizes
+pub mod Staging
 pub mod Tallies

@@ -1,6 +1,7 @@
 //! The choice of the packets that are written.
 
 ghost use Rattle.std.specs.Prelude.{◌≡◌, ◌≤◌, length};
+ghost use Rattle.mq_convert.specs.Ahead.{is_all};
 ghost use Rattle.mq_convert.specs.Choices as spec;
 ghost use Rattle.mq_convert.specs.Interfaces.{name_of as named};
 
@@ -62,6 +63,13 @@ fn is_asked_interface(asked: Option<Which>, number: u64, name: u128) -> bool
 }
 
 impl Choice {
+    /// Returns whether all packets are written.
+    pub fn is_all(self) -> bool
+        ensures { result ≡ is_all self }
+    {
+        self.interface.is_none() && self.vlan.is_none() && !self.once
+    }
+
     /// Returns whether a packet of this interface and with this outermost tag is to be written.
     #[inline(always)]
     pub(crate) fn takes(self, number: u64, name: u128, tag: Option<u64>) -> bool

@@ -62,6 +62,20 @@ pub enum ConvertFault {
     },
 }
 
+/// A reason why a `Converted` fails.
+#[derive(Clone, Copy, Debug, PartialEq, Eq, Error)]
+pub enum ConvertedFault {
+    /// A fault with which the conversion ends too.
+    #[error("{0}")]
+    Convert(ConvertFault),
+    /// A message of another network than the messages before it.
+    #[error("block {number}: the message is of another network than those before it")]
+    Network {
+        /// The block's number.
+        number: u64,
+    },
+}
+
 impl From<LineFault> for ConvertFault {
     ghost from_gives = { λ _ it. it ≡ Write };
 

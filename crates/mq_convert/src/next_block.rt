@@ -15,7 +15,7 @@ use mq_count::Watched;
 use std::io::Read;
 
 /// The first block number that no capture may have.
-const ENDLESS: u64 = 4_294_967_296;
+pub(crate) const ENDLESS: u64 = 4_294_967_296;
 
 /// Reads the next block, which has this number. Returns its size, or None at the end of the file. The seen part of the
 /// block is then the front of `buffer`.
@@ -53,7 +53,8 @@ pub(crate) fn next_block<R: Read>(
     Ok(Some(size))
 }
 
-fn is_start(kind: Kind) -> bool
+/// Returns whether the first block of a file comes next.
+pub(crate) fn is_start(kind: Kind) -> bool
     ensures { result ≡ spec.is_start kind }
 {
     matches!(kind, Kind::Start)

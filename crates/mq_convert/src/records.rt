@@ -21,10 +21,10 @@ use mq_text::{LineFault, Text, make_room, put};
 use std::io::Write;
 
 /// The most bytes that a frame carries in a record.
-const GREATEST_PAYLOAD: usize = 262_130;
+pub(crate) const GREATEST_PAYLOAD: usize = 262_130;
 
 /// The most bytes that are written of a frame that ends before its type is known.
-const BEFORE_TYPE: usize = 13;
+pub(crate) const BEFORE_TYPE: usize = 13;
 
 /// The link type of Linux cooked captures of version 2.
 const COOKED_2: u16 = 276;
@@ -112,7 +112,7 @@ fn put_frame<W: Write>(
 }
 
 /// Returns the original length of a frame that was built from a packet.
-fn original_of(original: u32, captured: usize, size: usize) -> u32
+pub(crate) fn original_of(original: u32, captured: usize, size: usize) -> u32
     ensures { result ≡ spec.original_of original captured size }
 {
     let whole = (u128::from(original) + size as u128).saturating_sub(captured as u128);
@@ -120,7 +120,7 @@ fn original_of(original: u32, captured: usize, size: usize) -> u32
 }
 
 /// Puts the header of a record.
-fn put_header(moment: u64, captured: usize, original: u32, buffer: &mut Text)
+pub(crate) fn put_header(moment: u64, captured: usize, original: u32, buffer: &mut Text)
     requires room { array_vec_len buffer.old + 16 ≤ 4096 }
     requires moment { moment < 2 ^ 32 * 1000000000 }
     requires few { captured < 2 ^ 32 }

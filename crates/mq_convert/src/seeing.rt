@@ -25,7 +25,7 @@ pub(crate) fn fill_seen<R: Read>(
     size: usize,
 ) -> Result<usize, ConvertFault>
     requires order { from ≤ size }
-    requires head { from ≤ 16 }
+    requires head { from ≤ 24 }
     requires room { most_seen ≤ length buffer.old }
     ensures fills { FillsSeen
         (input_of R.remaining reader.old) (input_of R.remaining reader.new)
@@ -45,7 +45,7 @@ fn fill_long<R: Read>(
     from: usize,
     size: usize,
 ) -> Result<usize, ConvertFault>
-    requires head { from ≤ 16 }
+    requires head { from ≤ 24 }
     requires long { most_seen < size }
     requires room { most_seen ≤ length buffer.old }
     ensures fills { FillsSeen

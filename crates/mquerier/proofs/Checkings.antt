@@ -8,6 +8,7 @@ use Rattle.mq_check.specs.declared.check_terms.CheckTerms.{CheckTerms}
 use Rattle.mq_check.specs.declared.totals.Totals.{Totals}
 use Rattle.mq_check.specs.Check.{check_of}
 use Rattle.mq_check.specs.CheckedCaptures.{Checks}
+use Rattle.mq_command.specs.declared.Packets.{Packets}
 use Rattle.mq_command.specs.declared.Protocol.{Protocol}
 use Rattle.mq_command.specs.declared.Request.{Request}
 use Rattle.mq_command.specs.declared.Request.TheVariants.{Message, Convert, Show, Replay, Check}
@@ -57,10 +58,10 @@ checked_for protocol querier address settings terms input output (Err failure) s
     (λ two. refused_for protocol querier address settings terms.until failure spelled (works.0 two), λ one. (address, spelled, works.1 one))
 
 pub check_performed : (protocol : Protocol) (querier : Bor (List ℕ)) (settings : Settings) (within : Option ℕ) (flags : CheckFlags)
-    (until : Option ℕ) (file : Option (Bor (List ℕ))) (in_words : Bool) (input : Input) (output errors : Output) (status : ℕ)
+    (until : Option ℕ) (packets : Packets) (file : Option (Bor (List ℕ))) (in_words : Bool) (input : Input) (output errors : Output) (status : ℕ)
     → PerformsCheck (asked_options protocol settings within until flags false) querier.now input output errors status →
-    Performs (Check protocol querier settings within flags until file) in_words input output errors status
-check_performed protocol querier settings within flags until file in_words input output errors status performs =
+    Performs (Check protocol querier settings within flags until packets file) in_words input output errors status
+check_performed protocol querier settings within flags until packets file in_words input output errors status performs =
     record {
       at_most_four = performs.at_most_four;
       done = performs.done;
@@ -161,7 +162,7 @@ plain_line in_words (Message protocol hex from to json) failure converts checks 
 plain_line in_words (Convert interface vlan once json file) failure converts checks = absurd (converts tt)
 plain_line in_words (Show json file) failure converts checks = refl
 plain_line in_words (Replay protocol own settings until changes json file) failure converts checks = refl
-plain_line in_words (Check protocol querier settings within flags until file) failure converts checks = absurd (checks tt)
+plain_line in_words (Check protocol querier settings within flags until packets file) failure converts checks = absurd (checks tt)
 
 -- work that fails, and is reported
 pub work_failed : (request : Request) (in_words : Bool) (input : Input) (output errors : Output) (failure : Failure) (status : ℕ)

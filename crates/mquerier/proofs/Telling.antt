@@ -46,7 +46,7 @@ request_told in_words (Message protocol hex from to json) errors failure told = 
 request_told in_words (Convert interface vlan once json file) errors failure told = failure_told true errors failure told
 request_told in_words (Show json file) errors failure told = failure_told in_words errors failure told
 request_told in_words (Replay protocol own settings until changes json file) errors failure told = failure_told in_words errors failure told
-request_told in_words (Check protocol querier settings within flags until file) errors failure told = check_told querier.now errors failure told
+request_told in_words (Check protocol querier settings within flags until packets file) errors failure told = check_told querier.now errors failure told
 
 -- the version's line was printed in part or not passed on, and this was reported
 pub version_failed : (version : List ℕ) (in_words : Bool) (output errors : Output) (text : List ℕ) (failure : Failure) (status : ℕ)

@@ -184,6 +184,12 @@ capture_words (fault.CutData number) = codes "\n  the file ends within a packet"
 capture_words (fault.TooLong number) = codes "\n  the packet has more than 262144 bytes"
 capture_words fault.Endless = codes "\n  the file has more than 4294967295 packets"
 
+-- the line for a message of another network in a check, in the block of this number
+abbrev pub network_line : (number : ℕ) → List ℕ
+network_line number =
+    codes "mquerier: more than one network at block " ++ decimal number
+    ++ codes "\n  its message is of another interface or VLAN than those before it: choose one by --interface or --vlan, or take them for one by --once\n"
+
 -- the explanation of a conversion fault's number
 abbrev pub conversion_words : BlockFault → List ℕ
 conversion_words block.NoCapture = codes "\n  the file is no capture"

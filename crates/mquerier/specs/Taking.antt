@@ -33,7 +33,7 @@ taking_in (Message protocol hex from to json) = None
 taking_in (Convert interface vlan once json file) = None
 taking_in (Show json file) = None
 taking_in (Replay protocol own settings until changes json file) = None
-taking_in (Check protocol querier settings within flags until file) =
+taking_in (Check protocol querier settings within flags until packets file) =
     if bytes_eq querier.now (codes "auto")
     then Some (asked_options protocol settings within until flags true)
     else None

@@ -12,12 +12,12 @@ const GZIP: &str = "  the file is compressed by gzip: gunzip -c FILE | mquerier 
 const ZSTD: &str = "  the file is compressed by zstd: zstd -dc FILE | mquerier ..\n";
 
 /// Prints on standard error how to read a file with these first bytes, if it is no capture for the command. `converts`
-/// is set for a conversion, which reads pcapng.
+/// is set for a conversion or a check, which read pcapng.
 pub(crate) fn tell_kind<E: Write>(first: [u8; FIRST], converts: bool, errors: &mut Watched<E>) {
-    let line = match first {
-        [0x0a, 0x0d, 0x0d, 0x0a] if !converts => PCAPNG,
-        [0x1f, 0x8b, _, _] => GZIP,
-        [0x28, 0xb5, 0x2f, 0xfd] => ZSTD,
+    let line = match first[..] {
+        [0x0a, 0x0d, 0x0d, 0x0a, ..] if !converts => PCAPNG,
+        [0x1f, 0x8b, ..] => GZIP,
+        [0x28, 0xb5, 0x2f, 0xfd, ..] => ZSTD,
         _ => return,
     };
     let _ = print(line.as_bytes(), errors);

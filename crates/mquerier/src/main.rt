@@ -11,6 +11,7 @@
 
 mod breaking;
 mod checking;
+mod chosen;
 mod console;
 mod converting;
 mod counts;
@@ -27,21 +28,23 @@ mod unread;
 mod work;
 
 pub use checking::CheckOptions;
+pub use chosen::{CheckedPackets, packets_of, tell_end};
 use clap::Error;
 pub use console::Console;
 use failure::FAULTY;
 use foreign::tell_kind;
 use mq_command::{Request, request_of};
+use mq_convert::{Converted, ConvertedFault};
 use mq_count::Watched;
 pub use program::{perform, run};
-pub use source::{Beginning, Source};
+pub use source::{Beginning, CaptureSupply, Source};
 use std::alloc::Global;
 use std::fs::File;
 use std::io::{BufReader, ErrorKind, IsTerminal, Read, Write};
 use std::process::ExitCode;
 use std::{env, io};
 pub use taking::{names_querier, perform_taking, taking_of};
-pub use unopened::{refuse_file, tell_failed_read, tell_late_querier};
+pub use unopened::{refuse_file, tell_failed_read, tell_late_querier, tell_memory};
 
 /// The number of bytes that are read at once.
 const INPUT: usize = 65_536;
@@ -78,7 +81,7 @@ fn run_on_host(rt: &HostRuntime) -> io::Result<u8> {
     let taking = taking_of(&asked);
     let Some(name) = named_file(&asked) else {
         if let Some(options) = taking {
-            return run_on_stream(rt, &options, &mut console);
+            return run_on_stream(rt, &options, packets_in(&asked), &mut console);
         }
         let reader = BufReader::with_capacity(alloc, INPUT, Beginning::new(rt.stdin()))?;
         return Ok(run_on(alloc, asked, reader, &mut console));
@@ -90,8 +93,9 @@ fn run_on_host(rt: &HostRuntime) -> io::Result<u8> {
     let Some(options) = taking else {
         return Ok(run_on(alloc, asked, reader, &mut console));
     };
+    let packets = packets_in(&asked);
     match opened(rt, name, &mut console.errors)? {
-        Ok(again) => Ok(run_twice(alloc, &options, reader, again, &mut console)),
+        Ok(again) => Ok(run_twice(alloc, &options, packets, reader, again, &mut console)),
         Err(status) => Ok(status),
     }
 }
@@ -120,6 +124,7 @@ fn opened<E: Write>(
 fn run_on_stream<W: Write, E: Write>(
     rt: &HostRuntime,
     options: &CheckOptions,
+    packets: CheckedPackets,
     console: &mut Console<W, E>,
 ) -> io::Result<u8> {
     let alloc = rt.alloc();
@@ -130,13 +135,13 @@ fn run_on_stream<W: Write, E: Write>(
         Err(_) => return Ok(tell_failed_read(&mut console.errors)),
     }
     let bytes = kept.as_slice();
-    if bytes.len() == KEPT && !names_querier(alloc, options.protocol, bytes) {
+    if bytes.len() == KEPT && !names_querier(alloc, options.protocol, packets, bytes) {
         return Ok(tell_late_querier(&mut console.errors));
     }
     let reader = BufReader::with_capacity(alloc, INPUT, Beginning::new(bytes))?;
     let again = Beginning::new(bytes.chain(rt.stdin()));
     let again = BufReader::with_capacity(alloc, INPUT, again)?;
-    Ok(run_twice(alloc, options, reader, again, console))
+    Ok(run_twice(alloc, options, packets, reader, again, console))
 }
 
 /// Runs a check of the querier that the capture names. `reader` and `again` read the same capture, `reader` perhaps only
@@ -144,30 +149,49 @@ fn run_on_stream<W: Write, E: Write>(
 fn run_twice<Q: Read + Drop, R: Read + Drop, W: Write, E: Write>(
     alloc: Global,
     options: &CheckOptions,
+    packets: CheckedPackets,
     reader: BufReader<Beginning<Q>>,
     again: BufReader<Beginning<R>>,
     console: &mut Console<W, E>,
 ) -> u8 {
     let source = Source::new(reader);
-    let mut first = Watched::new(&source);
-    let status = run_again(alloc, options, &mut first, again, console);
+    let Ok(first) = Converted::new(alloc, packets.choice, packets.messages, &source) else {
+        return tell_memory(&mut console.errors);
+    };
+    let mut first = Watched::new(first);
+    let (status, later) = run_again(alloc, options, packets, &mut first, again, console);
     if status == FAULTY {
-        tell_kind(source.first(), false, &mut console.errors);
+        if let Some(fault) = later.unwrap_or(first.into_inner().fault()) {
+            tell_end(fault, &mut console.errors);
+        }
+        tell_kind(source.first(), true, &mut console.errors);
     }
     status
 }
 
-/// Runs the check after the first reader of the file.
+/// Runs the check after the first reader of the file. Returns its status, and the fault of the second reading, if there
+/// was one.
 fn run_again<Q: Read, R: Read + Drop, W: Write, E: Write>(
     alloc: Global,
     options: &CheckOptions,
+    packets: CheckedPackets,
     first: &mut Watched<Q>,
     again: BufReader<Beginning<R>>,
     console: &mut Console<W, E>,
-) -> u8 {
+) -> (u8, Option<Option<ConvertedFault>>) {
     let source = Source::new(again);
-    let mut input = Watched::new(&source);
-    perform_taking(alloc, options, first, &source, &mut input, console)
+    let supply = CaptureSupply {
+        source: &source,
+        chosen: !packets.choice.is_all(),
+    };
+    let Ok(input) = Converted::new(alloc, packets.choice, packets.messages, &source) else {
+        return (tell_memory(&mut console.errors), Some(None));
+    };
+    let mut input = Watched::new(input);
+    let status = perform_taking(alloc, options, first, &supply, &mut input, console);
+    let was_read = input.failed() || input.taken() > 0;
+    let fault = input.into_inner().fault();
+    (status, was_read.then_some(fault))
 }
 
 /// Runs on this input. If a file is of another kind, it also says how to read it: to a person, or for a conversion or a
@@ -178,15 +202,56 @@ fn run_on<R: Read + Drop, W: Write, E: Write>(
     reader: BufReader<Beginning<R>>,
     console: &mut Console<W, E>,
 ) -> u8 {
-    let converts = matches!(&asked, Ok(Request::Convert { .. }));
-    let explains = converts || matches!(&asked, Ok(Request::Check { .. }));
+    let reads_all = matches!(
+        &asked,
+        Ok(Request::Convert { .. } | Request::Check { .. })
+    );
+    let checks = matches!(&asked, Ok(Request::Check { .. }));
     let source = Source::new(reader);
-    let mut input = Watched::new(&source);
-    let status = run(alloc, asked, &source, &mut input, console);
-    if (explains || console.in_words) && status == FAULTY {
-        tell_kind(source.first(), converts, &mut console.errors);
+    let status = if checks {
+        check_on(alloc, asked, &source, console)
+    } else {
+        let mut input = Watched::new(&source);
+        run(alloc, asked, &source, &mut input, console)
+    };
+    if (reads_all || console.in_words) && status == FAULTY {
+        tell_kind(source.first(), reads_all, &mut console.errors);
     }
     status
+}
+
+/// Runs a check on this input, which is converted while it is read if it has to be.
+fn check_on<R: Read + Drop, W: Write, E: Write>(
+    alloc: Global,
+    asked: Result<Request<'_>, Error>,
+    source: &Source<Beginning<R>>,
+    console: &mut Console<W, E>,
+) -> u8 {
+    let packets = packets_in(&asked);
+    let supply = CaptureSupply {
+        source,
+        chosen: !packets.choice.is_all(),
+    };
+    let Ok(input) = Converted::new(alloc, packets.choice, packets.messages, source) else {
+        return tell_memory(&mut console.errors);
+    };
+    let mut input = Watched::new(input);
+    let status = run(alloc, asked, &supply, &mut input, console);
+    if status == FAULTY {
+        if let Some(fault) = input.into_inner().fault() {
+            tell_end(fault, &mut console.errors);
+        }
+    }
+    status
+}
+
+/// Returns the packets of a check. For other requests these are all.
+fn packets_in(asked: &Result<Request<'_>, Error>) -> CheckedPackets {
+    let packets = match asked {
+        Ok(request) => packets_of(request),
+        Err(_) => None,
+    };
+    packets.unwrap_or(CheckedPackets::ALL)
 }
 
 /// Returns the file that the request names in place of standard input.

@@ -207,7 +207,7 @@ fn perform_work<S: Supply, R: Read, W: Write, E: Write>(
 }
 
 /// Returns the packets that a conversion selects.
-fn choice_of(interface: Option<Interface<'_>>, vlan: Option<u64>, once: bool) -> Choice
+pub(crate) fn choice_of(interface: Option<Interface<'_>>, vlan: Option<u64>, once: bool) -> Choice
     ensures { result ≡ asked_choice interface.entry vlan once }
 {
     let interface = match interface {

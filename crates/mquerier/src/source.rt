@@ -1,12 +1,13 @@
 //! The input of the program, read in large pieces.
 
+use mq_convert::is_converted;
 use mq_pcap::Supply;
 use std::cell::RefCell;
 use std::io;
 use std::io::{BufReader, ErrorKind, Read};
 
-/// The number of first bytes that are kept.
-pub const FIRST: usize = 4;
+/// The number of first bytes that are kept: those that decide whether a file is converted.
+pub const FIRST: usize = 24;
 
 /// A stream that is read in large pieces. One reference reads it. Another returns the bytes at hand, and the first
 /// bytes.
@@ -21,7 +22,7 @@ impl<R: Read> Source<R> {
 }
 
 impl<R: Read> Source<Beginning<R>> {
-    /// Returns the first four bytes of the stream. Bytes that were not read are 0.
+    /// Returns the first bytes of the stream. Bytes that were not read are 0.
     pub fn first(&self) -> [u8; FIRST] {
         match self.0.try_borrow() {
             Ok(reader) => reader.get_ref().first,
@@ -87,5 +88,23 @@ impl<R: Read> Read for Beginning<R> {
             self.known += 1;
         }
         Ok(count)
+    }
+}
+
+/// The supply of a capture that may be converted while it is read. It doesn't know how many bytes of a converted capture
+/// are at hand, so none are.
+pub struct CaptureSupply<'a, R> {
+    /// The file.
+    pub source: &'a Source<Beginning<R>>,
+    /// Set if packets of the file are chosen.
+    pub chosen: bool,
+}
+
+impl<R: Read> Supply for CaptureSupply<'_, R> {
+    fn at_hand(&self, front: &mut [u8; 16]) -> usize {
+        if self.chosen || is_converted(&self.source.first()) {
+            return 0;
+        }
+        self.source.at_hand(front)
     }
 }

@@ -7,6 +7,7 @@ ghost use Rattle.mquerier.specs.Replays.{family_of};
 ghost use Rattle.mquerier.specs.Taking as spec;
 
 use crate::checking::{CheckOptions, check_at, checked_settings};
+use crate::chosen::CheckedPackets;
 use crate::console::Console;
 use crate::failure::{Failure, UNJUDGED};
 use crate::program::{print_whole, status_of_totals, terms_of, told};
@@ -15,6 +16,7 @@ use crate::unopened::tell_no_querier;
 use clap::Error;
 use mq_check::{Announced, CheckedFamily, Totals, announced_variables};
 use mq_command::{Protocol, Request, Settings};
+use mq_convert::Converted;
 use mq_count::Watched;
 use mq_lines::LineKey;
 use mq_link::{Igmp, Mld};
@@ -49,11 +51,19 @@ pub fn taking_of(asked: &Result<Request<'_>, Error>) -> Option<CheckOptions>
 }
 
 /// Returns whether these first bytes of a capture name a querier, or memory to look for it ran out.
-pub fn names_querier(alloc: Global, protocol: Protocol, bytes: &[u8]) -> bool {
-    let mut first = Watched::new(bytes);
+pub fn names_querier(
+    alloc: Global,
+    protocol: Protocol,
+    packets: CheckedPackets,
+    bytes: &[u8],
+) -> bool {
+    let Ok(first) = Converted::new(alloc, packets.choice, packets.messages, bytes) else {
+        return true;
+    };
+    let mut first = Watched::new(first);
     match protocol {
-        Protocol::Igmp => is_named(announced_variables::<Igmp, Global, &[u8]>(alloc, &mut first)),
-        Protocol::Mld => is_named(announced_variables::<Mld, Global, &[u8]>(alloc, &mut first)),
+        Protocol::Igmp => is_named(announced_variables::<Igmp, Global, _>(alloc, &mut first)),
+        Protocol::Mld => is_named(announced_variables::<Mld, Global, _>(alloc, &mut first)),
     }
 }
 

@@ -1,7 +1,7 @@
 //! Files that can't be opened, checks that can't name their querier, and failures of checks.
 
 ghost use Rattle.std.specs.Prelude.{◌≡◌, ◌≤◌, length, take, true};
-ghost use Rattle.mquerier.specs.declared.failure.Failure.TheVariants.{Capture};
+ghost use Rattle.mquerier.specs.declared.failure.Failure.TheVariants.{Capture, Memory};
 ghost use Rattle.mquerier.specs.Changes.{output_by};
 ghost use Rattle.mquerier.specs.Failures.{check_line, failure_line, late_line, no_address_line, no_querier_line, status_of, unopened_line};
 ghost use Rattle.mquerier.specs.Status.{IsTold};
@@ -45,6 +45,14 @@ pub fn tell_failed_read<E: Write>(errors: &mut Watched<E>) -> u8
     ensures line { IsTold (output_by E.contents errors.old errors.new) (failure_line true (Capture PcapFault.Read)) }
 {
     told(Failure::Capture(PcapFault::Read), true, errors)
+}
+
+/// Reports on standard error that memory ran out, and returns the status.
+pub fn tell_memory<E: Write>(errors: &mut Watched<E>) -> u8
+    ensures status { result ≡ 1 }
+    ensures line { IsTold (output_by E.contents errors.old errors.new) (failure_line true Memory) }
+{
+    told(Failure::Memory, true, errors)
 }
 
 /// Reports on standard error that a check found no querier in the capture.

@@ -1,5 +1,5 @@
 use Rattle.mq_convert.proofs.Common.{sym, ◌∙◌, err_from_is_err_and}
-use Rattle.mq_convert.proofs.Converted.{flushed, not_flushed}
+use Rattle.mq_convert.proofs.Conversions.{flushed, not_flushed}
 use Rattle.mq_convert.proofs.converting.convert_by.Goals as goal
 
 pub returns-in_err-flush-clause-converts : goal.returns-in_err-flush-clause-converts

@@ -1,5 +1,5 @@
 use Rattle.mq_convert.proofs.Common.{sym, or-false}
-use Rattle.mq_convert.proofs.Converted.{nothing_converted}
+use Rattle.mq_convert.proofs.Conversions.{nothing_converted}
 use Rattle.mq_convert.proofs.converting.convert_in.Goals as goal
 
 pub returns-in_default-clause-converts : goal.returns-in_default-clause-converts

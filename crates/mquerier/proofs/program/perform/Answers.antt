@@ -29,4 +29,4 @@ returns-in-Check-clause-performs g c =
     let performs = subst
     (λ (terms : CheckTerms). PerformsCheck (record { protocol = c.in-Check.protocol; settings = checked_settings c.in-Check.settings; terms = terms })
     c.in-Check.querier.now input output errors c.perform_check.result) c.terms_of.ensures limited in
-    rw c.in-Check.is (check_performed _ _ _ _ _ _ _ _ input output errors c.perform_check.result performs)
+    rw c.in-Check.is (check_performed _ _ _ _ _ _ _ _ _ input output errors c.perform_check.result performs)

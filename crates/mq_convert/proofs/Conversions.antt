@@ -5,7 +5,7 @@ use Rattle.mq_convert.proofs.Common.{IsWritten, is_failed_write, IsPut, PutsCapt
 use Rattle.std.specs.Io.KnownBytes.{Appends}
 use Rattle.std.proofs.KnownBytes.{Appends-nil}
 use Rattle.mq_convert.specs.declared.fault.ConvertFault.TheVariants as answer
-use Rattle.mq_convert.proofs.Begun.{begun_ends}
+use Rattle.mq_convert.proofs.BlocksBegun.{begun_ends}
 use Rattle.mq_convert.proofs.NextBlocks.{some_head}
 
 put_passed : (before after : Option (List ℕ)) (held left text : List ℕ) (r : Result ConvertCounts ConvertFault) → is_failed_write r ≡ false →
