@@ -13,7 +13,8 @@
 //! - The times of general queries: `general_queries_are_on_time_at_these_intervals`.
 //! - The existence of such checks: `a_check_of_two_queries`.
 //! - The findings that are left out if a changed variable is reported once: `only_repeated_differences_are_left_out`.
-ghost use Rattle.std.specs.Prelude.{◌≡◌, ◌↔◌, ℕ, Bool, ◌+◌, ◌-◌, ◌≤◌, List, [], ◌∷◌, ◌++◌, None, false, true};
+//! - Certain and possible findings: `possible_findings_stand_apart`.
+ghost use Rattle.std.specs.Prelude.{◌≡◌, ◌↔◌, ℕ, Bool, ◌+◌, ◌-◌, ◌≤◌, List, [], ◌∷◌, ◌++◌, None, false, length, true};
 ghost use Rattle.mq_table.specs.declared.timing.Timing.{Timing};
 ghost use Rattle.mq_table.specs.Timing.{query_interval};
 ghost use Rattle.mq_check.specs.declared.phase.Phase.TheVariants.{Starting, Heard, Returned};
@@ -24,9 +25,11 @@ ghost use Rattle.mq_check.specs.declared.finding.Difference.{Difference};
 ghost use Rattle.mq_check.specs.declared.finding.Finding.{Finding};
 ghost use Rattle.mq_check.specs.declared.finding.Finding.TheVariants.{Differs};
 ghost use Rattle.mq_check.specs.declared.repeated.LastDifferences.{LastDifferences};
+ghost use Rattle.mq_check.specs.FindingLines.{certain_in, finding_lines, possible_in};
 ghost use Rattle.mq_check.specs.General.{silence_up_to, wrong_interval};
 ghost use Rattle.mq_check.specs.Repeated.{all_reported, repeats, reported, with_finding};
 ghost use Rattle.mq_link.specs.Configuration.{IsFaultless};
+ghost use Rattle.mq_wire.specs.Family.{Family};
 ghost use Rattle.mq_laws.specs.OnTime.{AreAhead, AreInOrder, IsOnTime, IsWantedInterval};
 ghost use Rattle.mq_laws.specs.AsWanted.{AreSeen, AreSeenWithin, IsAsWanted, TakesOut, all_missing};
 ghost use Rattle.mq_laws.specs.Events.{CheckEvent, HasRoom, found_by};
@@ -132,6 +135,14 @@ pub fn only_repeated_differences_are_left_out()
     ensures repeated { (moment packet moment' packet' : ℕ) (asked : Asked ℕ) (difference : Difference ℕ) (last : LastDifferences)
         → is_of_variable difference ≡ true
         → repeats (Differs moment' packet' asked difference) (with_finding (Differs moment packet asked difference) last) ≡ true }
+{}
+
+/// A lemma: each finding is either certain or possible. Without `possible`, the text has the lines of the certain ones
+/// alone, whatever is possible.
+pub fn possible_findings_stand_apart()
+    ensures parted { (found : List (Finding ℕ)) → length found ≡ length (certain_in found) + length (possible_in found) }
+    ensures unasked { (family : Family) (additions : Additions) (found : List (Finding ℕ))
+        → additions.possible ≡ false → finding_lines family additions found ≡ finding_lines family additions (certain_in found) }
 {}
 
 /// A lemma: the times of general queries, each within the tolerance. The first comes at most a query interval after the
