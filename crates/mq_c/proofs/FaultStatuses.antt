@@ -1,10 +1,8 @@
 -- Statuses of configurations.
-use Rattle.std.proofs.Common.{◌≡◌, ℕ, ◌<◌, Err, lit<, arith}
-use Rattle.mq_link.specs.Configuration.{Configuration}
+use Rattle.mq_c.proofs.Common.{◌≡◌, ℕ, ◌<◌, Err, lit<, arith, Configuration, IsConfigOrStatus}
 use Rattle.mq_link.specs.declared.configuration.ConfigFault.{ConfigFault}
 use Rattle.mq_link.specs.declared.configuration.ConfigFault.TheVariants.{Robustness, QueryInterval, ResponseInterval, LastMember, Limit, OwnAddress}
 use Rattle.mq_link.specs.declared.configuration.LimitName.TheVariants.{Groups, GroupSources, Sources, Scheduled}
-use Rattle.mq_c.specs.Making.{IsConfigOrStatus}
 use Rattle.mq_c.specs.Statuses.{memory, status_of}
 
 below : (fault : ConfigFault) → status_of fault < 10

@@ -1,14 +1,11 @@
 -- Lines in provided memory.
-use Rattle.std.proofs.Common.{◌≡◌, ℕ, ◌-◌, ◌≤◌, IsTrue, Bool, true, false, is_ok, is_err, if◌then◌else◌, List, [], ◌++◌, length, take, drop, Some}
-use Rattle.std.proofs.Common.{Result, Ok, Err, refl, sym, ap, ◌∙◌, subst, arith, append-nil, ◌||◌}
-use Rattle.std.proofs.lemmas.List.{take-append-drop}
-use Rattle.std.proofs.lemmas.Grind.{common_steps}
-use Rattle.mq_wire.specs.Family.{Family}
+use Rattle.mq_c.proofs.Common.{◌≡◌, ℕ, ◌-◌, ◌≤◌, IsTrue, Bool, true, false, is_ok, is_err, if◌then◌else◌, List, [], ◌++◌, length, take, drop, Some, Result, Ok}
+use Rattle.mq_c.proofs.Common.{Err, refl, sym, ap, ◌∙◌, subst, arith, append-nil, ◌||◌, take-append-drop, common_steps, Family, in_front, written_to}
+use Rattle.mq_c.proofs.Common.{LineStands}
 use Rattle.mq_lines.specs.Line.{IsLineIn, PrintsLineIn}
 use Rattle.mq_lines.specs.Objects.{fault_object, message_object}
 use Rattle.mq_lines.specs.Text.{line_of, message_text, fault_text}
 use Rattle.mq_c.specs.declared.line_room.LineRoom.{LineRoom}
-use Rattle.mq_c.specs.LineRoom.{in_front, written_to, LineStands}
 
 -- a line with its end
 ended : (json : Bool) (family : Family) (pseudo bytes : List ℕ) (flag : Bool) (text : List ℕ) → IsLineIn json family pseudo bytes flag text →

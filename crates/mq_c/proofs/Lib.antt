@@ -1,3 +1,4 @@
+mod Common
 mod FaultStatuses
 mod HandedInto
 mod LentLines

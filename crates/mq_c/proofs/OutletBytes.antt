@@ -1,6 +1,5 @@
 -- The number of the answered bytes, which has 64 bits.
-use Rattle.std.proofs.Common.{ℕ, ◌+◌, ◌*◌, ◌/◌, ◌^◌, ◌<◌, ◌≤◌, arith}
-use Rattle.std.proofs.Math.Nat.{div-le_self, mul-le-mul}
+use Rattle.mq_c.proofs.Common.{ℕ, ◌+◌, ◌*◌, ◌/◌, ◌^◌, ◌<◌, ◌≤◌, arith, div-le_self, mul-le-mul}
 
 -- the bytes of queries and addresses
 two_products : (head queries width asked : ℕ) → head ≤ 2 ^ 10 → queries ≤ 2 ^ 40 → width ≤ 2 ^ 8 → asked ≤ 2 ^ 40 → head * queries + width * asked < 2 ^ 64

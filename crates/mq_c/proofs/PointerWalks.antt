@@ -1,6 +1,7 @@
 -- The two functions of a struct of one pointer that owns a value, for whatever family. One borrows the value behind the pointer, the
 -- other stores the pointer of a value. Each meets the clauses that follow from its work. Assumes `Logic`.
-use Rattle.std.proofs.Common.{◌≡◌, ℕ, List, [], ◌∷◌, refl, sym, ◌∙◌, MutBor}
+use Rattle.mq_c.proofs.Common.{◌≡◌, ℕ, List, [], ◌∷◌, refl, sym, ◌∙◌, MutBor, follows, Part, lends_Part, part_at, mem, cell_at, lone, RattleType, Ptr}
+use Rattle.mq_c.proofs.Common.{block_ptr, nothing, opens, Stays, stay_dropped, walk_of, ends_at, Goes-spent_ref, box_owns, no_freeing}
 use seplogic.Ra.Ura.{Ura}
 use base.Fraction.{full_share}
 use base.Logic.{SProp, ent, sep, id⊢, emp}
@@ -21,21 +22,14 @@ use types.Run.{stop, fld, load, of_opd, no_more, and_then, first, blocks, exec, 
 use types.ByLocal.{alloc_all, pass_all, free_all, look_at, get, through, sets, env, sets_last}
 use denote.Builtin.{One, RefMutOf}
 use denote.Exit.{no}
-use denote.Follow.{follows, Part, lends_Part}
-use denote.Memory.{part_at, mem, cell_at, part_of, lone}
-use denote.RattleType.{RattleType}
-use denote.RawPtr.{Ptr, block_ptr}
+use denote.Memory.{part_of}
 use denote.Ref.{MutRef, mut_vals, mut_Tells}
 use denote.Signature.{plain, mut_ref_to}
-use denote.Steps.{nothing, opens}
 use denote.Triple.Clauses.{Ended, Clauses, AtExit, closing, at_exit}
 use denote.Triple.Entry.{Args, Res}
 use denote.Triple.Spec.{Meets}
-use denote.Triple.Walked.{Stays, stay_dropped, walk_of, ends_at, Goes-spent_ref}
 use Rattle.std.proofs.raw_atomic.Walks.{proved}
 use Rattle.std_alloc.proofs.VecSteps.Shapes.{after}
-use Rattle.std_alloc.specs.Box.Ownership.{box_owns}
-use Rattle.mq_c.specs.Owning.{no_freeing}
 use Rattle.mq_c.proofs.Pointing.{Pointing, row_of, boxed, alone, pointer_in, pointer_out}
 
 abbrev pub ty_of : RattleType → Ty

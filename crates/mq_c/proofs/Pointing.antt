@@ -1,6 +1,7 @@
 -- A struct of one pointer that owns a value, for whatever family: its form in the machine, and how it is borrowed
 -- and given up. Assumes `Logic`.
-use Rattle.std.proofs.Common.{◌≡◌, ℕ, List, [], ◌∷◌, ◌++◌, refl, sym, subst}
+use Rattle.mq_c.proofs.Common.{◌≡◌, ℕ, List, [], ◌∷◌, ◌++◌, refl, sym, subst, RattleType, Valss, lone, Ptr, block_ptr, null_ptr, ptr_val, in_a_block, nothing}
+use Rattle.mq_c.proofs.Common.{box_owns, no_freeing}
 use seplogic.Ra.Ura.{Ura}
 use base.Stored.{Coded}
 use base.Logic.{never, fst∗}
@@ -10,18 +11,12 @@ use mir.Syntax.{Sym}
 use mir.Val.{Val, vptr, vstruct, vcons, vnil, of_list}
 use types.Logic.{Logic, sem}
 use types.Kit.{Item, Goal, Seq, Step, step, ‵, ◌$◌, drop, fsplit, fjoin, fpick, fpack, feq_i, feq_l, rewrite}
-use denote.RattleType.{RattleType, Valss}
 use denote.Builtin.{RawPtr}
-use denote.Memory.{lone}
-use denote.RawPtr.{Ptr, block_ptr, null_ptr, ptr_val, in_a_block}
-use denote.Steps.{nothing}
 use denote.Struct.Field.{RawPtr-field}
 use denote.Struct.Record.{Record}
 use denote.Struct.Struct.{Struct, within}
 use denote.Struct.Owning.{Owning, owning, row, shape}
 use denote.Struct.Values.{Values}
-use Rattle.std_alloc.specs.Box.Ownership.{box_owns}
-use Rattle.mq_c.specs.Owning.{no_freeing}
 
 abbrev pub alone : Val → Val
 alone v = vstruct (vcons v vnil)

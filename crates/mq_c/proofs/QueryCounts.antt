@@ -1,31 +1,18 @@
 -- The most queries of a tick, and the most sources that they name.
-use Rattle.std.proofs.Common.{◌≡◌, ℕ, zero, suc, ◌+◌, ◌*◌, ◌<◌, ◌≤◌, Bool, true, false, cond, not, ◌&&◌, refl, List, [], ◌∷◌, ◌++◌, length, take}
-use Rattle.std.proofs.Common.{drop, filter, sum_by, Option, None, Some, is_some, sym, ap, ◌∙◌, arith, leb, length-append, length-drop}
-use Rattle.std.proofs.Math.Nat.{mul-le-mul_right}
-use Rattle.std.specs.Prelude.{map as list_map}
+use Rattle.mq_c.proofs.Common.{◌≡◌, ℕ, zero, suc, ◌+◌, ◌*◌, ◌<◌, ◌≤◌, Bool, true, false, cond, not, ◌&&◌, refl, List, [], ◌∷◌, ◌++◌, length, take, drop, filter}
+use Rattle.mq_c.proofs.Common.{sum_by, Option, None, Some, is_some, sym, ap, ◌∙◌, arith, leb, length-append, length-drop, mul-le-mul_right, list_map, leb-true}
+use Rattle.mq_c.proofs.Common.{leb-false, drop_all, take-append-drop, length-map, sum_by-cons, sum_by-append, SourceTimer, Timing, Set, ◌∩◌, ◌∖◌, is_ahead}
+use Rattle.mq_c.proofs.Common.{group_deadline, has_sendings, above, Family, Igmp, Mld, ScheduledGroup, SentQuery, GeneralQuery, GroupQuery, SourcesQuery}
+use Rattle.mq_c.proofs.Common.{is_due, group_due, sources_where, sources_queries, group_messages, source_messages, messages_due, Configuration, per_query}
+use Rattle.mq_c.proofs.Common.{named_in, LinkState, AreWithin, sources_in, schedules_of, schedules_in, group_expired, if_held, tick_at}
 use Rattle.std.specs.List.{flat_map}
 use Rattle.std.specs.FinMap as map
-use Rattle.std.proofs.lemmas.Bool.{leb-true, leb-false}
-use Rattle.std.proofs.lemmas.List.{drop_all, take-append-drop, length-map}
-use Rattle.std.proofs.lemmas.List.Sums.{sum_by-cons, sum_by-append}
-use Rattle.mq_table.specs.declared.timers.SourceTimer.{SourceTimer}
-use Rattle.mq_table.specs.declared.timing.Timing.{Timing}
-use Rattle.mq_table.specs.Sets.{Set, ◌∩◌, ◌∖◌}
-use Rattle.mq_table.specs.Group.{is_ahead, group_deadline}
 use Rattle.mq_table.specs.Lowering.{lowered_to}
-use Rattle.mq_table.specs.Sendings.{has_sendings, above}
-use Rattle.mq_wire.specs.Family.{Family, Igmp, Mld}
 use Rattle.mq_sched.specs.declared.queries.QuerySchedule.{QuerySchedule}
 use Rattle.mq_sched.specs.Election.{ElectionState, returned, general_is_due, general_messages}
 use Rattle.mq_sched.specs.Portions.{portions_within}
-use Rattle.mq_sched.specs.Schedule.{ScheduledGroup}
-use Rattle.mq_sched.specs.Sending.{SentQuery, GeneralQuery, GroupQuery, SourcesQuery, is_due, group_due, sources_where, sources_queries}
-use Rattle.mq_sched.specs.Sending.{group_messages, source_messages, messages_due}
-use Rattle.mq_link.specs.Configuration.{Configuration}
-use Rattle.mq_link.specs.Family.{per_query}
-use Rattle.mq_link.specs.Handing.{named_in}
-use Rattle.mq_link.specs.State.{Groups, LinkState, AreWithin, sources_of, sources_in, one_if, schedules_of, schedules_in}
-use Rattle.mq_link.specs.Tick.{group_expired, if_held, groups_expired, queries_due, tick_at}
+use Rattle.mq_link.specs.State.{Groups, sources_of, one_if}
+use Rattle.mq_link.specs.Tick.{groups_expired, queries_due}
 use Rattle.mq_link.proofs.Bounds.{expired_no_more, within-kept}
 
 -- At most the queries that these runs have for these sources, if each query of a run but its last has n of them.

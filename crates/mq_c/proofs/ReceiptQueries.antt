@@ -1,25 +1,19 @@
 -- The most queries of a datagram, and the most sources that they name.
-use Rattle.std.proofs.Common.{◌≡◌, ℕ, ◌+◌, ◌*◌, ◌≤◌, List, ◌++◌, length, sum_by, Option, None, Some, Result, Ok, Err, IfSome, refl, arith, min}
+use Rattle.mq_c.proofs.Common.{◌≡◌, ℕ, ◌+◌, ◌*◌, ◌≤◌, List, ◌++◌, length, sum_by, Option, None, Some, Result, Ok, Err, IfSome, refl, arith, min, Message}
+use Rattle.mq_c.proofs.Common.{QueryMessage, OldReport, LeaveMessage, ReportMessage, Family, Igmp, Mld, size_of, SentQuery, Configuration, IsFaultless}
+use Rattle.mq_c.proofs.Common.{v1_mutes_leave, per_query, Envelope, setting_of, taken_or_dropped, drop_reason, read_of, pseudo_of, counting_read, receipt_of}
+use Rattle.mq_c.proofs.Common.{Setting, Statement, OlderJoin, OlderLeave, change_in, is_muted, all_judged, LinkState, IsWellFormed, sources_in, Step, tick_of}
+use Rattle.mq_c.proofs.Common.{moment_of, some_groups, timing_in_range, records_in_body, sources_in_body, asking_records, most_asked}
 use Rattle.std.specs.FinMap as map
-use Rattle.mq_wire.specs.declared.message.Message.{Message}
-use Rattle.mq_wire.specs.declared.message.Message.TheVariants.{Query as QueryMessage, OldReport, Leave as LeaveMessage, Report as ReportMessage}
 use Rattle.mq_wire.specs.declared.message.WireFault.{WireFault}
-use Rattle.mq_wire.specs.Family.{Family, Igmp, Mld}
-use Rattle.mq_table.specs.Stored.{size_of}
-use Rattle.mq_sched.specs.Sending.{SentQuery}
 use Rattle.mq_held.proofs.Amounts.{own_sources}
 use Rattle.mq_link.specs.declared.answers.DropReason.{DropReason}
-use Rattle.mq_link.specs.Configuration.{Configuration, IsFaultless}
-use Rattle.mq_link.specs.Family.{v1_mutes_leave, per_query}
-use Rattle.mq_link.specs.Receive.{Envelope, setting_of, taken_in, taken_or_dropped, drop_reason, read_of, pseudo_of, counting_read, receipt_of}
-use Rattle.mq_link.specs.Record.{Setting, Statement, OlderJoin, OlderLeave, change_in, is_muted, stated, all_judged}
-use Rattle.mq_link.specs.State.{Groups, LinkState, IsWellFormed, group_at, sources_of, sources_in}
-use Rattle.mq_link.specs.Tick.{Step, tick_of, moment_of}
+use Rattle.mq_link.specs.Receive.{taken_in}
+use Rattle.mq_link.specs.Record.{stated}
+use Rattle.mq_link.specs.State.{Groups, group_at, sources_of}
 use Rattle.mq_link.proofs.ChangedSizes.{joined_few, left_few}
-use Rattle.mq_link.proofs.Faultless.{some_groups, timing_in_range}
 use Rattle.mq_link.proofs.Receipts.{sound_in, recounted, positive_in}
 use Rattle.mq_link.proofs.Ticked.{IsWellFormed-tick_at}
-use Rattle.mq_c.specs.Rooms.{records_in_body, sources_in_body, asking_records, most_asked}
 use Rattle.mq_c.proofs.QueryCounts.{AreFew, few_append, few_weaker, tick_few}
 use Rattle.mq_c.proofs.RecordQueries.{stated_asks, records_ask}
 use Rattle.mq_c.proofs.ReportLengths.{sources_named, IsWithin, within_where_read}

@@ -1,24 +1,18 @@
 -- A page, group by group.
-use Rattle.std.proofs.Common.{◌≡◌, ℕ, ◌+◌, ◌-◌, ◌*◌, ◌<◌, ◌≤◌, refl, List, [], ◌∷◌, ◌++◌, length, take, drop, get_or, set, Option, unwrap_or}
-use Rattle.std.proofs.Common.{append-nil, append_assoc, add-one, sym, ap, subst, ◌∙◌, arith, length-append, length-drop}
-use Rattle.std.specs.Prelude.{map as list_map}
-use Rattle.std.proofs.lemmas.Grind.{flat_map-append}
-use Rattle.std.proofs.lemmas.List.{take_more, get_or-drop, length-map, length-take-le, map-append, set-append_right, take_all, drop_all, drop-drop}
+use Rattle.mq_c.proofs.Common.{◌≡◌, ℕ, ◌+◌, ◌-◌, ◌*◌, ◌<◌, ◌≤◌, refl, List, [], ◌∷◌, ◌++◌, length, take, drop, get_or, set, Option, append-nil, append_assoc}
+use Rattle.mq_c.proofs.Common.{add-one, sym, ap, subst, ◌∙◌, arith, length-append, length-drop, list_map, flat_map-append, take_more, get_or-drop, length-map}
+use Rattle.mq_c.proofs.Common.{length-take-le, map-append, set-append_right, take_all, drop_all, drop-drop, IsAscending, number_in, timers_in, Source}
+use Rattle.mq_c.proofs.Common.{ScheduledGroup, Groups, group_at, unheld, sources_of, Page, Entry, SourceEntry, groups_from, sources_of_entry}
+use Rattle.mq_c.proofs.Common.{sources_of_entries, Shows, IsPage}
+use Rattle.std.proofs.Common.{unwrap_or}
 use Rattle.std.proofs.Math.Seq.{drop-cons, take-append_seam, drop-append_seam}
 use Rattle.std.specs.FinMap as map
-use Rattle.mq_sets.specs.Ascending.{IsAscending}
 use Rattle.mq_sets.proofs.Ascents.{IsAscending-map}
-use Rattle.mq_table.specs.Stored.{number_in, timers_in}
-use Rattle.mq_table.specs.declared.sources.Source.{Source}
-use Rattle.mq_sched.specs.Schedule.{ScheduledGroup}
-use Rattle.mq_held.specs.Groups.{Groups, group_at, unheld, sources_of}
 use Rattle.mq_held.specs.Places.{HasPlace, group_in}
 use Rattle.mq_link.proofs.Reconfigured.{entry_at}
 use Rattle.mq_held.proofs.HeldMoments.{entries-from_entries}
 use Rattle.mq_held.proofs.Places.{place-group}
 use Rattle.mq_held.proofs.Sorted.{key_of, sorted-ascending}
-use Rattle.mq_c.specs.declared.forms.Page.{Page}
-use Rattle.mq_c.specs.Pages.{Entry, SourceEntry, groups_from, sources_of_entry, sources_of_entries, Shows, IsPage}
 
 -- the memory behind what was written, one item further
 set_behind : {X : Type 0} (front old : List X) (n : ℕ) (y : X) → length front ≡ n → n < length old

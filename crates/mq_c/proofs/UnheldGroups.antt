@@ -1,21 +1,14 @@
 -- A record asks nothing of a group that isn't held, and leaves a group held that is.
-use Rattle.std.proofs.Common.{◌≡◌, ℕ, Bool, true, false, cond, refl, List, [], ◌∷◌, Some, IfSome, ap, ◌∙◌}
+use Rattle.mq_c.proofs.Common.{◌≡◌, ℕ, Bool, true, false, cond, refl, List, [], ◌∷◌, Some, IfSome, ap, ◌∙◌, Kind, SourceTimer, Timing, Set, ◌∩◌, GroupState}
+use Rattle.mq_c.proofs.Common.{vacant, is_running, running, hosts_of, translated_change, above, NamedSources, GroupChange, change_of, ScheduleState}
+use Rattle.mq_c.proofs.Common.{ScheduledGroup, no_schedule, settled, after_change, messages_due}
 use Rattle.std.specs.List.{list_any}
 use Rattle.std.specs.Ordering.{nat_cmp}
 use Rattle.std.specs.FinMap as map
 use Rattle.std.specs.FinSet as set
-use Rattle.mq_table.specs.declared.kind.Kind.{Kind}
 use Rattle.mq_table.specs.declared.kind.Kind.TheVariants.{IsIn, IsEx, ToIn, ToEx, Allow, Block}
-use Rattle.mq_table.specs.declared.timers.SourceTimer.{SourceTimer}
-use Rattle.mq_table.specs.declared.timing.Timing.{Timing}
-use Rattle.mq_table.specs.Sets.{Set, ◌∩◌}
-use Rattle.mq_table.specs.Group.{GroupState, vacant, is_running, running, IsWellFormed}
-use Rattle.mq_table.specs.OlderHosts.{hosts_of, translated_change}
-use Rattle.mq_table.specs.Sendings.{above}
-use Rattle.mq_table.specs.Table.{NamedSources, GroupChange, change_of}
+use Rattle.mq_table.specs.Group.{IsWellFormed}
 use Rattle.mq_table.proofs.Held.{IsWellFormed-change_of}
-use Rattle.mq_sched.specs.Schedule.{ScheduleState, ScheduledGroup, no_schedule, settled}
-use Rattle.mq_sched.specs.Sending.{after_change, messages_due}
 use Rattle.mq_link.proofs.HeldAs.{settled_silent}
 use Rattle.mq_link.proofs.Silent.{silent_messages}
 use Rattle.mq_link.proofs.TranslatedRecords.{of_translated}

@@ -1,7 +1,5 @@
 -- The workspace of a call, after the call.
-use Rattle.std.proofs.Common.{ℕ, ◌<◌, ◌^◌, Bool, refl, arith}
-use Rattle.mq_link.specs.Workspace.{WorkspaceState}
-use Rattle.mq_c.specs.Changed.{WorksIn}
+use Rattle.mq_c.proofs.Common.{ℕ, ◌<◌, ◌^◌, Bool, refl, arith, WorkspaceState, WorksIn}
 
 -- one at a moment out of range
 pub left_alone : (suffices : Bool) (now : ℕ) (test : ℕ → Bool) (before : WorkspaceState) → 2 ^ 53 < now → WorksIn suffices now test before before

@@ -1,19 +1,16 @@
 -- The line, or the object, of an answer.
-use Rattle.std.proofs.Common.{◌≡◌, ℕ, Bool, true, false, List, Some, Result, Ok, Err, is_ok, refl, ap, [], ◌++◌, append-nil, subst, sym, ◌∙◌, Option, codes}
+use Rattle.mq_lines.proofs.Common.{◌≡◌, ℕ, Bool, true, false, List, Some, Result, Ok, Err, is_ok, refl, ap, [], ◌++◌, append-nil, subst, sym, ◌∙◌, Option}
+use Rattle.mq_lines.proofs.Common.{codes, Family, GrowsByBeginning, Passes, broken_behind, broken_within, both_passed, numbered_message, numbered_version}
+use Rattle.mq_lines.proofs.Common.{line_of}
 use Rattle.mq_wire.specs.declared.message.Message.{Message}
 use Rattle.mq_wire.specs.declared.message.Message.TheVariants.{Query as AQuery, OldReport, Leave, Report}
 use Rattle.mq_wire.specs.declared.query.QueryVersion.{QueryVersion}
 use Rattle.mq_wire.specs.declared.query.QueryVersion.TheVariants.{Older, Current}
 use Rattle.mq_wire.specs.declared.message.WireFault.{WireFault}
-use Rattle.mq_wire.specs.Family.{Family}
 use Rattle.mq_wire.specs.Spelling.{Spells, fault_of}
-use Rattle.mq_text.specs.Printing.{GrowsByBeginning, Passes}
-use Rattle.mq_text.proofs.Passing.{broken_behind, broken_within, both_passed}
 use Rattle.mq_lines.specs.Line.{AnswersBy, IsObjectLineOf, IsObjectOf, IsTextOf, PrintsAs, PutsAs, PutsObject}
 use Rattle.std.specs.Io.KnownBytes.{Appends}
-use Rattle.mq_wire.specs.Numbered.{numbered_message, numbered_version}
 use Rattle.mq_lines.specs.Numbered.{numbered_answer}
-use Rattle.mq_lines.specs.Text.{line_of}
 
 -- an answer that is that of the bytes has their text
 text_of_answer : (text : Result (Message ℕ) WireFault → List ℕ) (family : Family) (pseudo bytes : List ℕ) (answer : Result (Message ℕ) WireFault)

@@ -1,29 +1,14 @@
 -- The line of a group that was changed, by the row of its sources.
-use Rattle.std.proofs.Common.{◌≡◌, ℕ, ◌<◌, Bool, true, false, cond, ◌||◌, List, [], ◌∷◌, ◌++◌, Option, None, codes, length, take, drop, get_or}
-use Rattle.std.proofs.Common.{append_assoc, append-nil, arith, refl, sym, ap, subst, ◌∙◌, ◌+◌, ◌≤◌}
-use Rattle.std.specs.Prelude.{filter, map as list_map}
-use Rattle.std.specs.List.{flat_map, list_any}
+use Rattle.mq_replay.proofs.Common.{◌≡◌, ℕ, ◌<◌, Bool, true, false, cond, ◌||◌, List, [], ◌∷◌, ◌++◌, Option, None, codes, length, take, drop, get_or}
+use Rattle.mq_replay.proofs.Common.{append_assoc, append-nil, arith, refl, sym, ap, subst, ◌∙◌, ◌+◌, ◌≤◌, filter, list_map, flat_map, list_any, flat_map-append}
+use Rattle.mq_replay.proofs.Common.{take_more, take-append-drop, take_all, IsAscending, Family, Source, Include, GroupState, is_include, vacant, number_in}
+use Rattle.mq_replay.proofs.Common.{timers_in, ScheduledGroup, Groups, group_at, absent_unheld, GrowsByBeginning, Passes, broken_behind, broken_within, line_of}
+use Rattle.mq_replay.proofs.Common.{change_line, change_start, filter_name, named_sources, named_text, Changes, change_events, event_in, if_named, is_named}
+use Rattle.mq_replay.proofs.Common.{name_by, named_by}
 use Rattle.std.specs.FinMap as map
-use Rattle.std.proofs.lemmas.Grind.{flat_map-append}
-use Rattle.std.proofs.lemmas.List.{take_more, take-append-drop, take_all}
-use Rattle.mq_sets.specs.Ascending.{IsAscending}
-use Rattle.mq_wire.specs.Family.{Family}
-use Rattle.mq_table.specs.declared.sources.Source.{Source}
 use Rattle.mq_table.specs.declared.timers.FilterMode.{FilterMode}
-use Rattle.mq_table.specs.declared.timers.FilterMode.TheVariants.{Include}
 use Rattle.mq_table.specs.Filter.{names}
-use Rattle.mq_table.specs.Group.{GroupState, is_include, vacant}
-use Rattle.mq_table.specs.Stored.{number_in, timers_in}
 use Rattle.mq_table.proofs.Rows.{filter_in_row}
-use Rattle.mq_sched.specs.Schedule.{ScheduledGroup}
-use Rattle.mq_held.specs.Groups.{Groups, group_at}
-use Rattle.mq_link.proofs.KeptGroups.{absent_unheld}
-use Rattle.mq_text.specs.Printing.{GrowsByBeginning, Passes}
-use Rattle.mq_text.proofs.Passing.{broken_behind, broken_within}
-use Rattle.mq_lines.specs.Text.{line_of}
-use Rattle.mq_replay.specs.ChangeLines.{change_line, change_start, filter_name, named_sources, named_text}
-use Rattle.mq_replay.specs.Events.{Changes, change_events, event_in}
-use Rattle.mq_replay.specs.NamedSources.{if_named, is_named, name_by, named_by}
 
 -- those of some items that are named
 module _ {X : Type 0} (number : X → ℕ) (named : X → Bool) where

@@ -1,49 +1,34 @@
 -- The groups that an event changes: only those held before it, and those that its datagram names. So those of these that
 -- the link lists are all that it lists.
-use Rattle.std.proofs.Common.{◌≡◌, ℕ, ◌<◌, Bool, true, false, cond, ◌&&◌, ◌||◌, ◌==◌, List, [], ◌∷◌, ◌++◌, Option, None, Some, Result, Ok, Err}
-use Rattle.std.proofs.Common.{is_some, refl, sym, ap, ◌∙◌, arith}
-use Rattle.std.specs.Prelude.{filter, map as list_map}
-use Rattle.std.specs.List.{list_any}
+use Rattle.mq_replay.proofs.Common.{◌≡◌, ℕ, ◌<◌, Bool, true, false, cond, ◌&&◌, ◌||◌, ◌==◌, List, [], ◌∷◌, ◌++◌, Option, None, Some, Result, Ok, Err, is_some}
+use Rattle.mq_replay.proofs.Common.{refl, sym, ap, ◌∙◌, arith, filter, list_map, list_any, true≢false, nat_tests, IsAscending, set_of, IsAscending-map}
+use Rattle.mq_replay.proofs.Common.{ScheduledGroup, Groups, group_at, unheld, with_group, ascending-sorted, key_of, Message, AQuery, OldReport, Leave, AReport}
+use Rattle.mq_replay.proofs.Common.{WireFault, Configuration, Refused, AreThose, changed_by_all, changed_by_datagram, changed_by_read, changed_by_tick, changes}
+use Rattle.mq_replay.proofs.Common.{Envelope, drop_reason, pseudo_of, read_of, setting_of, LinkState, tick_of, absent_unheld, group_absent, Datagram}
+use Rattle.mq_replay.proofs.Common.{changed_at, in_order, spoken_of, those_among}
 use Rattle.std.specs.Option.{option_and_then, unwrap_or}
 use Rattle.std.specs.Ordering.{nat_cmp, eq_by_cmp}
 use Rattle.std.specs.Cmp.{nat_cmp_total}
 use Rattle.std.specs.FinMap as map
 use Rattle.std.specs.FinSet as set
-use Rattle.std.proofs.lemmas.Bool.{true≢false}
-use Rattle.std.proofs.lemmas.Bool.Decides.{nat_tests}
 use Rattle.std.proofs.lemmas.List.Folds.{list_any-append}
 use Rattle.std.proofs.lemmas.List.Kept.{AllPairs-filter}
-use Rattle.mq_sets.specs.Ascending.{IsAscending, set_of}
-use Rattle.mq_sets.proofs.Ascents.{IsAscending-map}
 use Rattle.mq_sets.proofs.KnownBySet.{known_by_set}
 use Rattle.mq_table.specs.declared.kind.Kind.{Kind}
 use Rattle.mq_table.specs.declared.timing.Timing.{Timing}
 use Rattle.mq_table.specs.Filter.{changes_filter}
 use Rattle.mq_table.specs.Table.{GroupChange}
 use Rattle.mq_table.proofs.Maps.{get-kept}
-use Rattle.mq_sched.specs.Schedule.{ScheduledGroup}
-use Rattle.mq_held.specs.Groups.{Groups, group_at, unheld, with_group}
-use Rattle.mq_held.proofs.Sorted.{ascending-sorted, key_of}
 use Rattle.mq_wire.specs.declared.records.RecordView.{RecordView}
-use Rattle.mq_wire.specs.declared.message.Message.{Message}
-use Rattle.mq_wire.specs.declared.message.Message.TheVariants.{Query as AQuery, OldReport, Leave, Report as AReport}
-use Rattle.mq_wire.specs.declared.message.WireFault.{WireFault}
 use Rattle.mq_link.specs.declared.answers.DropReason.{DropReason}
 use Rattle.mq_link.specs.declared.answers.Refusal.{Refusal}
 use Rattle.mq_link.specs.declared.answers.Refusal.TheVariants.{Repeated}
-use Rattle.mq_link.specs.Configuration.{Configuration}
-use Rattle.mq_link.specs.Counters.{Refused}
-use Rattle.mq_link.specs.Forwarding.{AreThose, changed_by_all, changed_by_datagram, changed_by_read, changed_by_tick, changes}
-use Rattle.mq_link.specs.Receive.{Envelope, drop_reason, pseudo_of, read_of, setting_of}
 use Rattle.mq_link.specs.Record.{Entrance, Stops, GoesOn, Seen, Setting, Statement, RecordOf, after_sending, change_in, changed_by}
 use Rattle.mq_link.specs.Record.{changed_or_refused, entrance, is_repeated, judged, judged_from, leaving, limit_passed, seen_after, sent_at_once}
 use Rattle.mq_link.specs.Record.{stated, unless_passed}
-use Rattle.mq_link.specs.State.{LinkState}
-use Rattle.mq_link.specs.Tick.{groups_after_round, groups_expired, tick_of}
+use Rattle.mq_link.specs.Tick.{groups_after_round, groups_expired}
 use Rattle.mq_link.proofs.ChangedRecords.{other_then}
 use Rattle.mq_link.proofs.KeptFilters.{unchanged}
-use Rattle.mq_link.proofs.KeptGroups.{absent_unheld, group_absent}
-use Rattle.mq_replay.specs.Report.{Datagram, changed_at, in_order, spoken_of, those_among}
 
 -- the test of a number for a list
 abbrev pub is_among : List ℕ → ℕ → Bool

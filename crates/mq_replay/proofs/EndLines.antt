@@ -1,28 +1,13 @@
 -- The lines at the end of a replay.
-use Rattle.std.proofs.Common.{◌≡◌, ℕ, ◌+◌, ◌<◌, ◌≤◌, Bool, refl, List, [], ◌∷◌, ◌++◌, take, drop, get_or, Option, Result, Ok, Err, IfOk, unwrap_or}
-use Rattle.std.proofs.Common.{append-nil, sym, ap, subst, ◌∙◌, arith}
-use Rattle.std.specs.List.{flat_map}
-use Rattle.std.proofs.lemmas.Grind.{flat_map-append}
-use Rattle.std.proofs.lemmas.List.{take_more, take-append-drop, take_all}
+use Rattle.mq_replay.proofs.Common.{◌≡◌, ℕ, ◌+◌, ◌<◌, ◌≤◌, Bool, refl, List, [], ◌∷◌, ◌++◌, take, drop, get_or, Option, Result, Ok, Err, IfOk, unwrap_or}
+use Rattle.mq_replay.proofs.Common.{append-nil, sym, ap, subst, ◌∙◌, arith, flat_map, flat_map-append, take_more, take-append-drop, take_all, Family}
+use Rattle.mq_replay.proofs.Common.{GroupState, is_querier, ScheduledGroup, ScheduleState, Groups, group_at, unheld, Configuration, Counters, LinkValue}
+use Rattle.mq_replay.proofs.Common.{LinkState, LineFault, GrowsByBeginning, Passes, Puts, broken_behind, broken_within, item_passed, then_put, Asked, Counts}
+use Rattle.mq_replay.proofs.Common.{Ends, Holds, end_events, event_in, group_events, ticked_before, PutsReplayed, begun_with}
 use Rattle.std.specs.FinMap as map
-use Rattle.mq_wire.specs.Family.{Family}
-use Rattle.mq_table.specs.Group.{GroupState}
-use Rattle.mq_sched.specs.Election.{is_querier}
-use Rattle.mq_sched.specs.Schedule.{ScheduledGroup, ScheduleState}
-use Rattle.mq_held.specs.Groups.{Groups, group_at, unheld}
 use Rattle.mq_held.specs.Places.{HasPlace}
 use Rattle.mq_held.proofs.Entries.{key_at, get-place}
-use Rattle.mq_link.specs.Configuration.{Configuration}
-use Rattle.mq_link.specs.Counters.{Counters}
-use Rattle.mq_link.specs.Link.{LinkValue}
-use Rattle.mq_link.specs.State.{LinkState}
-use Rattle.mq_text.specs.declared.printing.LineFault.{LineFault}
-use Rattle.mq_text.specs.Printing.{GrowsByBeginning, Passes, Puts}
-use Rattle.mq_text.proofs.Passing.{broken_behind, broken_within, item_passed, then_put}
-use Rattle.mq_replay.specs.declared.asked.Asked.{Asked}
-use Rattle.mq_replay.specs.Events.{Counts, Ends, Holds, end_events, event_in, group_events}
-use Rattle.mq_replay.specs.Report.{ticked_before, ended_at}
-use Rattle.mq_replay.specs.Steps.{PutsReplayed, begun_with}
+use Rattle.mq_replay.specs.Report.{ended_at}
 use Rattle.mq_replay.proofs.Growing.{before_asked}
 
 abbrev pub Entry : Type 0

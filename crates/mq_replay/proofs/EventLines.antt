@@ -1,23 +1,10 @@
 -- The events of a replay: the lines of what a link sends, and then those of the groups that it changed.
-use Rattle.std.proofs.Common.{◌≡◌, ℕ, Bool, true, List, Option, Result, Ok, Err, IfOk, sym, ap, subst, ◌∙◌}
-use Rattle.std.specs.Prelude.{map as list_map}
-use Rattle.mq_wire.specs.Family.{Family}
-use Rattle.mq_link.specs.declared.answers.Received.{Received}
-use Rattle.mq_link.specs.Configuration.{Configuration}
-use Rattle.mq_link.specs.Forwarding.{AreThose, changed_by_tick}
-use Rattle.mq_link.specs.Link.{LinkValue}
-use Rattle.mq_link.specs.Receive.{Envelope, receipt_of}
+use Rattle.mq_replay.proofs.Common.{◌≡◌, ℕ, Bool, true, List, Option, Result, Ok, Err, IfOk, sym, ap, subst, ◌∙◌, list_map, Family, Received, Configuration}
+use Rattle.mq_replay.proofs.Common.{AreThose, changed_by_tick, LinkValue, Envelope, receipt_of, Outgoing, Step, tick_of, LineFault, Puts, broken_within, put_as}
+use Rattle.mq_replay.proofs.Common.{then_put, Asked, change_events, if_asked, query_events, TicksPrinting, ReceivesPrinting, Replayed, after_step, all_sent}
+use Rattle.mq_replay.proofs.Common.{with_changes, PutsReplayed, begun_with}
 use Rattle.mq_link.specs.Run.{answered, HandsOut}
-use Rattle.mq_link.specs.Sent.{Outgoing}
-use Rattle.mq_link.specs.Tick.{Step, tick_of}
-use Rattle.mq_text.specs.declared.printing.LineFault.{LineFault}
-use Rattle.mq_text.specs.Printing.{Puts}
-use Rattle.mq_text.proofs.Passing.{broken_within, put_as, then_put}
-use Rattle.mq_replay.specs.declared.asked.Asked.{Asked}
-use Rattle.mq_replay.specs.Events.{change_events, if_asked, query_events}
-use Rattle.mq_replay.specs.QueryLines.{TicksPrinting, ReceivesPrinting}
-use Rattle.mq_replay.specs.Report.{Replayed, after_step, all_sent, ticked_at, with_changes}
-use Rattle.mq_replay.specs.Steps.{PutsReplayed, begun_with}
+use Rattle.mq_replay.specs.Report.{ticked_at}
 use Rattle.mq_replay.proofs.ChangedGroups.{ticked_those}
 
 -- a step whose messages were passed on and put is a step of a replay

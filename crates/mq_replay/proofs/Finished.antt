@@ -1,15 +1,8 @@
 -- Work that came to its end: its result, its failed writes, and the text that a buffer held.
-use Rattle.std.proofs.Common.{◌≡◌, ℕ, Bool, true, false, ◌||◌, List, [], ◌++◌, Option, Result, Ok, Err, refl, ap, sym, subst, ◌∙◌, append-nil, inl, inr}
-use Rattle.std.proofs.KnownBytes.{Appends-trans}
-use Rattle.std.proofs.Math.Bool.{or-true}
-use Rattle.std.specs.Io.KnownBytes.{Appends}
-use Rattle.mq_text.specs.Printing.{GrowsByBeginning, OutputState, Passes}
-use Rattle.mq_text.proofs.Passing.{broken_behind}
-use Rattle.mq_replay.specs.declared.capture_fault.CaptureFault.{CaptureFault}
+use Rattle.mq_replay.proofs.Common.{◌≡◌, ℕ, Bool, true, false, ◌||◌, List, [], ◌++◌, Option, Result, Ok, Err, refl, ap, sym, subst, ◌∙◌, append-nil, inl, inr}
+use Rattle.mq_replay.proofs.Common.{Appends-trans, or-true, Appends, GrowsByBeginning, OutputState, Passes, broken_behind, CaptureFault, is_failed_write}
+use Rattle.mq_replay.proofs.Common.{Finishes, FinishesBy, counted}
 use Rattle.mq_replay.specs.declared.capture_fault.CaptureFault.TheVariants as answer
-use Rattle.mq_replay.specs.Faults.{is_failed_write}
-use Rattle.mq_replay.specs.Finishing.{Finishes, FinishesBy}
-use Rattle.mq_replay.specs.PuttingReports.{counted}
 
 -- a buffer that was emptied was written whole
 pub flushed_whole : (old new : Option (List ℕ)) (held left : List ℕ) → left ≡ [] → Passes old new held left [] → Appends old new held

@@ -1,16 +1,11 @@
 -- The result of a replay, which doesn't depend on the text before: that stays in front.
-use Rattle.std.proofs.Common.{◌≡◌, ℕ, refl, List, ◌++◌, Option, None, Some, append_assoc, append-nil, sym, ap, ◌∙◌}
+use Rattle.mq_replay.proofs.Common.{◌≡◌, ℕ, refl, List, ◌++◌, Option, None, Some, append_assoc, append-nil, sym, ap, ◌∙◌, Carried, Configuration}
+use Rattle.mq_replay.proofs.Common.{changed_by_tick, receipt_of, outgoing_of, tick_of, next_of, Receives, Skips, change_events, event_in, if_asked}
+use Rattle.mq_replay.proofs.Common.{query_events, Replayed, after_step, changed_at, those_among, ticked_before, Datagram, datagram_of, taken_or_skipped}
+use Rattle.mq_replay.proofs.Common.{with_changes, begun_with}
 use Rattle.std.specs.FinMap as map
-use Rattle.mq_pcap.specs.Frame.{Carried}
-use Rattle.mq_link.specs.Configuration.{Configuration}
-use Rattle.mq_link.specs.Forwarding.{changed_by_tick}
-use Rattle.mq_link.specs.Receive.{receipt_of}
-use Rattle.mq_link.specs.Sent.{outgoing_of}
-use Rattle.mq_link.specs.Tick.{tick_of, next_of}
-use Rattle.mq_replay.specs.Events.{Receives, Skips, change_events, event_in, if_asked, query_events}
-use Rattle.mq_replay.specs.Report.{Replayed, after_step, changed_at, ticked_at, those_among, ticked_before, Datagram, datagram_of}
-use Rattle.mq_replay.specs.Report.{received_at, taken_or_skipped, with_changes, with_packet}
-use Rattle.mq_replay.specs.Steps.{begun_with}
+use Rattle.mq_replay.specs.Report.{ticked_at}
+use Rattle.mq_replay.specs.Report.{received_at, with_packet}
 use Rattle.mq_replay.specs.Ticks.{ticked_within}
 use Rattle.mq_replay.proofs.Ticking.{kept_within, through_within}
 

@@ -1,6 +1,5 @@
 -- The header of a capture.
-use Rattle.std.proofs.Common.{◌≡◌, ℕ, ◌<◌, List, length, Err, refl}
-use Rattle.std.proofs.lemmas.Bool.{lt-ltb}
+use Rattle.mq_replay.proofs.Common.{◌≡◌, ℕ, ◌<◌, List, length, Err, refl, lt-ltb}
 use Rattle.mq_pcap.specs.declared.fault.PcapFault.TheVariants as fault
 use Rattle.mq_pcap.specs.Capture.{header_of}
 

@@ -1,3 +1,4 @@
+mod Common
 pub mod ChangeTexts
 pub mod ChangedGroups
 pub mod EndLines

@@ -1,24 +1,11 @@
 -- A walk that lists a capture, and the lines that it put.
-use Rattle.std.proofs.Common.{◌≡◌, ◌⊎◌, ℕ, ◌+◌, ◌||◌, Bool, true, false, List, [], ◌∷◌, ◌++◌, length, Result, Ok, Err, refl, ap}
-use Rattle.std.proofs.Common.{sym, subst, ◌∙◌, append_assoc, append-nil, inl, inr, arith}
-use Rattle.std.proofs.Math.Bool.{or-false}
-use Rattle.mq_pcap.specs.declared.fault.PcapFault.{PcapFault}
+use Rattle.mq_replay.proofs.Common.{◌≡◌, ◌⊎◌, ℕ, ◌+◌, ◌||◌, Bool, true, false, List, [], ◌∷◌, ◌++◌, length, Result, Ok, Err, refl, ap, sym, subst, ◌∙◌}
+use Rattle.mq_replay.proofs.Common.{append_assoc, append-nil, inl, inr, arith, or-false, PcapFault, Form, LinkType, Captured, is_read, InputState, carried_in}
+use Rattle.mq_replay.proofs.Common.{Passes, both_passed, broken_behind, nothing_passed, CaptureFault, Walked, is_failed_write, AreLines, IsEndedBy, IsListing}
+use Rattle.mq_replay.proofs.Common.{place_in, Place, PlacedPacket, at_first, place_behind, placed, ListingState, PutsListing, PutsPacket, TakesListed}
+use Rattle.mq_replay.proofs.Common.{IsBrokenOff, IsEndedByFault, IsStopped, ReadCapture, StepsOver, StepsOverAll, Walks}
 use Rattle.mq_pcap.specs.declared.fault.PcapFault.TheVariants as fault
-use Rattle.mq_pcap.specs.declared.form.Form.{Form}
-use Rattle.mq_pcap.specs.declared.link_type.LinkType.{LinkType}
-use Rattle.mq_pcap.specs.Capture.{Captured, is_read}
-use Rattle.mq_pcap.specs.Filling.{InputState}
-use Rattle.mq_pcap.specs.Frame.{carried_in}
-use Rattle.mq_text.specs.Printing.{Passes}
-use Rattle.mq_text.proofs.Passing.{both_passed, broken_behind, nothing_passed}
-use Rattle.mq_replay.specs.declared.capture_fault.CaptureFault.{CaptureFault}
 use Rattle.mq_replay.specs.declared.capture_fault.CaptureFault.TheVariants as answer
-use Rattle.mq_replay.specs.declared.walked.Walked.{Walked}
-use Rattle.mq_replay.specs.Faults.{is_failed_write}
-use Rattle.mq_replay.specs.Listing.{AreLines, IsEndedBy, IsListing, place_in}
-use Rattle.mq_replay.specs.PlacedPackets.{Place, PlacedPacket, at_first, place_behind, placed}
-use Rattle.mq_replay.specs.Putting.{ListingState, PutsListing, PutsPacket, TakesListed}
-use Rattle.mq_replay.specs.Walking.{IsBrokenOff, IsEndedByFault, IsStopped, ReadCapture, StepsOver, StepsOverAll, Walks}
 use Rattle.mq_replay.proofs.WalkedOver.{steps_counted}
 
 -- a failed read and a fault of the capture, in the terms of a listing

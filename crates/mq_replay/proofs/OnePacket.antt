@@ -1,21 +1,9 @@
 -- The work of a replay on one packet.
-use Rattle.std.proofs.Common.{◌≡◌, ℕ, Bool, refl, List, ◌++◌, Option, None, Some, Result, Ok, Err, IfOk, sym, ap, subst, ◌∙◌}
-use Rattle.mq_pcap.specs.Frame.{Carried}
-use Rattle.mq_wire.specs.Family.{Family}
-use Rattle.mq_link.specs.declared.answers.Received.{Received}
-use Rattle.mq_link.specs.Configuration.{Configuration}
-use Rattle.mq_link.specs.Forwarding.{AreThose, changed_by_datagram}
-use Rattle.mq_link.specs.Link.{LinkValue}
-use Rattle.mq_link.specs.Receive.{receipt_of}
-use Rattle.mq_link.specs.State.{LinkState}
-use Rattle.mq_text.specs.declared.printing.LineFault.{LineFault}
-use Rattle.mq_text.specs.Printing.{Puts, GrowsByBeginning}
-use Rattle.mq_text.proofs.Passing.{broken_within, then_put}
-use Rattle.mq_replay.specs.declared.asked.Asked.{Asked}
-use Rattle.mq_replay.specs.Events.{Receives, Skips, change_events, event_in, if_asked}
-use Rattle.mq_replay.specs.QueryLines.{ReceivesPrinting}
-use Rattle.mq_replay.specs.Report.{Replayed, after_step, ticked_before, Datagram, datagram_of, received_at, taken_or_skipped, with_packet}
-use Rattle.mq_replay.specs.Steps.{PutsReplayed, begun_with}
+use Rattle.mq_replay.proofs.Common.{◌≡◌, ℕ, Bool, refl, List, ◌++◌, Option, None, Some, Result, Ok, Err, IfOk, sym, ap, subst, ◌∙◌, Carried, Family, Received}
+use Rattle.mq_replay.proofs.Common.{Configuration, AreThose, changed_by_datagram, LinkValue, receipt_of, LinkState, LineFault, Puts, GrowsByBeginning}
+use Rattle.mq_replay.proofs.Common.{broken_within, then_put, Asked, Receives, Skips, change_events, event_in, if_asked, ReceivesPrinting, Replayed, after_step}
+use Rattle.mq_replay.proofs.Common.{ticked_before, Datagram, datagram_of, taken_or_skipped, PutsReplayed, begun_with}
+use Rattle.mq_replay.specs.Report.{received_at, with_packet}
 use Rattle.mq_replay.proofs.Growing.{behind, as_behind, before_asked, taken_behind}
 use Rattle.mq_replay.proofs.ChangedGroups.{received_those}
 use Rattle.mq_replay.proofs.EventLines.{changes_broken, changes_put, receipt_put}

@@ -1,20 +1,14 @@
 -- The line of a packet, behind what stands in a buffer.
-use Rattle.std.proofs.Common.{◌≡◌, ℕ, Bool, true, false, List, [], ◌++◌, length, Option, None, Some, Result, codes, refl, subst}
-use Rattle.mq_pcap.specs.Frame.{Carried, Igmp, Mld, Other, Cut, Fragment}
-use Rattle.mq_wire.specs.declared.message.Message.{Message}
-use Rattle.mq_wire.specs.declared.message.WireFault.{WireFault}
-use Rattle.mq_wire.specs.Family.{Family}
+use Rattle.mq_replay.proofs.Common.{◌≡◌, ℕ, Bool, true, false, List, [], ◌++◌, length, Option, None, Some, Result, codes, refl, subst, Carried, Other, Cut}
+use Rattle.mq_replay.proofs.Common.{Fragment, Message, WireFault, Family, GrowsByBeginning, Passes, Puts, nothing_passed, held_more, both_passed, broken_behind}
+use Rattle.mq_replay.proofs.Common.{broken_within, then_put, fault_object, message_object, address_text, fault_text, line_of, message_text, IsSaidIn}
+use Rattle.mq_replay.proofs.Common.{packet_fields, place_in, PutsSaid, PutsPacket}
+use Rattle.mq_pcap.specs.Frame.{Igmp, Mld}
 use Rattle.mq_wire.specs.Family as family
 use Rattle.mq_wire.specs.PseudoHeader.{pseudo_header}
 use Rattle.mq_wire.specs.Spelling.{fault_of}
 use Rattle.mq_wire.proofs.Spelled.{spelled}
-use Rattle.mq_text.specs.Printing.{GrowsByBeginning, Passes, Puts}
-use Rattle.mq_text.proofs.Passing.{nothing_passed, held_more, both_passed, broken_behind, broken_within, then_put}
 use Rattle.mq_lines.specs.Line.{IsLineOf, IsObjectOf, IsTextOf}
-use Rattle.mq_lines.specs.Objects.{fault_object, message_object}
-use Rattle.mq_lines.specs.Text.{address_text, fault_text, line_of, message_text}
-use Rattle.mq_replay.specs.Listing.{IsSaidIn, packet_fields, place_in}
-use Rattle.mq_replay.specs.Putting.{PutsSaid, PutsPacket}
 
 -- a piece was put behind what is held, and then a line
 pub message_put : (old new : Option (List ℕ)) (held more left piece line : List ℕ) → more ≡ held ++ piece → Passes old new more left line →

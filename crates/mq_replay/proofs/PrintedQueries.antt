@@ -1,17 +1,10 @@
 -- The text that an outlet has put after some queries.
-use Rattle.std.proofs.Common.{◌≡◌, ℕ, Bool, true, ◌||◌, List, [], ◌∷◌, Option, Result, Ok, Err, is_ok, is_err, refl, ap, sym, subst, ◌∙◌}
-use Rattle.std.specs.Prelude.{IfOk, map as list_map}
-use Rattle.std.proofs.Math.Bool.{or-false}
-use Rattle.mq_count.specs.Streams.{inner_of, has_failed}
-use Rattle.mq_wire.specs.Family.{Family}
+use Rattle.mq_replay.proofs.Common.{◌≡◌, ℕ, Bool, true, ◌||◌, List, [], ◌∷◌, Option, Result, Ok, Err, is_ok, is_err, refl, ap, sym, subst, ◌∙◌, list_map}
+use Rattle.mq_replay.proofs.Common.{or-false, inner_of, has_failed, Family, Outgoing, LineFault, Puts, nothing_passed, then_put, broken_within, TakesQuery}
+use Rattle.mq_replay.proofs.Common.{PutsQuery, Sends, event_in, query_events}
+use Rattle.std.specs.Prelude.{IfOk}
 use Rattle.mq_link.specs.Handing.{HandsOver}
-use Rattle.mq_link.specs.Sent.{Outgoing}
-use Rattle.mq_text.specs.declared.printing.LineFault.{LineFault}
-use Rattle.mq_text.specs.Printing.{Puts}
-use Rattle.mq_text.proofs.Passing.{nothing_passed, then_put, broken_within}
 use Rattle.mq_replay.specs.declared.query_outlet.QueryLines.{QueryLines}
-use Rattle.mq_replay.specs.QueryLines.{TakesQuery, PutsQuery}
-use Rattle.mq_replay.specs.Events.{Sends, event_in, query_events}
 
 module _ {W : Type 0} (contents : W → Option (List ℕ)) (family : Family) where
   abbrev takes : QueryLines W → Outgoing → Bool → QueryLines W → Type 0

@@ -1,14 +1,8 @@
 -- The records of a capture that were read.
-use Rattle.std.proofs.Common.{◌≡◌, ℕ, ◌+◌, ◌<◌, nat_lt, Bool, true, false, List, [], ◌∷◌, ◌++◌, length, Option, None, Some, Result, Err, refl}
-use Rattle.std.proofs.Common.{sym, subst, append_assoc, inl, inr, arith}
-use Rattle.std.proofs.lemmas.Bool.{le-ltb, lt-ltb, ltb-false}
-use Rattle.mq_pcap.specs.declared.fault.PcapFault.{PcapFault}
+use Rattle.mq_replay.proofs.Common.{◌≡◌, ℕ, ◌+◌, ◌<◌, nat_lt, Bool, true, false, List, [], ◌∷◌, ◌++◌, length, Option, None, Some, Result, Err, refl, sym, subst}
+use Rattle.mq_replay.proofs.Common.{append_assoc, inl, inr, arith, le-ltb, lt-ltb, ltb-false, PcapFault, Form, Packet, Captured, AreRecords, captured_length}
+use Rattle.mq_replay.proofs.Common.{is_read, most_bytes, endless, record_fault, InputState, IsAnswerTo, IsBegun, IsKnownThere, Reads}
 use Rattle.mq_pcap.specs.declared.fault.PcapFault.TheVariants as fault
-use Rattle.mq_pcap.specs.declared.form.Form.{Form}
-use Rattle.mq_pcap.specs.declared.reader_state.Packet.{Packet}
-use Rattle.mq_pcap.specs.Capture.{Captured, AreRecords, captured_length, is_read, most_bytes, endless, record_fault}
-use Rattle.mq_pcap.specs.Filling.{InputState}
-use Rattle.mq_pcap.specs.Reading.{IsAnswerTo, IsBegun, IsKnownThere, Reads}
 
 -- lists one after the other can be joined in any order
 pub AreRecords-assoc : (form : Form) (number : ℕ) (first second rest : List ℕ) (some more others : List Captured) (end : Option PcapFault)

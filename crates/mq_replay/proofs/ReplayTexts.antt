@@ -1,21 +1,12 @@
 -- The texts of a replay, in parts.
-use Rattle.std.proofs.Common.{◌≡◌, ℕ, ◌+◌, ◌<◌, List, [], ◌∷◌, ◌++◌, take, drop, get_or, length, refl, sym, ap, ◌∙◌}
-use Rattle.std.specs.Prelude.{map as list_map}
-use Rattle.std.specs.List.{flat_map}
+use Rattle.mq_replay.proofs.Common.{◌≡◌, ℕ, ◌+◌, ◌<◌, List, [], ◌∷◌, ◌++◌, take, drop, get_or, length, refl, sym, ap, ◌∙◌, list_map, flat_map, drop_more}
+use Rattle.mq_replay.proofs.Common.{encode_lower, Family, IsAscending, IsAscending-map, Source, SourceTimer, number_in, timers_in, key_of, sorted-ascending}
+use Rattle.mq_replay.proofs.Common.{timer_text}
 use Rattle.std.proofs.lemmas.List.Concat.{flat_map-append}
-use Rattle.std.proofs.lemmas.List.{drop_more}
 use Rattle.std.proofs.Math.Seq.{take-add}
-use Rattle.hex.specs.Hex.{encode_with, encode_lower}
-use Rattle.mq_wire.specs.Family.{Family}
-use Rattle.mq_sets.specs.Ascending.{IsAscending}
-use Rattle.mq_sets.proofs.Ascents.{IsAscending-map}
-use Rattle.mq_table.specs.declared.sources.Source.{Source}
-use Rattle.mq_table.specs.declared.timers.SourceTimer.{SourceTimer}
-use Rattle.mq_table.specs.Stored.{number_in, timers_in}
+use Rattle.hex.specs.Hex.{encode_with}
 use Rattle.std.specs.FinMap as map
 use Rattle.mq_held.proofs.HeldMoments.{entries-from_entries}
-use Rattle.mq_held.proofs.Sorted.{key_of, sorted-ascending}
-use Rattle.mq_replay.specs.ReplayLines.{timer_text}
 
 -- the text of one byte
 abbrev pub byte_text : ℕ → List ℕ

@@ -1,25 +1,11 @@
 -- A replay in the code, and what its report comes to.
-use Rattle.std.proofs.Common.{◌≡◌, ℕ, ◌+◌, Bool, true, ◌||◌, List, ◌++◌, Option, Result, Ok, Err, refl, ap, sym, subst, ◌∙◌, append_assoc}
-use Rattle.std.proofs.Math.Bool.{or-false}
-use Rattle.mq_pcap.specs.Filling.{InputState}
-use Rattle.mq_pcap.specs.Frame.{Carried, carried_in}
-use Rattle.mq_link.specs.Configuration.{Configuration}
-use Rattle.mq_link.specs.Counters.{Counters}
-use Rattle.mq_link.specs.Link.{LinkValue}
-use Rattle.mq_link.specs.State.{link_at}
-use Rattle.mq_sched.specs.Election.{is_querier}
-use Rattle.mq_text.specs.Printing.{GrowsByBeginning, OutputState, Passes}
-use Rattle.mq_text.proofs.Passing.{both_passed, broken_behind, nothing_passed}
-use Rattle.mq_replay.specs.declared.asked.Asked.{Asked}
-use Rattle.mq_replay.specs.declared.capture_fault.CaptureFault.{CaptureFault}
+use Rattle.mq_replay.proofs.Common.{◌≡◌, ℕ, ◌+◌, Bool, true, ◌||◌, List, ◌++◌, Option, Result, Ok, Err, refl, ap, sym, subst, ◌∙◌, append_assoc, or-false}
+use Rattle.mq_replay.proofs.Common.{InputState, Carried, carried_in, Configuration, Counters, LinkValue, link_at, is_querier, GrowsByBeginning, OutputState}
+use Rattle.mq_replay.proofs.Common.{Passes, both_passed, broken_behind, nothing_passed, Asked, CaptureFault, Walked, Report, end_events, PlacedPacket}
+use Rattle.mq_replay.proofs.Common.{IsRestPut, PutsReport, end_of, rest_at, Replayed, at_the_start, replay_of, ticked_before, PutsReplayed, ReplayState}
+use Rattle.mq_replay.proofs.Common.{TakesReplayed, begun_with}
 use Rattle.mq_replay.specs.declared.capture_fault.CaptureFault.TheVariants as answer
-use Rattle.mq_replay.specs.declared.walked.Walked.{Walked}
-use Rattle.mq_replay.specs.Courses.{Report}
-use Rattle.mq_replay.specs.Events.{end_events}
-use Rattle.mq_replay.specs.PlacedPackets.{PlacedPacket}
-use Rattle.mq_replay.specs.PuttingReports.{IsRestPut, PutsReport, end_of, rest_at}
-use Rattle.mq_replay.specs.Report.{Replayed, at_the_start, ended_at, replay_of, ticked_before, with_packet}
-use Rattle.mq_replay.specs.Steps.{PutsReplayed, ReplayState, TakesReplayed, begun_with}
+use Rattle.mq_replay.specs.Report.{ended_at, with_packet}
 use Rattle.mq_replay.proofs.Growing.{behind, as_behind, before_behind, next_packet, packet_asked}
 use Rattle.mq_replay.proofs.ReportedOver.{IsPassed, IsStepped, Puts, WalksUpToGap, come_to_the_end, report_behind, reported_early, reported_well, rest_joined}
 

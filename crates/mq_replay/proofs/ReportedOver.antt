@@ -1,23 +1,14 @@
 -- Work over a capture in the code, and the report that it comes to.
-use Rattle.std.proofs.Common.{◌≡◌, ◌⊎◌, ℕ, ◌+◌, ◌≤◌, Bool, true, false, ◌||◌, List, [], ◌∷◌, ◌++◌, length, Option, None, Some, Result, Ok, Err, refl}
-use Rattle.std.proofs.Common.{if◌then◌else◌, ap, sym, subst, ◌∙◌, append-nil, length-append, inl, inr, unwrap_or, arith}
-use Rattle.std.proofs.Math.Bool.{or-false}
-use Rattle.mq_pcap.specs.declared.fault.PcapFault.{PcapFault}
-use Rattle.mq_pcap.specs.declared.form.Form.{Form}
-use Rattle.mq_pcap.specs.declared.link_type.LinkType.{LinkType}
-use Rattle.mq_pcap.specs.Capture.{Captured, Captures, is_read}
-use Rattle.mq_pcap.specs.Filling.{InputState}
-use Rattle.mq_text.specs.Printing.{GrowsByBeginning, OutputState, Passes}
-use Rattle.mq_text.proofs.Passing.{both_passed, broken_behind, nothing_passed}
-use Rattle.mq_replay.specs.declared.capture_fault.CaptureFault.{CaptureFault}
+use Rattle.mq_replay.proofs.Common.{◌≡◌, ◌⊎◌, ℕ, ◌+◌, ◌≤◌, Bool, true, false, ◌||◌, List, [], ◌∷◌, ◌++◌, length, Option, None, Some, Result, Ok, Err, refl}
+use Rattle.mq_replay.proofs.Common.{if◌then◌else◌, ap, sym, subst, ◌∙◌, append-nil, length-append, inl, inr, unwrap_or, arith, or-false, PcapFault, Form}
+use Rattle.mq_replay.proofs.Common.{LinkType, Captured, Captures, is_read, InputState, GrowsByBeginning, OutputState, Passes, both_passed, broken_behind}
+use Rattle.mq_replay.proofs.Common.{nothing_passed, CaptureFault, Walked, Course, Report, Work, broken_off, course_of, last_moment, packets_text, report_in}
+use Rattle.mq_replay.proofs.Common.{report_of, reported, is_failed_write, Place, PlacedPacket, at_first, is_gap, place_behind, placed, IsPutBy, IsRestPut}
+use Rattle.mq_replay.proofs.Common.{PutsReport, end_of, rest_at, IsBrokenOff, IsEndedByFault, IsStopped, ReadCapture, StepsOver, StepsOverAll, TakesUpToGap}
+use Rattle.mq_replay.proofs.Common.{Walks}
 use Rattle.mq_replay.specs.declared.capture_fault.CaptureFault.TheVariants as answer
-use Rattle.mq_replay.specs.declared.walked.Walked.{Walked}
-use Rattle.mq_replay.specs.Courses.{Course, Report, Work, broken_off, course_of, last_moment, packets_text, report_in, report_of, reported, with_packets}
-use Rattle.mq_replay.specs.Faults.{is_failed_write}
-use Rattle.mq_replay.specs.PlacedPackets.{Place, PlacedPacket, at_first, is_gap, place_behind, placed}
-use Rattle.mq_replay.specs.PuttingReports.{IsPutBy, IsRestPut, PutsReport, end_of, rest_at}
+use Rattle.mq_replay.specs.Courses.{with_packets}
 use Rattle.mq_replay.specs.Reports.{IsEndedBy}
-use Rattle.mq_replay.specs.Walking.{IsBrokenOff, IsEndedByFault, IsStopped, ReadCapture, StepsOver, StepsOverAll, TakesUpToGap, Walks}
 use Rattle.mq_replay.proofs.WalkedOver.{fault_or, steps_counted}
 
 -- a report behind a text

@@ -1,12 +1,8 @@
 -- The room of a vector that was filled, and results after the memory was granted.
-use Rattle.std.proofs.Common.{◌≡◌, ℕ, ◌≤◌, List, length, true, Result, Ok, Err, refl, ap, ◌∙◌, arith}
-use Rattle.std.specs.Prelude.{replicate}
-use Rattle.std.proofs.lemmas.List.{length-replicate}
+use Rattle.mq_replay.proofs.Common.{◌≡◌, ℕ, ◌≤◌, List, length, true, Result, Ok, Err, refl, ap, ◌∙◌, arith, replicate, length-replicate, CaptureFault}
+use Rattle.mq_replay.proofs.Common.{is_granted, counted}
 use Rattle.mq_arena.specs.Vectors.{Takes}
-use Rattle.mq_replay.specs.declared.capture_fault.CaptureFault.{CaptureFault}
 use Rattle.mq_replay.specs.declared.capture_fault.CaptureFault.TheVariants as answer
-use Rattle.mq_replay.specs.Faults.{is_granted}
-use Rattle.mq_replay.specs.PuttingReports.{counted}
 
 -- a slice of a vector of `size` zeros has that many items
 pub room_of_filled : (size : ℕ) (slice items : List ℕ) → slice ≡ items → items ≡ replicate size 0 → size ≤ length slice

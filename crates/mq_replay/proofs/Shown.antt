@@ -1,17 +1,9 @@
 -- A capture whose header was read, and what `show` comes to.
-use Rattle.std.proofs.Common.{◌≡◌, ℕ, Bool, true, false, List, [], Option, Some, Result, Ok, Err, refl, sym, subst, inl, inr, arith}
-use Rattle.std.proofs.KnownBytes.{Appends-nil}
+use Rattle.mq_replay.proofs.Common.{◌≡◌, ℕ, Bool, true, false, List, [], Option, Some, Result, Ok, Err, refl, sym, subst, inl, inr, arith, Appends-nil}
+use Rattle.mq_replay.proofs.Common.{InputState, Takes-nil, Appends, OutputState, Passes, CaptureFault, is_failed_write, Finishes, FinishesBy, IsEndedBy}
+use Rattle.mq_replay.proofs.Common.{IsWritten, Shows, IsPut, PutsListing}
 use Rattle.mq_pcap.specs.declared.fault.PcapFault.TheVariants as fault
-use Rattle.mq_pcap.specs.Filling.{InputState}
-use Rattle.mq_pcap.proofs.Filled.{Takes-nil}
-use Rattle.std.specs.Io.KnownBytes.{Appends}
-use Rattle.mq_text.specs.Printing.{OutputState, Passes}
-use Rattle.mq_replay.specs.declared.capture_fault.CaptureFault.{CaptureFault}
 use Rattle.mq_replay.specs.declared.capture_fault.CaptureFault.TheVariants as answer
-use Rattle.mq_replay.specs.Faults.{is_failed_write}
-use Rattle.mq_replay.specs.Finishing.{Finishes, FinishesBy}
-use Rattle.mq_replay.specs.Listing.{IsEndedBy, IsWritten, Shows}
-use Rattle.mq_replay.specs.Putting.{IsPut, PutsListing}
 use Rattle.mq_replay.proofs.Finished.{all_written, begun_text}
 use Rattle.mq_replay.proofs.Headers.{cut_header}
 

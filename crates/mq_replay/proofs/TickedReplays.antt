@@ -1,14 +1,9 @@
 -- A replay in the code, and the ticks between packets.
-use Rattle.std.proofs.Common.{◌≡◌, ℕ, zero, suc, ◌+◌, ◌<◌, ◌≤◌, Bool, ◌||◌, Result, Ok, Err, IfOk, is_err, refl, ap, sym, subst, ◌∙◌, arith}
-use Rattle.std.proofs.Math.Bool.{or-false}
-use Rattle.mq_link.specs.Configuration.{Configuration}
-use Rattle.mq_link.specs.State.{LinkState}
-use Rattle.mq_link.specs.Tick.{tick_of, next_of}
-use Rattle.mq_text.proofs.Passing.{broken_within, nothing_passed, then_put}
-use Rattle.mq_replay.specs.declared.asked.Asked.{Asked}
-use Rattle.mq_replay.specs.Report.{Replayed, ticked_at}
-use Rattle.mq_replay.specs.Steps.{ReplayState, ReplaysTick, ReplaysTo, begun_with}
-use Rattle.mq_replay.specs.Ticks.{TicksInTurn, ticked_within}
+use Rattle.mq_replay.proofs.Common.{◌≡◌, ℕ, zero, suc, ◌+◌, ◌<◌, ◌≤◌, Bool, ◌||◌, Result, Ok, Err, IfOk, is_err, refl, ap, sym, subst, ◌∙◌, arith, or-false}
+use Rattle.mq_replay.proofs.Common.{Configuration, LinkState, tick_of, next_of, broken_within, nothing_passed, then_put, Asked, Replayed, ReplayState}
+use Rattle.mq_replay.proofs.Common.{ReplaysTick, ReplaysTo, begun_with, TicksInTurn}
+use Rattle.mq_replay.specs.Report.{ticked_at}
+use Rattle.mq_replay.specs.Ticks.{ticked_within}
 use Rattle.mq_replay.proofs.Growing.{as_behind, behind, next_in, tick_in, ticked_asked, within_behind}
 use Rattle.mq_replay.proofs.Ticking.{none_within, one_within}
 

@@ -1,25 +1,15 @@
 -- A walk over a capture: the packets that were read, and how it ends.
-use Rattle.std.proofs.Common.{◌≡◌, ◌⊎◌, ℕ, ◌+◌, ◌<◌, ◌||◌, ◌≤◌, ◌^◌, Bool, true, false, List, [], ◌∷◌, ◌++◌, length, drop, take, Option, None, Some}
-use Rattle.std.proofs.Common.{Result, Ok, Err, unwrap_or, refl, ap, sym, subst, ◌∙◌, append-nil, inl, inr, arith}
-use Rattle.std.proofs.Math.Bool.{or-false, or-true}
+use Rattle.mq_replay.proofs.Common.{◌≡◌, ◌⊎◌, ℕ, ◌+◌, ◌<◌, ◌||◌, ◌≤◌, ◌^◌, Bool, true, false, List, [], ◌∷◌, ◌++◌, length, drop, take, Option, None, Some}
+use Rattle.mq_replay.proofs.Common.{Result, Ok, Err, unwrap_or, refl, ap, sym, subst, ◌∙◌, append-nil, inl, inr, arith, or-false, or-true, IsAtEnd, PcapFault}
+use Rattle.mq_replay.proofs.Common.{Form, LinkType, Packet, Captured, AreRecords, is_read, InputState, Opens, Reads, form_of, Takes-nil, Takes-trans, Stamps}
+use Rattle.mq_replay.proofs.Common.{Walked, goes_back, moment_of, Place, PlacedPacket, at_first, place_behind, placed, EndsWalk, IsEndedByFault, StepsOver}
+use Rattle.mq_replay.proofs.Common.{Walks, WalksBehind}
 use Rattle.std.proofs.Math.Seq.{drop-append_seam}
-use Rattle.std.specs.Io.KnownBytes.{IsAtEnd}
-use Rattle.mq_pcap.specs.declared.fault.PcapFault.{PcapFault}
 use Rattle.mq_pcap.specs.declared.fault.PcapFault.TheVariants as fault
-use Rattle.mq_pcap.specs.declared.form.Form.{Form}
-use Rattle.mq_pcap.specs.declared.link_type.LinkType.{LinkType}
-use Rattle.mq_pcap.specs.declared.reader_state.Packet.{Packet}
 use Rattle.mq_pcap.specs.declared.reader_state.PcapReader.{PcapReader}
-use Rattle.mq_pcap.specs.Capture.{Captured, AreRecords, header_of, is_read}
-use Rattle.mq_pcap.specs.Filling.{InputState, Takes}
-use Rattle.mq_pcap.specs.Reading.{Opens, Reads, form_of}
+use Rattle.mq_pcap.specs.Capture.{header_of}
+use Rattle.mq_pcap.specs.Filling.{Takes}
 use Rattle.mq_pcap.proofs.FileHeader.{header_of-append}
-use Rattle.mq_pcap.proofs.Filled.{Takes-nil, Takes-trans}
-use Rattle.mq_replay.specs.declared.stamps.Stamps.{Stamps}
-use Rattle.mq_replay.specs.declared.walked.Walked.{Walked}
-use Rattle.mq_replay.specs.Listing.{goes_back, moment_of}
-use Rattle.mq_replay.specs.PlacedPackets.{Place, PlacedPacket, at_first, place_behind, placed}
-use Rattle.mq_replay.specs.Walking.{EndsWalk, IsEndedByFault, StepsOver, Walks, WalksBehind}
 use Rattle.mq_replay.proofs.Headers.{cut_header}
 use Rattle.mq_replay.proofs.ReadSoFar.{AreRecords-assoc, begun_answer, begun_ends, faulty_answer}
 

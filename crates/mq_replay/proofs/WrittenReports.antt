@@ -1,23 +1,11 @@
 -- The result of work over a capture whose report was put, once the held bytes are written, or were not.
-use Rattle.std.proofs.Common.{◌≡◌, ◌⊎◌, ℕ, ◌+◌, Bool, true, false, if◌then◌else◌, List, [], length, Option, None, Some, Result, Ok, Err, refl}
-use Rattle.std.proofs.Common.{ap, sym, subst, ◌∙◌, length-append, inl, inr, arith}
-use Rattle.std.proofs.KnownBytes.{Appends-nil}
-use Rattle.std.specs.Io.KnownBytes.{Appends, IsAtEnd}
-use Rattle.mq_pcap.specs.declared.fault.PcapFault.{PcapFault}
+use Rattle.mq_replay.proofs.Common.{◌≡◌, ◌⊎◌, ℕ, ◌+◌, Bool, true, false, if◌then◌else◌, List, [], length, Option, None, Some, Result, Ok, Err, refl, ap, sym}
+use Rattle.mq_replay.proofs.Common.{subst, ◌∙◌, length-append, inl, inr, arith, Appends-nil, Appends, IsAtEnd, PcapFault, is_read, InputState, Takes-nil}
+use Rattle.mq_replay.proofs.Common.{GrowsByBeginning, OutputState, Passes, CaptureFault, Course, Report, Work, broken_off, course_of, last_moment, packets_text}
+use Rattle.mq_replay.proofs.Common.{report_in, reported, is_failed_write, is_gap, Finishes, FinishesBy, IsPutBy, PutsReport, ReadCapture}
 use Rattle.mq_pcap.specs.declared.fault.PcapFault.TheVariants as fault
-use Rattle.mq_pcap.specs.Capture.{is_read}
-use Rattle.mq_pcap.specs.Filling.{InputState}
-use Rattle.mq_pcap.proofs.Filled.{Takes-nil}
-use Rattle.mq_text.specs.Printing.{GrowsByBeginning, OutputState, Passes}
-use Rattle.mq_replay.specs.declared.capture_fault.CaptureFault.{CaptureFault}
 use Rattle.mq_replay.specs.declared.capture_fault.CaptureFault.TheVariants as answer
-use Rattle.mq_replay.specs.Courses.{Course, Report, Work, broken_off, course_of, last_moment, packets_text, report_in, reported}
-use Rattle.mq_replay.specs.Faults.{is_failed_write}
-use Rattle.mq_replay.specs.PlacedPackets.{is_gap}
-use Rattle.mq_replay.specs.Finishing.{Finishes, FinishesBy}
-use Rattle.mq_replay.specs.PuttingReports.{IsPutBy, PutsReport}
 use Rattle.mq_replay.specs.Reports.{IsBrokenOffAt, IsEndedBy, IsEndedByFault, IsWrittenBy, Reports, text_by}
-use Rattle.mq_replay.specs.Walking.{ReadCapture}
 use Rattle.mq_replay.proofs.Finished.{all_written, begun_text}
 use Rattle.mq_replay.proofs.Headers.{cut_header}
 

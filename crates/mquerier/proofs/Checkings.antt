@@ -1,31 +1,16 @@
 -- The result of a check once it is flushed, and as a performed request.
-use Rattle.std.proofs.Common.{◌≡◌, ◌≤◌, ◌^◌, ◌⊎◌, ◌∙◌, subst, sym, refl, arith, false, true, ℕ, Bool, Bor, List, Option, None, Some, Result, Ok, Err, inl}
-use Rattle.std.proofs.Common.{inr, ⊎_elim}
+use Rattle.mquerier.proofs.Common.{◌≡◌, ◌≤◌, ◌^◌, ◌⊎◌, ◌∙◌, subst, sym, refl, arith, false, true, ℕ, Bool, Bor, List, Option, None, Some, Result, Ok, Err, inl}
+use Rattle.mquerier.proofs.Common.{inr, ⊎_elim, CaptureFault, CheckTerms, Totals, Protocol, Request, Message, Convert, Show, Replay, Check, Settings}
+use Rattle.mquerier.proofs.Common.{Configuration, OutputState, Family, CheckOptions, Failure, NoAddresses, NotAnAddress, NotHex, UntilTooLarge, Unconfigured}
+use Rattle.mquerier.proofs.Common.{Capture, Gap, Waiting, Conversion, ConversionRead, Memory, Write, Input, Output, SpellsAddress, asked_configuration}
+use Rattle.mquerier.proofs.Common.{family_of, is_too_large, check_line, failure_line, status_of, Concludes, IsCheck, IsConversion, IsOfMessage, IsTold}
+use Rattle.mquerier.proofs.Common.{Performs, PerformsCheck, Told, request_line, ChecksAt, IsConfigured, IsRefusal, IsUnwritten, Works, WorksOnCheck}
 use Rattle.std.proofs.lemmas.Bool.{ltb-false}
 use Rattle.std.specs.Prelude.{IfSome}
-use Rattle.mq_replay.specs.declared.capture_fault.CaptureFault.{CaptureFault}
-use Rattle.mq_check.specs.declared.check_terms.CheckTerms.{CheckTerms}
-use Rattle.mq_check.specs.declared.totals.Totals.{Totals}
 use Rattle.mq_check.specs.Check.{check_of}
 use Rattle.mq_check.specs.CheckedCaptures.{Checks}
-use Rattle.mq_command.specs.declared.Protocol.{Protocol}
-use Rattle.mq_command.specs.declared.Request.{Request}
-use Rattle.mq_command.specs.declared.Request.TheVariants.{Message, Convert, Show, Replay, Check}
 use Rattle.mq_command.specs.declared.check.CheckFlags.{CheckFlags}
-use Rattle.mq_command.specs.declared.replay.Settings.{Settings}
-use Rattle.mq_link.specs.Configuration.{Configuration}
-use Rattle.mq_text.specs.Printing.{OutputState}
-use Rattle.mq_wire.specs.Family.{Family}
-use Rattle.mquerier.specs.declared.checking.CheckOptions.{CheckOptions}
-use Rattle.mquerier.specs.declared.failure.Failure.{Failure}
-use Rattle.mquerier.specs.declared.failure.Failure.TheVariants.{NoAddresses, NotAnAddress, NotHex, UntilTooLarge, Configuration as Unconfigured}
-use Rattle.mquerier.specs.declared.failure.Failure.TheVariants.{Capture, Gap, Waiting, Conversion, ConversionRead, Memory, Write}
-use Rattle.mquerier.specs.Changes.{Input, Output}
 use Rattle.mquerier.specs.CheckRuns.{IsCheckedAt, WritesVerdict, asked_options}
-use Rattle.mquerier.specs.Replays.{SpellsAddress, asked_configuration, family_of, is_too_large}
-use Rattle.mquerier.specs.Failures.{check_line, failure_line, status_of}
-use Rattle.mquerier.specs.Status.{Concludes, IsCheck, IsConversion, IsOfMessage, IsTold, Performs, PerformsCheck, Told, request_line}
-use Rattle.mquerier.specs.Working.{ChecksAt, IsConfigured, IsRefusal, IsUnwritten, Works, WorksOnCheck}
 use Rattle.mquerier.proofs.Breakings.{Ends, IsEndOf, reports_ended}
 use Rattle.mquerier.proofs.Replayed.{refused_for}
 

@@ -1,3 +1,4 @@
+mod Common
 pub mod Breakings
 pub mod Checkings
 pub mod Conversions

@@ -1,26 +1,12 @@
 -- The result of a check of the querier that the capture names.
-use Rattle.std.proofs.Common.{◌≡◌, ◌⊎◌, ◌∙◌, ap, subst, sym, refl, arith, ℕ, Bool, true, List, Option, None, Some, Result, Ok, Err, inl, inr, ⊎_elim}
+use Rattle.mquerier.proofs.Common.{◌≡◌, ◌⊎◌, ◌∙◌, ap, subst, sym, refl, arith, ℕ, Bool, true, List, Option, None, Some, Result, Ok, Err, inl, inr, ⊎_elim}
+use Rattle.mquerier.proofs.Common.{CaptureFault, Totals, numbered_announced_if, Settings, InputState, OutputState, Family, CheckOptions, Failure, Memory, Write}
+use Rattle.mquerier.proofs.Common.{BreaksOff, Input, Output, Writes, no_querier_line, status_of, family_of, Concludes, IsTold, Told, ChecksBy, ChecksFound}
+use Rattle.mquerier.proofs.Common.{ChecksTaking, IsFoundDone, PerformsBy, PerformsFound, PerformsTaking, first_failure, taken_line, with_variables, ChecksAt}
 use Rattle.mq_check.specs.declared.announced.Announced.{Announced}
-use Rattle.mq_replay.specs.declared.capture_fault.CaptureFault.{CaptureFault}
 use Rattle.mq_replay.specs.declared.capture_fault.CaptureFault.TheVariants as answer
-use Rattle.mq_check.specs.declared.totals.Totals.{Totals}
 use Rattle.mq_check.specs.Announced.{Announces}
-use Rattle.mq_check.specs.Numbered.{numbered_announced_if}
-use Rattle.mq_command.specs.declared.replay.Settings.{Settings}
-use Rattle.mq_pcap.specs.Filling.{InputState}
-use Rattle.mq_text.specs.Printing.{OutputState}
-use Rattle.mq_wire.specs.Family.{Family}
-use Rattle.mquerier.specs.declared.checking.CheckOptions.{CheckOptions}
-use Rattle.mquerier.specs.declared.failure.Failure.{Failure}
-use Rattle.mquerier.specs.declared.failure.Failure.TheVariants.{Memory, Write}
-use Rattle.mquerier.specs.Changes.{BreaksOff, Input, Output, Writes}
 use Rattle.mquerier.specs.CheckRuns.{IsCheckDoneAt}
-use Rattle.mquerier.specs.Failures.{no_querier_line, status_of}
-use Rattle.mquerier.specs.Replays.{family_of}
-use Rattle.mquerier.specs.Status.{Concludes, IsTold, Told}
-use Rattle.mquerier.specs.Taking.{ChecksBy, ChecksFound, ChecksTaking, IsFoundDone, PerformsBy, PerformsFound, PerformsTaking, first_failure}
-use Rattle.mquerier.specs.Taking.{taken_line, with_variables}
-use Rattle.mquerier.specs.Working.{ChecksAt}
 use Rattle.mquerier.proofs.Checkings.{status_is}
 
 -- the check was done, and the line was not written

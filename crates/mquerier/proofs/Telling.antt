@@ -1,15 +1,9 @@
 -- The result of printing on standard error.
-use Rattle.std.proofs.Common.{◌≡◌, ◌||◌, ◌++◌, codes, take, Bool, true, List, ℕ, Option, Result, Ok, Err, is_err, inl, inr, ap, subst, ◌∙◌}
-use Rattle.std.proofs.Math.Bool.{or-false, or-true}
-use Rattle.mq_text.specs.Printing.{Prints}
-use Rattle.mquerier.specs.declared.failure.Failure.{Failure}
-use Rattle.mq_command.specs.declared.Request.{Request}
-use Rattle.mq_command.specs.declared.Request.TheVariants.{Message, Convert, Show, Replay, Check}
-use Rattle.mquerier.specs.declared.failure.Failure.TheVariants.{NoAddresses, NotAnAddress, NotHex, UntilTooLarge, Configuration}
-use Rattle.mquerier.specs.declared.failure.Failure.TheVariants.{Capture, Gap, Waiting, Conversion, ConversionRead, Memory, Write}
-use Rattle.mquerier.specs.Changes.{BreaksOff, Output}
-use Rattle.mquerier.specs.Failures.{check_line, failure_text, status_of, version_line, wanted_words}
-use Rattle.mquerier.specs.Status.{IsTold, PrintsVersion, Told, TellsLines, request_line}
+use Rattle.mquerier.proofs.Common.{◌≡◌, ◌||◌, ◌++◌, codes, take, Bool, true, List, ℕ, Option, Result, Ok, Err, is_err, inl, inr, ap, subst, ◌∙◌, or-false}
+use Rattle.mquerier.proofs.Common.{or-true, Prints, Failure, Request, Message, Convert, Show, Replay, Check, NoAddresses, NotAnAddress, NotHex, UntilTooLarge}
+use Rattle.mquerier.proofs.Common.{Capture, Gap, Waiting, Conversion, ConversionRead, Memory, Write, BreaksOff, Output, check_line, failure_text, status_of}
+use Rattle.mquerier.proofs.Common.{version_line, wanted_words, IsTold, PrintsVersion, Told, TellsLines, request_line}
+use Rattle.mquerier.specs.declared.failure.Failure.TheVariants.{Configuration}
 
 pub told_by_printing : {T E : Type 0} (old new : Option (List ℕ)) (text line : List ℕ) (before after : Bool) (r : Result T E) →
     Prints old new text r → after ≡ (before || is_err r) → text ≡ line

@@ -1,6 +1,4 @@
-use Rattle.std.proofs.Common.{refl, sym, ap, is_ok, ◌∙◌, subst, arith}
-use Rattle.mq_link.specs.Configuration.{IsFaultless}
-use Rattle.mq_c.specs.Queries.{outbox_of, Puts}
+use Rattle.mq_c.proofs.Common.{refl, sym, ap, is_ok, ◌∙◌, subst, arith, IsFaultless, outbox_of, Puts}
 use Rattle.mq_c.proofs.HandedInto.{handed}
 use Rattle.mq_c.proofs.RoomForReceives.{receive_leaves_none}
 use Rattle.mq_c.proofs.calls.receive.Goals as goal

@@ -1,5 +1,4 @@
-use Rattle.std.proofs.Common.{refl, sym, ap, is_ok, ◌∙◌, subst, arith}
-use Rattle.mq_c.specs.Queries.{outbox_of, Puts}
+use Rattle.mq_c.proofs.Common.{refl, sym, ap, is_ok, ◌∙◌, subst, arith, outbox_of, Puts}
 use Rattle.mq_c.proofs.HandedInto.{handed}
 use Rattle.mq_c.proofs.RoomForTicks.{tick_leaves_none}
 use Rattle.mq_c.proofs.calls.tick.Goals as goal

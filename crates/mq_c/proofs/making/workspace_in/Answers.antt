@@ -1,9 +1,6 @@
-use Rattle.std.proofs.Common.{ap, sym, ◌∙◌, arith}
-use denote.Param.{copied}
+use Rattle.mq_c.proofs.Common.{ap, sym, ◌∙◌, arith, copied, Configuration, asked_of}
 use Rattle.mq_link.specs.declared.configuration.Limits.{Limits}
-use Rattle.mq_link.specs.Configuration.{Configuration}
 use Rattle.mq_link.specs.Sizes.{bytes_of_workspace}
-use Rattle.mq_c.specs.Making.{asked_of}
 use Rattle.mq_c.proofs.FaultStatuses.{not_for_memory}
 use Rattle.mq_c.proofs.SizedObjects.{has_room_left, too_small}
 use Rattle.mq_c.proofs.making.workspace_in.Goals as goal

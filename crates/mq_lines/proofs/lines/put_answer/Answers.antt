@@ -1,7 +1,4 @@
-use Rattle.std.proofs.Common.{[], codes, refl}
-use Rattle.std.proofs.lemmas.Result.{err_from_is_err_and}
-use Rattle.mq_text.proofs.Passing.{broken_behind, broken_within, both_passed, held_more}
-use Rattle.mq_lines.specs.Text.{fault_text}
+use Rattle.mq_lines.proofs.Common.{[], codes, refl, err_from_is_err_and, broken_behind, broken_within, both_passed, held_more, fault_text}
 use Rattle.mq_lines.proofs.lines.put_answer.Goals as goal
 
 pub returns-in_err-put_message-in-Ok-clause-line : goal.returns-in_err-put_message-in-Ok-clause-line

@@ -1,6 +1,4 @@
-use Rattle.std.proofs.Common.{[]}
-use Rattle.mq_wire.specs.Family.{Igmp}
-use Rattle.mq_lines.specs.Text.{answer_text, line_of}
+use Rattle.mq_lines.proofs.Common.{[], Igmp, answer_text, line_of}
 use Rattle.mq_lines.proofs.Answered.{answer_put}
 use Rattle.mq_lines.proofs.lines.put_igmp.Goals as goal
 

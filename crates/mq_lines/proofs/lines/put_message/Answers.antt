@@ -1,8 +1,5 @@
-use Rattle.std.proofs.Common.{ℕ, [], ◌++◌, ap, codes, length, ◌∙◌, append_assoc}
-use Rattle.std.proofs.lemmas.Result.{err_from_is_err_and}
-use Rattle.mq_lines.specs.Text.{query_head, message_text, report_head}
-use Rattle.mq_wire.specs.Numbered.{numbered_query, numbered_message}
-use Rattle.mq_text.proofs.Passing.{broken_within, held_more, then_put}
+use Rattle.mq_lines.proofs.Common.{ℕ, [], ◌++◌, ap, codes, length, ◌∙◌, append_assoc, err_from_is_err_and, query_head, message_text, report_head}
+use Rattle.mq_lines.proofs.Common.{numbered_query, numbered_message, broken_within, held_more, then_put}
 use Rattle.mq_lines.proofs.lines.put_message.Goals as goal
 
 pub returns-in_err-make_room-clause-text : goal.returns-in_err-make_room-clause-text

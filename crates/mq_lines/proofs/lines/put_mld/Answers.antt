@@ -1,5 +1,4 @@
-use Rattle.mq_wire.specs.Family.{Mld}
-use Rattle.mq_lines.specs.Text.{answer_text, line_of}
+use Rattle.mq_lines.proofs.Common.{Mld, answer_text, line_of}
 use Rattle.mq_lines.proofs.Answered.{answer_put}
 use Rattle.mq_lines.proofs.lines.put_mld.Goals as goal
 

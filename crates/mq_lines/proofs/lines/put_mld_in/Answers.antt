@@ -1,5 +1,4 @@
-use Rattle.std.proofs.Common.{true}
-use Rattle.std.proofs.lemmas.Result.{err_from_is_err_and}
+use Rattle.mq_lines.proofs.Common.{true, err_from_is_err_and}
 use Rattle.mq_lines.proofs.Answered.{end_broken, object_broken, object_ended}
 use Rattle.mq_lines.proofs.lines.put_mld_in.Goals as goal
 

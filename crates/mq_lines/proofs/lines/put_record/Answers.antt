@@ -1,8 +1,5 @@
-use Rattle.std.proofs.Common.{[], ◌++◌, codes}
-use Rattle.std.proofs.lemmas.Result.{err_from_is_err_and}
-use Rattle.mq_wire.specs.Numbered.{numbered_record}
-use Rattle.mq_text.proofs.Passing.{both_passed, broken_behind, broken_within, held_more}
-use Rattle.mq_lines.specs.Text.{record_head, sources_text}
+use Rattle.mq_lines.proofs.Common.{[], ◌++◌, codes, err_from_is_err_and, numbered_record, both_passed, broken_behind, broken_within, held_more, record_head}
+use Rattle.mq_lines.proofs.Common.{sources_text}
 use Rattle.mq_lines.proofs.lines.put_record.Goals as goal
 
 pub returns-in_err-make_room-clause-text : goal.returns-in_err-make_room-clause-text

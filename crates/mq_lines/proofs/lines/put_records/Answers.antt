@@ -1,9 +1,5 @@
-use Rattle.std.proofs.Common.{[], ◌++◌, ap, refl, sym, ◌∙◌, arith}
-use Rattle.std.proofs.lemmas.Result.{err_from_is_err_and}
-use Rattle.std.proofs.lemmas.Bool.Decides.{nat_tests}
-use Rattle.mq_wire.specs.Numbered.{numbered_record}
-use Rattle.mq_text.proofs.Passing.{nothing_passed, both_passed, broken_behind, broken_within, next_item}
-use Rattle.mq_lines.specs.Text.{records_text, record_text}
+use Rattle.mq_lines.proofs.Common.{[], ◌++◌, ap, refl, sym, ◌∙◌, arith, err_from_is_err_and, nat_tests, numbered_record, nothing_passed, both_passed}
+use Rattle.mq_lines.proofs.Common.{broken_behind, broken_within, next_item, records_text, record_text}
 use Rattle.mq_lines.proofs.lines.put_records.Goals as goal
 
 pub loop-view-init : goal.loop-view-init

@@ -1,6 +1,4 @@
-use Rattle.std.proofs.Common.{◌≡◌, ℕ, List, ◌++◌}
-use Rattle.mq_text.specs.Printing.{Passes}
-use Rattle.mq_lines.specs.Text.{records_text}
+use Rattle.mq_lines.proofs.Common.{◌≡◌, ℕ, List, ◌++◌, Passes, records_text}
 use Rattle.mq_lines.proofs.lines.put_records.Given as goal
 
 -- the text so far and that of the records left are the whole text

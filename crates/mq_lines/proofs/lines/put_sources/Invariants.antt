@@ -1,6 +1,4 @@
-use Rattle.std.proofs.Common.{◌≡◌, ℕ, List, ◌++◌}
-use Rattle.mq_text.specs.Printing.{Passes}
-use Rattle.mq_lines.specs.Text.{sources_text}
+use Rattle.mq_lines.proofs.Common.{◌≡◌, ℕ, List, ◌++◌, Passes, sources_text}
 use Rattle.mq_lines.proofs.lines.put_sources.Given as goal
 
 -- the text so far and that of the sources left are the whole text

@@ -1,7 +1,4 @@
-use Rattle.std.proofs.Common.{codes}
-use Rattle.std.specs.Fmt.{decimal}
-use Rattle.mq_lines.specs.Objects.{address_object, type_start}
-use Rattle.mq_lines.specs.Text.{older_version}
+use Rattle.mq_lines.proofs.Common.{codes, decimal, address_object, type_start, older_version}
 use Rattle.mq_lines.proofs.Parts.{six_parts}
 use Rattle.mq_lines.proofs.object_pieces.put_older_report_object.Goals as goal
 

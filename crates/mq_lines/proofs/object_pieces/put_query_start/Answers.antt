@@ -1,8 +1,4 @@
-use Rattle.std.proofs.Common.{codes}
-use Rattle.std.specs.Fmt.{decimal}
-use Rattle.mq_wire.specs.Numbered.{numbered_query}
-use Rattle.mq_lines.specs.Objects.{address_object, type_start, version_start}
-use Rattle.mq_lines.specs.Text.{query_version}
+use Rattle.mq_lines.proofs.Common.{codes, decimal, numbered_query, address_object, type_start, version_start, query_version}
 use Rattle.mq_lines.proofs.Parts.{six_parts}
 use Rattle.mq_lines.proofs.object_pieces.put_query_start.Goals as goal
 

@@ -1,7 +1,4 @@
-use Rattle.std.proofs.Common.{codes}
-use Rattle.std.specs.Fmt.{decimal}
-use Rattle.mq_lines.specs.Objects.{type_start}
-use Rattle.mq_lines.specs.Text.{current_version}
+use Rattle.mq_lines.proofs.Common.{codes, decimal, type_start, current_version}
 use Rattle.mq_lines.proofs.Parts.{four_parts}
 use Rattle.mq_lines.proofs.object_pieces.put_report_start.Goals as goal
 

@@ -1,6 +1,4 @@
-use Rattle.std.proofs.Common.{[]}
-use Rattle.mq_wire.specs.Family.{Igmp}
-use Rattle.mq_lines.specs.Objects.{answer_object}
+use Rattle.mq_lines.proofs.Common.{[], Igmp, answer_object}
 use Rattle.mq_lines.proofs.Answered.{answer_put}
 use Rattle.mq_lines.proofs.objects.put_igmp_object.Goals as goal
 

@@ -1,9 +1,5 @@
-use Rattle.std.proofs.Common.{[], ◌++◌, codes}
-use Rattle.std.proofs.lemmas.Result.{err_from_is_err_and}
-use Rattle.mq_lines.specs.Objects.{message_object, query_start, query_end, record_items, report_start, source_items}
-use Rattle.mq_lines.specs.Text.{query_sources}
-use Rattle.mq_wire.specs.Numbered.{numbered_query, numbered_message}
-use Rattle.mq_text.proofs.Passing.{broken_behind, broken_within, held_more, then_put}
+use Rattle.mq_lines.proofs.Common.{[], ◌++◌, codes, err_from_is_err_and, message_object, query_start, query_end, record_items, report_start, source_items}
+use Rattle.mq_lines.proofs.Common.{query_sources, numbered_query, numbered_message, broken_behind, broken_within, held_more, then_put}
 use Rattle.mq_lines.proofs.objects.put_message_object.Goals as goal
 
 pub returns-in_err-make_room-clause-text : goal.returns-in_err-make_room-clause-text

@@ -1,5 +1,4 @@
-use Rattle.mq_wire.specs.Family.{Mld}
-use Rattle.mq_lines.specs.Objects.{answer_object}
+use Rattle.mq_lines.proofs.Common.{Mld, answer_object}
 use Rattle.mq_lines.proofs.Answered.{answer_put}
 use Rattle.mq_lines.proofs.objects.put_mld_object.Goals as goal
 

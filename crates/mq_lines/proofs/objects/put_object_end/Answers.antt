@@ -1,6 +1,4 @@
-use Rattle.std.proofs.Common.{[]}
-use Rattle.std.proofs.lemmas.Result.{err_from_is_err_and}
-use Rattle.mq_text.proofs.Passing.{broken_within}
+use Rattle.mq_lines.proofs.Common.{[], err_from_is_err_and, broken_within}
 use Rattle.mq_lines.proofs.objects.put_object_end.Goals as goal
 
 pub returns-in_err-make_room-clause-text : goal.returns-in_err-make_room-clause-text

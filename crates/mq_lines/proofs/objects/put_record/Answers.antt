@@ -1,8 +1,5 @@
-use Rattle.std.proofs.Common.{[], ◌++◌, codes}
-use Rattle.std.proofs.lemmas.Result.{err_from_is_err_and}
-use Rattle.mq_wire.specs.Numbered.{numbered_record}
-use Rattle.mq_text.proofs.Passing.{broken_behind, broken_within, held_more, then_put}
-use Rattle.mq_lines.specs.Objects.{record_start, source_items}
+use Rattle.mq_lines.proofs.Common.{[], ◌++◌, codes, err_from_is_err_and, numbered_record, broken_behind, broken_within, held_more, then_put, record_start}
+use Rattle.mq_lines.proofs.Common.{source_items}
 use Rattle.mq_lines.proofs.objects.put_record.Goals as goal
 
 pub returns-in_err-make_room-clause-text : goal.returns-in_err-make_room-clause-text

@@ -1,8 +1,5 @@
-use Rattle.std.proofs.Common.{[], ◌++◌, ap, refl, sym, ◌∙◌, arith}
-use Rattle.std.proofs.lemmas.Result.{err_from_is_err_and}
-use Rattle.std.proofs.lemmas.Bool.Decides.{nat_tests}
-use Rattle.mq_text.proofs.Passing.{nothing_passed, both_passed, held_more, broken_behind, broken_within}
-use Rattle.mq_lines.specs.Objects.{source_item, source_items}
+use Rattle.mq_lines.proofs.Common.{[], ◌++◌, ap, refl, sym, ◌∙◌, arith, err_from_is_err_and, nat_tests, nothing_passed, both_passed, held_more, broken_behind}
+use Rattle.mq_lines.proofs.Common.{broken_within, source_item, source_items}
 use Rattle.mq_lines.proofs.Listed.{next_of_list}
 use Rattle.mq_lines.proofs.objects.put_sources.Goals as goal
 

@@ -1,6 +1,4 @@
-use Rattle.std.proofs.Common.{◌≡◌, ℕ, List, ◌++◌}
-use Rattle.mq_text.specs.Printing.{Passes}
-use Rattle.mq_lines.specs.Objects.{items_from, source_item, source_items}
+use Rattle.mq_lines.proofs.Common.{◌≡◌, ℕ, List, ◌++◌, Passes, items_from, source_item, source_items}
 use Rattle.mq_lines.proofs.objects.put_sources.Given as goal
 
 -- the text so far and that of the sources left are the whole text

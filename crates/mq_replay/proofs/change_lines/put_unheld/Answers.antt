@@ -1,6 +1,4 @@
-use Rattle.std.proofs.Common.{[]}
-use Rattle.std.proofs.lemmas.Result.{err_from_is_err_and}
-use Rattle.mq_text.proofs.Passing.{broken_within, held_more}
+use Rattle.mq_replay.proofs.Common.{[], err_from_is_err_and, broken_within, held_more}
 use Rattle.mq_replay.proofs.ChangeTexts.{line-vacant}
 use Rattle.mq_replay.proofs.change_lines.put_unheld.Goals as goal
 

@@ -1,8 +1,4 @@
-use Rattle.std.proofs.Common.{◌∙◌, refl, arith}
-use Rattle.std.proofs.lemmas.Bool.Decides.{nat_tests}
-use Rattle.std.proofs.lemmas.Result.{err_from_is_err_and}
-use Rattle.std.proofs.Math.Bool.{or-false}
-use Rattle.mq_text.proofs.Passing.{nothing_passed}
+use Rattle.mq_replay.proofs.Common.{◌∙◌, refl, arith, nat_tests, err_from_is_err_and, or-false, nothing_passed}
 use Rattle.mq_replay.proofs.EndLines.{group_passed, group_broken, groups_passed}
 use Rattle.mq_replay.proofs.ending.put_groups.Goals as goal
 

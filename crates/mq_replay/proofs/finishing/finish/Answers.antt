@@ -1,6 +1,4 @@
-use Rattle.std.proofs.Common.{refl, sym, ◌∙◌, append-nil, inl, inr}
-use Rattle.std.proofs.lemmas.Result.{err_from_is_err_and}
-use Rattle.std.proofs.Math.Bool.{or-false, or-true}
+use Rattle.mq_replay.proofs.Common.{refl, sym, ◌∙◌, append-nil, inl, inr, err_from_is_err_and, or-false, or-true}
 use Rattle.mq_replay.proofs.Finished.{flushed_whole}
 use Rattle.mq_replay.proofs.finishing.finish.Goals as goal
 

@@ -1,6 +1,4 @@
-use Rattle.std.proofs.Common.{codes}
-use Rattle.mq_lines.specs.Objects.{address_object, protocol_text}
-use Rattle.mq_lines.proofs.Parts.{six_parts}
+use Rattle.mq_replay.proofs.Common.{codes, address_object, protocol_text, six_parts}
 use Rattle.mq_replay.proofs.listed_object.put_addresses.Goals as goal
 
 pub returns-clause-text : goal.returns-clause-text

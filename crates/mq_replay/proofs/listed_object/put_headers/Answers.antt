@@ -1,8 +1,5 @@
-use Rattle.std.proofs.Common.{codes, ◌++◌, ◌∙◌, append_assoc}
+use Rattle.mq_replay.proofs.Common.{codes, ◌++◌, ◌∙◌, append_assoc, truth_object, five_parts, address_fields, header_fields}
 use Rattle.std.specs.Fmt.{decimal}
-use Rattle.mq_lines.specs.Objects.{truth_object}
-use Rattle.mq_lines.proofs.Parts.{five_parts}
-use Rattle.mq_replay.specs.Listing.{address_fields, header_fields}
 use Rattle.mq_replay.proofs.listed_object.put_headers.Goals as goal
 
 pub returns : goal.returns

@@ -1,7 +1,4 @@
-use Rattle.std.proofs.Common.{codes, ◌++◌, refl}
-use Rattle.std.proofs.lemmas.Result.{err_from_is_err_and}
-use Rattle.mq_wire.specs.Family.{Igmp, Mld}
-use Rattle.mq_replay.specs.Listing.{packet_fields}
+use Rattle.mq_replay.proofs.Common.{codes, ◌++◌, refl, err_from_is_err_and, Igmp, Mld, packet_fields}
 use Rattle.mq_replay.proofs.Packets.{object_put, object_broken}
 use Rattle.mq_replay.proofs.listed_object.put_packet_fields.Goals as goal
 

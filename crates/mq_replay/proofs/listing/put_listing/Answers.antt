@@ -1,6 +1,4 @@
-use Rattle.std.proofs.Common.{ap}
-use Rattle.std.proofs.lemmas.Result.{err_from_is_err_and}
-use Rattle.mq_text.specs.Printing.{output_of}
+use Rattle.mq_replay.proofs.Common.{ap, err_from_is_err_and, output_of}
 use Rattle.mq_replay.proofs.ListedOver.{listed_early, listed_well}
 use Rattle.mq_replay.proofs.WalkedOver.{fault_or}
 use Rattle.mq_replay.proofs.listing.put_listing.Goals as goal

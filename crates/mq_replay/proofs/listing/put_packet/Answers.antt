@@ -1,8 +1,5 @@
-use Rattle.std.proofs.Common.{ℕ, true, false, [], ◌++◌, ap, ◌∙◌}
-use Rattle.std.proofs.lemmas.Result.{err_from_is_err_and}
-use Rattle.mq_pcap.specs.Frame.{carried_in}
-use Rattle.mq_text.proofs.Passing.{broken_within, held_more}
-use Rattle.mq_replay.specs.Listing.{place_fields, place_in, place_text}
+use Rattle.mq_replay.proofs.Common.{ℕ, true, false, [], ◌++◌, ap, ◌∙◌, err_from_is_err_and, carried_in, broken_within, held_more, place_fields, place_in}
+use Rattle.mq_replay.proofs.Common.{place_text}
 use Rattle.mq_replay.proofs.Packets.{some_said, put_as_packet}
 use Rattle.mq_replay.proofs.listing.put_packet.Goals as goal
 

@@ -1,7 +1,4 @@
-use Rattle.std.proofs.Common.{codes, ◌++◌, refl}
-use Rattle.std.proofs.lemmas.Result.{err_from_is_err_and}
-use Rattle.mq_wire.specs.Family.{Igmp, Mld}
-use Rattle.mq_lines.specs.Text.{address_text}
+use Rattle.mq_replay.proofs.Common.{codes, ◌++◌, refl, err_from_is_err_and, Igmp, Mld, address_text}
 use Rattle.mq_replay.proofs.Packets.{message_put, message_broken}
 use Rattle.mq_replay.proofs.listing.put_said.Goals as goal
 

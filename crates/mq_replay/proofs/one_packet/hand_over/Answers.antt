@@ -1,6 +1,4 @@
-use Rattle.std.proofs.Common.{ap, sym, ◌∙◌}
-use Rattle.std.proofs.lemmas.Result.{err_from_is_err_and}
-use Rattle.mq_link.specs.Configuration.{Configuration}
+use Rattle.mq_replay.proofs.Common.{ap, sym, ◌∙◌, err_from_is_err_and, Configuration}
 use Rattle.mq_replay.proofs.OnePacket.{receipt_broken, receipt_cut, receipt_lined, receipt_whole}
 use Rattle.mq_replay.proofs.one_packet.hand_over.Goals as goal
 

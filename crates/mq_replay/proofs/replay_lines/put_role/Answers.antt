@@ -1,6 +1,4 @@
-use Rattle.std.proofs.Common.{[]}
-use Rattle.std.proofs.lemmas.Result.{err_from_is_err_and}
-use Rattle.mq_text.proofs.Passing.{broken_within, held_more}
+use Rattle.mq_replay.proofs.Common.{[], err_from_is_err_and, broken_within, held_more}
 use Rattle.mq_replay.proofs.replay_lines.put_role.Goals as goal
 
 pub returns-in_err-make_room-clause-text : goal.returns-in_err-make_room-clause-text

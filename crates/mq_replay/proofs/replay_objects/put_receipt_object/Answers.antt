@@ -1,6 +1,4 @@
-use Rattle.std.proofs.Common.{codes}
-use Rattle.mq_lines.proofs.Parts.{five_parts}
-use Rattle.mq_replay.specs.ReplayObjects.{number_field, sender_start}
+use Rattle.mq_replay.proofs.Common.{codes, five_parts, number_field, sender_start}
 use Rattle.mq_replay.proofs.replay_objects.put_receipt_object.Goals as goal
 
 pub returns-in-Taken : goal.returns-in-Taken

@@ -1,9 +1,4 @@
-use Rattle.std.proofs.Common.{◌≤◌, ◌^◌, ◌||◌, Bool, ap, sym, subst, ◌∙◌}
-use Rattle.std.specs.Prelude.{IfSome}
-use Rattle.std.proofs.lemmas.Result.{err_from_is_err_and}
-use Rattle.mq_text.specs.Printing.{output_of}
-use Rattle.mq_replay.specs.declared.asked.Asked.{Asked}
-use Rattle.mq_replay.specs.Faults.{is_failed_write}
+use Rattle.mq_replay.proofs.Common.{◌≤◌, ◌^◌, ◌||◌, Bool, ap, sym, subst, ◌∙◌, IfSome, err_from_is_err_and, output_of, Asked, is_failed_write}
 use Rattle.mq_replay.proofs.ReplayedOver.{kept, replayed_early, replayed_well}
 use Rattle.mq_replay.proofs.WalkedOver.{fault_or}
 use Rattle.mq_replay.proofs.replaying.put_replay.Goals as goal

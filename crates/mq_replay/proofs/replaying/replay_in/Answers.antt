@@ -1,9 +1,5 @@
-use Rattle.std.proofs.Common.{◌≡◌, ap, sym, subst, ◌∙◌}
-use Rattle.std.proofs.Math.Bool.{or-false}
+use Rattle.mq_replay.proofs.Common.{◌≡◌, ap, sym, subst, ◌∙◌, or-false, LinkValue, link_at, most_bytes}
 use Rattle.mq_arena.proofs.Takes.{both}
-use Rattle.mq_link.specs.Link.{LinkValue}
-use Rattle.mq_link.specs.State.{link_at}
-use Rattle.mq_pcap.specs.Capture.{most_bytes}
 use Rattle.mq_replay.proofs.Finished.{counted_write}
 use Rattle.mq_replay.proofs.Rooms.{memory_so, room_of_filled, taken_so}
 use Rattle.mq_replay.proofs.WrittenReports.{nothing_reported}

@@ -1,9 +1,5 @@
-use Rattle.std.proofs.Common.{◌≡◌, ap, codes, ◌++◌, []}
-use Rattle.std.proofs.lemmas.Result.{err_from_is_err_and}
-use Rattle.mq_wire.specs.declared.message.Message.TheVariants.{Query as AQuery}
+use Rattle.mq_replay.proofs.Common.{◌≡◌, ap, codes, ◌++◌, [], err_from_is_err_and, AQuery, broken_within, held_more, put_as, then_put, message_object}
 use Rattle.mq_wire.specs.declared.query.Query.{Query}
-use Rattle.mq_text.proofs.Passing.{broken_within, held_more, put_as, then_put}
-use Rattle.mq_lines.specs.Objects.{message_object}
 use Rattle.mq_replay.proofs.sent_object.put_said.Goals as goal
 
 pub returns-in_err-make_room-clause-text : goal.returns-in_err-make_room-clause-text

@@ -1,9 +1,6 @@
-use Rattle.std.proofs.Common.{[], ◌++◌, codes}
-use Rattle.std.proofs.lemmas.Result.{err_from_is_err_and}
-use Rattle.hex.specs.Hex.{encode_lower}
+use Rattle.mq_replay.proofs.Common.{[], ◌++◌, codes, err_from_is_err_and, encode_lower, broken_behind, broken_within, held_more, then_put, said_field}
+use Rattle.mq_replay.proofs.Common.{send_start}
 use Rattle.mq_wire.specs.Numbered.{numbered_query}
-use Rattle.mq_text.proofs.Passing.{broken_behind, broken_within, held_more, then_put}
-use Rattle.mq_replay.specs.ReplayObjects.{said_field, send_start}
 use Rattle.mq_replay.proofs.sent_object.put_send_object.Goals as goal
 
 pub returns-in_err-make_room-clause-text : goal.returns-in_err-make_room-clause-text

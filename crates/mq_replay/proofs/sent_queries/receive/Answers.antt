@@ -1,5 +1,4 @@
-use Rattle.std.proofs.Common.{Ok, Err, refl, sym, ◌∙◌}
-use Rattle.std.proofs.lemmas.Result.{err_from_is_err_and}
+use Rattle.mq_replay.proofs.Common.{Ok, Err, refl, sym, ◌∙◌, err_from_is_err_and}
 use Rattle.mq_replay.proofs.PrintedQueries.{printed_by, same_buffer, same_writer}
 use Rattle.mq_replay.proofs.sent_queries.receive.Goals as goal
 

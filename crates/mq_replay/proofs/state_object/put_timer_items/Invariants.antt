@@ -1,9 +1,4 @@
-use Rattle.std.proofs.Common.{◌≡◌, ℕ, List, ◌++◌, true, drop}
-use Rattle.std.specs.Prelude.{map as list_map}
-use Rattle.mq_count.specs.Streams.{inner_of, has_failed}
-use Rattle.mq_text.specs.Printing.{Passes}
-use Rattle.mq_lines.specs.Objects.{items_from}
-use Rattle.mq_replay.specs.ReplayObjects.{timer_item}
+use Rattle.mq_replay.proofs.Common.{◌≡◌, ℕ, List, ◌++◌, true, drop, list_map, inner_of, has_failed, Passes, items_from, timer_item}
 use Rattle.mq_replay.proofs.state_object.put_timer_items.Given as goal
 
 -- the text so far and that of the sources left are the whole text

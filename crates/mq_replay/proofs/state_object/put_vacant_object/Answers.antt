@@ -1,8 +1,5 @@
-use Rattle.std.proofs.Common.{ℕ, List, [], ◌++◌, None, true, codes, append_assoc, ap, sym, ◌∙◌, arith}
-use Rattle.mq_table.specs.declared.timers.FilterMode.TheVariants.{Include}
-use Rattle.mq_table.specs.declared.timers.SourceTimer.{SourceTimer}
-use Rattle.mq_lines.specs.Objects.{items_from}
-use Rattle.mq_replay.specs.ReplayObjects.{state_end, state_start, timer_item}
+use Rattle.mq_replay.proofs.Common.{ℕ, List, [], ◌++◌, None, true, codes, append_assoc, ap, sym, ◌∙◌, arith, Include, SourceTimer, items_from, state_end}
+use Rattle.mq_replay.proofs.Common.{state_start, timer_item}
 use Rattle.mq_replay.proofs.ReplayTexts.{timers-entries}
 use Rattle.mq_replay.proofs.state_object.put_vacant_object.Goals as goal
 

@@ -1,6 +1,4 @@
-use Rattle.std.proofs.Common.{zero, suc, ◌<◌, ◌≤◌, Ok, Err, refl, subst, arith}
-use Rattle.std.proofs.lemmas.Bool.Decides.{nat_tests}
-use Rattle.std.proofs.lemmas.Result.{err_from_is_err_and}
+use Rattle.mq_replay.proofs.Common.{zero, suc, ◌<◌, ◌≤◌, Ok, Err, refl, subst, arith, nat_tests, err_from_is_err_and}
 use Rattle.mq_replay.proofs.ticks.tick_before.Goals as goal
 
 pub loop-limit-init : goal.loop-limit-init

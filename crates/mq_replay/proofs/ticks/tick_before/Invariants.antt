@@ -1,6 +1,4 @@
-use Rattle.std.proofs.Common.{◌≡◌, ℕ, ◌-◌, Result}
-use Rattle.mq_text.specs.declared.printing.LineFault.{LineFault}
-use Rattle.mq_replay.specs.Ticks.{TicksBefore, TicksInTurn}
+use Rattle.mq_replay.proofs.Common.{◌≡◌, ℕ, ◌-◌, Result, LineFault, TicksBefore, TicksInTurn}
 use Rattle.mq_replay.proofs.ticks.tick_before.Given as goal
 
 -- whatever ticks are still to come, they and those so far are all

@@ -1,13 +1,5 @@
-use Rattle.std.proofs.Common.{ℕ, ◌+◌, Option, Result, Ok, subst, ap, sym, ◌∙◌, arith, refl}
-use Rattle.std.proofs.lemmas.Result.{err_from_is_err_and}
-use Rattle.std.proofs.Math.Bool.{or-false}
-use Rattle.mq_pcap.specs.declared.fault.PcapFault.{PcapFault}
-use Rattle.mq_pcap.specs.declared.form.Form.{Form}
-use Rattle.mq_pcap.specs.declared.reader_state.Packet.{Packet}
-use Rattle.mq_pcap.specs.Filling.{input_of}
-use Rattle.mq_pcap.specs.Reading.{form_of, number_of, progress_after, records_in}
-use Rattle.mq_replay.specs.declared.stamps.Stamps.{Stamps}
-use Rattle.mq_replay.specs.PlacedPackets.{Place}
+use Rattle.mq_replay.proofs.Common.{ℕ, ◌+◌, Option, Result, Ok, subst, ap, sym, ◌∙◌, arith, refl, err_from_is_err_and, or-false, PcapFault, Form, Packet}
+use Rattle.mq_replay.proofs.Common.{input_of, form_of, number_of, progress_after, records_in, Stamps, Place}
 use Rattle.mq_replay.proofs.ReadSoFar.{none_left, read_as}
 use Rattle.mq_replay.proofs.WalkedOver.{IsWalkedTo, moment_within, next_walked, none_walked, place_as, placed_as, walked_faulty, walked_in_part, walked_well}
 use Rattle.mq_replay.proofs.walking.walk_packets.Goals as goal

@@ -1,9 +1,5 @@
-use Rattle.std.proofs.Common.{◌≡◌, ◌+◌, ◌-◌, ◌<◌, ◌≤◌, ◌^◌, length}
-use Rattle.mq_count.specs.Streams.{has_failed}
+use Rattle.mq_replay.proofs.Common.{◌≡◌, ◌+◌, ◌-◌, ◌<◌, ◌≤◌, ◌^◌, length, has_failed, endless, most_bytes, input_of, form_of, number_of, progress_of}
 use Rattle.mq_pcap.specs.declared.reader_state.Progress.TheVariants.{Reading}
-use Rattle.mq_pcap.specs.Capture.{endless, most_bytes}
-use Rattle.mq_pcap.specs.Filling.{input_of}
-use Rattle.mq_pcap.specs.Reading.{form_of, number_of, progress_of}
 use Rattle.mq_replay.proofs.WalkedOver.{IsWalkedTo}
 use Rattle.mq_replay.proofs.walking.walk_packets.Given as goal
 

@@ -1,10 +1,5 @@
-use Rattle.std.proofs.Common.{subst}
-use Rattle.mq_check.specs.declared.check_terms.CheckTerms.{CheckTerms}
-use Rattle.mq_command.specs.declared.replay.Settings.{Settings}
-use Rattle.mq_convert.specs.declared.choice.Choice.{Choice}
+use Rattle.mquerier.proofs.Common.{subst, CheckTerms, Settings, Choice, input_by, output_by, PerformsCheck, PerformsConversion}
 use Rattle.mquerier.specs.CheckRuns.{checked_settings}
-use Rattle.mquerier.specs.Changes.{input_by, output_by}
-use Rattle.mquerier.specs.Status.{PerformsCheck, PerformsConversion}
 use Rattle.mquerier.proofs.Checkings.{check_performed}
 use Rattle.mquerier.proofs.Conversions.{conversion_performed}
 use Rattle.mquerier.proofs.program.perform.Goals as goal

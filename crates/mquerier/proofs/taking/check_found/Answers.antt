@@ -1,10 +1,4 @@
-use Rattle.std.proofs.Common.{ap, ◌∙◌}
-use Rattle.std.proofs.lemmas.Result.{err_from_is_err_and}
-use Rattle.mq_check.specs.Numbered.{numbered_announced}
-use Rattle.mq_text.specs.Printing.{output_of}
-use Rattle.mq_wire.specs.Family.{Family}
-use Rattle.mquerier.specs.Changes.{input_by, output_by}
-use Rattle.mquerier.specs.Taking.{taken_line}
+use Rattle.mquerier.proofs.Common.{ap, ◌∙◌, err_from_is_err_and, numbered_announced, output_of, Family, input_by, output_by, taken_line}
 use Rattle.mquerier.proofs.Takings.{found_done, found_unwritten}
 use Rattle.mquerier.proofs.taking.check_found.Goals as goal
 

@@ -1,6 +1,4 @@
-use Rattle.std.proofs.Common.{ap, sym, Ok, ◌∙◌, inl, arith, []}
-use Rattle.std.proofs.Math.Bool.{or-true}
-use Rattle.std.proofs.lemmas.Result.{err_from_is_err_and}
+use Rattle.mquerier.proofs.Common.{ap, sym, Ok, ◌∙◌, inl, arith, [], or-true, err_from_is_err_and}
 use Rattle.mq_wire.specs.Family.{Igmp}
 use Rattle.mquerier.proofs.Worked.{line_written}
 use Rattle.mquerier.proofs.work.igmp_message.Goals as goal

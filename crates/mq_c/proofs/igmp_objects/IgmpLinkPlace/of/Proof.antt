@@ -1,8 +1,7 @@
 -- The function `of`, which takes the pointer of a borrowed value.
-use Rattle.std.proofs.Common.{◌≡◌, Some, refl}
+use Rattle.mq_c.proofs.Common.{◌≡◌, Some, refl, igmp_row}
 use base.Logic.{emp}
 use contract.Monad.{fact_i}
-use Rattle.mq_c.specs.Rows.{igmp_row}
 use Rattle.mq_c.specs.contracts.igmp_objects.IgmpLinkPlace.{the_heap}
 use Rattle.mq_c.specs.contracts.igmp_objects.IgmpLinkPlace.of as f
 use Rattle.mq_c.proofs.Pointers.{igmp_link_place}

@@ -1,9 +1,6 @@
 -- `lend` lends what is behind the pointer, and the object follows it.
-use Rattle.std.proofs.Common.{[], ◌∷◌, refl}
+use Rattle.mq_c.proofs.Common.{[], ◌∷◌, refl, follows, says, igmp_workspace_row}
 use types.Kit.{‵, ◌$◌, ◌∵◌, !, qed, done}
-use denote.Follow.{follows}
-use denote.Triple.Walked.{says}
-use Rattle.mq_c.specs.Rows.{igmp_workspace_row}
 use Rattle.mq_c.specs.contracts.igmp_objects.IgmpWorkspace.{the_row}
 use Rattle.mq_c.specs.contracts.igmp_objects.IgmpWorkspace.lend as f
 use Rattle.mq_c.proofs.Pointers.{igmp_workspace}

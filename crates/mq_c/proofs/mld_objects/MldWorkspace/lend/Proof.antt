@@ -1,9 +1,6 @@
 -- `lend` lends what is behind the pointer, and the object follows it.
-use Rattle.std.proofs.Common.{[], ◌∷◌, refl}
+use Rattle.mq_c.proofs.Common.{[], ◌∷◌, refl, follows, says, mld_workspace_row}
 use types.Kit.{‵, ◌$◌, ◌∵◌, !, qed, done}
-use denote.Follow.{follows}
-use denote.Triple.Walked.{says}
-use Rattle.mq_c.specs.Rows.{mld_workspace_row}
 use Rattle.mq_c.specs.contracts.mld_objects.MldWorkspace.{the_row}
 use Rattle.mq_c.specs.contracts.mld_objects.MldWorkspace.lend as f
 use Rattle.mq_c.proofs.Pointers.{mld_workspace}

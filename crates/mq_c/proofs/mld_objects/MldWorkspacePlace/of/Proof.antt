@@ -1,8 +1,7 @@
 -- The function `of`, which takes the pointer of a borrowed value.
-use Rattle.std.proofs.Common.{◌≡◌, Some, refl}
+use Rattle.mq_c.proofs.Common.{◌≡◌, Some, refl, mld_workspace_row}
 use base.Logic.{emp}
 use contract.Monad.{fact_i}
-use Rattle.mq_c.specs.Rows.{mld_workspace_row}
 use Rattle.mq_c.specs.contracts.mld_objects.MldWorkspacePlace.{the_heap}
 use Rattle.mq_c.specs.contracts.mld_objects.MldWorkspacePlace.of as f
 use Rattle.mq_c.proofs.Pointers.{mld_workspace_place}

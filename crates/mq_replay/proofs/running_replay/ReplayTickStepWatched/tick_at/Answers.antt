@@ -1,7 +1,4 @@
-use Rattle.std.proofs.Common.{Bool, ◌||◌, is_err, refl, ap, sym, ◌∙◌}
-use Rattle.std.proofs.lemmas.Result.{err_from_is_err_and}
-use Rattle.std.proofs.Math.Bool.{or-false}
-use Rattle.mq_link.specs.Configuration.{Configuration}
+use Rattle.mq_replay.proofs.Common.{Bool, ◌||◌, is_err, refl, ap, sym, ◌∙◌, err_from_is_err_and, or-false, Configuration}
 use Rattle.mq_replay.proofs.EventLines.{tick_broken_off, tick_lined}
 use Rattle.mq_replay.proofs.TickedReplays.{comes_later}
 use Rattle.mq_replay.proofs.running_replay.ReplayTickStepWatched.tick_at.Goals as goal
