@@ -145,7 +145,8 @@ def with_s_of(seen, wanted):
 class Rules:
     """What a check accepts: the tolerance, the interval of retransmissions, how many of them a schedule has, and how many a schedule has that
     counts from the query before. A change counts for `span`. A query waits for its partner for the time `keep`. Until `held_until` the
-    querier may hold something since before the capture, and until `first_until` a schedule may have begun before it."""
+    querier may hold something since before the capture, and until `first_until` a schedule may have begun before it. With `strict` no other
+    reading is accepted. If it is `above_7`, any number of queries may follow a first one."""
 
     within: int
     interval: int
@@ -155,6 +156,8 @@ class Rules:
     keep: int
     held_until: int
     first_until: int
+    strict: bool
+    above_7: bool
 
     def is_near(self, one, other):
         return abs(one - other) <= self.within
@@ -211,7 +214,8 @@ class Subject:
 
     def unclear(self, now):
         """The fields of a query that some reading may want now: changes came close together, and the last one still counts."""
-        return next((terms for at, terms in self.close if self.rules.more and now <= at + self.rules.span), None)
+        is_accepted = self.rules.more and not self.rules.strict
+        return next((terms for at, terms in self.close if is_accepted and now <= at + self.rules.span), None)
 
     def caused(self, now, cause):
         """Whether a record may ask for a query that is seen now, for the first time."""
@@ -230,7 +234,8 @@ class Subject:
         rules = self.rules
         follows = bool(self.dues) and rules.is_near(self.dues[0][0], it.at)
         cause = next((cause for cause in causes if self.caused(it.at, cause)), None)
-        if it.possible is None and (cause or it.at < rules.first_until):
+        is_unforeseen = it.at < rules.first_until or rules.above_7 and follows
+        if it.possible is None and (cause or is_unforeseen):
             it.possible = with_s_of(it.terms, cause[1]) if cause else it.terms
         if other := self.first_near(it.at, self.wanted):
             self.find(it, other, other.terms)
@@ -245,7 +250,7 @@ class Subject:
             self.go_on(it, follows, True)
             self.seen.append(it)
             return
-        self.go_on(it, follows, it.partner is not None)
+        self.go_on(it, follows, it.partner is not None or rules.above_7 and it.in_role and it.possible is not None)
         if it.partner is None:
             self.seen.append(it)
 
@@ -340,10 +345,10 @@ class Basis:
 class Observed(Querier):
     """A querier whose queries are wanted, in place of sent: `want` takes each."""
 
-    def __init__(self, family, options, want):
+    def __init__(self, family, options, want, above_7):
         super().__init__(family, options)
         self.want, self.is_back, self.order, self.heard, self.packet = want, False, 0, None, 0
-        self.is_ticking = False
+        self.is_ticking, self.above_7 = False, above_7
 
     def next_order(self):
         self.order += 1
@@ -363,7 +368,7 @@ class Observed(Querier):
         said = unit * value_of(code_of(response // unit, bits), bits)
         interval = value_of(code_of(self.qi // 1000, 8), 8)
         to = group if any(group) else self.family.everyone
-        return Terms(self.family.version, said, (int(s), self.rv, interval), to)
+        return Terms(self.family.version, said, (int(s), 0 if self.above_7 else self.rv, interval), to)
 
     def timer(self, group, source):
         """The deadline of a group, or of a source of it, or None."""
@@ -417,10 +422,11 @@ VARIABLES = ("response", "qrv", "interval")
 class Flags:
     """What a check is asked for. With `strict` no other readings are accepted, and with `began` the capture begins before the querier. With
     `possible` the lines have the possible findings, with `packets` each line has the number of its packet, and with `cite` its section. With
-    `once` a changed variable is reported once."""
+    `once` a changed variable is reported once. If it is `above_7`, the Robustness Variable of the querier is above 7."""
 
     strict: bool = False
     began: bool = False
+    above_7: bool = False
     possible: bool = False
     packets: bool = False
     once: bool = False
@@ -445,20 +451,22 @@ class Check:
 
     def __init__(self, family, options, within, flags):
         self.family, self.it, self.within, self.flags = family, options, within, flags
-        self.link = Observed(family, options, self.want)
+        self.link = Observed(family, options, self.want, flags.above_7)
         self.wanted, self.seen, self.changes, self.findings, self.settled = [], [], [], [], []
         # The state of each subject, what was missed of schedules from before the capture, and the groups that no older host mutes.
         self.subjects, self.missed, self.unmuted = {}, [], set()
         count = options.rv - 1
-        first = count * options.lmqi + within + 1
-        lasts, span = options.rv * 1000 * options.qi + options.qri + within + 1, options.rv * options.lmqi + within
+        more = LONGEST if flags.above_7 else 0 if flags.strict else count
+        first = 0 if flags.began else count * options.lmqi + within + 1
+        lasts = LATEST + 1 if flags.above_7 else 0 if flags.began else options.rv * 1000 * options.qi + options.qri + within + 1
+        span = options.rv * options.lmqi + within
         # The time for which a query waits for its partner.
         self.keep = within if flags.strict else max(within, min(within + options.lmqi, LONGEST))
-        self.rules = Rules(within, options.lmqi, count, 0 if flags.strict else count, span, self.keep, 0 if flags.began else lasts, 0 if flags.began else first)
+        self.rules = Rules(within, options.lmqi, count, more, span, self.keep, lasts, first, flags.strict, flags.above_7)
         self.general, self.specific = 0, 0
         self.basis = Basis(family, options.own)
         # The last general query in this time as querier; None where there was none, or where it isn't known of any.
-        self.before, self.is_known, self.startup = 0, False, options.rv - 1
+        self.before, self.is_known, self.startup = 0, False, LONGEST if flags.above_7 else options.rv - 1
         self.last_general = None
 
     def is_near(self, one, other):
@@ -813,8 +821,10 @@ def taken(data, family):
         if last == (query.group, len(query.sources)):
             lmqi = shown(moment - at, 100, lmqi, lambda ms: unit * value_of(code_of(ms // unit, bits), bits), 3174400)
         last, at = (query.group, len(query.sources)), moment
-    found = {"rv": robustness, "qi": interval // 1000, "qri": general[0][1].response, "lmqi": lmqi}
+    found = {"qi": interval // 1000, "qri": general[0][1].response, "lmqi": lmqi}
     found = {name: value for name, value in found.items() if value}
+    if general[0][1].fields:
+        found = {"rv": robustness, **found}
     if len(sources) > 1:
         found["beside"] = sources[1]
     return querier, found
@@ -825,14 +835,16 @@ def check_taking(data, family, given, within=100, flags=Flags()):
     querier, found = taken(data, family)
     if querier is None:
         return None, found
-    beside = found.pop("beside", None)
-    options = CheckOptions(querier, **{**found, **given})
+    beside, above_7 = found.pop("beside", None), found.get("rv") == 0 and "rv" not in given
+    options = CheckOptions(querier, **{**found, **({"rv": 7} if above_7 else {}), **given})
     if options.qri >= 1000 * options.qi:
         return None, "configuration fault 3"
-    verdict, fault = check(data, family, options, within, dataclasses.replace(flags, once=True))
+    verdict, fault = check(data, family, options, within, dataclasses.replace(flags, once=True, above_7=above_7))
     if verdict:
         words = [f" {name} {found[name]}" for name in ("rv", "qi", "qri", "lmqi") if name in found and name not in given]
+        words = [" rv above 7", *words[1:]] if above_7 else words
         words += [f", beside {text_of(beside)}"] if beside else []
+        words += ["; what depends on rv is not judged"] if above_7 else []
         verdict.lines.append(f"taken from the capture: querier {text_of(querier)}{''.join(words)}")
     return verdict, fault
 

@@ -301,7 +301,7 @@ class Summary:
 
 @dataclasses.dataclass(frozen=True)
 class Taken:
-    """The querier and the variables that a check took from the capture, and the next querier."""
+    """The querier and the variables that a check took from the capture, and the next querier. `rv` is 0 if it is above 7."""
 
     querier: Address
     rv: Optional[int]

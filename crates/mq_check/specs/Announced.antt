@@ -32,11 +32,11 @@ abbrev pub if_any : ℕ → Option ℕ
 if_any zero = None
 if_any (suc n) = Some (suc n)
 
--- QRV and the interval of QQIC, which older queries don't have. If one is 0, its default holds (RFC 3376 sections 4.1.6
--- and 4.1.7, RFC 3810 sections 5.1.8 and 5.1.9).
+-- QRV and the interval of QQIC, which older queries don't have. A querier says QRV 0 if its Robustness Variable is above 7. If
+-- the interval is 0, its default holds. RFC 3376 sections 4.1.6 and 4.1.7, RFC 3810 sections 5.1.8 and 5.1.9.
 abbrev pub robustness_in : QueryVersion ℕ → Option ℕ
 robustness_in (Older version) = None
-robustness_in (Current fields) = if_any fields.robustness
+robustness_in (Current fields) = Some fields.robustness
 
 abbrev pub interval_in : QueryVersion ℕ → Option ℕ
 interval_in (Older version) = None

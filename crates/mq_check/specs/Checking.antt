@@ -28,10 +28,10 @@ use Rattle.mq_check.specs.declared.standing.Standing.{Standing}
 use Rattle.mq_check.specs.declared.terms.Terms.{Terms}
 use Rattle.mq_check.specs.declared.waiting.Side.TheVariants.{OfWanted, OfSeen}
 use Rattle.mq_check.specs.Entries.{moment_of, first_terms, may_be_left_out, excused_if, findings_of, is_possible, is_suppressed, is_unlike, with_right_s}
-use Rattle.mq_check.specs.General.{phase_at_start, wrong_interval, phase_behind, silence_up_to, phase_again}
+use Rattle.mq_check.specs.General.{phase_for, wrong_interval, phase_behind, silence_up_to, phase_again}
 use Rattle.mq_check.specs.Standing.{plain, standing_in}
 use Rattle.mq_check.specs.Schedules.{SchedulesValue, schedules_at_start, schedules_wanted, schedules_changed, recent, as_seen, before_in, is_next, terms_wanted}
-use Rattle.mq_check.specs.Schedules.{at_first, caused, cause_in, first_of, followed, is_near_cause, placed, unclear, without_next}
+use Rattle.mq_check.specs.Schedules.{unforeseen, caused, cause_in, first_of, followed, is_near_cause, placed, said, unclear, without_next}
 use Rattle.mq_link.specs.Configuration.{Configuration}
 use Rattle.mq_link.specs.Sent.{Outgoing}
 use Rattle.mq_link.specs.State.{LinkState}
@@ -56,7 +56,7 @@ abbrev pub checking_at_start : (within : ℕ) → Timing → CheckFlags → Chec
 checking_at_start within timing flags = record {
   waiting = nothing;
   changed = None;
-  phase = phase_at_start timing;
+  phase = phase_for timing flags.above_7;
   last_general = None;
   general = 0;
   specific = 0;
@@ -144,7 +144,7 @@ alone_if true is_muted None = Extra (reason_of is_muted)
 abbrev pub possible_by : (moment : ℕ) → Terms ℕ → Asked ℕ → SchedulesValue → Option (Terms ℕ)
 possible_by moment terms asked s = first_of
     (as_seen terms (first_of (unclear asked s) (caused moment asked s)))
-    (at_first moment terms s)
+    (unforeseen moment terms asked s)
 
 abbrev pub alone_after : (moment : ℕ) → Terms ℕ → Standing → Asked ℕ → CheckingValue → Unpaired ℕ
 alone_after moment terms standing asked c =
@@ -240,7 +240,7 @@ with_general within configured moment terms wanted c =
 abbrev pub general_compared : (within : ℕ) → (configured : Timing) → (moment : ℕ) → (terms wanted : Terms ℕ) → CheckingValue → CheckingValue
 general_compared within configured moment terms wanted c =
     if is_querier_in c.phase
-    then with_general within configured moment terms wanted c
+    then with_general within configured moment terms (said c.schedules.repeats wanted) c
     else with_seen moment terms plain c AllGroups
 
 abbrev pub general_seen : (within : ℕ) → (configured : Timing) → (moment : ℕ) → (terms wanted : Terms ℕ) → CheckingValue → CheckingValue

@@ -1,6 +1,6 @@
 -- General queries of the checked querier, which has its own phase. RFC 3376 sections 6.6.2, 8.2, 8.6 and 8.7, RFC 3810
 -- sections 7.6.2, 9.2, 9.6 and 9.7.
-use Rattle.std.specs.Prelude.{ℕ, ◌+◌, ◌-◌, ◌&&◌, ◌||◌, not, nat_lt, nat_le, Bool, true, false, if◌then◌else◌, Option, None, Some}
+use Rattle.std.specs.Prelude.{ℕ, ◌+◌, ◌-◌, ◌^◌, ◌&&◌, ◌||◌, not, nat_lt, nat_le, Bool, true, false, if◌then◌else◌, Option, None, Some}
 use Rattle.mq_table.specs.declared.timing.Timing.{Timing}
 use Rattle.mq_table.specs.Timing.{query_interval, startup_interval, startup_count}
 use Rattle.mq_check.specs.declared.phase.Phase.{Phase}
@@ -11,6 +11,10 @@ use Rattle.mq_check.specs.Entries.{is_within}
 -- startup intervals, one fewer than the startup queries.
 abbrev pub phase_at_start : Timing → Phase
 phase_at_start timing = Starting (startup_count timing - 1)
+
+-- The number of startup intervals stays open if the Robustness Variable is above 7.
+abbrev pub phase_for : Timing → (above_7 : Bool) → Phase
+phase_for timing above_7 = Starting (if above_7 then 2 ^ 32 - 1 else startup_count timing - 1)
 
 -- more than a query interval and the tolerance has passed
 abbrev pub is_late : (within : ℕ) → Timing → (passed : ℕ) → Bool

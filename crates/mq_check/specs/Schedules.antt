@@ -16,6 +16,7 @@ use Rattle.mq_check.specs.declared.entry.Unpaired.TheVariants.{Extra, Scheduled,
 use Rattle.mq_check.specs.declared.finding.ExtraReason.TheVariants.{NoChange}
 use Rattle.mq_check.specs.declared.schedules.Repeats.{Repeats}
 use Rattle.mq_check.specs.declared.terms.Terms.{Terms}
+use Rattle.mq_check.specs.declared.terms.QuerierTerms.{QuerierTerms}
 use Rattle.mq_check.specs.declared.waiting.Side.TheVariants.{OfWanted, OfSeen}
 use Rattle.mq_check.specs.Entries.{moment_of, left_in, terms_in, first_entry, with_s_of, with_suppress}
 use Rattle.mq_check.specs.Waiting.{WaitingValue, nothing, has_free, is_free, with_entry, with_partner, settled}
@@ -36,6 +37,10 @@ abbrev pub more_in : Timing → (strict : Bool) → ℕ
 more_in timing true = 0
 more_in timing false = last_member_count timing - 1
 
+-- The number stays open if the Robustness Variable is above 7.
+abbrev pub more_for : Timing → CheckFlags → ℕ
+more_for timing flags = if flags.above_7 then 2 ^ 32 - 1 else more_in timing flags.strict
+
 -- The time after which an entry expires: at most 2^32 - 1, but never shorter than the tolerance. A query that goes on with
 -- a schedule may be the partner of a query that was wanted up to an interval and the tolerance before.
 abbrev pub keep_in : (within : ℕ) → Timing → (strict : Bool) → ℕ
@@ -54,6 +59,10 @@ abbrev pub held_until : (within : ℕ) → Timing → (began : Bool) → ℕ
 held_until within timing true = 0
 held_until within timing false = membership_interval timing + within + 1
 
+-- A querier whose Robustness Variable is above 7 may hold a group for longer than the link, at any moment.
+abbrev pub held_for : (within : ℕ) → Timing → CheckFlags → ℕ
+held_for within timing flags = if flags.above_7 then 2 ^ 53 + 1 else held_until within timing flags.began
+
 -- the moment from which no query belongs to a schedule that a change before the capture started
 abbrev pub first_until : (within : ℕ) → Timing → (began : Bool) → ℕ
 first_until within timing true = 0
@@ -63,12 +72,14 @@ abbrev pub repeats_in : (within : ℕ) → Timing → CheckFlags → Repeats
 repeats_in within timing flags = record {
   within = within;
   interval = timing.last_member_interval;
-  more = more_in timing flags.strict;
+  more = more_for timing flags;
   count = last_member_count timing - 1;
   span = span_in within timing;
   keep = keep_in within timing flags.strict;
-  held_until = held_until within timing flags.began;
+  held_until = held_for within timing flags;
   first_until = first_until within timing flags.began;
+  strict = flags.strict;
+  above_7 = flags.above_7;
 }
 
 abbrev pub schedules_at_start : (within : ℕ) → Timing → CheckFlags → SchedulesValue
@@ -160,9 +171,18 @@ abbrev pub with_packet_of : Option (Terms ℕ) → Terms ℕ → Terms ℕ
 with_packet_of None terms = terms
 with_packet_of (Some last) terms = record terms { packet = last.packet }
 
+-- A query carries QRV 0 if the Robustness Variable is above 7.
+abbrev pub qrv_said : (above_7 : Bool) → Option QuerierTerms → Option QuerierTerms
+qrv_said above_7 None = None
+qrv_said false (Some fields) = Some fields
+qrv_said true (Some fields) = Some (record fields { robustness = 0 })
+
+abbrev pub said : Repeats → Terms ℕ → Terms ℕ
+said repeats terms = record terms { querier = qrv_said repeats.above_7 terms.querier }
+
 abbrev pub terms_wanted : (is_again : Bool) → Terms ℕ → Asked ℕ → SchedulesValue → Terms ℕ
-terms_wanted false terms asked s = terms
-terms_wanted true terms asked s = with_packet_of (terms_of (last_in asked s)) terms
+terms_wanted false terms asked s = said s.repeats terms
+terms_wanted true terms asked s = with_packet_of (terms_of (last_in asked s)) (said s.repeats terms)
 
 -- the query on the subject that is still to come in a schedule from before the capture
 abbrev pub next_in : Asked ℕ → SchedulesValue → Option (Entry ℕ)
@@ -188,7 +208,8 @@ with_cause moment terms asked s =
     }
 
 abbrev pub schedules_changed : (moment : ℕ) → Terms ℕ → Asked ℕ → SchedulesValue → SchedulesValue
-schedules_changed moment terms asked s = with_cause moment terms asked (with_close (is_close moment asked s) moment terms asked s)
+schedules_changed moment terms asked s =
+    with_cause moment (said s.repeats terms) asked (with_close (is_close moment asked s) moment (said s.repeats terms) asked s)
 
 -- The group, or all sources of the group, to which a subject belongs. The source zero stands for all sources.
 abbrev pub whole_of : Asked ℕ → Asked ℕ
@@ -207,7 +228,7 @@ has_changed (Source group source) s =
 -- all sources, came close together. A strict check accepts no other reading.
 abbrev pub unclear : Asked ℕ → SchedulesValue → Option (Terms ℕ)
 unclear asked s =
-    if nat_lt 0 s.repeats.more && has_changed asked s
+    if nat_lt 0 s.repeats.more && has_changed asked s && not s.repeats.strict
     then terms_of (first_entry (is_free OfSeen (whole_of asked) 0) s.causes.entries)
     else None
 
@@ -241,10 +262,11 @@ caused moment (Source group source) s = first_of
     (caused_by s.repeats moment (last_in (Source group source) s) (cause_in (Source group source) s))
     (caused_by s.repeats moment (last_in (Source group source) s) (cause_in (Group group) s))
 
--- The terms of a query at the start of a capture, which a change from before may ask for. They are those that are seen,
--- since that change isn't known.
-abbrev pub at_first : (moment : ℕ) → (seen : Terms ℕ) → SchedulesValue → Option (Terms ℕ)
-at_first moment seen s = if nat_lt moment s.repeats.first_until then Some seen else None
+-- The terms of a query at the start of a capture, which a change from before may ask for. Or it goes on with a schedule whose
+-- number of queries isn't known. They are those that are seen, since the change isn't known.
+abbrev pub unforeseen : (moment : ℕ) → (seen : Terms ℕ) → Asked ℕ → SchedulesValue → Option (Terms ℕ)
+unforeseen moment seen asked s =
+    if nat_lt moment s.repeats.first_until || s.repeats.above_7 && is_next s.repeats moment (before_in asked s) then Some seen else None
 
 -- The wanted terms of a query that is the next one. S depends on timers at that moment: `is_above` is set if the timer of the
 -- subject exceeds the Last Member Query Time.
@@ -292,10 +314,11 @@ begun moment wanted asked s =
     with_next s.repeats.count (due_after s.repeats moment) wanted asked (without_next asked (schedules_wanted moment wanted asked s))
 
 -- The schedules after a query was seen. It has a partner among the wanted queries, or is the next one of a schedule from
--- before the capture. Or a change in the capture caused it: then it is the first one of such a schedule.
+-- before the capture. Or a change in the capture caused it: then it is the first one of such a schedule. If the number of queries
+-- isn't known, more may follow any possible query.
 abbrev pub placed_alone : (moment : ℕ) → Terms ℕ → Asked ℕ → (is_possible : Bool) → (caused : Option (Terms ℕ)) → SchedulesValue → SchedulesValue
 placed_alone moment terms asked false caused s = schedules_seen moment terms asked false s
-placed_alone moment terms asked true None s = schedules_seen moment terms asked false s
+placed_alone moment terms asked true None s = schedules_seen moment terms asked s.repeats.above_7 s
 placed_alone moment terms asked true (Some wanted) s = begun moment wanted asked (schedules_seen moment terms asked true s)
 
 abbrev pub placed : (moment : ℕ) → Terms ℕ → Asked ℕ → (has_partner follows is_possible : Bool) → (caused : Option (Terms ℕ)) → SchedulesValue → SchedulesValue

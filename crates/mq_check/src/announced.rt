@@ -23,13 +23,13 @@ use mq_wire::{Query, WireKey};
 use std::alloc::{AllocError, Allocator};
 use std::io::Read;
 
-/// The variables that a querier announces in its queries. A variable is None if no query has it, or if it is 0: then
-/// its default holds (RFC 3376 sections 4.1.6 and 4.1.7, RFC 3810 sections 5.1.8 and 5.1.9). If the code of an interval
-/// stands for several, the times between queries show the interval.
+/// The variables that a querier announces in its queries. A variable is None if no query has it, or if it is 0: then its
+/// default holds. QRV may be 0. RFC 3376 sections 4.1.6 and 4.1.7, RFC 3810 sections 5.1.8 and 5.1.9. If the code of an
+/// interval stands for several, the times between queries show the interval.
 pub struct Announced<K: WireKey> {
     /// The querier's address: the lowest source of general queries, which is elected.
     pub querier: K,
-    /// QRV of its first general query.
+    /// QRV of its first general query. If it is 0, the Robustness Variable is above 7.
     pub robustness: Option<u32>,
     /// The interval in seconds, from QQIC of its first general query.
     pub query_seconds: Option<u32>,

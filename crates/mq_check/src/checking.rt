@@ -97,7 +97,7 @@ impl<F: Family, A: Allocator> Checking<F, A> {
         Ok(Checking {
             waiting,
             changed: None,
-            phase: Phase::at_start(configured),
+            phase: Phase::at_start(configured, flags.above_7),
             last_general: None,
             general: 0,
             specific: 0,

@@ -57,12 +57,17 @@ fn startup_left(within: u32, timing: Timing, startup: u32, interval: u64) -> u32
 }
 
 impl Phase {
-    /// Returns the phase at the start of a capture.
-    pub(crate) fn at_start(timing: Timing) -> Phase
-        ensures { result ≡ spec.phase_at_start timing }
+    /// Returns the phase at the start of a capture. `above_7` is set if the Robustness Variable is above 7.
+    pub(crate) fn at_start(timing: Timing, above_7: bool) -> Phase
+        ensures { result ≡ spec.phase_for timing above_7 }
     {
         timing.is_in_range();
-        Phase::Starting(timing.startup_count() - 1)
+        let startup = if above_7 {
+            u32::MAX
+        } else {
+            timing.startup_count() - 1
+        };
+        Phase::Starting(startup)
     }
 
     /// Returns the interval before a general query at this moment, if it is wrong.

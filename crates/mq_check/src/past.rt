@@ -9,6 +9,7 @@ ghost use Rattle.mq_check.specs.Telling.{Tells};
 ghost use Rattle.mq_check.specs.Waiting as waits;
 
 use crate::asked::Asked;
+use crate::check_terms::CheckFlags;
 use crate::entry::{Entry, Need, Unpaired};
 use crate::finding::ExtraReason;
 use crate::finding_writer::FindingWriter;
@@ -29,7 +30,7 @@ use std::alloc::Allocator;
 use std::io::Write;
 
 /// Returns the moment from which nothing lasts that the querier held before the capture.
-pub(crate) fn held_until(within: u32, configured: Timing, began: bool) -> Moment
+fn held_until(within: u32, configured: Timing, began: bool) -> Moment
     ensures { result ≡ spec.held_until within configured began }
 {
     let start = Stamp::of(0).moment();
@@ -40,6 +41,16 @@ pub(crate) fn held_until(within: u32, configured: Timing, began: bool) -> Moment
         .after(configured.membership_interval())
         .after(Span::from_ms(within))
         .after(Span::from_ms(1))
+}
+
+/// Returns that moment, or one after all others if the Robustness Variable is above 7.
+pub(crate) fn held_for(within: u32, configured: Timing, flags: CheckFlags) -> Moment
+    ensures { result ≡ spec.held_for within configured flags }
+{
+    if flags.above_7 {
+        return Stamp::of(1 << 53).moment().after(Span::from_ms(1));
+    }
+    held_until(within, configured, flags.began)
 }
 
 /// Returns the moment from which no query belongs to a schedule that a change before the capture started. `last_member` is the
@@ -181,8 +192,9 @@ impl<F: Family, A: Allocator> Schedules<F, A> {
         ensures { self.new ≡ spec.schedules_changed moment (numbered_terms F.Address.number terms) (numbered_asked F.Address.number asked) self.old }
     {
         let is_close = self.is_close(moment, asked);
-        self.note_close(is_close, moment, terms, asked);
-        self.note_cause(moment, terms, asked);
+        let wanted = self.said(terms);
+        self.note_close(is_close, moment, wanted, asked);
+        self.note_cause(moment, wanted, asked);
     }
 
     /// Returns whether a change comes while the last one on the subject counts, or one of a change from before the capture.
@@ -235,7 +247,7 @@ impl<F: Family, A: Allocator> Schedules<F, A> {
         if self.repeats.more == 0 {
             return None;
         }
-        if !self.has_changed(asked) {
+        if !self.has_changed(asked) || self.repeats.strict {
             return None;
         }
         let close = self.causes.first(Side::OfSeen, whole_of::<F>(asked));
@@ -275,16 +287,20 @@ impl<F: Family, A: Allocator> Schedules<F, A> {
         }
     }
 
-    /// Returns the terms of a query at the start of a capture, which a change from before may ask for.
-    pub(crate) fn at_first(
+    /// Returns the terms of a query at the start of a capture, which a change from before may ask for. A query that goes on with
+    /// a schedule has terms too if the number of its queries isn't known.
+    pub(crate) fn unforeseen(
         &self,
         moment: Moment,
         seen: Terms<F::Address>,
+        asked: Asked<F::Address>,
     ) -> Option<Terms<F::Address>>
         ensures { numbered_terms_if F.Address.number result
-            ≡ spec.at_first moment (numbered_terms F.Address.number seen) self.now }
+            ≡ spec.unforeseen moment (numbered_terms F.Address.number seen) (numbered_asked F.Address.number asked) self.now }
     {
-        if is_before(moment, self.repeats.first_until) {
+        let before = self.sent.first(Side::OfSeen, asked);
+        let goes_on = is_next(&self.repeats, moment, &before);
+        if is_before(moment, self.repeats.first_until) || self.repeats.above_7 && goes_on {
             Some(seen)
         } else {
             None
@@ -391,7 +407,8 @@ impl<F: Family, A: Allocator> Schedules<F, A> {
                 self.see(moment, terms, asked, true);
                 self.begin(moment, wanted, asked);
             }
-            _ => self.see(moment, terms, asked, false),
+            (true, None) => self.see(moment, terms, asked, self.repeats.above_7),
+            (false, _) => self.see(moment, terms, asked, false),
         }
     }
 

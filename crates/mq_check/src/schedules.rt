@@ -11,8 +11,8 @@ ghost use Rattle.mq_check.specs.Waiting as waits;
 use crate::asked::Asked;
 use crate::check_terms::CheckFlags;
 use crate::entry::{Entry, Need, Unpaired};
-use crate::past::{first_until, held_until};
-use crate::terms::{Terms, with_s_of};
+use crate::past::{first_until, held_for};
+use crate::terms::{QuerierTerms, Terms, with_s_of};
 use crate::waiting::{Side, Waiting, is_before};
 use mq_arena::VectorSource;
 use mq_count::{Moment, Span};
@@ -29,7 +29,7 @@ pub struct Repeats {
     pub(crate) within: Span,
     // The Last Member Query Interval.
     pub(crate) interval: Span,
-    // The number of queries after the first one of a schedule. A strict check accepts no other reading, so it has none.
+    // The number of queries that may follow the first one of a schedule. A strict check accepts no other reading, so it has none.
     pub(crate) more: u32,
     // The number of queries after the first one of a schedule.
     pub(crate) count: u32,
@@ -41,6 +41,10 @@ pub struct Repeats {
     pub(crate) held_until: Moment,
     // The moment from which no query belongs to a schedule that a change before the capture started.
     pub(crate) first_until: Moment,
+    // True if only this project's own readings of the standard are accepted.
+    pub(crate) strict: bool,
+    // True if the Robustness Variable is above 7.
+    pub(crate) above_7: bool,
 }
 
 /// The queries of schedules. `new` allocates all memory.
@@ -77,6 +81,17 @@ fn more_in(timing: Timing, strict: bool) -> u32
     }
 }
 
+/// Returns how many queries of a schedule may follow the first one.
+fn more_for(timing: Timing, flags: CheckFlags) -> u32
+    ensures { result ≡ spec.more_for timing flags }
+{
+    if flags.above_7 {
+        u32::MAX
+    } else {
+        more_in(timing, flags.strict)
+    }
+}
+
 /// Returns the time after which an entry expires.
 fn keep_in(within: u32, timing: Timing, last_member: u32, strict: bool) -> Span
     requires interval { last_member ≡ timing.last_member_interval }
@@ -109,12 +124,14 @@ fn repeats_in(within: u32, timing: Timing, last_member: u32, flags: CheckFlags) 
     Repeats {
         within: Span::from_ms(within),
         interval: timing.last_member_interval(),
-        more: more_in(timing, flags.strict),
+        more: more_for(timing, flags),
         count: timing.last_member_count() - 1,
         span: span_in(within, timing, last_member),
         keep: keep_in(within, timing, last_member, flags.strict),
-        held_until: held_until(within, timing, flags.began),
+        held_until: held_for(within, timing, flags),
         first_until: first_until(within, timing, last_member, flags.began),
+        strict: flags.strict,
+        above_7: flags.above_7,
     }
 }
 
@@ -216,6 +233,20 @@ fn with_packet_of<K: WireKey>(last: Option<Terms<K>>, terms: Terms<K>) -> Terms<
             packet: last.packet,
         },
         None => terms,
+    }
+}
+
+/// Returns the fields of a query with QRV 0 if the Robustness Variable is above 7.
+fn qrv_said(above_7: bool, fields: Option<QuerierTerms>) -> Option<QuerierTerms>
+    ensures { result ≡ spec.qrv_said above_7 fields }
+{
+    match fields {
+        Some(fields) => Some(QuerierTerms {
+            suppress: fields.suppress,
+            robustness: if above_7 { 0 } else { fields.robustness },
+            interval: fields.interval,
+        }),
+        None => None,
     }
 }
 
@@ -349,11 +380,25 @@ impl<F: Family, A: Allocator> Schedules<F, A> {
         ensures { numbered_terms F.Address.number result
             ≡ spec.terms_wanted is_again (numbered_terms F.Address.number terms) (numbered_asked F.Address.number asked) self.now }
     {
+        let wanted = self.said(terms);
         if !is_again {
-            return terms;
+            return wanted;
         }
         let last = self.sent.first(Side::OfWanted, asked);
-        with_packet_of(terms_of(&last), terms)
+        with_packet_of(terms_of(&last), wanted)
+    }
+
+    /// Returns the terms of a wanted query, in which QRV is 0 if the Robustness Variable is above 7.
+    pub(crate) fn said(&self, terms: Terms<F::Address>) -> Terms<F::Address>
+        ensures { numbered_terms F.Address.number result ≡ spec.said self.now.repeats (numbered_terms F.Address.number terms) }
+    {
+        Terms {
+            version: terms.version,
+            response: terms.response,
+            querier: qrv_said(self.repeats.above_7, terms.querier),
+            to: terms.to,
+            packet: terms.packet,
+        }
     }
 
     /// Handles a query that becomes wanted.

@@ -230,8 +230,8 @@ impl<F: Family, A: Allocator> Checking<F, A> {
         let is_querier = self.phase.is_querier();
         let unclear = self.schedules.unclear(asked);
         let caused = self.schedules.caused(moment, asked);
-        let first = self.schedules.at_first(moment, terms);
-        let possible = first_of(as_seen(terms, first_of(unclear, caused)), first);
+        let unforeseen = self.schedules.unforeseen(moment, terms, asked);
+        let possible = first_of(as_seen(terms, first_of(unclear, caused)), unforeseen);
         alone_if(is_querier, standing.is_muted, possible)
     }
 
@@ -311,6 +311,7 @@ impl<F: Family, A: Allocator> Checking<F, A> {
         ensures { self.new ≡ spec.general_compared within configured stamp (numbered_terms F.Address.number terms) (numbered_terms F.Address.number wanted) self.old }
     {
         if self.phase.is_querier() {
+            let wanted = self.schedules.said(wanted);
             self.judge_general(within, configured, stamp, terms, wanted);
             return;
         }

@@ -120,7 +120,7 @@ fn sought_by<K: WireKey>(
     let (robustness, query_seconds) = match &query.version {
         QueryVersion::Older(_) => (None, None),
         QueryVersion::Current(fields) => (
-            if_any(u32::from(fields.robustness.get())),
+            Some(u32::from(fields.robustness.get())),
             if_any(fields.interval),
         ),
     };

@@ -157,7 +157,8 @@ S a source of it:
                                       how often A lost the role, to B at last, and since when it has it again;
                                       unseen: nothing came from A, though a router with a higher address queries
   taken from the capture: querier A rv N qi S qri MS lmqi MS, beside B
-                                      with --querier auto, without the variables that are given or that are 0; B is
+                                      with --querier auto, without the variables that are given or that are 0; rv above 7 if
+                                      QRV is 0, and then what depends on it is not judged; B is
                                       the next lower address from which general queries come, if there is one
 
 Status:

@@ -29,13 +29,13 @@ a_query = record {
 
 -- Checks from the querier's beginning, strict and not. Then a check of a capture that begins at any time.
 abbrev pub strict_from_the_beginning : CheckFlags
-strict_from_the_beginning = record { began = true; strict = true }
+strict_from_the_beginning = record { began = true; strict = true; above_7 = false }
 
 abbrev pub from_the_beginning : CheckFlags
-from_the_beginning = record { began = true; strict = false }
+from_the_beginning = record { began = true; strict = false; above_7 = false }
 
 abbrev pub from_any_time : CheckFlags
-from_any_time = record { began = false; strict = false }
+from_any_time = record { began = false; strict = false; above_7 = false }
 
 abbrev pub at_start : CheckFlags → CheckingValue
 at_start flags = checking_at_start 100 timing flags

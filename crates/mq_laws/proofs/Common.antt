@@ -101,7 +101,7 @@ pub use Rattle.mq_check.specs.declared.finding.Finding.{Finding}
 pub use Rattle.mq_check.specs.declared.finding.Finding.TheVariants.{Differs, Missing, PossiblyExtra, PossiblyMissing}
 pub use Rattle.mq_check.specs.declared.schedules.Repeats.{Repeats}
 pub use Rattle.mq_check.specs.declared.terms.Terms.{Terms}
-pub use Rattle.mq_laws.specs.AsWanted.{all_missing, AreMissed, AreSeen, AreSeenWithin, HasToBeSent, IsAsWanted, TakesOut}
+pub use Rattle.mq_laws.specs.AsWanted.{all_missing, AreMissed, AreSeen, AreSeenWithin, HasToBeSent, IsAsWanted, IsFromTheBeginning, TakesOut}
 pub use Rattle.mq_laws.specs.Captures.{datagram_passage, end_of, event_of, events_ahead, events_of, fault_events, frame_passage, happening_behind, last_of}
 pub use Rattle.mq_laws.specs.Captures.{nothing_happens, packet_passage, Passage, role_by_datagram, role_by_tick, tick_passage, ticks_through, wanted_by}
 pub use Rattle.mq_laws.specs.Captures.{wanted_for, wanted_of}

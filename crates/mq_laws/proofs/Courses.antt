@@ -18,7 +18,7 @@ use Rattle.mq_check.specs.Checking.{is_s_right, with_timers_set}
 use Rattle.mq_check.specs.Entries.{is_free_seen, is_free_wanted, terms_differ}
 use Rattle.mq_check.specs.General.{wrong_interval, phase_again, phase_behind, silence_up_to}
 use Rattle.mq_check.specs.Queries.{is_same}
-use Rattle.mq_check.specs.Schedules.{SchedulesValue, keep_in, more_in, repeats_in, terms_wanted}
+use Rattle.mq_check.specs.Schedules.{SchedulesValue, keep_in, more_for, more_in, repeats_in, terms_wanted}
 use Rattle.mq_check.specs.Standing.{plain}
 use Rattle.mq_check.specs.Waiting.{WaitingValue}
 use Rattle.mq_laws.specs.Pairing.{Ask, Expected, Sent, LeftOut, ask_of, asks_of, kept_for, missing_of, wanted_about}
@@ -36,7 +36,7 @@ use Rattle.mq_laws.proofs.Steps.{Stands, Stepped, general_one, returns_of, see_o
 use Rattle.mq_laws.proofs.Comings.{WantedFrom, SeenFrom, Waits, comes, left_of, told_of}
 use Rattle.mq_laws.proofs.Rooms.{IsFresh, fresh_as, fresh_settled, entered, wanted_part, seen_part, general_part, lost_part}
 use Rattle.mq_laws.proofs.Rooms.{need_now, required, told_now, settled_free, settled_full}
-use Rattle.mq_laws.proofs.Rooms.{compared_querier, compared_other, general_free, lost_free, returned_free, returned_part, changed_free, changed_part}
+use Rattle.mq_laws.proofs.Rooms.{compared_querier, compared_other, said_known, general_free, lost_free, returned_free, returned_part, changed_free, changed_part}
 
 -- What waits behind some steps, and the general queries among it.
 pub record StepsTo (within keep now : ℕ) (entries : List (Entry ℕ)) (before wanted : List Expected) (seen : List Ask) (returns : Returns) : Type 0 where
@@ -356,7 +356,8 @@ general_all within keep timing now terms partner c free wanted rest is_fresh wit
     (λ b. is_querier_in c.phase ≡ b → GeneralAll within keep timing now c (general_compared within timing now terms partner c) free
     (free ++ wanted) wanted rest (general_returned b now r.due r.early)) [
       | true ↦ λ is.
-          let same = compared_querier within timing now terms partner c is in
+          let same = compared_querier within timing now terms partner c is ∙
+          ap (λ (w : Terms ℕ). with_general within timing now terms w c) (said_known c.schedules.repeats partner is_fresh.known) in
           let part = general_part within timing now terms partner c in_time (ap (λ (d : CheckingValue). d.waiting.is_full) (sym same) ∙ room) in
           let before : Stands within keep now c.waiting.entries free wanted (general_ask true r.due now terms ++ rest) =
           subst (λ (b : Bool). Stands within keep now c.waiting.entries free wanted (general_ask b r.due now terms ++ rest)) is st in
@@ -416,7 +417,11 @@ seen_as within keep now entries free wanted q q' r r' events same is st =
     subst (λ (b : Bool). Stands within keep now entries free wanted (seen_in within b r' now events)) (sym same)
     (subst (λ (x : Returns). Stands within keep now entries free wanted (seen_in within q x now events)) (sym is) st)
 
-time_as : (within : ℕ) (timing : Timing) (phase phase' : Phase) (last last' : Option ℕ) (now : ℕ) (events : List CheckEvent) (end : ℕ) →
+-- the number of queries of a schedule if the Robustness Variable is known
+known_more : (timing : Timing) (flags : CheckFlags) → flags.above_7 ≡ false → more_for timing flags ≡ more_in timing flags.strict
+known_more timing flags known = rw known refl
+
+pub time_as : (within : ℕ) (timing : Timing) (phase phase' : Phase) (last last' : Option ℕ) (now : ℕ) (events : List CheckEvent) (end : ℕ) →
     phase' ≡ phase → last' ≡ last → AreOnTime within timing phase last now events end
     → AreOnTime within timing phase' last' now events end
 time_as within timing phase phase' last last' now events end same is time =
@@ -477,7 +482,8 @@ course within timing flags end now (Wants is_again terms asked ∷ es) c free ex
     let r = general_returns within now free c.waiting.entries in
     let all = wants_all flags.strict within (kept_for within timing flags) end now is_again terms asked c free expected
     (seen_in within (is_querier_in c.phase) (all_wanted now asked r) now es) (wanted_in within timing now es next)
-    is_fresh (ap (λ (r : Repeats). r.within) keeps) (λ is. ap (λ (r : Repeats). r.more) keeps ∙ ap (more_in timing) is) asks missed
+    is_fresh (ap (λ (r : Repeats). r.within) keeps) (λ is. ap (λ (r : Repeats). r.more) keeps ∙ known_more timing flags
+    (sym (ap (λ (r : Repeats). r.above_7) keeps) ∙ is_fresh.known) ∙ ap (more_in timing) is) asks missed
     (all_free within timing now es next room) st in
     ended_behind within timing flags end now (Wants is_again terms asked) es c (missing_of (free ++ expected))
     (missing_of (all.step.left ++ all.wanted)) all.step.missing

@@ -3,8 +3,9 @@ use Rattle.mq_laws.proofs.Common.{◌≡◌, ℕ, ◌+◌, ◌<◌, true, false,
 use Rattle.mq_laws.proofs.Common.{AllByRecursion, Timing, Asked, CheckFlags, Entry, Wanted, Seen, Interval, Silence, Packet, Finding, Missing, Differs, Repeats}
 use Rattle.mq_laws.proofs.Common.{CheckingValue, checking_at_start, settled, silence_found, silence_up_to, first_until, held_until, recent, repeats_in, emptied}
 use Rattle.mq_laws.proofs.Common.{excused_at, Ask, Expected, Sent, LeftOut, PairUp, kept_for, missing_of, seen_about, wanted_about, CheckEvent, told_by_all}
-use Rattle.mq_laws.proofs.Common.{at_the_end, checked_ahead, checked_by, found_by, found_from, HasRoom, AreAhead, AreInOrder, AreMissed, IsAsWanted}
-use Rattle.std.specs.Prelude.{Bool, None, Some}
+use Rattle.mq_laws.proofs.Common.{at_the_end, checked_ahead, checked_by, found_by, found_from, HasRoom, AreAhead, AreInOrder, AreMissed, IsAsWanted, IsFromTheBeginning}
+use Rattle.std.specs.Prelude.{◌^◌, Bool, None, Some, if◌then◌else◌}
+use Rattle.mq_check.specs.General.{phase_for}
 use mathlib.Core.Logic.{inl}
 use Rattle.mq_check.specs.Waiting.{all_excused}
 use Rattle.mq_check.specs.declared.finding.Finding.TheVariants as finding
@@ -12,7 +13,7 @@ use Rattle.mq_laws.proofs.{Held.Holds, Held.NoneOver, Held.ascending-to, Held.fr
 use Rattle.mq_laws.proofs.{Rooms.IsFresh, Rooms.fresh_recent, Rooms.fresh_settled, Rooms.recent_repeats, Rooms.told_now, Rooms.settled_free, Rooms.settled_full}
 use Rattle.mq_laws.proofs.{Steps.to_pairs, AfterTheEnd.AreQuiet, AfterTheEnd.excused_entries, AfterTheEnd.excused_full, AfterTheEnd.held_quiet}
 use Rattle.mq_laws.proofs.{AfterTheEnd.none_free, AfterTheEnd.none_last, AfterTheEnd.none_wanted, AfterTheEnd.ticks_find_nothing, Courses.Ended}
-use Rattle.mq_laws.proofs.{Courses.all_free, Courses.course, Courses.kept-long}
+use Rattle.mq_laws.proofs.{Courses.all_free, Courses.course, Courses.kept-long, Courses.time_as}
 
 -- a finding of what was over before a moment
 abbrev IsBefore : (kept end : ℕ) → Finding ℕ → Type 0
@@ -64,7 +65,7 @@ room_before within timing end ahead c room =
 fresh_at_end : (within end : ℕ) (c : CheckingValue) → IsFresh c.schedules → IsFresh (at_the_end within end c).schedules
 fresh_at_end within end c fresh =
     let there = fresh_recent end (settled end c).schedules (fresh_settled end c fresh) in
-    record { held = there.held; first = there.first; next = ap emptied there.next }
+    record { held = there.held; first = there.first; known = there.known; next = ap emptied there.next }
 
 -- what is found from the end on
 from_end : (within : ℕ) (timing : Timing) (flags : CheckFlags) (end : ℕ) (ahead : List CheckEvent) (c : CheckingValue) (free : List Expected) →
@@ -102,20 +103,22 @@ from_end within timing flags end ahead c free fresh after room keeps silence com
     ∙ append-nil (told_of keep within end c.changed c.waiting.entries ++ []) ∙ append-nil (told_of keep within end c.changed c.waiting.entries)
 
 pub found_is : (within : ℕ) (timing : Timing) (flags : CheckFlags) (end : ℕ) (expected : List Expected) (events ahead : List CheckEvent)
-    → flags.began ≡ true → AreInOrder 0 events end → AreAhead within end ahead → IsAsWanted within timing flags end expected events →
+    → IsFromTheBeginning flags → AreInOrder 0 events end → AreAhead within end ahead → IsAsWanted within timing flags end expected events →
     HasRoom within timing flags end events ahead → found_by within timing flags end events ahead ≡ missing_of expected
 found_is within timing flags end expected events ahead began order after is room =
     let keep = kept_for within timing flags in
     let start = checking_at_start within timing flags in
     let fresh : IsFresh start.schedules = record {
-      held = ap (held_until within timing) began;
-      first = ap (first_until within timing) began;
+      held = ap (λ (b : Bool). if b then 2 ^ 53 + 1 else held_until within timing flags.began) began.known ∙ ap (held_until within timing) began.began;
+      first = ap (first_until within timing) began.began;
+      known = began.known;
       next = refl;
     } in
     let c = checked_by within timing flags events in
     let with_room : c.waiting.is_full ≡ false = room_before within timing end ahead c room in
     let ended : Ended within timing flags end 0 events start (missing_of expected) =
-    course within timing flags end 0 events start [] expected fresh refl is.wanted is.missed order is.on_time with_room (record {
+    course within timing flags end 0 events start [] expected fresh refl is.wanted is.missed order
+    (time_as within timing _ start.phase None None 0 events end (ap (phase_for timing) began.known) refl is.on_time) with_room (record {
       holds = tt;
       ascending = omega arith;
       none_over = tt;

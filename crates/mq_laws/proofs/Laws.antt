@@ -1,7 +1,7 @@
 -- What is found where all was sent, or all but some.
 use Rattle.mq_laws.proofs.Common.{◌≡◌, ℕ, Bool, true, List, [], ◌∷◌, ◌++◌, refl, ap, sym, ◌∙◌, Timing, CheckFlags, Finding, Missing, all_reported, reported}
 use Rattle.mq_laws.proofs.Common.{Ask, Expected, Sent, LeftOut, all_sent, kept_for, missing_of, sent_but, seen_about, CheckEvent, HasRoom, found_by, AreAhead}
-use Rattle.mq_laws.proofs.Common.{AreInOrder, IsOnTime, IsAsWanted, AreSeen, AreSeenWithin, TakesOut, all_missing, all_seen_in, all_wanted_in, CheckedCapture}
+use Rattle.mq_laws.proofs.Common.{AreInOrder, IsOnTime, IsAsWanted, IsFromTheBeginning, AreSeen, AreSeenWithin, TakesOut, all_missing, all_seen_in, all_wanted_in, CheckedCapture}
 use Rattle.mq_laws.proofs.Common.{Tells, TellsWhatHappened, ahead_in, end_in, events_in}
 use Rattle.mq_check.specs.{declared.repeated.LastDifferences.LastDifferences, FindingLines.possible_in}
 use Rattle.mq_laws.proofs.{Found.found_is, Moved.moved_as, Moved.all_pair_up, Moved.all_but_some_pair_up, Moved.asks_of-sent, Moved.asks_of-sent_but}
@@ -17,7 +17,7 @@ moved_are_found within timing flags end events on_time are = record {
   missed = missed-sent flags.strict (kept_for within timing flags) end (all_wanted_in within timing flags events);
 }
 
-pub none_of_moved : (within : ℕ) (timing : Timing) (flags : CheckFlags) (end : ℕ) (events ahead : List CheckEvent) → flags.began ≡ true →
+pub none_of_moved : (within : ℕ) (timing : Timing) (flags : CheckFlags) (end : ℕ) (events ahead : List CheckEvent) → IsFromTheBeginning flags →
     AreInOrder 0 events end → AreAhead within end ahead → IsOnTime within timing end events → HasRoom within timing flags end events ahead
     → AreSeenWithin within (all_wanted_in within timing flags events) events → found_by within timing flags end events ahead ≡ []
 none_of_moved within timing flags end events ahead began order after on_time room are =
@@ -28,7 +28,7 @@ pub seen_are_moved : (within : ℕ) (asks : List Ask) (events : List CheckEvent)
 seen_are_moved within asks events are asked = moved_as within (seen_about asked asks) (seen_about asked (all_seen_in within events)) (are asked)
 
 pub taken_are_missing : (within : ℕ) (timing : Timing) (flags : CheckFlags) (end : ℕ) (events ahead : List CheckEvent) (before taken behind : List Ask) →
-    flags.began ≡ true → AreInOrder 0 events end → AreAhead within end ahead → IsOnTime within timing end events → HasRoom within timing flags end events ahead
+    IsFromTheBeginning flags → AreInOrder 0 events end → AreAhead within end ahead → IsOnTime within timing end events → HasRoom within timing flags end events ahead
     → all_wanted_in within timing flags events ≡ before ++ taken ++ behind → TakesOut flags.strict (kept_for within timing flags) end taken behind →
     AreSeen within (before ++ behind) events → found_by within timing flags end events ahead ≡ all_missing taken
 taken_are_missing within timing flags end events ahead before taken behind began order after on_time room wanted out are =

@@ -15,6 +15,7 @@ use Rattle.mq_check.specs.declared.schedules.Repeats.{Repeats}
 use Rattle.mq_check.specs.declared.finding.ExtraReason.TheVariants.{NoChange}
 use Rattle.mq_check.specs.declared.standing.Standing.{Standing}
 use Rattle.mq_check.specs.declared.phase.Phase.TheVariants.{NotQuerier}
+use Rattle.mq_check.specs.declared.terms.QuerierTerms.{QuerierTerms}
 use Rattle.mq_check.specs.declared.terms.Terms.{Terms}
 use Rattle.mq_check.specs.declared.waiting.Side.TheVariants.{OfWanted, OfSeen}
 use Rattle.mq_check.specs.Checking.{CheckingValue, all_changed, alone_in, group_of, is_late, is_querier_in, may_be_missing, may_be_muted, near, need_by}
@@ -26,7 +27,7 @@ use Rattle.mq_check.specs.Entries.{first_entry, first_terms, first_joined, is_fr
 use Rattle.mq_check.specs.General.{phase_again, wrong_interval, phase_behind, silence_up_to}
 use Rattle.mq_check.specs.Schedules.{SchedulesValue, begun, cause_in, caused, caused_by, dropped, first_of, followed, gone_on, is_close, is_next, last_in}
 use Rattle.mq_check.specs.Schedules.{placed, placed_alone, recent, schedules_changed, schedules_seen, schedules_wanted, terms_of, unclear}
-use Rattle.mq_check.specs.Schedules.{with_cause, with_close, with_next, with_s}
+use Rattle.mq_check.specs.Schedules.{qrv_said, said, with_cause, with_close, with_next, with_s}
 use Rattle.mq_check.specs.Schedules.{without_next}
 use Rattle.mq_check.specs.Waiting.{WaitingValue, emptied, nothing, room, is_free, with_entry, with_partner, told, settled}
 use Rattle.mq_laws.specs.AsWanted.{HasToBeSent}
@@ -74,12 +75,14 @@ settled_full keep now w = elim w.is_full as (λ b. w.is_full ≡ b → (settled 
 pub record IsFresh (s : SchedulesValue) : Type 0 where
   pub held : s.repeats.held_until ≡ 0
   pub first : s.repeats.first_until ≡ 0
+  pub known : s.repeats.above_7 ≡ false
   pub next : s.next ≡ nothing
 
 pub fresh_as : (s t : SchedulesValue) → t.repeats ≡ s.repeats → t.next ≡ s.next → IsFresh s → IsFresh t
 fresh_as s t repeats next is = record {
   held = ap (λ (r : Repeats). r.held_until) repeats ∙ is.held;
   first = ap (λ (r : Repeats). r.first_until) repeats ∙ is.first;
+  known = ap (λ (r : Repeats). r.above_7) repeats ∙ is.known;
   next = next ∙ is.next;
 }
 
@@ -102,6 +105,7 @@ pub fresh_settled : (now : ℕ) (c : CheckingValue) → IsFresh c.schedules → 
 fresh_settled now c fresh = record {
   held = fresh.held;
   first = fresh.first;
+  known = fresh.known;
   next = ap (settled c.schedules.repeats.within now) fresh.next ∙ nothing_settled c.schedules.repeats.within now;
 }
 
@@ -164,11 +168,11 @@ close_next false moment terms asked s = refl
 
 changed_repeats : (moment : ℕ) (terms : Terms ℕ) (asked : Asked ℕ) (s : SchedulesValue) → (schedules_changed moment terms asked s).repeats ≡ s.repeats
 unfolding with_cause
-changed_repeats moment terms asked s = close_repeats (is_close moment asked s) moment terms asked s
+changed_repeats moment terms asked s = close_repeats (is_close moment asked s) moment (said s.repeats terms) asked s
 
 changed_next : (moment : ℕ) (terms : Terms ℕ) (asked : Asked ℕ) (s : SchedulesValue) → (schedules_changed moment terms asked s).next ≡ s.next
 unfolding with_cause
-changed_next moment terms asked s = close_next (is_close moment asked s) moment terms asked s
+changed_next moment terms asked s = close_next (is_close moment asked s) moment (said s.repeats terms) asked s
 
 -- no change makes a querier send a query that the link doesn't want
 none_caused_by : (repeats : Repeats) (moment : ℕ) (last cause : Option (Entry ℕ)) → repeats.held_until ≡ 0 → caused_by repeats moment last cause ≡ None
@@ -218,7 +222,7 @@ placed_repeats moment terms asked false false is_possible cause s = alone_repeat
 placed_next : (moment : ℕ) (terms : Terms ℕ) (asked : Asked ℕ) (has_partner is_possible : Bool) (s : SchedulesValue)
     → (placed moment terms asked has_partner false is_possible None s).next ≡ s.next
 placed_next moment terms asked true is_possible s = seen_next moment terms asked true s
-placed_next moment terms asked false true s = seen_next moment terms asked false s
+placed_next moment terms asked false true s = seen_next moment terms asked s.repeats.above_7 s
 placed_next moment terms asked false false s = seen_next moment terms asked false s
 
 -- the need of a query, if no host of an older version was there before the capture
@@ -267,6 +271,7 @@ wanted_part now is_again terms c asked free =
       fresh = λ is. record {
         held = ap (λ (r : Repeats). r.held_until) repeats ∙ is.held;
         first = ap (λ (r : Repeats). r.first_until) repeats ∙ is.first;
+        known = ap (λ (r : Repeats). r.above_7) repeats ∙ is.known;
         next = without_fresh asked wanted (wanted_next now terms asked before ∙ (fresh_recent now c.schedules is).next);
       };
       entries = λ is same. put.entries ∙
@@ -369,6 +374,7 @@ seen_part now terms standing c asked free =
           record {
             held = ap (λ (r : Repeats). r.held_until) repeats ∙ is.held;
             first = ap (λ (r : Repeats). r.first_until) repeats ∙ is.first;
+            known = ap (λ (r : Repeats). r.above_7) repeats ∙ is.known;
             next = (λ i. (placed now terms asked (is_some (partner_of now terms asked c))
                 (is_some (none_followed now standing.is_above asked before there i)) (is_possible alone) (none_caused now asked before there i) before).next)
                 ∙ placed_next now terms asked (is_some (partner_of now terms asked c)) (is_possible alone) before
@@ -414,7 +420,7 @@ lost_part within timing now c in_time = record {
   phase = refl;
   last = refl;
   repeats = refl;
-  fresh = λ is. record { held = is.held; first = is.first; next = ap emptied is.next };
+  fresh = λ is. record { held = is.held; first = is.first; known = is.known; next = ap emptied is.next };
 }
 
 -- where there is room at the end, there was at the beginning
@@ -433,9 +439,17 @@ unfolding with_general with_partner
 with_general_free within timing now terms wanted c free = interval_free timing now terms.packet (wrong_interval within timing now c.phase) c.waiting
     (entered _ _ free).was
 
+-- QRV of a query is as in the link if the Robustness Variable is known
+qrv_known : (fields : Option QuerierTerms) → qrv_said false fields ≡ fields
+qrv_known None = refl
+qrv_known (Some fields) = refl
+
+pub said_known : (repeats : Repeats) (terms : Terms ℕ) → repeats.above_7 ≡ false → said repeats terms ≡ terms
+said_known repeats terms known = λ i. record terms { querier = (ap (λ (b : Bool). qrv_said b terms.querier) known ∙ qrv_known terms.querier) i }
+
 -- a general query, where the router is querier, and where it isn't
 pub compared_querier : (within : ℕ) (timing : Timing) (now : ℕ) (terms wanted : Terms ℕ) (c : CheckingValue) → is_querier_in c.phase ≡ true →
-    general_compared within timing now terms wanted c ≡ with_general within timing now terms wanted c
+    general_compared within timing now terms wanted c ≡ with_general within timing now terms (said c.schedules.repeats wanted) c
 compared_querier within timing now terms wanted c is = rw is refl
 
 pub compared_other : (within : ℕ) (timing : Timing) (now : ℕ) (terms wanted : Terms ℕ) (c : CheckingValue) → is_querier_in c.phase ≡ false →
@@ -445,7 +459,7 @@ compared_other within timing now terms wanted c is = rw is refl
 pub general_free : (within : ℕ) (timing : Timing) (now : ℕ) (terms wanted : Terms ℕ) (c : CheckingValue) →
     (general_compared within timing now terms wanted c).waiting.is_full ≡ false → c.waiting.is_full ≡ false
 general_free within timing now terms wanted c free = elim (is_querier_in c.phase) as (λ b. is_querier_in c.phase ≡ b → c.waiting.is_full ≡ false) [
-  | true ↦ λ is. with_general_free within timing now terms wanted c
+  | true ↦ λ is. with_general_free within timing now terms (said c.schedules.repeats wanted) c
       (ap (λ (d : CheckingValue). d.waiting.is_full) (sym (compared_querier within timing now terms wanted c is)) ∙ free)
   | false ↦ λ is. (seen_part now terms plain c AllGroups
       (ap (λ (d : CheckingValue). d.waiting.is_full) (sym (compared_other within timing now terms wanted c is)) ∙ free)).was

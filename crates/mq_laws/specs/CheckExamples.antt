@@ -17,7 +17,7 @@ example_timing = record { robustness = 2; query_seconds = 125; response_interval
 
 -- a strict check from the querier's beginning
 abbrev pub began : CheckFlags
-began = record { began = true; strict = true }
+began = record { began = true; strict = true; above_7 = false }
 
 abbrev pub group_terms : (packet : ℕ) → Terms ℕ
 group_terms packet = record {

@@ -49,6 +49,7 @@ where
         flags: CheckFlags {
             began: false,
             strict: false,
+            above_7: false,
         },
     };
     let mut reader = Watched::new(capture);

@@ -22,7 +22,7 @@ asked_terms within until flags once = record {
   within = unwrap_or within 100;
   until = until;
   additions = record { packets = flags.packets; cite = flags.cite; once = once; possible = flags.possible; json = flags.json };
-  flags = record { began = flags.began; strict = flags.strict };
+  flags = record { began = flags.began; strict = flags.strict; above_7 = false };
 }
 
 -- The settings of a check. A limit that isn't given is the greatest: the link stands for a querier whose limits are not

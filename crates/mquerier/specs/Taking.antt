@@ -1,10 +1,11 @@
 -- Checks whose querier and variables come from the capture itself.
-use Rattle.std.specs.Prelude.{◌≡◌, ◌⊎◌, ◌≤◌, ℕ, Bool, true, false, if◌then◌else◌, List, [], ◌++◌, codes, Option, None, Some, Result, Ok, Err}
+use Rattle.std.specs.Prelude.{◌≡◌, ◌⊎◌, ◌≤◌, ℕ, zero, suc, Bool, true, false, if◌then◌else◌, List, [], ◌++◌, codes, Option, None, Some, Result, Ok, Err}
 use Rattle.std.specs.Fmt.{decimal}
 use Rattle.std.specs.Str.{bytes_eq}
 use Rattle.std.specs.Option.{option_or}
 use Rattle.clap.specs.declared.error.Error.{Error}
 use Rattle.mq_check.specs.declared.announced.Announced.{Announced}
+use Rattle.mq_check.specs.declared.check_terms.CheckTerms.{CheckTerms}
 use Rattle.mq_replay.specs.declared.capture_fault.CaptureFault.{CaptureFault}
 use Rattle.mq_replay.specs.declared.capture_fault.CaptureFault.TheVariants as answer
 use Rattle.mq_check.specs.declared.totals.Totals.{Totals}
@@ -42,13 +43,30 @@ abbrev pub taking_of : Result Request Error → Option CheckOptions
 taking_of (Ok request) = taking_in request
 taking_of (Err error) = None
 
--- the settings, with the announced variables for those that aren't given
+-- The Robustness Variable that a QRV stands for. QRV 0 says that it is above 7, and the greatest of a configuration is 7.
+abbrev pub robustness_by : (qrv : Option ℕ) → Option ℕ
+robustness_by None = None
+robustness_by (Some zero) = Some 7
+robustness_by (Some (suc n)) = Some (suc n)
+
+abbrev pub is_above_7 : (given qrv : Option ℕ) → Bool
+is_above_7 (Some value) qrv = false
+is_above_7 None None = false
+is_above_7 None (Some zero) = true
+is_above_7 None (Some (suc n)) = false
+
+-- the settings, with the announced variables for those that aren't given, and the terms of the check
 abbrev pub with_variables : Settings → Announced ℕ → Settings
 with_variables s found = record s {
-  robustness = option_or s.robustness found.robustness;
+  robustness = option_or s.robustness (robustness_by found.robustness);
   query_seconds = option_or s.query_seconds found.query_seconds;
   response_interval = option_or s.response_interval found.response_interval;
   last_member_interval = option_or s.last_member_interval found.last_member_interval;
+}
+
+abbrev pub terms_found : CheckOptions → Announced ℕ → CheckTerms
+terms_found options found = record options.terms {
+  flags = record options.terms.flags { above_7 = is_above_7 options.settings.robustness found.robustness };
 }
 
 -- a variable that isn't given and that the capture has
@@ -56,6 +74,15 @@ abbrev pub taken_text : (name : List ℕ) → (given found : Option ℕ) → Lis
 taken_text name (Some value) found = []
 taken_text name None None = []
 taken_text name None (Some value) = name ++ decimal value
+
+-- the Robustness Variable, and what follows if it is above 7
+abbrev pub robustness_text : (given qrv : Option ℕ) → List ℕ
+robustness_text given qrv =
+    if is_above_7 given qrv then codes " rv above 7" else taken_text (codes " rv ") given qrv
+
+abbrev pub unjudged_text : (is_above_7 : Bool) → List ℕ
+unjudged_text false = []
+unjudged_text true = codes "; what depends on rv is not judged"
 
 -- the lowest other router that sends general queries, if there is one
 abbrev pub beside_text : Family → Option ℕ → List ℕ
@@ -83,24 +110,24 @@ taken_line true family s found =
     ++ codes ",\"beside\":" ++ beside_value family found.beside ++ codes "}}\n"
 taken_line false family s found =
     codes "taken from the capture: querier " ++ address_text family found.querier
-    ++ taken_text (codes " rv ") s.robustness found.robustness ++ taken_text (codes " qi ") s.query_seconds found.query_seconds
+    ++ robustness_text s.robustness found.robustness ++ taken_text (codes " qi ") s.query_seconds found.query_seconds
     ++ taken_text (codes " qri ") s.response_interval found.response_interval
     ++ taken_text (codes " lmqi ") s.last_member_interval found.last_member_interval ++ beside_text family found.beside
-    ++ codes "\n"
+    ++ unjudged_text (is_above_7 s.robustness found.robustness) ++ codes "\n"
 
 -- The check of this querier reached its end. Then the line of what comes from the capture was written.
 abbrev pub IsFoundDone : Family → CheckOptions → Announced ℕ → Input → Output → Totals → Type 0
 IsFoundDone family options found input output totals =
     (mid : OutputState)
-    × IsCheckDoneAt family found.querier (with_variables options.settings found) options.terms input (record { old = output.old; new = mid }) totals
+    × IsCheckDoneAt family found.querier (with_variables options.settings found) (terms_found options found) input (record { old = output.old; new = mid }) totals
     × Writes (record { old = mid; new = output.new }) (taken_line options.terms.additions.json family options.settings found)
 
 -- the check ended early, or the output failed at that line
 abbrev pub IsFoundBroken : Family → CheckOptions → Announced ℕ → Input → Output → Failure → Type 0
 IsFoundBroken family options found input output failure =
-    IsCheckBrokenAt family found.querier (with_variables options.settings found) options.terms input output failure
+    IsCheckBrokenAt family found.querier (with_variables options.settings found) (terms_found options found) input output failure
     ⊎ ((failure ≡ Write) × (mid : OutputState) × (totals : Totals)
-    × IsCheckDoneAt family found.querier (with_variables options.settings found) options.terms input (record { old = output.old; new = mid }) totals
+    × IsCheckDoneAt family found.querier (with_variables options.settings found) (terms_found options found) input (record { old = output.old; new = mid }) totals
     × BreaksOff (record { old = mid; new = output.new }) (taken_line options.terms.additions.json family options.settings found))
 
 -- nothing was read again, and nothing was written

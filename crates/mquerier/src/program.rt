@@ -272,6 +272,7 @@ pub(crate) fn terms_of(
         flags: mq_check::CheckFlags {
             began: flags.began,
             strict: flags.strict,
+            above_7: false,
         },
     }
 }

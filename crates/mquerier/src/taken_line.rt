@@ -10,6 +10,13 @@ use mq_command::Settings;
 use mq_lines::{LineKey, put_address, put_address_object};
 use mq_text::{Text, put, put_decimal};
 
+/// Returns whether the Robustness Variable is above 7, as a QRV says, and none is given.
+pub(crate) fn is_above_7(given: Option<u32>, qrv: Option<u32>) -> bool
+    ensures { result ≡ spec.is_above_7 given qrv }
+{
+    matches!((given, qrv), (None, Some(0)))
+}
+
 /// Returns the line, or the object of JSON, for the querier and the variables that come from the capture.
 pub(crate) fn taken_line_of<K: LineKey>(
     json: bool,
@@ -31,7 +38,7 @@ fn text_of<K: LineKey>(settings: &Settings, found: &Announced<K>) -> Text
     let mut line = Text::new();
     put(&mut line, b"taken from the capture: querier ");
     put_address(&mut line, found.querier);
-    put_taken(&mut line, b" rv ", settings.robustness, found.robustness);
+    put_robustness(&mut line, settings.robustness, found.robustness);
     put_taken(
         &mut line,
         b" qi ",
@@ -51,6 +58,7 @@ fn text_of<K: LineKey>(settings: &Settings, found: &Announced<K>) -> Text
         found.last_member_interval,
     );
     put_beside(&mut line, found.beside);
+    put_unjudged(&mut line, is_above_7(settings.robustness, found.robustness));
     put(&mut line, b"\n");
     line
 }
@@ -117,6 +125,30 @@ fn put_beside<K: LineKey>(line: &mut Text, beside: Option<K>)
     if let Some(address) = beside {
         put(line, b", beside ");
         put_address(line, address);
+    }
+}
+
+/// Appends the Robustness Variable if it isn't given, or that it is above 7.
+fn put_robustness(line: &mut Text, given: Option<u32>, qrv: Option<u32>)
+    requires room { array_vec_len line.old ≤ 3000 }
+    ensures text { line.new.items ≡ line.old.items ++ spec.robustness_text given qrv }
+    ensures room { array_vec_len line.new ≤ array_vec_len line.old + 30 }
+{
+    if is_above_7(given, qrv) {
+        put(line, b" rv above 7");
+    } else {
+        put_taken(line, b" rv ", given, qrv);
+    }
+}
+
+/// Appends that what depends on the Robustness Variable isn't judged, if it is above 7.
+fn put_unjudged(line: &mut Text, above_7: bool)
+    requires room { array_vec_len line.old ≤ 3300 }
+    ensures text { line.new.items ≡ line.old.items ++ spec.unjudged_text above_7 }
+    ensures room { array_vec_len line.new ≤ array_vec_len line.old + 40 }
+{
+    if above_7 {
+        put(line, b"; what depends on rv is not judged");
     }
 }
 
