@@ -13,20 +13,29 @@ static inline void mq_put_address(uint8_t to[16], const uint8_t *address, size_t
         to[at] = at < width ? address[at] : 0;
 }
 
+/* A range of groups, of the family with addresses of `width` bytes. */
+static inline void mq_put_range(mq_mld_range *to, const uint8_t *address, size_t width, uint8_t length, uint8_t rule) {
+    mq_put_address(to->address, address, width);
+    to->length = length, to->rule = rule;
+}
+
 /* MAKE. The configuration of a link: mquerier.h explains each field. */
 typedef struct {
     bool is_mld;
-    uint32_t robustness, query_interval, response_interval, last_member_interval, groups, group_sources, sources, scheduled;
+    uint32_t robustness, query_interval, response_interval, last_member_interval, last_member_query_count;
+    uint32_t groups, group_sources, sources, scheduled;
     uint8_t own[16];
     uint8_t source_specific;
+    mq_mld_range ranges[MQ_RANGES];
 } mq_config;
 
 /* Copies the fields that both families have in one form. */
 #define MQ_COPY_FIELDS(to, from) \
     ((to)->robustness = (from)->robustness, (to)->query_interval = (from)->query_interval, \
      (to)->response_interval = (from)->response_interval, (to)->last_member_interval = (from)->last_member_interval, \
-     (to)->groups = (from)->groups, (to)->group_sources = (from)->group_sources, (to)->sources = (from)->sources, \
-     (to)->scheduled = (from)->scheduled, (to)->source_specific = (from)->source_specific)
+     (to)->last_member_query_count = (from)->last_member_query_count, (to)->groups = (from)->groups, \
+     (to)->group_sources = (from)->group_sources, (to)->sources = (from)->sources, (to)->scheduled = (from)->scheduled, \
+     (to)->source_specific = (from)->source_specific)
 
 /* Returns the defaults of the standards and of mquerier.h. */
 static inline mq_config mq_config_defaults(bool is_mld, const uint8_t own[16]) {
@@ -38,6 +47,8 @@ static inline mq_config mq_config_defaults(bool is_mld, const uint8_t own[16]) {
     else
         MQ_COPY_FIELDS(&config, &igmp);
     mq_put_address(config.own, own, is_mld ? 16 : 4);
+    for (size_t at = 0; at < MQ_RANGES; at++)
+        mq_put_range(&config.ranges[at], own, 0, 0, MQ_UNUSED);
     config.is_mld = is_mld;
     return config;
 }
@@ -48,12 +59,19 @@ static inline mq_igmp_config mq_igmp_config_of(mq_config config) {
     MQ_COPY_FIELDS(&it, &config);
     for (size_t at = 0; at < sizeof it.own; at++)
         it.own[at] = config.own[at];
+    for (size_t range = 0; range < MQ_RANGES; range++) {
+        for (size_t at = 0; at < sizeof it.own; at++)
+            it.ranges[range].address[at] = config.ranges[range].address[at];
+        it.ranges[range].length = config.ranges[range].length, it.ranges[range].rule = config.ranges[range].rule;
+    }
     return it;
 }
 static inline mq_mld_config mq_mld_config_of(mq_config config) {
     mq_mld_config it;
     MQ_COPY_FIELDS(&it, &config);
     mq_put_address(it.own, config.own, sizeof it.own);
+    for (size_t range = 0; range < MQ_RANGES; range++)
+        it.ranges[range] = config.ranges[range];
     return it;
 }
 

@@ -36,8 +36,8 @@ extern "C" {
    It rises when a compiled program would no longer work. That is when a call, the layout of a struct or the meaning of a number
    changes, or when a size macro below counts too few bytes. Within a version calls and reasons may be added, and `mq_counts` may
    grow at its end. MQ_VERSION_TEXT is the version of the sources. */
-#define MQ_VERSION 2
-#define MQ_VERSION_TEXT "2.1.0"
+#define MQ_VERSION 3
+#define MQ_VERSION_TEXT "3.0.0"
 uint32_t mq_version(void);
 
 /* No deadline; and the latest time that a call accepts, 2^53 milliseconds. */
@@ -59,7 +59,8 @@ enum {
     MQ_MEMORY,
     MQ_MOMENT,
     MQ_WORKSPACE,
-    MQ_HELD
+    MQ_HELD,
+    MQ_LAST_MEMBER_QUERY_COUNT
 };
 static inline const char *mq_status_text(uint32_t status) {
     static const char *const texts[] = {"done",
@@ -75,29 +76,49 @@ static inline const char *mq_status_text(uint32_t status) {
                                         "the memory is too small",
                                         "the time is later than 2^53 milliseconds",
                                         "the workspace is too small for the link",
-                                        "the link holds more than the configuration allows"};
+                                        "the link holds more than the configuration allows",
+                                        "the last member query count is not within 0 to 7"};
     return status < sizeof texts / sizeof *texts ? texts[status] : "not a status";
 }
 
-/* MAKE. The configuration of a link. Timers use the exact intervals. A query rounds an interval down to the next value that its
-   code can express: for IGMP 150 ms to 100 ms, 135 s to 128 s. Greater limits cost memory. More `groups` also cost time whenever a
-   group begins or ends. */
+/* MAKE. A range of groups: those that share the first `length` bits of `address`; a length beyond that of an address is one group. */
 typedef struct {
-    uint32_t robustness;           /* 1 to 7 */
-    uint32_t query_interval;       /* seconds, 1 to 31744 */
-    uint32_t response_interval;    /* milliseconds, 100 to 3174400, for MLD 1 to 8387584; less than the query interval */
-    uint32_t last_member_interval; /* milliseconds, 100 to 3174400, for MLD 1 to 8387584 */
-    uint32_t groups;               /* most groups, 1 to 65535 */
-    uint32_t group_sources;        /* most sources of one group, 1 to 1024 */
-    uint32_t sources;              /* most sources of all groups together, 1 to 65535 */
-    uint32_t scheduled;            /* most schedules of repeated specific queries, 1 to 65535; a group has up to two */
-    uint8_t own[4];                /* the source address of queries; not 0.0.0.0, nor 224.0.0.0 or above */
-    uint8_t source_specific;       /* unless 0, 232.0.0.0/8 is kept for source-specific multicast (RFC 4604) */
+    uint8_t address[4];
+    uint8_t length;
+    uint8_t rule; /* MQ_ALLOW or MQ_DENY; MQ_UNUSED if the place is unused, whatever stands in it */
+} mq_igmp_range;
+typedef struct {
+    uint8_t address[16];
+    uint8_t length;
+    uint8_t rule;
+} mq_mld_range;
+enum { MQ_UNUSED, MQ_ALLOW, MQ_DENY };
+#define MQ_RANGES 16
+
+/* The configuration of a link. Timers use the exact intervals. A query rounds an interval down to the next value that its
+   code can express: for IGMP 150 ms to 100 ms, 135 s to 128 s. Greater limits cost memory. More `groups` also cost time whenever a
+   group begins or ends. The first of the `ranges` that has a group says whether hosts may ask for it. Without one they may, unless
+   some range is MQ_ALLOW. A record, an older Report, a Leave or a Done for a group for which they may not ask is ignored. */
+typedef struct {
+    uint32_t robustness;              /* 1 to 7 */
+    uint32_t query_interval;          /* seconds, 1 to 31744 */
+    uint32_t response_interval;       /* milliseconds, 100 to 3174400, for MLD 1 to 8387584; less than the query interval */
+    uint32_t last_member_interval;    /* milliseconds, 100 to 3174400, for MLD 1 to 8387584 */
+    uint32_t last_member_query_count; /* queries for what hosts leave, 1 to 7; 0 is the robustness variable in force */
+    uint32_t groups;                  /* most groups, 1 to 65535 */
+    uint32_t group_sources;           /* most sources of one group, 1 to 1024 */
+    uint32_t sources;                 /* most sources of all groups together, 1 to 65535 */
+    uint32_t scheduled;               /* most schedules of repeated specific queries, 1 to 65535; a group has up to two */
+    uint8_t own[4];                   /* the source address of queries; not 0.0.0.0, nor 224.0.0.0 or above */
+    uint8_t source_specific;          /* unless 0, 232.0.0.0/8 is kept for source-specific multicast (RFC 4604) */
+    mq_igmp_range ranges[MQ_RANGES];
 } mq_igmp_config;
 typedef struct {
-    uint32_t robustness, query_interval, response_interval, last_member_interval, groups, group_sources, sources, scheduled;
+    uint32_t robustness, query_interval, response_interval, last_member_interval, last_member_query_count;
+    uint32_t groups, group_sources, sources, scheduled;
     uint8_t own[16];         /* in fe80::/10 */
     uint8_t source_specific; /* unless 0, ff3x::/32 is kept for source-specific multicast */
+    mq_mld_range ranges[MQ_RANGES];
 } mq_mld_config;
 
 /* Returns the defaults of RFC 3376 section 8 and RFC 3810 section 9, with these limits. */
@@ -133,8 +154,8 @@ size_t mq_igmp_workspace_size(mq_igmp_config config);
 size_t mq_mld_workspace_size(mq_mld_config config);
 
 /* The same as constants, for static arrays, at any address: never fewer bytes, and at most 1/20 and 150 bytes more. */
-#define MQ_IGMP_SIZE(groups, sources) (1920 + 200 * (size_t)(groups) + 80 * (size_t)(sources))
-#define MQ_MLD_SIZE(groups, sources) (1968 + 244 * (size_t)(groups) + 120 * (size_t)(sources))
+#define MQ_IGMP_SIZE(groups, sources) (2480 + 204 * (size_t)(groups) + 80 * (size_t)(sources))
+#define MQ_MLD_SIZE(groups, sources) (2528 + 248 * (size_t)(groups) + 120 * (size_t)(sources))
 #define MQ_IGMP_WORKSPACE_SIZE(groups, group_sources) (512 + 30 * (size_t)(groups) + 76 * (size_t)(group_sources))
 #define MQ_MLD_WORKSPACE_SIZE(groups, group_sources) (464 + 90 * (size_t)(groups) + 144 * (size_t)(group_sources))
 
@@ -182,7 +203,8 @@ static inline uint32_t mq_mld_workspace_init(mq_mld_config config, void *memory,
    - A limit may be at most that of `init`, whatever it was between. So the memory, the workspaces and `outlet_bytes` of then suffice.
    Returns MQ_DONE, or the first status that holds: a fault of the configuration, in the order of the statuses; MQ_MEMORY if a limit
    exceeds that of `init`; MQ_HELD if the link holds more than a limit allows, or a group that `source_specific` would not take. A
-   call that fails changes nothing. The list of `changed` stays, and nothing is sent. */
+   group that other ranges deny stays until its timers end. A call that fails changes nothing. The list of `changed` stays, and nothing
+   is sent. */
 uint32_t mq_igmp_configure(mq_igmp *link, mq_igmp_config config);
 uint32_t mq_mld_configure(mq_mld *link, mq_mld_config config);
 
@@ -390,8 +412,10 @@ typedef struct {
     uint64_t applied, ignored, refused; /* records */
     uint64_t refused_by[7];             /* records, by the limit that they would exceed */
     uint64_t sent, unsent;              /* queries */
+    uint64_t denied;                    /* ignored records for groups that the ranges do not allow */
 } mq_counts;
 /* The places in `parsed` and `refused_by`.
+   - PARSED_OLDER_QUERY is a query of IGMPv1, IGMPv2 or MLDv1.
    - PARSED_LEAVE includes a Done.
    - REFUSED_LONG: the record has more sources than `group_sources`.
    - REFUSED_REPEATED: four records of its datagram came before it while the link had its group. A group that begins with the

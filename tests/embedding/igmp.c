@@ -12,6 +12,7 @@ static void configurations(void) {
     mq_igmp_config c = mq_igmp_defaults(own), faulty;
     mq_igmp_on_heap it = {{NULL}, {NULL}, NULL};
     CHECK(c.robustness == 2 && c.query_interval == 125 && c.response_interval == 10000 && c.last_member_interval == 1000);
+    CHECK(c.last_member_query_count == 0);
     CHECK(c.groups == 1024 && c.group_sources == 366 && c.sources == 16384 && c.scheduled == 256 && !c.source_specific);
     CHECK(!memcmp(c.own, own, 4));
 #define FAULTY(change, status) (faulty = c, faulty.change, CHECK(mq_igmp_new(faulty, 0, &it) == (status)))
@@ -24,6 +25,8 @@ static void configurations(void) {
     FAULTY(sources = 65536, MQ_LIMIT_SOURCES);
     FAULTY(scheduled = 0, MQ_LIMIT_SCHEDULED);
     FAULTY(own[0] = 224, MQ_OWN_ADDRESS);
+    FAULTY(last_member_query_count = 8, MQ_LAST_MEMBER_QUERY_COUNT);
+    FAULTY(last_member_query_count = UINT32_MAX, MQ_LAST_MEMBER_QUERY_COUNT);
     CHECK(mq_igmp_new(c, MQ_LATEST + 1, &it) == MQ_MOMENT);
     CHECK(it.link.link == NULL);
     CHECK(it.block == NULL);
@@ -35,7 +38,8 @@ static void configurations(void) {
     CHECK(!strcmp(mq_status_text(MQ_MEMORY), "the memory is too small"));
     CHECK(!strcmp(mq_status_text(MQ_WORKSPACE), "the workspace is too small for the link"));
     CHECK(MQ_HELD == 13 && !strcmp(mq_status_text(MQ_HELD), "the link holds more than the configuration allows"));
-    CHECK(!strcmp(mq_status_text(14), "not a status") && !strcmp(mq_dropped_text(11), "not a reason"));
+    CHECK(MQ_LAST_MEMBER_QUERY_COUNT == 14 && !strcmp(mq_status_text(14), "the last member query count is not within 0 to 7"));
+    CHECK(!strcmp(mq_status_text(15), "not a status") && !strcmp(mq_dropped_text(11), "not a reason"));
     CHECK(!strcmp(mq_dropped_text(MQ_DROPPED_CHECKSUM), "the checksum is wrong"));
     CHECK(!strcmp(mq_dropped_text(MQ_DROPPED_GROUP), "a group that hosts do not report"));
 }
@@ -74,6 +78,7 @@ static void configured(void) {
         CHECK(mq_igmp_configure(&it.link, wrong) == (fault)); \
     } while (0)
     REFUSED(robustness = 0, MQ_ROBUSTNESS);
+    REFUSED(last_member_query_count = 8, MQ_LAST_MEMBER_QUERY_COUNT);
     REFUSED(own[0] = 224, MQ_OWN_ADDRESS);
     REFUSED(groups = 3, MQ_MEMORY);
     REFUSED(group_sources++, MQ_MEMORY);
@@ -372,13 +377,13 @@ static void counters(void) {
     uint64_t all[MORE + 1];
     mq_counts counts;
     mq_igmp_on_heap it;
-    CHECK(sizeof(mq_counts) == 29 * 8);
+    CHECK(sizeof(mq_counts) == 30 * 8);
     CHECK(mq_igmp_new(mq_igmp_defaults(own), 0, &it) == MQ_DONE);
     mq_igmp_receive(&it.link, &it.workspace, host, join, sizeof join, 10, NULL, 0);
     memset(all, 0x55, sizeof all);
     CHECK(mq_igmp_counters(&it.link, NULL, 0) == COUNTERS);
     CHECK(mq_igmp_counters(&it.link, all, 1) == COUNTERS && all[0] == 1 && all[1] == UINT64_C(0x5555555555555555));
-    CHECK(mq_igmp_counters(&it.link, all, MORE) == COUNTERS && all[COUNTERS - 1] == 1
+    CHECK(mq_igmp_counters(&it.link, all, MORE) == COUNTERS && all[COUNTERS - 2] == 1
           && all[COUNTERS] == UINT64_C(0x5555555555555555));
     mq_igmp_counts(&it.link, &counts, sizeof counts);
     CHECK(!memcmp(&counts, all, sizeof counts) && counts.received == 1 && counts.parsed[MQ_PARSED_OLDER_REPORT] == 1);
@@ -392,6 +397,31 @@ static void counters(void) {
     mq_igmp_free(&it);
 }
 
+/* Ranges of groups that hosts may ask for: of the start, and others of a running link, whose groups stay. */
+static void ranged(void) {
+    mq_igmp_config c = mq_igmp_defaults(own), next = c;
+    mq_igmp_on_heap it;
+    mq_counts counts;
+    mq_answer a;
+    for (size_t at = 0; at < MQ_RANGES; at++)
+        CHECK(c.ranges[at].rule == MQ_UNUSED);
+    c.ranges[1] = (mq_igmp_range){{239, 1, 9, 9}, 16, MQ_DENY}; /* the place before it is unused */
+    next.ranges[MQ_RANGES - 1] = (mq_igmp_range){{239, 1, 2, 0}, 24, MQ_ALLOW};
+    CHECK(MQ_UNUSED == 0 && MQ_ALLOW == 1 && MQ_DENY == 2 && mq_igmp_new(c, 0, &it) == MQ_DONE);
+    a = mq_igmp_receive(&it.link, &it.workspace, host, join, sizeof join, 10, NULL, 0);
+    CHECK(a.status == MQ_DONE && !a.dropped && a.applied == 0 && a.ignored == 1 && !a.refused);
+    CHECK(mq_igmp_receive(&it.link, &it.workspace, host, leave, sizeof leave, 10, NULL, 0).ignored == 1);
+    CHECK(mq_igmp_receive(&it.link, &it.workspace, host, allow, sizeof allow, 10, NULL, 0).applied == 1);
+    CHECK(!mq_igmp_forwards(&it.link, group, source) && mq_igmp_forwards(&it.link, other, source));
+    CHECK(mq_igmp_configure(&it.link, next) == MQ_DONE && mq_igmp_forwards(&it.link, other, source));
+    CHECK(mq_igmp_receive(&it.link, &it.workspace, host, join, sizeof join, 20, NULL, 0).applied == 1);
+    CHECK(mq_igmp_receive(&it.link, &it.workspace, host, allow, sizeof allow, 20, NULL, 0).ignored == 1);
+    CHECK(mq_igmp_forwards(&it.link, group, source) && mq_igmp_forwards(&it.link, other, source));
+    mq_igmp_counts(&it.link, &counts, sizeof counts);
+    CHECK(counts.ignored == 3 && counts.denied == 3 && counts.applied == 2 && counts.dropped == 0);
+    mq_igmp_free(&it);
+}
+
 int main(void) {
     most_queries(8);
     most_queries(1480);
@@ -401,6 +431,7 @@ int main(void) {
     changed();
     configurations();
     configured();
+    ranged();
     queries();
     asking();
     lines();

@@ -23,6 +23,8 @@ static void make(void) {
     memcpy(own, is_mld ? own6 : own4, width);
     mq_config config = mq_config_defaults(is_mld, own), other;
     config.groups = 24, config.group_sources = 16, config.sources = 64, config.scheduled = 4, config.source_specific = 1;
+    static const uint8_t few4[4] = {239, 0, 0, 8}, few6[16] = {0xff, 0x0e, [15] = 8};
+    mq_put_range(&config.ranges[3], is_mld ? few6 : few4, width, is_mld ? 126 : 30, MQ_DENY);
     mq_igmp_config config4 = mq_igmp_config_of(config);
     mq_mld_config config6 = mq_mld_config_of(config);
     size_t size = is_mld ? mq_mld_size(config6) : mq_igmp_size(config4);
@@ -43,11 +45,13 @@ static void make(void) {
     CHECK(mq_link_init(config, 0, memory[1], MEMORY, &other_workspace, &other_link) == MQ_WORKSPACE);
     other = config, other.robustness = 8;
     CHECK(mq_config_status(other) == MQ_ROBUSTNESS);
+    other = config, other.last_member_query_count = 8;
+    CHECK(mq_config_status(other) == MQ_LAST_MEMBER_QUERY_COUNT);
     other = config, other.own[0] = 224;
     CHECK(mq_config_status(other) == MQ_OWN_ADDRESS && mq_link_configure(&link_of_either, other) == MQ_OWN_ADDRESS);
     other = config, other.is_mld = !is_mld;
     CHECK(mq_link_configure(&link_of_either, other) == MQ_WORKSPACE);
-    other = config, other.query_interval = 20, other.groups = 23;
+    other = config, other.query_interval = 20, other.last_member_query_count = 3, other.groups = 23;
     CHECK(mq_link_configure(&link_of_either, other) == MQ_DONE && mq_link_next_deadline(&link_of_either) == 0);
     CHECK((is_mld ? mq_mld_configure(&mld, mq_mld_config_of(other)) : mq_igmp_configure(&igmp, mq_igmp_config_of(other)))
           == MQ_DONE);

@@ -80,6 +80,26 @@ static void configured(void) {
     mq_mld_free(&it);
 }
 
+/* Ranges of groups that hosts may ask for. */
+static void ranged(void) {
+    mq_mld_config c = mq_mld_defaults(own);
+    mq_mld_on_heap it;
+    mq_counts counts;
+    for (size_t at = 0; at < MQ_RANGES; at++)
+        CHECK(c.ranges[at].rule == MQ_UNUSED);
+    c.ranges[0] = (mq_mld_range){{0xff, 0x0e, [14] = 0x12, 0x35}, 127, MQ_DENY};
+    CHECK(mq_mld_new(c, 0, &it) == MQ_DONE);
+    CHECK(mq_mld_receive(&it.link, &it.workspace, host, routers, 1, true, report, sizeof report, 0, NULL, 0).ignored == 1);
+    CHECK(mq_mld_receive(&it.link, &it.workspace, host, group, 1, true, join, sizeof join, 0, NULL, 0).ignored == 1);
+    CHECK(mq_mld_receive(&it.link, &it.workspace, host, all, 1, true, done, sizeof done, 0, NULL, 0).ignored == 1);
+    mq_mld_counts(&it.link, &counts, sizeof counts);
+    CHECK(counts.ignored == 3 && counts.denied == 3 && mq_mld_len(&it.link) == 0);
+    c.ranges[0].length = 128;
+    CHECK(mq_mld_configure(&it.link, c) == MQ_DONE);
+    CHECK(mq_mld_receive(&it.link, &it.workspace, host, routers, 1, true, report, sizeof report, 0, NULL, 0).applied == 1);
+    mq_mld_free(&it);
+}
+
 /* Changed groups: two begin, one ends, and some calls change none. Also the list of a workspace that two links share. */
 static void changed(void) {
     static const uint8_t two[] = {0x8f, 0,    0x48, 0x70, 0, 0, 0, 2, 4, 0, 0,    0,    0xff, 0x0e, 0,    0,
@@ -241,6 +261,7 @@ int main(void) {
     mq_mld_free(&it);
     shared();
     configured();
+    ranged();
     most_queries(1480);
     most_queries(65535);
     changed();

@@ -3,20 +3,17 @@ use Rattle.mq_arena.proofs.Common.{◌≡◌, ℕ, zero, suc, ◌+◌, ◌-◌, 
 use Rattle.mq_arena.proofs.Common.{ftrue, fsep, flft, froom, SProp, ent, ex, guard, sep, emp, id⊢, ◌⊑◌, Fun, fact, fact_i, Array, part_at, layout, layouts}
 use Rattle.mq_arena.proofs.Common.{param, Laws, param_laws, RattleType, block_ptr, nothing, heard, triple_of, Val, vint, vptr, Memory, Routine, ‵, raw, ◌⊛◌}
 use Rattle.mq_arena.proofs.Common.{some, later, ◌$◌, ◌∵◌, !, qed, move, use0, use1, drop, split, join, pick, rewrite, fjoin, feq_i, flt_i, check, show, await}
-use Rattle.mq_arena.proofs.Common.{updating, now, done, Logic, sem, Al, lodged, Lodged}
+use Rattle.mq_arena.proofs.Common.{updating, now, done, Logic, sem, Al, lodged, Lodged, Callee, Ty, a_type, w64, ty_array}
 use denote.Triple.Statement.{Contract}
-use mir.Syntax.{Callee, Ty, a_type, w64, ty_array, given}
-use Rattle.std_alloc.proofs.VecSteps.El.{El, no_al, R, sz}
-use Rattle.std_alloc.proofs.VecSteps.Opens.{blk_in}
-use Rattle.std_alloc.proofs.VecSteps.Rows.{empty}
+use mir.Syntax.{given}
+use Rattle.std_alloc.proofs.VecSteps.{El.El, El.no_al, El.R, El.sz, Opens.blk_in, Rows.empty}
+use Rattle.std_alloc.specs.contracts.vec.{lodge.Key.name as lodge_name, lodged.LodgedAllocator.TheImpl.ghosts}
+use Rattle.mq_arena.proofs.Rooms.{units, room_of_units}
 use Rattle.std_alloc.proofs.vec.Vec.TheLaws as vec_laws
 use Rattle.std_alloc.proofs.vec.lodged.Lodged.TheLaws as lodged_laws
 use Rattle.std_alloc.specs.contracts.vec.Vec as vec
 use Rattle.std_alloc.specs.contracts.vec.lodge as lodge
-use Rattle.std_alloc.specs.contracts.vec.lodge.Key.{name as lodge_name}
 use Rattle.std_alloc.specs.contracts.vec.lodged.Lodged as lodged_type
-use Rattle.std_alloc.specs.contracts.vec.lodged.LodgedAllocator.TheImpl.{ghosts}
-use Rattle.mq_arena.proofs.Rooms.{units, room_of_units}
 
 -- a vector that neither grows nor frees its memory
 abbrev pub LentVec : RattleType → RattleType

@@ -1,6 +1,7 @@
 -- Requests that are granted in turn, where so many bytes are left as their blocks take.
-use Rattle.std.proofs.Common.{◌≡◌, ℕ, ◌+◌, ◌-◌, ◌*◌, ◌/◌, ◌≤◌, List, [], ◌∷◌, subst, sym, arith}
-use Rattle.mq_arena.specs.Blocks.{Request, size_of_block, GrantedInTurn, size_of_blocks, Aligned}
+use Rattle.mq_arena.proofs.Common.{◌≡◌, ℕ, ◌+◌, ◌-◌, ◌*◌, ◌≤◌, List, [], ◌∷◌, subst, sym, arith, size_of_block}
+use Rattle.std.proofs.Common.{◌/◌}
+use Rattle.mq_arena.specs.Blocks.{Request, GrantedInTurn, size_of_blocks, Aligned}
 
 -- the units that are left once a block was taken
 left : (units : ℕ) (n : ℕ) → 16 * units - size_of_block n ≡ 16 * (units - (n + 15) / 16)

@@ -1,21 +1,14 @@
 -- The kinds of the parameters and of the result of `grow` and `shrink`, at their two lifetimes.
-use mathlib.Core.List.{List, [], ◌∷◌}
-use mathlib.Core.Path.{refl}
-use mir.Syntax.{w64}
+use Rattle.mq_arena.proofs.Common.{List, [], ◌∷◌, refl, w64, yes, field_told, RawPtr, plain}
 use borrow.Fn.Kinds.{ParamKind, ResultKind, p_num}
-use borrow.Kind.ShrRefTo.{p_shr_to}
-use borrow.Kind.Value.{r_val}
-use borrow.Rule.AtSlots.{one_type}
-use borrow.Rule.Local.{mem_whole, whole_mem}
-use borrow.Table.RawPtr.{p_ptr, ptr_laws, ptr_copy}
-use borrow.Table.Rows.{whole}
+use borrow.Kind.{ShrRefTo.p_shr_to, Value.r_val}
+use borrow.Rule.{AtSlots.one_type, Local.mem_whole, Local.whole_mem}
+use borrow.Table.{RawPtr.p_ptr, RawPtr.ptr_laws, RawPtr.ptr_copy, Rows.whole}
+use denote.Enum.Loose.{loose_lawful}
+use denote.Struct.{Field.RawPtr-field, Laws.RawPtr-laws, Laws.RawPtr-plain}
 use denote.Enum.Declared as enum
 use denote.Enum.Laws as enum_laws
-use denote.Enum.Loose.{loose_lawful}
-use Rattle.mq_arena.proofs.Common.{yes, field_told, RawPtr, plain}
 use denote.Struct.Declared as struct
-use denote.Struct.Field.{RawPtr-field}
-use denote.Struct.Laws.{RawPtr-laws, RawPtr-plain}
 use Rattle.core.specs.contracts.alloc.AllocError as error
 use Rattle.core.specs.contracts.result.Result as result
 use Rattle.core.proofs.alloc.AllocError.TheLaws as error_laws

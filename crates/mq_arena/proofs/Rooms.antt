@@ -1,9 +1,9 @@
 -- Units of memory as room for any type that is no larger. Assumes `Logic`.
 use Rattle.mq_arena.proofs.Common.{◌≡◌, ℕ, zero, ◌+◌, ◌-◌, ◌*◌, ◌%◌, ◌≤◌, max, List, [], ◌∷◌, length, refl, sym, ap, subst, ◌∙◌, arith, Ura, full_share, fat}
 use Rattle.mq_arena.proofs.Common.{froom, SProp, ent, wand, id⊢, Val, bytes, size, align, pad, up, end_of, rooms_at, Logic, sem, ‵, raw, ◌⊛◌, some, ◌$◌, !, ◌∵◌}
-use Rattle.mq_arena.proofs.Common.{qed, by, move, keep, drop, use1, split, pick, u128, part_at, row}
+use Rattle.mq_arena.proofs.Common.{qed, by, move, keep, drop, use1, split, pick, u128, part_at, row, Ty, w64, ty_array, tcons, tnil}
 use native.Mathlib.Nat.{mod_self, sub-zero}
-use mir.Syntax.{Ty, Tys, Width, w8, w16, w32, w64, w128, ty_int, ty_array, ty_struct, tcons, tnil}
+use mir.Syntax.{Tys, Width, w8, w16, w32, w128, ty_int, ty_struct}
 use prog.Align.{Dv, dv→, dv_zero, dv_one, dv_mul, align_pos, align_w, align-bytes}
 use borrow.Table.OneValue.{part_out}
 

@@ -2,9 +2,9 @@
 use Rattle.mq_arena.proofs.Common.{◌≡◌, ℕ, ◌*◌, ◌^◌, ◌<◌, List, [], ◌∷◌, ◌++◌, length, IfOk, Ok, Err, ap, ◌∙◌, Ura, full_share, froom, flft, static, Val}
 use Rattle.mq_arena.proofs.Common.{vstruct, vnil, of_list, Logic, Item, Goal, Soaks, Seq, ‵, ◌$◌, move, drop, use0, use1, fsplit, fsplit3, fpick, feq_l, live}
 use Rattle.mq_arena.proofs.Common.{RattleType, u128, opens_slice, pure_l, MutSlice, slice_val, mut_slice_at, only, size_of_block}
+use Rattle.mq_arena.proofs.Rooms.{units, places}
 use Rattle.core.specs.contracts.result.Result as result
 use Rattle.core.specs.contracts.alloc.AllocError as error
-use Rattle.mq_arena.proofs.Rooms.{units, places}
 
 abbrev pub Block : RattleType
 Block = MutSlice static [] u128

@@ -1,6 +1,6 @@
 -- Memory that is taken twice.
-use Rattle.mq_arena.proofs.Common.{ℕ, ◌+◌, ◌<◌, ◌≤◌, ◌≡◌, Bool, true, false, refl, arith, Takes}
-use Rattle.std.specs.Prelude.{Result, IsErr, is_ok, Ok, Err}
+use Rattle.mq_arena.proofs.Common.{ℕ, ◌+◌, ◌≡◌, Bool, true, false, refl, arith, Takes, Result, is_ok, Ok, Err}
+use Rattle.std.specs.Prelude.{IsErr}
 
 -- the first granted request is taken, and then that of the second
 pub both : {a b old between new : ℕ} {is_granted : Bool} → Takes a old between true → Takes b between new is_granted → Takes (a + b) old new is_granted

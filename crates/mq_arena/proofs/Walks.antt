@@ -5,8 +5,7 @@ use Rattle.mq_arena.proofs.Common.{plain, types_at, Ended, Clauses, closing, on_
 use contract.Beside.{Carries}
 use contract.Named.{bare_unfolds}
 use sound.WpLaws.{WpFn-mono}
-use denote.Triple.Table.{entered}
-use denote.Triple.Handed.{holding, hands}
+use denote.Triple.{Table.entered, Handed.holding, Handed.hands}
 
 abbrev pub slot_at : {n : ℕ} → ℕ → List (Slot n) → Slot n
 slot_at k [] = plain (λ _. unit)

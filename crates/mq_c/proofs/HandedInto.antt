@@ -1,9 +1,7 @@
 -- The messages that a call has put into the provided memory.
-use Rattle.std.proofs.Common.{◌≡◌, ℕ, Bool, List, [], ◌∷◌, sym, ap, ◌∙◌, subst}
+use Rattle.mq_c.proofs.Common.{◌≡◌, ℕ, Bool, List, [], ◌∷◌, sym, ap, ◌∙◌, subst, Outgoing, outbox_of, Puts}
 use Rattle.mq_link.specs.Handing.{HandsOver}
-use Rattle.mq_link.specs.Sent.{Outgoing}
-use Rattle.mq_c.specs.declared.queries.Queries.{Queries}
-use Rattle.mq_c.specs.Queries.{outbox_of, Puts, TakesFramed}
+use Rattle.mq_c.specs.{declared.queries.Queries.Queries, Queries.TakesFramed}
 
 -- all queries were put there, and it is the same memory
 pub handed : (width : ℕ) (old : Queries) (messages : List Outgoing) (answers : List Bool) (new : Queries)

@@ -1,22 +1,9 @@
 -- Lines in provided memory.
-use Rattle.std.proofs.Common.{◌≡◌, ℕ, ◌-◌, ◌≤◌, IsTrue, Bool, true, false, is_ok, is_err, if◌then◌else◌, List, [], ◌++◌, length, take, drop, Some}
-use Rattle.std.proofs.Common.{Result, Ok, Err, refl, sym, ap, ◌∙◌, subst, arith, append-nil, ◌||◌}
-use Rattle.std.proofs.lemmas.List.{take-append-drop}
-use Rattle.std.proofs.lemmas.Grind.{common_steps}
-use Rattle.mq_wire.specs.Family.{Family}
-use Rattle.mq_lines.specs.Line.{IsLineIn, PrintsLineIn}
-use Rattle.mq_lines.specs.Objects.{fault_object, message_object}
-use Rattle.mq_lines.specs.Text.{line_of, message_text, fault_text}
-use Rattle.mq_c.specs.declared.line_room.LineRoom.{LineRoom}
-use Rattle.mq_c.specs.LineRoom.{in_front, written_to, LineStands}
-
--- a line with its end
-ended : (json : Bool) (family : Family) (pseudo bytes : List ℕ) (flag : Bool) (text : List ℕ) → IsLineIn json family pseudo bytes flag text →
-    (line : List ℕ) × (text ≡ line_of line)
-ended false family pseudo bytes true text is_line = (message_text family is_line.0, is_line.2)
-ended false family pseudo bytes false text is_line = (fault_text is_line.0, is_line.2)
-ended true family pseudo bytes true text is_line = (message_object family is_line.0, is_line.2)
-ended true family pseudo bytes false text is_line = (fault_object is_line.0, is_line.2)
+use Rattle.mq_c.proofs.Common.{◌≡◌, ℕ, ◌-◌, ◌≤◌, Bool, false, is_ok, List, [], ◌++◌, length, take, drop, Some, Result, Ok, Err, refl, sym, ap, ◌∙◌, subst}
+use Rattle.mq_c.proofs.Common.{arith, append-nil, take-append-drop, common_steps, Family, LineStands}
+use Rattle.std.proofs.Common.{IsTrue, is_err, if◌then◌else◌, ◌||◌}
+use Rattle.mq_lines.specs.{Line.PrintsLineIn, Text.line_of}
+use Rattle.mq_c.specs.{declared.line_room.LineRoom.LineRoom, LineRoom.in_front, LineRoom.written_to}
 
 -- where all of a text was written, it stands in front
 all_in_front : (text before new : List ℕ) (written : ℕ) → written ≤ length new → length new ≡ length before → drop written new ≡ drop written before →
@@ -39,23 +26,23 @@ printed_stands : {E : Type 0} (json : Bool) (family : Family) (pseudo bytes befo
     → PrintsLineIn json (Some []) (Some (take written new)) family pseudo bytes printed
     → LineStands json family pseudo bytes before new (if is_ok printed then written - 1 else written)
 printed_stands json family pseudo bytes before new written (Ok flag) within same_length behind no_room prints =
-    let line = ended json family pseudo bytes prints.flag prints.line prints.is_line in
+    let line = prints.is_line in
     record {
       flag = prints.flag;
       line = line.0;
-      is_line = subst (λ (text : List ℕ). IsLineIn json family pseudo bytes prints.flag text) line.1 prints.is_line;
-      stands = all_in_front (line_of line.0) before new written within same_length behind (prints.printed.1 ∙ line.1);
-      counted = grind (arith, common_steps, ap length (prints.printed.1 ∙ line.1), within, same_length);
+      is_text = line.1;
+      stands = all_in_front (line_of line.0) before new written within same_length behind (prints.printed.1 ∙ line.2);
+      counted = grind (arith, common_steps, ap length (prints.printed.1 ∙ line.2), within, same_length);
     }
 printed_stands json family pseudo bytes before new written (Err e) within same_length behind no_room prints =
-    let line = ended json family pseudo bytes prints.flag prints.line prints.is_line in
+    let line = prints.is_line in
     let begun = prints.printed in
     let filled : take written new ≡ new = grind (arith, common_steps, no_room refl) in
-    let parts : line_of line.0 ≡ new ++ begun.left = sym line.1 ∙ begun.parts ∙ ap (λ (t : List ℕ). t ++ begun.left) (sym begun.grows ∙ filled) in
+    let parts : line_of line.0 ≡ new ++ begun.left = sym line.2 ∙ begun.parts ∙ ap (λ (t : List ℕ). t ++ begun.left) (sym begun.grows ∙ filled) in
     record {
       flag = prints.flag;
       line = line.0;
-      is_line = subst (λ (text : List ℕ). IsLineIn json family pseudo bytes prints.flag text) line.1 prints.is_line;
+      is_text = line.1;
       stands = beginning_in_front (line_of line.0) begun.left before new same_length parts;
       counted = grind (arith, common_steps, ap length parts, begun.some_left, no_room refl, same_length);
     }

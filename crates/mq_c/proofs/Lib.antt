@@ -1,3 +1,5 @@
+mod Common
+mod DoneCalls
 mod FaultStatuses
 mod HandedInto
 mod LentLines
@@ -20,4 +22,3 @@ mod ShownGroups
 mod SizedObjects
 mod ToldAddresses
 mod UnheldGroups
-mod WorkedIn

@@ -1,17 +1,12 @@
 -- The number of times that a datagram's records may still meet the held groups.
-use Rattle.std.proofs.Common.{◌≡◌, ℕ, ◌+◌, ◌-◌, ◌*◌, ◌<◌, ◌≤◌, Bool, true, false, not, List, [], ◌∷◌, length, Some, sym, ap, ◌∙◌, subst, arith}
-use Rattle.std.proofs.Math.Nat.{mul-le-mul_right}
-use Rattle.std.proofs.lemmas.List.Sums.{sum_by-cons, sum_by-le-sum_by}
-use Rattle.std.specs.List.{sum_by}
-use Rattle.std.specs.FinMap as map
+use Rattle.mq_c.proofs.Common.{◌≡◌, ℕ, ◌+◌, ◌-◌, ◌*◌, ◌<◌, ◌≤◌, Bool, true, false, not, List, [], ◌∷◌, length, Some, sym, ap, ◌∙◌, subst, arith}
+use Rattle.mq_c.proofs.Common.{mul-le-mul_right, sum_by-cons, sum_by, ScheduledGroup, Groups, unheld, group_at, with_group, one_if, Seen, met}
+use Rattle.std.proofs.lemmas.List.Sums.{sum_by-le-sum_by}
 use Rattle.mq_table.specs.Group.{is_vacant}
-use Rattle.mq_sched.specs.Schedule.{ScheduledGroup}
-use Rattle.mq_held.specs.Groups.{Groups, unheld, group_at, with_group, one_if}
 use Rattle.mq_held.proofs.Amounts.{total-with_group, len-with_group}
-use Rattle.mq_link.specs.Record.{Seen, met}
-use Rattle.mq_link.proofs.HeldAs.{vacant_is}
-use Rattle.mq_link.proofs.Potential.{sum-falls}
+use Rattle.mq_link.proofs.{HeldAs.vacant_is, Potential.sum-falls}
 use Rattle.mq_c.proofs.QueryCounts.{one_at_most}
+use Rattle.std.specs.FinMap as map
 
 -- one for a group that is held
 abbrev pub stands : ScheduledGroup → ℕ

@@ -1,16 +1,9 @@
 -- One group in provided memory.
-use Rattle.std.proofs.Common.{◌≡◌, ℕ, ◌≤◌, Bool, true, false, cond, nat_le, List, ◌++◌, length, take, drop, refl, sym, ap, ◌∙◌, arith}
-use Rattle.std.specs.Prelude.{map as list_map}
-use Rattle.std.proofs.lemmas.Bool.Decides.{nat_tests}
-use Rattle.std.proofs.lemmas.List.{take_all}
-use Rattle.std.specs.FinMap as map
-use Rattle.mq_sets.specs.Ascending.{IsAscending}
-use Rattle.mq_table.specs.Stored.{number_in, timers_in}
-use Rattle.mq_table.specs.declared.sources.Source.{Source}
-use Rattle.mq_held.specs.Groups.{Groups, group_at, sources_of}
-use Rattle.mq_c.specs.declared.forms.Page.{Page}
-use Rattle.mq_c.specs.Pages.{Entry, SourceEntry, ShowsGroup}
+use Rattle.mq_c.proofs.Common.{◌≡◌, ℕ, ◌≤◌, Bool, true, false, cond, List, ◌++◌, length, take, drop, refl, sym, ap, ◌∙◌, arith, list_map, take_all, IsAscending}
+use Rattle.mq_c.proofs.Common.{number_in, timers_in, Source, Groups, group_at, sources_of, Page, Entry, SourceEntry, ShowsGroup}
+use Rattle.std.proofs.{Common.nat_le, lemmas.Bool.Decides.nat_tests}
 use Rattle.mq_c.proofs.ShownGroups.{row_forms}
+use Rattle.std.specs.FinMap as map
 
 module _ {G S : Type 0} (group_form : Entry → G) (source_form : SourceEntry → S) (held : Groups) (address : ℕ) where
   -- it isn't held, and nothing is written

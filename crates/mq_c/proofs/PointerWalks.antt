@@ -1,42 +1,33 @@
 -- The two functions of a struct of one pointer that owns a value, for whatever family. One borrows the value behind the pointer, the
 -- other stores the pointer of a value. Each meets the clauses that follow from its work. Assumes `Logic`.
-use Rattle.std.proofs.Common.{◌≡◌, ℕ, List, [], ◌∷◌, refl, sym, ◌∙◌, MutBor}
-use seplogic.Ra.Ura.{Ura}
+use Rattle.mq_c.proofs.Common.{◌≡◌, ℕ, List, [], ◌∷◌, refl, sym, ◌∙◌, emp, Fml, bare, Val, vptr, Logic, sem, ‵, ◌$◌, ◌∵◌, !, qed, fsplit, fjoin, fpack, done}
+use Rattle.mq_c.proofs.Common.{rewrite, follows, lone, RattleType, Ptr, block_ptr, nothing, box_owns, no_freeing}
+use Rattle.std.proofs.{Common.MutBor, raw_atomic.Walks.proved}
 use base.Fraction.{full_share}
-use base.Logic.{SProp, ent, sep, id⊢, emp}
-use base.Fml.{GName, Fml, ftrue, flft, fsep}
+use base.Logic.{SProp, ent, sep, id⊢}
+use base.Fml.{GName, ftrue, flft, fsep}
 use contract.Running.{Running, tables}
 use contract.Lifetimes.{Lfts}
-use mir.Raw.{raw as bare}
-use mir.Syntax.{named, erased, static, mut, Ty, Fn, Callee, ty_ptr, ty_ref, local, value_local, place, field, deref, copy, assign, rv_opd, addr_of}
-use mir.Syntax.{aggregate, seq, block, return}
-use mir.Val.{Val, vptr}
+use mir.Syntax.{named, erased, static, mut, Ty, Fn, Callee, ty_ptr, ty_ref, local, value_local, place, field, deref, copy, assign, rv_opd, addr_of, aggregate}
+use mir.Syntax.{seq, block, return}
 use prog.Model.{Model}
 use prog.Wp.{Closed}
-use types.Logic.{Logic, sem}
-use types.Kit.{‵, raw, ◌⊛◌, some, later, at_ret, ◌$◌, ◌∵◌, !, qed, by, move, keep, use0, use1, drop, split, join, pick, fsplit, fsplit3, fjoin, fpack}
-use types.Kit.{suffices, done, frame, await, group, rewrite}
+use types.Kit.{raw, ◌⊛◌, some, later, at_ret, by, move, keep, use0, use1, drop, split, join, pick, fsplit3, suffices, frame, await, group}
 use types.Part.{agg, whole, sub, look_in}
 use types.Run.{stop, fld, load, of_opd, no_more, and_then, first, blocks, exec, returns, enter, addr}
 use types.ByLocal.{alloc_all, pass_all, free_all, look_at, get, through, sets, env, sets_last}
 use denote.Builtin.{One, RefMutOf}
 use denote.Exit.{no}
-use denote.Follow.{follows, Part, lends_Part}
-use denote.Memory.{part_at, mem, cell_at, part_of, lone}
-use denote.RattleType.{RattleType}
-use denote.RawPtr.{Ptr, block_ptr}
+use denote.Follow.{Part, lends_Part}
+use denote.Memory.{part_at, mem, cell_at, part_of}
 use denote.Ref.{MutRef, mut_vals, mut_Tells}
 use denote.Signature.{plain, mut_ref_to}
-use denote.Steps.{nothing, opens}
+use denote.Steps.{opens}
 use denote.Triple.Clauses.{Ended, Clauses, AtExit, closing, at_exit}
-use denote.Triple.Entry.{Args, Res}
-use denote.Triple.Spec.{Meets}
-use denote.Triple.Walked.{Stays, stay_dropped, walk_of, ends_at, Goes-spent_ref}
-use Rattle.std.proofs.raw_atomic.Walks.{proved}
+use denote.Triple.{Entry.Args, Entry.Res, Spec.Meets, Walked.Stays, Walked.stay_dropped, Walked.walk_of, Walked.ends_at, Walked.Goes-spent_ref}
 use Rattle.std_alloc.proofs.VecSteps.Shapes.{after}
-use Rattle.std_alloc.specs.Box.Ownership.{box_owns}
-use Rattle.mq_c.specs.Owning.{no_freeing}
 use Rattle.mq_c.proofs.Pointing.{Pointing, row_of, boxed, alone, pointer_in, pointer_out}
+use seplogic.Ra.Ura.{Ura}
 
 abbrev pub ty_of : RattleType → Ty
 ty_of R = lone R.mir

@@ -1,27 +1,17 @@
 -- A struct of one pointer that owns a value, for whatever family: its form in the machine, and how it is borrowed
 -- and given up. Assumes `Logic`.
-use Rattle.std.proofs.Common.{◌≡◌, ℕ, List, [], ◌∷◌, ◌++◌, refl, sym, subst}
-use seplogic.Ra.Ura.{Ura}
+use Rattle.mq_c.proofs.Common.{◌≡◌, ℕ, List, [], ◌∷◌, ◌++◌, refl, sym, subst, Fml, bare, Val, vptr, Logic, sem, ‵, ◌$◌, fsplit, fjoin, fpack, rewrite}
+use Rattle.mq_c.proofs.Common.{RattleType, lone, Ptr, block_ptr, nothing, box_owns, no_freeing}
 use base.Stored.{Coded}
 use base.Logic.{never, fst∗}
-use base.Fml.{Fml}
-use mir.Raw.{raw as bare}
 use mir.Syntax.{Sym}
-use mir.Val.{Val, vptr, vstruct, vcons, vnil, of_list}
-use types.Logic.{Logic, sem}
-use types.Kit.{Item, Goal, Seq, Step, step, ‵, ◌$◌, drop, fsplit, fjoin, fpick, fpack, feq_i, feq_l, rewrite}
-use denote.RattleType.{RattleType, Valss}
+use mir.Val.{vstruct, vcons, vnil, of_list}
+use types.Kit.{Item, Goal, Seq, Step, step, drop, fpick, feq_i, feq_l}
+use denote.RattleType.{Valss}
 use denote.Builtin.{RawPtr}
-use denote.Memory.{lone}
-use denote.RawPtr.{Ptr, block_ptr, null_ptr, ptr_val, in_a_block}
-use denote.Steps.{nothing}
-use denote.Struct.Field.{RawPtr-field}
-use denote.Struct.Record.{Record}
-use denote.Struct.Struct.{Struct, within}
-use denote.Struct.Owning.{Owning, owning, row, shape}
-use denote.Struct.Values.{Values}
-use Rattle.std_alloc.specs.Box.Ownership.{box_owns}
-use Rattle.mq_c.specs.Owning.{no_freeing}
+use denote.RawPtr.{null_ptr, ptr_val, in_a_block}
+use denote.Struct.{Field.RawPtr-field, Record.Record, Struct.Struct, Struct.within, Owning.Owning, Owning.owning, Owning.row, Owning.shape, Values.Values}
+use seplogic.Ra.Ura.{Ura}
 
 abbrev pub alone : Val → Val
 alone v = vstruct (vcons v vnil)

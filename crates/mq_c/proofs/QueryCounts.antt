@@ -1,32 +1,17 @@
 -- The most queries of a tick, and the most sources that they name.
-use Rattle.std.proofs.Common.{◌≡◌, ℕ, zero, suc, ◌+◌, ◌*◌, ◌<◌, ◌≤◌, Bool, true, false, cond, not, ◌&&◌, refl, List, [], ◌∷◌, ◌++◌, length, take}
-use Rattle.std.proofs.Common.{drop, filter, sum_by, Option, None, Some, is_some, sym, ap, ◌∙◌, arith, leb, length-append, length-drop}
-use Rattle.std.proofs.Math.Nat.{mul-le-mul_right}
-use Rattle.std.specs.Prelude.{map as list_map}
-use Rattle.std.specs.List.{flat_map}
-use Rattle.std.specs.FinMap as map
-use Rattle.std.proofs.lemmas.Bool.{leb-true, leb-false}
-use Rattle.std.proofs.lemmas.List.{drop_all, take-append-drop, length-map}
-use Rattle.std.proofs.lemmas.List.Sums.{sum_by-cons, sum_by-append}
-use Rattle.mq_table.specs.declared.timers.SourceTimer.{SourceTimer}
-use Rattle.mq_table.specs.declared.timing.Timing.{Timing}
-use Rattle.mq_table.specs.Sets.{Set, ◌∩◌, ◌∖◌}
-use Rattle.mq_table.specs.Group.{is_ahead, group_deadline}
-use Rattle.mq_table.specs.Lowering.{lowered_to}
-use Rattle.mq_table.specs.Sendings.{has_sendings, above}
-use Rattle.mq_wire.specs.Family.{Family, Igmp, Mld}
+use Rattle.mq_c.proofs.Common.{◌≡◌, ℕ, zero, suc, ◌+◌, ◌*◌, ◌<◌, ◌≤◌, Bool, true, false, cond, not, ◌&&◌, refl, List, [], ◌∷◌, ◌++◌, length, take, drop, sum_by}
+use Rattle.mq_c.proofs.Common.{Option, None, Some, is_some, sym, ap, ◌∙◌, arith, leb, length-append, length-drop, mul-le-mul_right, list_map, flat_map}
+use Rattle.mq_c.proofs.Common.{leb-false, drop_all, take-append-drop, length-map, sum_by-cons, SourceTimer, Timing, Set, ◌∩◌, group_deadline, above, Family}
+use Rattle.mq_c.proofs.Common.{Igmp, Mld, ScheduledGroup, SentQuery, GeneralQuery, GroupQuery, SourcesQuery, messages_due, Configuration, per_query, named_in}
+use Rattle.mq_c.proofs.Common.{Groups, LinkState, sources_of, sources_in, one_if}
+use Rattle.std.proofs.{Common.filter, lemmas.Bool.leb-true, lemmas.List.Sums.sum_by-append}
+use Rattle.mq_table.specs.{Sets.◌∖◌, Group.is_ahead, Lowering.lowered_to, Retransmissions.has_retransmissions}
 use Rattle.mq_sched.specs.declared.queries.QuerySchedule.{QuerySchedule}
-use Rattle.mq_sched.specs.Election.{ElectionState, returned, general_is_due, general_messages}
-use Rattle.mq_sched.specs.Portions.{portions_within}
-use Rattle.mq_sched.specs.Schedule.{ScheduledGroup}
-use Rattle.mq_sched.specs.Sending.{SentQuery, GeneralQuery, GroupQuery, SourcesQuery, is_due, group_due, sources_where, sources_queries}
-use Rattle.mq_sched.specs.Sending.{group_messages, source_messages, messages_due}
-use Rattle.mq_link.specs.Configuration.{Configuration}
-use Rattle.mq_link.specs.Family.{per_query}
-use Rattle.mq_link.specs.Handing.{named_in}
-use Rattle.mq_link.specs.State.{Groups, LinkState, AreWithin, sources_of, sources_in, one_if, schedules_of, schedules_in}
+use Rattle.mq_sched.specs.{Election.ElectionState, Election.returned, Election.general_is_due, Election.general_messages, Portions.portions_within}
+use Rattle.mq_sched.specs.Sending.{is_due, group_due, sources_where, sources_queries, group_messages, source_messages}
+use Rattle.mq_link.{specs.State.AreWithin, specs.State.schedules_of, specs.State.schedules_in, proofs.Bounds.expired_no_more, proofs.Bounds.within-kept}
 use Rattle.mq_link.specs.Tick.{group_expired, if_held, groups_expired, queries_due, tick_at}
-use Rattle.mq_link.proofs.Bounds.{expired_no_more, within-kept}
+use Rattle.std.specs.FinMap as map
 
 -- At most the queries that these runs have for these sources, if each query of a run but its last has n of them.
 pub record AreFew (n runs sources : ℕ) (queries : List SentQuery) : Type 0 where
@@ -115,17 +100,17 @@ module _ (n : ℕ) (positive : 0 < n) (timing : Timing) (now group : ℕ) (e : S
       by_due false = few_none n 1 0
 
   over : List ℕ
-  over = sources_where (has_sendings e.group ∩ above timing now e.group) e.group
+  over = sources_where (has_retransmissions e.group ∩ above timing now e.group) e.group
 
   under : List ℕ
-  under = sources_where (has_sendings e.group ∖ above timing now e.group) e.group
+  under = sources_where (has_retransmissions e.group ∖ above timing now e.group) e.group
 
   both_few : AreFew n 2 (sources_of e) (sources_queries n group true over ++ sources_queries n group false under)
   unfolding over under
   both_few =
       let keys = map.keys e.group.sources in
       let size : length over + length under ≤ sources_of e =
-      (let filters = two_filters (has_sendings e.group) (above timing now e.group) keys in
+      (let filters = two_filters (has_retransmissions e.group) (above timing now e.group) keys in
       let all : length keys ≡ sources_of e = length-map (map.entries e.group.sources) (λ (x : ℕ × SourceTimer). x.0) ∙ sym (map.len-entries e.group.sources) in
       omega (arith, filters, all)) in
       few_weaker n 2 2 (length over + length under) (sources_of e) (sources_queries n group true over ++ sources_queries n group false under) (omega arith) size

@@ -1,20 +1,11 @@
 -- The bytes of a tick's queries.
-use Rattle.std.proofs.Common.{◌≡◌, ℕ, ◌+◌, ◌*◌, ◌<◌, ◌≤◌, ◌^◌, Bool, false, List, [], ◌∷◌, length, sum_by, ap, arith, ◌∙◌}
-use Rattle.std.proofs.Math.Nat.{add-mul, suc-mul}
-use Rattle.std.specs.Prelude.{map as list_map}
-use Rattle.std.proofs.lemmas.List.Sums.{sum_by-cons}
-use Rattle.mq_wire.specs.declared.query.QuerierFields.{QuerierFields}
-use Rattle.mq_wire.specs.Canon.{canon, first_bytes, without_checksum, covered_before}
-use Rattle.mq_wire.specs.Family.{Family, Igmp, Mld, address_width}
+use Rattle.mq_c.proofs.Common.{◌≡◌, ℕ, ◌+◌, ◌*◌, ◌<◌, ◌≤◌, ◌^◌, Bool, false, List, [], ◌∷◌, length, sum_by, ap, arith, ◌∙◌, add-mul, suc-mul, list_map}
+use Rattle.mq_c.proofs.Common.{sum_by-cons, Family, Igmp, Mld, address_width, Timing, SentQuery, GeneralQuery, GroupQuery, SourcesQuery, Configuration}
+use Rattle.mq_c.proofs.Common.{per_query, named_in, outgoing, query_head}
+use Rattle.mq_wire.specs.{declared.query.QuerierFields.QuerierFields, Canon.canon, Canon.first_bytes, Canon.without_checksum, Canon.covered_before}
 use Rattle.mq_wire.proofs.WrittenParts.{length_query, length_with_checksum}
-use Rattle.mq_table.specs.declared.timing.Timing.{Timing}
 use Rattle.mq_sched.specs.Rounds.{AllFit}
-use Rattle.mq_sched.specs.Sending.{SentQuery, GeneralQuery, GroupQuery, SourcesQuery}
-use Rattle.mq_link.specs.Configuration.{Configuration}
-use Rattle.mq_link.specs.Family.{per_query}
-use Rattle.mq_link.specs.Handing.{named_in}
-use Rattle.mq_link.specs.Sent.{query_with, outgoing}
-use Rattle.mq_c.specs.Rooms.{query_head}
+use Rattle.mq_link.specs.Sent.{query_with}
 use Rattle.mq_c.proofs.RoomSuffices.{taken_by, AreTold}
 
 module _ (timing : Timing) (s : Bool) (sources : List ℕ) where

@@ -1,36 +1,28 @@
 -- The most queries of a datagram, and the most sources that they name.
-use Rattle.std.proofs.Common.{◌≡◌, ℕ, ◌+◌, ◌*◌, ◌≤◌, List, ◌++◌, length, sum_by, Option, None, Some, Result, Ok, Err, IfSome, refl, arith, min}
-use Rattle.std.specs.FinMap as map
-use Rattle.mq_wire.specs.declared.message.Message.{Message}
-use Rattle.mq_wire.specs.declared.message.Message.TheVariants.{Query as QueryMessage, OldReport, Leave as LeaveMessage, Report as ReportMessage}
+use Rattle.mq_c.proofs.Common.{◌≡◌, ℕ, ◌+◌, ◌*◌, ◌≤◌, List, ◌++◌, length, sum_by, Option, None, Some, Result, Ok, Err, IfSome, refl, arith, min, Message}
+use Rattle.mq_c.proofs.Common.{OldReport, Family, Igmp, Mld, size_of, SentQuery, Configuration, IsFaultless, v1_mutes_leave, per_query, Envelope, read_of}
+use Rattle.mq_c.proofs.Common.{receipt_of, Setting, Statement, change_in, is_muted, stated, all_judged, Groups, LinkState, IsWellFormed, group_at, sources_of}
+use Rattle.mq_c.proofs.Common.{sources_in, tick_of, moment_of, records_in_body, sources_in_body, asking_records, most_asked}
+use Rattle.mq_wire.specs.declared.message.Message.TheVariants.{Query as QueryMessage, Leave as LeaveMessage, Report as ReportMessage}
 use Rattle.mq_wire.specs.declared.message.WireFault.{WireFault}
-use Rattle.mq_wire.specs.Family.{Family, Igmp, Mld}
-use Rattle.mq_table.specs.Stored.{size_of}
-use Rattle.mq_sched.specs.Sending.{SentQuery}
 use Rattle.mq_held.proofs.Amounts.{own_sources}
-use Rattle.mq_link.specs.declared.answers.DropReason.{DropReason}
-use Rattle.mq_link.specs.Configuration.{Configuration, IsFaultless}
-use Rattle.mq_link.specs.Family.{v1_mutes_leave, per_query}
-use Rattle.mq_link.specs.Receive.{Envelope, setting_of, taken_in, taken_or_dropped, drop_reason, read_of, pseudo_of, counting_read, receipt_of}
-use Rattle.mq_link.specs.Record.{Setting, Statement, OlderJoin, OlderLeave, change_in, is_muted, stated, all_judged}
-use Rattle.mq_link.specs.State.{Groups, LinkState, IsWellFormed, group_at, sources_of, sources_in}
-use Rattle.mq_link.specs.Tick.{Step, tick_of, moment_of}
-use Rattle.mq_link.proofs.ChangedSizes.{joined_few, left_few}
-use Rattle.mq_link.proofs.Faultless.{some_groups, timing_in_range}
-use Rattle.mq_link.proofs.Receipts.{sound_in, recounted, positive_in}
-use Rattle.mq_link.proofs.Ticked.{IsWellFormed-tick_at}
-use Rattle.mq_c.specs.Rooms.{records_in_body, sources_in_body, asking_records, most_asked}
-use Rattle.mq_c.proofs.QueryCounts.{AreFew, few_append, few_weaker, tick_few}
-use Rattle.mq_c.proofs.RecordQueries.{stated_asks, records_ask}
-use Rattle.mq_c.proofs.ReportLengths.{sources_named, IsWithin, within_where_read}
+use Rattle.mq_link.specs.{declared.answers.DropReason.DropReason, Record.OlderJoin, Record.OlderLeave, Record.stated_alone, Tick.Step}
+use Rattle.mq_link.specs.Receive.{setting_of, taken_in, taken_or_dropped, drop_reason, pseudo_of, counting_read}
+use Rattle.mq_link.proofs.{ChangedSizes.joined_few, ChangedSizes.left_few, Ticked.IsWellFormed-tick_at}
+use Rattle.mq_link.proofs.{Faultless.some_groups, Faultless.timing_in_range, Receipts.sound_in, Receipts.recounted, Receipts.positive_in, StatedAlone.alone_by}
+use Rattle.mq_c.proofs.{QueryCounts.AreFew, QueryCounts.few_append, QueryCounts.few_none, QueryCounts.few_weaker, QueryCounts.tick_few, ReportLengths.IsWithin}
+use Rattle.mq_c.proofs.{RecordQueries.stated_asks, RecordQueries.records_ask, ReportLengths.sources_named, ReportLengths.within_where_read}
+use Rattle.std.specs.FinMap as map
 
 -- a statement of an older message, which names no source
 older_asks : (at : Setting) (group : ℕ) (groups : Groups) (st : Statement)
     → IfSome (change_in at group st groups) (λ c. size_of c.group ≤ sources_of (group_at groups group) + 0)
-    → AreFew (per_query at.config.family) 3 (sources_in groups) (stated at group st groups).queries
+    → AreFew (per_query at.config.family) 3 (sources_in groups) (stated_alone at group st groups).queries
 older_asks at group groups st few =
-    few_weaker (per_query at.config.family) 3 3 (sources_of (group_at groups group) + 0) (sources_in groups) (stated at group st groups).queries
-    (omega arith) (omega (arith, own_sources groups group)) (stated_asks at group groups (sources_of (group_at groups group) + 0) st few)
+    alone_by (λ o. AreFew (per_query at.config.family) 3 (sources_in groups) o.queries) at group st groups
+    (few_weaker (per_query at.config.family) 3 3 (sources_of (group_at groups group) + 0) (sources_in groups) (stated at group st groups).queries
+    (omega arith) (omega (arith, own_sources groups group)) (stated_asks at group groups (sources_of (group_at groups group) + 0) st few))
+    (few_none (per_query at.config.family) 3 (sources_in groups))
 
 one_asks : (longest : ℕ) (config : Configuration) → 1 ≤ config.limits.groups → 1 ≤ asking_records longest config
 one_asks longest config some = by_family config.family
@@ -67,14 +59,14 @@ module _ (longest : ℕ) (config : Configuration) (runs sources : ℕ) (some : 1
     taken_few envelope (OldReport version group) body =
         let at = setting_of config tick.state in
         let groups = tick.state.groups in
-        with_more (stated at group (OlderJoin version) groups).queries 3 (sources_in groups)
+        with_more (stated_alone at group (OlderJoin version) groups).queries 3 (sources_in groups)
         (older_asks at group groups (OlderJoin version)
         (joined_few (v1_mutes_leave config.family) (is_muted config group (OlderJoin version)) at.election.timing at.now version (group_at groups group).group))
         (omega (arith, one_asks longest config some)) (omega (arith, within))
     taken_few envelope (LeaveMessage group) body =
         let at = setting_of config tick.state in
         let groups = tick.state.groups in
-        with_more (stated at group OlderLeave groups).queries 3 (sources_in groups)
+        with_more (stated_alone at group OlderLeave groups).queries 3 (sources_in groups)
         (older_asks at group groups OlderLeave
         (left_few (v1_mutes_leave config.family) (is_muted config group OlderLeave) at.election.timing at.now (group_at groups group).group))
         (omega (arith, one_asks longest config some)) (omega (arith, within))

@@ -1,44 +1,24 @@
 -- The most queries of a datagram's records, and the most sources that they name.
-use Rattle.std.proofs.Common.{◌≡◌, ℕ, ◌+◌, ◌-◌, ◌*◌, ◌<◌, ◌≤◌, Bool, true, false, cond, ◌&&◌, refl, List, [], ◌∷◌, ◌++◌, length, sum_by, Option, None}
-use Rattle.std.proofs.Common.{Some, IfSome, is_some, sym, ap, subst, arith, leb, min}
-use Rattle.std.proofs.Math.Nat.{mul-le-mul_right}
-use Rattle.std.proofs.lemmas.Bool.{leb-false}
-use Rattle.std.proofs.lemmas.List.Sums.{sum_by-cons}
-use Rattle.std.specs.FinMap as map
-use Rattle.std.specs.FinSet as set
+use Rattle.mq_c.proofs.Common.{◌≡◌, ℕ, ◌+◌, ◌-◌, ◌*◌, ◌<◌, ◌≤◌, Bool, true, false, cond, ◌&&◌, refl, List, [], ◌∷◌, ◌++◌, length, sum_by, Option, None, Some}
+use Rattle.mq_c.proofs.Common.{IfSome, is_some, sym, ap, subst, arith, leb, min, mul-le-mul_right, leb-false, sum_by-cons, RecordView, Kind, hosts_of}
+use Rattle.mq_c.proofs.Common.{translated_change, size_of, GroupChange, ScheduledGroup, settled, SentQuery, v1_mutes_leave, per_query, Setting, Statement}
+use Rattle.mq_c.proofs.Common.{change_in, is_muted, stated, Seen, met, all_judged, Groups, unheld, group_at, with_group, sources_of, sources_in}
 use Rattle.std.specs.Option.{unwrap_or}
-use Rattle.mq_wire.specs.declared.records.RecordView.{RecordView}
-use Rattle.mq_table.specs.declared.kind.Kind.{Kind}
-use Rattle.mq_table.specs.OlderHosts.{hosts_of, translated_change}
 use Rattle.mq_table.specs.Group.{IsWellFormed as IsHeld}
-use Rattle.mq_table.specs.Stored.{size_of}
-use Rattle.mq_table.specs.Table.{GroupChange}
-use Rattle.mq_sched.specs.Election.{is_querier}
-use Rattle.mq_sched.specs.Schedule.{ScheduledGroup, settled}
-use Rattle.mq_sched.specs.Sending.{SentQuery}
-use Rattle.mq_sched.proofs.StayHeld.{held_acted, held_after_round}
-use Rattle.mq_link.proofs.KeptGroups.{absent_unheld}
-use Rattle.mq_link.specs.declared.answers.Refusal.{Refusal}
-use Rattle.mq_link.specs.declared.answers.Refusal.TheVariants.{Repeated}
-use Rattle.mq_link.specs.Counters.{Refused}
-use Rattle.mq_link.specs.Family.{v1_mutes_leave, per_query}
-use Rattle.mq_link.specs.Record.{Setting, Statement, RecordOf, leaving, unless_passed, changed_by, after_sending, sent_at_once, changed_or_refused}
-use Rattle.mq_link.specs.Record.{change_in, is_muted, limit_passed, stated, Seen, met, Entrance, Stops, GoesOn, entrance, seen_by, seen_after}
-use Rattle.mq_link.specs.Record.{judged_from, judged, all_judged}
-use Rattle.mq_link.specs.Sound.{AreSound}
-use Rattle.mq_link.specs.State.{Groups, unheld, group_at, with_group, sources_of, sources_in}
-use Rattle.mq_link.proofs.ChangedSizes.{translated_few}
+use Rattle.mq_sched.{specs.Election.is_querier, proofs.StayHeld.held_acted, proofs.StayHeld.held_after_round}
+use Rattle.mq_link.proofs.{KeptGroups.absent_unheld, ChangedSizes.translated_few, RecordCosts.stated_left, RecordCosts.four_times, StatedSteps.asked_few}
+use Rattle.mq_link.specs.{declared.answers.Refusal.Refusal, declared.answers.Refusal.TheVariants.Repeated, Sound.AreSound}
+use Rattle.mq_link.specs.{Counters.Refused, Record.GoesOn, Record.entrance, Record.seen_by, Record.seen_after, Record.judged_from, Record.judged}
+use Rattle.mq_link.specs.Record.{RecordOf, leaving, unless_passed, changed_by, after_sending, sent_at_once, changed_or_refused, limit_passed, Entrance, Stops}
 use Rattle.mq_link.proofs.Potential.{left_for, potential, potential-empty, potential-le, potential-falls}
-use Rattle.mq_link.proofs.Quiet.{not_vacant}
-use Rattle.mq_link.proofs.RecordCosts.{stated_left, four_times}
-use Rattle.mq_link.proofs.Recorded.{judged_leaves, all_judged_leave}
-use Rattle.mq_link.proofs.Silent.{none_unless}
-use Rattle.mq_link.proofs.StatedSteps.{asked_few}
-use Rattle.mq_link.proofs.TakenRecords.{again, met_once, met_more}
+use Rattle.mq_link.proofs.{Quiet.not_vacant, Silent.none_unless}
+use Rattle.mq_link.proofs.{Recorded.judged_leaves, Recorded.all_judged_leave, TakenRecords.again, TakenRecords.met_once, TakenRecords.met_more}
 use Rattle.mq_c.proofs.Meetings.{meetings, meetings-most, meetings-le, meetings-fall, meetings-changed, meetings-made}
 use Rattle.mq_c.proofs.QueryCounts.{AreFew, few_append, few_none, few_weaker, some_held, three_at_most}
 use Rattle.mq_c.proofs.ReportLengths.{sources_named}
 use Rattle.mq_c.proofs.UnheldGroups.{AsksNothing, unheld_asks_nothing, held_stays_held, nothing_sent}
+use Rattle.std.specs.FinMap as map
+use Rattle.std.specs.FinSet as set
 
 -- a statement asks for no more sources than its group has then
 module _ (at : Setting) (group : ℕ) (groups : Groups) (most : ℕ) where

@@ -1,19 +1,12 @@
 -- The most records of a datagram, and the most sources that they name.
-use Rattle.std.proofs.Common.{◌≡◌, ℕ, zero, suc, ◌+◌, ◌*◌, ◌≤◌, List, [], ◌∷◌, ◌++◌, length, Bool, cond, Ok, drop, replicate, sum, sum_by, ap, ◌∙◌, arith}
-use Rattle.std.proofs.Math.Nat.{add-mul, suc-mul}
-use Rattle.std.proofs.lemmas.List.Sums.{sum_by-cons}
-use Rattle.mq_wire.specs.declared.message.Message.{Message}
-use Rattle.mq_wire.specs.declared.message.Message.TheVariants.{Query, OldReport, Leave, Report}
-use Rattle.mq_wire.specs.declared.records.RecordView.{RecordView}
-use Rattle.mq_wire.specs.Family.{Family, Igmp, Mld, address_width}
-use Rattle.mq_wire.specs.Queries.{older_query, current_query}
-use Rattle.mq_wire.specs.Records.{record_spans, record_end, record_at, record_source_count, auxiliary_length, record_count, records_at}
-use Rattle.mq_wire.specs.Records.{spans_of_records, report_spans, report_records}
-use Rattle.mq_wire.proofs.Addresses.{length_addresses}
-use Rattle.mq_wire.proofs.Spans.{ends_within, sum-append, sum-replicate}
-use Rattle.mq_link.specs.Receive.{read_of}
+use Rattle.mq_c.proofs.Common.{◌≡◌, ℕ, zero, suc, ◌+◌, ◌*◌, ◌≤◌, List, [], ◌∷◌, ◌++◌, length, Bool, cond, Ok, drop, sum_by, ap, ◌∙◌, arith, add-mul, suc-mul}
+use Rattle.mq_c.proofs.Common.{sum_by-cons, Message, OldReport, RecordView, Family, Igmp, Mld, address_width, read_of, records_in_body, sources_in_body}
+use Rattle.std.proofs.Common.{replicate, sum}
+use Rattle.mq_wire.specs.declared.message.Message.TheVariants.{Query, Leave, Report}
+use Rattle.mq_wire.specs.{Queries.older_query, Queries.current_query, Records.report_spans, Records.report_records}
+use Rattle.mq_wire.specs.Records.{record_spans, record_end, record_at, record_source_count, auxiliary_length, record_count, records_at, spans_of_records}
+use Rattle.mq_wire.proofs.{Addresses.length_addresses, Spans.ends_within, Spans.sum-append, Spans.sum-replicate}
 use Rattle.mq_link.proofs.SpelledMessages.{AreWhole, where_read}
-use Rattle.mq_c.specs.Rooms.{records_in_body, sources_in_body}
 
 -- the number of a record's sources
 abbrev pub sources_named : RecordView ℕ → ℕ

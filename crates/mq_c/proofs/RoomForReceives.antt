@@ -1,21 +1,10 @@
 -- The room of a datagram suffices for its queries.
-use Rattle.std.proofs.Common.{◌≡◌, ℕ, ◌+◌, ◌*◌, ◌≤◌, List, length, sum_by, refl, sym, ap, subst, arith, ◌∙◌}
-use Rattle.mq_link.specs.declared.answers.Received.{Received}
-use Rattle.mq_link.specs.declared.answers.Received.TheVariants.{Taken, Dropped}
-use Rattle.mq_link.specs.Configuration.{Configuration, IsFaultless}
-use Rattle.mq_link.specs.Link.{LinkValue}
-use Rattle.mq_link.specs.Receive.{Envelope, receipt_of}
-use Rattle.mq_link.specs.Sent.{outgoing_of}
-use Rattle.mq_link.specs.State.{LinkState, IsWellFormed}
+use Rattle.mq_c.proofs.Common.{◌≡◌, ℕ, ◌+◌, ◌*◌, ◌≤◌, List, length, sum_by, refl, sym, ap, subst, arith, ◌∙◌, Configuration, IsFaultless, LinkValue, Envelope}
+use Rattle.mq_c.proofs.Common.{receipt_of, outgoing_of, LinkState, IsWellFormed, Answer, Outbox, outbox_at, asking_records, most_asked}
+use Rattle.mq_link.specs.declared.answers.Received.{Received, TheVariants.Taken, TheVariants.Dropped}
 use Rattle.mq_link.proofs.AllFits.{fits-receipt_of}
-use Rattle.mq_c.specs.declared.forms.Answer.{Answer}
-use Rattle.mq_c.specs.Calls.{ReceivesInto, answer_to}
-use Rattle.mq_c.specs.Queries.{Outbox, outbox_at}
-use Rattle.mq_c.specs.Rooms.{asking_records, most_asked, receive_room}
-use Rattle.mq_c.proofs.QueryLengths.{all_told}
-use Rattle.mq_c.proofs.ReceiptQueries.{receipt_few}
-use Rattle.mq_c.proofs.RoomSuffices.{taken_by, AreTold, none_left_out}
-use Rattle.mq_c.proofs.RoomTaken.{room_taken}
+use Rattle.mq_c.{specs.Calls.ReceivesInto, specs.Calls.answer_to, specs.Rooms.receive_room, proofs.RoomTaken.room_taken}
+use Rattle.mq_c.proofs.{QueryLengths.all_told, ReceiptQueries.receipt_few, RoomSuffices.taken_by, RoomSuffices.AreTold, RoomSuffices.none_left_out}
 
 -- all that its queries take
 receive_taken : (width longest : ℕ) (config : Configuration) (envelope : Envelope) (bytes : List ℕ) (now : ℕ) (state : LinkState) →

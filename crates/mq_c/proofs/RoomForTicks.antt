@@ -1,19 +1,9 @@
 -- The room of a tick suffices for its queries.
-use Rattle.std.proofs.Common.{◌≡◌, ℕ, ◌+◌, ◌*◌, ◌≤◌, List, length, sum_by, sym, ap, subst, arith, ◌∙◌}
-use Rattle.mq_link.specs.Configuration.{Configuration}
-use Rattle.mq_link.specs.Link.{LinkValue}
-use Rattle.mq_link.specs.Sent.{outgoing_of}
-use Rattle.mq_link.specs.State.{LinkState, IsWellFormed}
-use Rattle.mq_link.specs.Tick.{moment_of, tick_of}
+use Rattle.mq_c.proofs.Common.{◌≡◌, ℕ, ◌+◌, ◌*◌, ◌≤◌, List, length, sum_by, sym, ap, subst, arith, ◌∙◌, Configuration, LinkValue, outgoing_of, LinkState}
+use Rattle.mq_c.proofs.Common.{IsWellFormed, moment_of, tick_of, Answer, outbox_at}
 use Rattle.mq_link.proofs.AllFits.{fits-tick_of}
-use Rattle.mq_c.specs.declared.forms.Answer.{Answer}
-use Rattle.mq_c.specs.Calls.{TicksInto}
-use Rattle.mq_c.specs.Queries.{outbox_at}
-use Rattle.mq_c.specs.Rooms.{tick_room}
-use Rattle.mq_c.proofs.QueryCounts.{tick_few}
-use Rattle.mq_c.proofs.QueryLengths.{all_told}
-use Rattle.mq_c.proofs.RoomSuffices.{taken_by, AreTold, none_left_out}
-use Rattle.mq_c.proofs.RoomTaken.{room_taken}
+use Rattle.mq_c.{specs.Calls.TicksInto, specs.Rooms.tick_room, proofs.RoomTaken.room_taken}
+use Rattle.mq_c.proofs.{QueryCounts.tick_few, QueryLengths.all_told, RoomSuffices.taken_by, RoomSuffices.AreTold, RoomSuffices.none_left_out}
 
 -- all that its queries take
 tick_taken : (width : ℕ) (config : Configuration) (now : ℕ) (state : LinkState) → IsWellFormed config state

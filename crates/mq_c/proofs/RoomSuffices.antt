@@ -1,13 +1,9 @@
 -- Room for all queries, which leaves none out.
-use Rattle.std.proofs.Common.{◌≡◌, ℕ, ◌+◌, ◌<◌, ◌≤◌, ◌^◌, Bool, true, false, List, [], ◌∷◌, ◌++◌, length, take, drop, sum_by, sym, ap, arith}
-use Rattle.std.proofs.Common.{length-append, length-drop}
+use Rattle.mq_c.proofs.Common.{◌≡◌, ℕ, ◌+◌, ◌<◌, ◌≤◌, ◌^◌, Bool, true, false, List, [], ◌∷◌, ◌++◌, length, take, drop, sum_by, sym, ap, arith, length-append}
+use Rattle.mq_c.proofs.Common.{length-drop, length-take-le, sum_by-cons, big_bytes, Outgoing, Outbox, Puts}
 use Rattle.std.proofs.lemmas.Bool.{false≢true}
-use Rattle.std.proofs.lemmas.List.{length-take-le}
-use Rattle.std.proofs.lemmas.List.Sums.{sum_by-cons}
-use Rattle.byteorder.specs.Endian.{big_bytes}
 use Rattle.byteorder.specs.Numbers.{length-bytes_high_first}
-use Rattle.mq_link.specs.Sent.{Outgoing}
-use Rattle.mq_c.specs.Queries.{Outbox, Fits, framed, put, Puts}
+use Rattle.mq_c.specs.Queries.{Fits, framed, put}
 
 -- the bytes of a query there
 abbrev pub taken_by : (width : ℕ) → Outgoing → ℕ

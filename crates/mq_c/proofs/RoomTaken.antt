@@ -1,17 +1,8 @@
 -- The room for few queries.
-use Rattle.std.proofs.Common.{ℕ, ◌+◌, ◌*◌, ◌/◌, ◌≤◌, List, length, sum_by, arith}
+use Rattle.mq_c.proofs.Common.{ℕ, ◌+◌, ◌*◌, ◌/◌, ◌≤◌, List, length, sum_by, arith, list_map, Family, Igmp, Mld, address_width, Timing, SentQuery, Configuration}
+use Rattle.mq_c.proofs.Common.{per_query, outgoing, query_head}
 use Rattle.std.proofs.Math.Nat.{mul-le-mul_left}
-use Rattle.std.specs.Prelude.{map as list_map}
-use Rattle.mq_wire.specs.Family.{Family, Igmp, Mld, address_width}
-use Rattle.mq_table.specs.declared.timing.Timing.{Timing}
-use Rattle.mq_sched.specs.Sending.{SentQuery}
-use Rattle.mq_link.specs.Configuration.{Configuration}
-use Rattle.mq_link.specs.Family.{per_query}
-use Rattle.mq_link.specs.Sent.{outgoing}
-use Rattle.mq_c.specs.Rooms.{query_head, room_of}
-use Rattle.mq_c.proofs.QueryCounts.{AreFew}
-use Rattle.mq_c.proofs.QueryLengths.{taken_by_all}
-use Rattle.mq_c.proofs.RoomSuffices.{taken_by}
+use Rattle.mq_c.{specs.Rooms.room_of, proofs.QueryCounts.AreFew, proofs.QueryLengths.taken_by_all, proofs.RoomSuffices.taken_by}
 
 -- these runs of these sources
 at_most : (family : Family) (count runs sources : ℕ) → count * per_query family ≤ runs * per_query family + sources → count ≤ runs + sources / per_query family

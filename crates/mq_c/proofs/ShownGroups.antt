@@ -1,24 +1,15 @@
 -- A page, group by group.
-use Rattle.std.proofs.Common.{◌≡◌, ℕ, ◌+◌, ◌-◌, ◌*◌, ◌<◌, ◌≤◌, refl, List, [], ◌∷◌, ◌++◌, length, take, drop, get_or, set, Option, unwrap_or}
-use Rattle.std.proofs.Common.{append-nil, append_assoc, add-one, sym, ap, subst, ◌∙◌, arith, length-append, length-drop}
-use Rattle.std.specs.Prelude.{map as list_map}
-use Rattle.std.proofs.lemmas.Grind.{flat_map-append}
-use Rattle.std.proofs.lemmas.List.{take_more, get_or-drop, length-map, length-take-le, map-append, set-append_right, take_all, drop_all, drop-drop}
-use Rattle.std.proofs.Math.Seq.{drop-cons, take-append_seam, drop-append_seam}
-use Rattle.std.specs.FinMap as map
-use Rattle.mq_sets.specs.Ascending.{IsAscending}
+use Rattle.mq_c.proofs.Common.{◌≡◌, ℕ, ◌+◌, ◌-◌, ◌*◌, ◌<◌, ◌≤◌, refl, List, [], ◌∷◌, ◌++◌, length, take, drop, get_or, set, append-nil, append_assoc, sym, ap}
+use Rattle.mq_c.proofs.Common.{subst, ◌∙◌, arith, length-append, length-drop, list_map, length-map, length-take-le, take_all, drop_all, drop-drop, IsAscending}
+use Rattle.mq_c.proofs.Common.{number_in, timers_in, Source, ScheduledGroup, Groups, group_at, sources_of, Page, Entry, SourceEntry, IsPage}
+use Rattle.std.proofs.{Common.add-one, Math.Seq.drop-cons, Math.Seq.take-append_seam, Math.Seq.drop-append_seam}
+use Rattle.std.proofs.lemmas.{Grind.flat_map-append, List.take_more, List.get_or-drop, List.map-append, List.set-append_right}
 use Rattle.mq_sets.proofs.Ascents.{IsAscending-map}
-use Rattle.mq_table.specs.Stored.{number_in, timers_in}
-use Rattle.mq_table.specs.declared.sources.Source.{Source}
-use Rattle.mq_sched.specs.Schedule.{ScheduledGroup}
-use Rattle.mq_held.specs.Groups.{Groups, group_at, unheld, sources_of}
 use Rattle.mq_held.specs.Places.{HasPlace, group_in}
 use Rattle.mq_link.proofs.Reconfigured.{entry_at}
-use Rattle.mq_held.proofs.HeldMoments.{entries-from_entries}
-use Rattle.mq_held.proofs.Places.{place-group}
-use Rattle.mq_held.proofs.Sorted.{key_of, sorted-ascending}
-use Rattle.mq_c.specs.declared.forms.Page.{Page}
-use Rattle.mq_c.specs.Pages.{Entry, SourceEntry, groups_from, sources_of_entry, sources_of_entries, Shows, IsPage}
+use Rattle.mq_held.proofs.{HeldMoments.entries-from_entries, Places.place-group, Sorted.key_of, Sorted.sorted-ascending}
+use Rattle.mq_c.specs.Pages.{groups_from, sources_of_entry, sources_of_entries, Shows}
+use Rattle.std.specs.FinMap as map
 
 -- the memory behind what was written, one item further
 set_behind : {X : Type 0} (front old : List X) (n : ℕ) (y : X) → length front ≡ n → n < length old

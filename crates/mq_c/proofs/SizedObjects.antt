@@ -1,7 +1,7 @@
 -- Memory for parts and for the object after them.
-use Rattle.std.proofs.Common.{◌≡◌, ℕ, ◌+◌, ◌<◌, ◌≤◌, max, arith}
-use Rattle.mq_arena.specs.Blocks.{size_of_block}
-use Rattle.mq_arena.specs.Vectors.{bytes_for}
+use Rattle.mq_c.proofs.Common.{◌≡◌, ℕ, ◌+◌, ◌<◌, ◌≤◌, arith}
+use Rattle.std.proofs.Common.{max}
+use Rattle.mq_arena.specs.{Blocks.size_of_block, Vectors.bytes_for}
 
 -- memory without room for both is smaller than the stated size
 pub too_small : (item parts told left : ℕ) → told ≡ parts → (parts + bytes_for item 1 ≤ left → ⊥) → left < size_of_block (told + bytes_for item 1)

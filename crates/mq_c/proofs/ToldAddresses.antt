@@ -1,8 +1,7 @@
 -- Addresses that are written to memory, one by one.
-use Rattle.std.proofs.Common.{◌≡◌, ℕ, ◌+◌, ◌-◌, ◌<◌, ◌≤◌, List, [], ◌∷◌, ◌++◌, length, take, drop, get_or, set, min, refl, sym, ap, ◌∙◌, arith, length-drop}
-use Rattle.std.specs.Prelude.{map as list_map}
-use Rattle.std.proofs.lemmas.List.{take-map, drop-map, length-map, take_all, drop_min}
-use Rattle.mq_c.specs.Changed.{stored_octets}
+use Rattle.mq_c.proofs.Common.{◌≡◌, ℕ, ◌+◌, ◌-◌, ◌<◌, ◌≤◌, List, [], ◌∷◌, ◌++◌, length, take, drop, get_or, set, min, refl, sym, ap, ◌∙◌, arith, length-drop}
+use Rattle.mq_c.proofs.Common.{list_map, length-map, take_all, drop_min, stored_octets}
+use Rattle.std.proofs.lemmas.List.{take-map, drop-map}
 use Rattle.mq_c.proofs.ShownGroups.{one_more, all_put}
 
 -- some items stand at the front of the memory, and the memory isn't passed

@@ -1,24 +1,14 @@
 -- A record asks nothing of a group that isn't held, and leaves a group held that is.
-use Rattle.std.proofs.Common.{◌≡◌, ℕ, Bool, true, false, cond, refl, List, [], ◌∷◌, Some, IfSome, ap, ◌∙◌}
-use Rattle.std.specs.List.{list_any}
-use Rattle.std.specs.Ordering.{nat_cmp}
+use Rattle.mq_c.proofs.Common.{◌≡◌, ℕ, Bool, true, false, cond, refl, List, [], ◌∷◌, Some, IfSome, ap, ◌∙◌, Kind, SourceTimer, Timing, Set, ◌∩◌, hosts_of}
+use Rattle.mq_c.proofs.Common.{translated_change, above, GroupChange, ScheduledGroup, settled, messages_due}
+use Rattle.std.specs.{List.list_any, Ordering.nat_cmp}
+use Rattle.mq_table.specs.declared.kind.Kind.TheVariants.{IsIn, IsEx, ToIn, ToEx, Allow, Block}
+use Rattle.mq_table.specs.{Group.GroupState, Group.vacant, Group.is_running, Group.running, Group.IsWellFormed, Table.NamedSources, Table.change_of}
+use Rattle.mq_table.proofs.Held.{IsWellFormed-change_of}
+use Rattle.mq_sched.specs.{Schedule.ScheduleState, Schedule.no_schedule, Sending.after_change}
+use Rattle.mq_link.proofs.{HeldAs.settled_silent, Silent.silent_messages, TranslatedRecords.of_translated}
 use Rattle.std.specs.FinMap as map
 use Rattle.std.specs.FinSet as set
-use Rattle.mq_table.specs.declared.kind.Kind.{Kind}
-use Rattle.mq_table.specs.declared.kind.Kind.TheVariants.{IsIn, IsEx, ToIn, ToEx, Allow, Block}
-use Rattle.mq_table.specs.declared.timers.SourceTimer.{SourceTimer}
-use Rattle.mq_table.specs.declared.timing.Timing.{Timing}
-use Rattle.mq_table.specs.Sets.{Set, ◌∩◌}
-use Rattle.mq_table.specs.Group.{GroupState, vacant, is_running, running, IsWellFormed}
-use Rattle.mq_table.specs.OlderHosts.{hosts_of, translated_change}
-use Rattle.mq_table.specs.Sendings.{above}
-use Rattle.mq_table.specs.Table.{NamedSources, GroupChange, change_of}
-use Rattle.mq_table.proofs.Held.{IsWellFormed-change_of}
-use Rattle.mq_sched.specs.Schedule.{ScheduleState, ScheduledGroup, no_schedule, settled}
-use Rattle.mq_sched.specs.Sending.{after_change, messages_due}
-use Rattle.mq_link.proofs.HeldAs.{settled_silent}
-use Rattle.mq_link.proofs.Silent.{silent_messages}
-use Rattle.mq_link.proofs.TranslatedRecords.{of_translated}
 
 -- a change that asks for nothing
 pub record AsksNothing (change : GroupChange) : Type 0 where

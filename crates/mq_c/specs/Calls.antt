@@ -1,5 +1,5 @@
 -- The calls of an object.
-use Rattle.std.specs.Prelude.{◌≡◌, ℕ, ◌<◌, ◌≤◌, ◌^◌, Bool, true, false, List}
+use Rattle.std.specs.Prelude.{◌≡◌, ℕ, ◌<◌, ◌≤◌, ◌^◌, Bool, true, false, ◌&&◌, List, nat_le}
 use Rattle.mq_link.specs.declared.answers.Received.{Received}
 use Rattle.mq_link.specs.declared.answers.Received.TheVariants.{Taken, Dropped}
 use Rattle.mq_link.specs.Link.{LinkValue}
@@ -57,6 +57,10 @@ pub record IsRefusedAs (refused : Answer) (before after : LinkValue) (old new : 
   pub link : after ≡ before
   pub memory : new ≡ old
   pub answer_is : answer ≡ refused
+
+-- the call is done: its moment is in range, and its workspace suffices
+abbrev pub is_done : (suffices : Bool) → (now : ℕ) → Bool
+is_done suffices now = nat_le now (2 ^ 53) && suffices
 
 -- A call at a moment, with or without a workspace that suffices. If the moment is out of range, or no workspace
 -- suffices, it does nothing.

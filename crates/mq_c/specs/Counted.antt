@@ -16,7 +16,7 @@ counted c =
     ∷ c.applied ∷ c.ignored ∷ c.refused
     ∷ c.refused_by refusal.Long ∷ c.refused_by refusal.Repeated ∷ c.refused_by refusal.Groups ∷ c.refused_by refusal.GroupSources
     ∷ c.refused_by refusal.Sources ∷ c.refused_by refusal.Scheduled ∷ c.refused_by refusal.Memory
-    ∷ c.sent ∷ c.unsent ∷ []
+    ∷ c.sent ∷ c.unsent ∷ c.denied ∷ []
 
 -- The counters are at the front of the memory, as many as there is room for, and the memory after them is unchanged.
 -- The answer is the number of counters.

@@ -1,7 +1,7 @@
 -- The line or the object of a message in memory of the caller.
 use Rattle.std.specs.Prelude.{◌≡◌, ℕ, min, Bool, List, ◌++◌, length, take, drop, Option, Some}
 use Rattle.mq_wire.specs.Family.{Family}
-use Rattle.mq_lines.specs.Line.{IsLineIn}
+use Rattle.mq_lines.specs.Line.{IsTextOf}
 use Rattle.mq_lines.specs.Text.{line_of}
 use Rattle.mq_c.specs.declared.line_room.LineRoom.{LineRoom}
 
@@ -18,6 +18,6 @@ in_front text old = take (length old) text ++ drop (length text) old
 pub record LineStands (json : Bool) (family : Family) (pseudo bytes old new : List ℕ) (answer : ℕ) : Type 0 where
   pub flag : Bool
   pub line : List ℕ
-  pub is_line : IsLineIn json family pseudo bytes flag (line_of line)
+  pub is_text : IsTextOf json family pseudo bytes flag line
   pub stands : new ≡ in_front (line_of line) old
   pub counted : answer ≡ min (length old) (length line)

@@ -1,7 +1,8 @@
 -- The making of links for C.
-use Rattle.std.specs.Prelude.{◌≡◌, ◌⊎◌, ℕ, ◌<◌, ◌≤◌, ◌^◌, ◌==◌, not, Some, Result, Ok, Err, []}
+use Rattle.std.specs.Prelude.{◌≡◌, ◌⊎◌, ℕ, ◌<◌, ◌≤◌, ◌^◌, ◌==◌, not, Some, Result, Ok, Err, List, []}
 use Rattle.mq_wire.specs.Family.{Family}
 use Rattle.mq_link.specs.declared.configuration.ConfigFault.{ConfigFault}
+use Rattle.mq_link.specs.declared.ranges.GroupRange.{GroupRange}
 use Rattle.mq_link.specs.Configuration.{Configuration, configuration_fault, IsFaultless}
 use Rattle.mq_link.specs.Configured.{variables, configured}
 use Rattle.mq_link.specs.Defaults.{defaults_of}
@@ -12,11 +13,14 @@ use Rattle.mq_c.specs.declared.forms.Settings.{Settings}
 use Rattle.mq_c.specs.Statuses.{memory, moment, status_of}
 
 -- the requested configuration of a family
-abbrev pub asked_of : Family → Settings → (own source_specific : ℕ) → Configuration
-asked_of family s own source_specific =
-    configured family (variables s.robustness s.query_interval s.response_interval s.last_member_interval)
+abbrev pub asked_of : Family → Settings → (own source_specific : ℕ) → List GroupRange → Configuration
+asked_of family s own source_specific ranges = record (
+    configured family
+    (record (variables s.robustness s.query_interval s.response_interval s.last_member_interval) {
+      last_member_query_count = s.last_member_query_count;
+    })
     (record { groups = s.groups; group_sources = s.group_sources; sources = s.sources; scheduled = s.scheduled })
-    own (not (source_specific == 0))
+    own (not (source_specific == 0))) { ranges = ranges }
 
 -- the default settings of a family
 abbrev pub default_settings : Family → Settings
@@ -27,6 +31,7 @@ default_settings family =
       query_interval = d.query_seconds;
       response_interval = d.response_interval;
       last_member_interval = d.last_member_interval;
+      last_member_query_count = 0;
       groups = d.limits.groups;
       group_sources = d.limits.group_sources;
       sources = d.limits.sources;

@@ -1,17 +1,26 @@
 -- The data of MLD that cross from C and to C.
-use Rattle.std.specs.Prelude.{ℕ, Bool, List}
+use Rattle.std.specs.Prelude.{ℕ, ◌==◌, Bool, List, [], ◌∷◌, if◌then◌else◌}
+use Rattle.std.specs.List.{flat_map}
 use Rattle.std.specs.Int.{w128, from_be_bytes, to_be_bytes}
 use Rattle.mq_wire.specs.Family.{Mld}
+use Rattle.mq_link.specs.declared.ranges.GroupRange.{GroupRange}
 use Rattle.mq_link.specs.Configuration.{Configuration}
 use Rattle.mq_link.specs.Receive.{Envelope}
 use Rattle.mq_c.specs.declared.forms.MldConfig.{MldConfig}
 use Rattle.mq_c.specs.declared.forms.MldGroup.{MldGroup}
+use Rattle.mq_c.specs.declared.forms.MldRange.{MldRange}
 use Rattle.mq_c.specs.declared.forms.MldSource.{MldSource}
 use Rattle.mq_c.specs.Making.{asked_of}
 
+-- a range, unless its place is unused
+abbrev pub range_in : MldRange → List GroupRange
+range_in r =
+    if r.rule == 0 then []
+    else record { address = from_be_bytes w128 r.address; length = r.length; allows = r.rule == 1 } ∷ []
+
 -- the requested configuration
 abbrev pub asked : MldConfig → Configuration
-asked c = asked_of Mld c.settings (from_be_bytes w128 c.own) c.source_specific
+asked c = asked_of Mld c.settings (from_be_bytes w128 c.own) c.source_specific (flat_map range_in c.ranges)
 
 -- the facts of a datagram beside its bytes
 abbrev pub envelope : (source destination : List ℕ) → (hop_limit : ℕ) → (alert : Bool) → Envelope

@@ -3,7 +3,7 @@ use Rattle.std.specs.Prelude.{ℕ}
 use Rattle.mq_link.specs.declared.configuration.LimitName.{LimitName}
 use Rattle.mq_link.specs.declared.configuration.LimitName.TheVariants.{Groups, GroupSources, Sources, Scheduled}
 use Rattle.mq_link.specs.declared.configuration.ConfigFault.{ConfigFault}
-use Rattle.mq_link.specs.declared.configuration.ConfigFault.TheVariants.{Robustness, QueryInterval, ResponseInterval, LastMember, Limit, OwnAddress}
+use Rattle.mq_link.specs.declared.configuration.ConfigFault.TheVariants.{Robustness, QueryInterval, ResponseInterval, LastMember, Limit, OwnAddress, LastMemberCount}
 pub use Rattle.mq_link.specs.Counters.{reason_number, refusal_number, kind_number}
 
 -- The statuses. They are for success, for refused memory, for a moment above 2^53, for a workspace that is too small,
@@ -37,3 +37,4 @@ status_of ResponseInterval = 3
 status_of LastMember = 4
 status_of (Limit which) = limit_status which
 status_of OwnAddress = 9
+status_of LastMemberCount = 14

@@ -3,13 +3,21 @@
 ghost use Rattle.mq_c.specs.Igmp as igmp;
 ghost use Rattle.mq_c.specs.Mld as mld;
 
-use crate::forms::{IgmpGroup, IgmpSource, MldGroup, MldSource};
+use crate::forms::{IgmpGroup, IgmpRange, IgmpSource, MldGroup, MldRange, MldSource};
 use mq_count::{Addr4, Addr6};
-use mq_link::{Family, Igmp, Mld};
+use mq_link::{Family, GroupRange, Igmp, Mld};
 
-/// A family whose addresses, groups and sources cross to C.
+/// The rule of an unused place for a range.
+const UNUSED: u8 = 0;
+
+/// The rule of a range that allows its groups.
+const ALLOW: u8 = 1;
+
+/// A family whose addresses, ranges, groups and sources cross to C.
 pub(crate) trait CFamily: Family {
-    ghost use Rattle.std.specs.Prelude.{◌≡◌, ℕ};
+    ghost use Rattle.std.specs.Prelude.{◌≡◌, ℕ, List};
+    ghost use Rattle.std.specs.Option.{option_to_list};
+    ghost use Rattle.mq_link.specs.declared.ranges.GroupRange.{GroupRange};
 
     /// An address.
     type Octets: Copy;
@@ -25,6 +33,15 @@ pub(crate) trait CFamily: Family {
     ghost group_with: { (address sources deadline v1 v2 : ℕ) → Self.Group };
 
     ghost source_with: { (address deadline : ℕ) → Self.Source };
+
+    /// A range of groups.
+    type Range: Copy;
+
+    ghost range_in: { Self.Range → List GroupRange };
+
+    /// Returns a range, unless its place is unused.
+    fn range_from_c(range: Self::Range) -> Option<GroupRange>
+        ensures { option_to_list result ≡ range_in range };
 
     /// Returns an address, most significant octet first.
     fn octets_in_c(address: Self::Address) -> Self::Octets
@@ -52,11 +69,26 @@ impl CFamily for Igmp {
 
     type Source = IgmpSource;
 
+    type Range = IgmpRange;
+
+    ghost range_in = { igmp.range_in };
+
     ghost octets_with = { igmp.octets_with };
 
     ghost group_with = { igmp.group_with };
 
     ghost source_with = { igmp.source_with };
+
+    fn range_from_c(range: IgmpRange) -> Option<GroupRange> {
+        if range.rule == UNUSED {
+            return None;
+        }
+        Some(GroupRange {
+            address: u128::from(u32::from_be_bytes(range.address)),
+            length: range.length,
+            allows: range.rule == ALLOW,
+        })
+    }
 
     fn octets_in_c(address: Addr4) -> [u8; 4] {
         address.octets()
@@ -87,11 +119,26 @@ impl CFamily for Mld {
 
     type Source = MldSource;
 
+    type Range = MldRange;
+
+    ghost range_in = { mld.range_in };
+
     ghost octets_with = { mld.octets_with };
 
     ghost group_with = { mld.group_with };
 
     ghost source_with = { mld.source_with };
+
+    fn range_from_c(range: MldRange) -> Option<GroupRange> {
+        if range.rule == UNUSED {
+            return None;
+        }
+        Some(GroupRange {
+            address: u128::from_be_bytes(range.address),
+            length: range.length,
+            allows: range.rule == ALLOW,
+        })
+    }
 
     fn octets_in_c(address: Addr6) -> [u8; 16] {
         address.octets()

@@ -1,17 +1,13 @@
 //! The calls of a link that send queries, for both families.
 
-ghost use Rattle.std.specs.Prelude.{◌≡◌, ℕ, ◌+◌, ◌*◌, ◌<◌, ◌≤◌, ◌^◌, length, true};
-ghost use Rattle.std.specs.FinMap as map;
-ghost use Rattle.mq_count.specs.Spending.{Spends};
-ghost use Rattle.mq_link.specs.Cost.{cost_of};
+ghost use Rattle.std.specs.Prelude.{◌≡◌, ℕ, ◌<◌, ◌≤◌, ◌^◌, length, true};
+ghost use Rattle.mq_link.specs.CallCosts.{ReceiveCosts, TickCosts};
 ghost use Rattle.mq_link.specs.Forwarding.{changed_by_datagram, changed_by_tick};
-ghost use Rattle.mq_link.specs.LeastCost.{least_received, least_ticked};
-ghost use Rattle.mq_link.specs.Moved.{most_moved};
-ghost use Rattle.mq_link.specs.State.{IsWellFormed, held_of, sources_in};
-ghost use Rattle.mq_link.specs.Tick.{moment_of, next_of};
+ghost use Rattle.mq_link.specs.State.{IsWellFormed};
+ghost use Rattle.mq_link.specs.Tick.{next_of};
 ghost use Rattle.mq_link.specs.Workspace.{suffices};
 ghost use Rattle.mq_c.specs.Calls as spec;
-ghost use Rattle.mq_c.specs.Calls.{CallsAt, TicksInto, ReceivesInto};
+ghost use Rattle.mq_c.specs.Calls.{CallsAt, TicksInto, ReceivesInto, is_done};
 ghost use Rattle.mq_c.specs.Changed.{WorksIn};
 ghost use Rattle.mq_c.specs.Queries.{outbox_of};
 ghost use Rattle.mq_c.specs.Rooms.{receive_room, tick_room};
@@ -89,16 +85,7 @@ pub(crate) fn tick<F: Family>(
         out.old out.new result }
     ensures formed { IsWellFormed link.new.config link.new.state }
     ensures later { suffices link.old.config.room workspace.old ≡ true → now ≤ 2 ^ 53 → now < next_of link.new.state }
-    ensures spent { let groups = link.old.state.groups in
-        Spends 0 (4 * sources_in groups + 44 * map.len groups + 3) link.old.spent link.new.spent }
-    ensures least { let groups = link.old.state.groups in
-        suffices link.old.config.room workspace.old ≡ true → now ≤ 2 ^ 53 →
-        Spends (2 + least_ticked (moment_of link.old.state now) groups) (4 * sources_in groups + 44 * map.len groups + 3) link.old.spent link.new.spent }
-    ensures bounded { Spends 0 (cost_of 0 (held_of link.old.state)) link.old.spent link.new.spent }
-    ensures quiet { moment_of link.old.state now < next_of link.old.state → Spends 0 3 link.old.spent link.new.spent }
-    ensures moved { let groups = link.old.state.groups in
-        Spends 0 (6 * sources_in groups + 136 * map.len groups) link.old.moved link.new.moved }
-    ensures still { moment_of link.old.state now < next_of link.old.state → link.new.moved ≡ link.old.moved }
+    ensures costs { TickCosts (is_done (suffices link.old.config.room workspace.old) now) now link.old link.new }
     ensures none_left_out { tick_room F.Address.WIDTH link.old.config ≤ length out.old → result.unsent ≡ 0 }
 {
     link.is_well_formed();
@@ -126,11 +113,7 @@ pub(crate) fn receive<F: Family>(
     ensures receives { CallsAt (suffices link.old.config.room workspace.old) now (ReceivesInto F.Address.WIDTH (F.envelope_of envelope) body.now now link.old link.new
         out.old out.new result) link.old link.new out.old out.new result }
     ensures formed { IsWellFormed link.new.config link.new.state }
-    ensures spent { Spends 0 (cost_of (length body.now) (held_of link.old.state)) link.old.spent link.new.spent }
-    ensures least { let least = least_received link.old.config (F.envelope_of envelope) body.now now link.old.state in
-        suffices link.old.config.room workspace.old ≡ true → now ≤ 2 ^ 53 →
-        Spends (2 + least) (cost_of (length body.now) (held_of link.old.state)) link.old.spent link.new.spent }
-    ensures moved { Spends 0 (most_moved (length body.now) (held_of link.old.state)) link.old.moved link.new.moved }
+    ensures costs { ReceiveCosts (is_done (suffices link.old.config.room workspace.old) now) (F.envelope_of envelope) body.now now link.old link.new }
     ensures none_left_out { (longest : ℕ) → receive_room F.Address.WIDTH longest link.old.config ≤ length out.old → length body.now ≤ longest → result.unsent ≡ 0 }
 {
     link.config().is_faultless();

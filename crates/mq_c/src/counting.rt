@@ -6,7 +6,7 @@ ghost use Rattle.mq_c.specs.Counted.{IsCounted, counted};
 use mq_link::{Counts, DropReason, MessageKind, Refusal};
 
 /// The number of counters.
-const COUNTERS: usize = 29;
+const COUNTERS: usize = 30;
 
 /// Returns all counters, in the order of `mq_counts`.
 fn all(counts: &Counts) -> [u64; COUNTERS]
@@ -42,6 +42,7 @@ fn all(counts: &Counts) -> [u64; COUNTERS]
         counts.refused_by(Refusal::Memory),
         counts.sent(),
         counts.unsent(),
+        counts.denied(),
     ]
 }
 

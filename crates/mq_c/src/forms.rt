@@ -3,6 +3,8 @@
 
 ghost use Rattle.std.specs.Prelude.{◌≡◌, ◌<◌, ◌^◌};
 
+use mq_link::MOST_RANGES;
+
 /// The settings of a link, for both families.
 #[repr(C)]
 #[derive(Clone, Copy)]
@@ -11,10 +13,29 @@ pub struct Settings {
     pub query_interval: u32,
     pub response_interval: u32,
     pub last_member_interval: u32,
+    pub last_member_query_count: u32,
     pub groups: u32,
     pub group_sources: u32,
     pub sources: u32,
     pub scheduled: u32,
+}
+
+/// A range of groups of IGMP. A `rule` of 0 is an unused place, 1 allows its groups, and others deny them.
+#[repr(C)]
+#[derive(Clone, Copy)]
+pub struct IgmpRange {
+    pub address: [u8; 4],
+    pub length: u8,
+    pub rule: u8,
+}
+
+/// A range of groups of MLD.
+#[repr(C)]
+#[derive(Clone, Copy)]
+pub struct MldRange {
+    pub address: [u8; 16],
+    pub length: u8,
+    pub rule: u8,
 }
 
 /// The configuration of an IGMP link.
@@ -24,6 +45,7 @@ pub struct IgmpConfig {
     pub settings: Settings,
     pub own: [u8; 4],
     pub source_specific: u8,
+    pub ranges: [IgmpRange; MOST_RANGES],
 }
 
 /// The configuration of an MLD link.
@@ -33,6 +55,7 @@ pub struct MldConfig {
     pub settings: Settings,
     pub own: [u8; 16],
     pub source_specific: u8,
+    pub ranges: [MldRange; MOST_RANGES],
 }
 
 /// The result of a call.

@@ -1,22 +1,18 @@
 //! Links of IGMP, as C calls them.
 
-ghost use Rattle.std.specs.Prelude.{◌≡◌, ◌+◌, ◌*◌, ◌<◌, ◌≤◌, ◌^◌, ℕ, IsTrue, MatchOption, [], true, false, length};
+ghost use Rattle.std.specs.Prelude.{◌≡◌, ◌*◌, ◌<◌, ◌≤◌, ◌^◌, ℕ, IsTrue, MatchOption, [], true, false, length};
 ghost use Rattle.std.specs.Int.{w32, from_be_bytes};
 ghost use Rattle.std.specs.FinMap as map;
-ghost use Rattle.mq_count.specs.Spending.{Spends};
 ghost use Rattle.mq_wire.specs.Family as family;
 ghost use Rattle.mq_sched.specs.Election.{is_querier, Other};
+ghost use Rattle.mq_link.specs.CallCosts.{ReceiveCosts, TickCosts};
 ghost use Rattle.mq_link.specs.Configuration.{IsFaultless};
-ghost use Rattle.mq_link.specs.Cost.{cost_of};
 ghost use Rattle.mq_link.specs.Defaults.{configured_by_default};
 ghost use Rattle.mq_link.specs.Forwarding.{changed_by_datagram, changed_by_tick};
-ghost use Rattle.mq_link.specs.LeastCost.{least_received, least_ticked};
-ghost use Rattle.mq_link.specs.Moved.{most_moved};
 ghost use Rattle.mq_link.specs.State as state;
-ghost use Rattle.mq_link.specs.State.{held_of, sources_in};
-ghost use Rattle.mq_link.specs.Tick.{moment_of, next_of};
+ghost use Rattle.mq_link.specs.Tick.{next_of};
 ghost use Rattle.mq_link.specs.Workspace.{suffices};
-ghost use Rattle.mq_c.specs.Calls.{CallsAt, ReceivesInto, TicksInto};
+ghost use Rattle.mq_c.specs.Calls.{CallsAt, ReceivesInto, TicksInto, is_done};
 ghost use Rattle.mq_c.specs.Changed.{TellsChanged, WorksIn};
 ghost use Rattle.mq_c.specs.Configuring.{IsReconfigured};
 ghost use Rattle.mq_c.specs.Counted.{IsCounted};
@@ -34,7 +30,7 @@ ghost use Rattle.mq_c.specs.Statuses as status;
 use crate::changed::put_changed;
 use crate::configuring::configure;
 use crate::counting::{few, put_counters};
-use crate::forms::{Answer, IgmpConfig, IgmpGroup, IgmpSource, Page};
+use crate::forms::{Answer, IgmpConfig, IgmpGroup, IgmpRange, IgmpSource, Page};
 use crate::igmp_objects::{IgmpLink, IgmpLinkPlace, IgmpWorkspace, IgmpWorkspacePlace};
 use crate::lines::put_igmp_line;
 use crate::making::{
@@ -43,11 +39,12 @@ use crate::making::{
 use crate::milliseconds::milliseconds;
 use crate::other_querier::other_querier;
 use crate::pages::{put_group, put_groups};
+use crate::ranges::ranges_of;
 use crate::statuses::DONE;
 use crate::{bounds, calls};
 use mq_arena::{LentMemory, Lodged, Unused};
 use mq_count::Addr4;
-use mq_link::{BareLink, Igmp, IgmpEnvelope, Workspace};
+use mq_link::{BareLink, Igmp, IgmpEnvelope, MOST_RANGES, Workspace};
 use std::marker::Brand;
 
 /// Returns the default configuration, with this own address.
@@ -59,6 +56,11 @@ pub extern "C" fn mq_igmp_defaults(own: &[u8; 4]) -> IgmpConfig
         settings: default_settings::<Igmp>(),
         own: *own,
         source_specific: 0,
+        ranges: [IgmpRange {
+            address: [0; 4],
+            length: 0,
+            rule: 0,
+        }; MOST_RANGES],
     }
 }
 
@@ -71,6 +73,7 @@ pub extern "C" fn mq_igmp_size(config: IgmpConfig) -> usize
         config.settings,
         Addr4::from_octets(config.own),
         config.source_specific,
+        ranges_of::<Igmp>(&config.ranges),
     ))
 }
 
@@ -93,6 +96,7 @@ pub extern "C" fn mq_igmp_init_units(
         config.settings,
         Addr4::from_octets(config.own),
         config.source_specific,
+        ranges_of::<Igmp>(&config.ranges),
         start,
     ) {
         Ok(link) => {
@@ -112,6 +116,7 @@ pub extern "C" fn mq_igmp_workspace_size(config: IgmpConfig) -> usize
         config.settings,
         Addr4::from_octets(config.own),
         config.source_specific,
+        ranges_of::<Igmp>(&config.ranges),
     ))
 }
 
@@ -133,6 +138,7 @@ pub extern "C" fn mq_igmp_workspace_init_units(
         config.settings,
         Addr4::from_octets(config.own),
         config.source_specific,
+        ranges_of::<Igmp>(&config.ranges),
     ) {
         Ok(workspace) => {
             *place = IgmpWorkspacePlace::of(workspace);
@@ -154,6 +160,7 @@ pub extern "C" fn mq_igmp_configure(link: &mut IgmpLink, config: IgmpConfig) -> 
         config.settings,
         Addr4::from_octets(config.own),
         config.source_specific,
+        ranges_of::<Igmp>(&config.ranges),
     )
 }
 
@@ -176,12 +183,8 @@ pub extern "C" fn mq_igmp_receive(
         CallsAt (suffices before.config.room workspace.old.kept) now (ReceivesInto 4 (envelope source.now) body.now now before link.new.kept queries.old queries.new result)
         before link.new.kept queries.old queries.new result }
     ensures formed { state.IsWellFormed link.new.kept.config link.new.kept.state }
-    ensures spent { Spends 0 (cost_of (length body.now) (held_of link.old.kept.state)) link.old.kept.spent link.new.kept.spent }
-    ensures least { let before = link.old.kept in
-        let least = least_received before.config (envelope source.now) body.now now before.state in
-        suffices before.config.room workspace.old.kept ≡ true → now ≤ 2 ^ 53 →
-        Spends (2 + least) (cost_of (length body.now) (held_of before.state)) before.spent link.new.kept.spent }
-    ensures moved { Spends 0 (most_moved (length body.now) (held_of link.old.kept.state)) link.old.kept.moved link.new.kept.moved }
+    ensures costs { let before = link.old.kept in
+        ReceiveCosts (is_done (suffices before.config.room workspace.old.kept) now) (envelope source.now) body.now now before link.new.kept }
     ensures none_left_out { (longest : ℕ) → receive_room 4 longest link.old.kept.config ≤ length queries.old → length body.now ≤ longest → result.unsent ≡ 0 }
 {
     let envelope = IgmpEnvelope {
@@ -208,16 +211,8 @@ pub extern "C" fn mq_igmp_tick(
         before link.new.kept queries.old queries.new result }
     ensures formed { state.IsWellFormed link.new.kept.config link.new.kept.state }
     ensures later { suffices link.old.kept.config.room workspace.old.kept ≡ true → now ≤ 2 ^ 53 → now < next_of link.new.kept.state }
-    ensures spent { let groups = link.old.kept.state.groups in
-        Spends 0 (4 * sources_in groups + 44 * map.len groups + 3) link.old.kept.spent link.new.kept.spent }
-    ensures least { let before = link.old.kept in let groups = before.state.groups in
-        suffices before.config.room workspace.old.kept ≡ true → now ≤ 2 ^ 53 →
-        Spends (2 + least_ticked (moment_of before.state now) groups) (4 * sources_in groups + 44 * map.len groups + 3) before.spent link.new.kept.spent }
-    ensures bounded { Spends 0 (cost_of 0 (held_of link.old.kept.state)) link.old.kept.spent link.new.kept.spent }
-    ensures quiet { moment_of link.old.kept.state now < next_of link.old.kept.state → Spends 0 3 link.old.kept.spent link.new.kept.spent }
-    ensures moved { let groups = link.old.kept.state.groups in
-        Spends 0 (6 * sources_in groups + 136 * map.len groups) link.old.kept.moved link.new.kept.moved }
-    ensures still { moment_of link.old.kept.state now < next_of link.old.kept.state → link.new.kept.moved ≡ link.old.kept.moved }
+    ensures costs { let before = link.old.kept in
+        TickCosts (is_done (suffices before.config.room workspace.old.kept) now) now before link.new.kept }
     ensures none_left_out { tick_room 4 link.old.kept.config ≤ length queries.old → result.unsent ≡ 0 }
 {
     let lent = workspace.lend();

@@ -4,7 +4,7 @@
 //! - The calls, for both families: `making`, `configuring`, `calls`, `bounds`; and the archive's `version`.
 //! - The results that are written to memory of the caller: `queries`, `pages`, `changed`, `counting`, `other_querier`,
 //!   `line_room` and `lines`.
-//! - The data that cross: `forms`, `statuses`, `milliseconds`. The differences of the families there: `c_family`.
+//! - The data that cross: `forms`, `ranges`, `statuses`, `milliseconds`. The differences of the families there: `c_family`.
 //! - The pointers that C holds, with its places for new ones: `igmp_objects`, `mld_objects` and `lending`.
 #![tactic(auto)]
 
@@ -27,5 +27,6 @@ mod mld_objects;
 mod other_querier;
 mod pages;
 mod queries;
+mod ranges;
 mod statuses;
 mod version;

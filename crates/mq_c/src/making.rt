@@ -18,7 +18,7 @@ use crate::forms::Settings;
 use crate::statuses::{MEMORY, MOMENT, status_of};
 use mq_arena::{Lodged, Unused, block_size, both_sizes, vector_size};
 use mq_count::{Key, Moment};
-use mq_link::{BareLink, Config, Family, Limits, Workspace};
+use mq_link::{BareLink, Config, Family, Limits, Ranges, Workspace};
 use mq_wire::WireKey;
 
 /// The most bytes that whole units of 16 may have, with those for the alignment.
@@ -37,6 +37,7 @@ pub(crate) fn default_settings<F: Family>() -> Settings
         query_interval: defaults.query_seconds,
         response_interval: defaults.response_interval,
         last_member_interval: defaults.last_member_interval,
+        last_member_query_count: 0,
         groups: defaults.limits.groups,
         group_sources: defaults.limits.group_sources,
         sources: defaults.limits.sources,
@@ -49,8 +50,9 @@ pub(crate) fn config_of<F: Family>(
     settings: Settings,
     own: F::Address,
     source_specific: u8,
+    ranges: Ranges,
 ) -> Result<Config<F>, u32>
-    ensures { IsConfigOrStatus (asked_of F.FAMILY settings (F.Address.number own) source_specific) result }
+    ensures { IsConfigOrStatus (asked_of F.FAMILY settings (F.Address.number own) source_specific ranges) result }
 {
     let limits = Limits {
         groups: settings.groups,
@@ -58,7 +60,7 @@ pub(crate) fn config_of<F: Family>(
         sources: settings.sources,
         scheduled: settings.scheduled,
     };
-    match Config::new(
+    let config = match Config::new(
         settings.robustness,
         settings.query_interval,
         settings.response_interval,
@@ -67,7 +69,11 @@ pub(crate) fn config_of<F: Family>(
         own,
         source_specific != 0,
     ) {
-        Ok(config) => Ok(config),
+        Ok(config) => config,
+        Err(fault) => return Err(status_of(fault)),
+    };
+    match config.with_last_member_query_count(settings.last_member_query_count) {
+        Ok(config) => Ok(config.with_ranges(ranges)),
         Err(fault) => Err(status_of(fault)),
     }
 }
@@ -90,17 +96,18 @@ pub(crate) fn link_in<'a, F: Family + 'a>(
     settings: Settings,
     own: F::Address,
     source_specific: u8,
+    ranges: Ranges,
     start: u64,
 ) -> Result<&'a mut BareLink<F, Lodged>, u32>
 where
     BareLink<F, Lodged>: 'a,
-    ensures link { let asked = asked_of F.FAMILY settings (F.Address.number own) source_specific in
+    ensures link { let asked = asked_of F.FAMILY settings (F.Address.number own) source_specific ranges in
         MatchResult result (λ made. IsMade asked start made.now) (λ status. IsLinkRefused asked start status) }
-    ensures granted { let asked = asked_of F.FAMILY settings (F.Address.number own) source_specific in
+    ensures granted { let asked = asked_of F.FAMILY settings (F.Address.number own) source_specific ranges in
         IfErr result (λ status. status ≡ memory_status → memory.old < bytes_with_object (bare.the_row F.row lodged.the_row F.Address.row F.Envelope.row ⟦<F as Family>⟧ (record { WIDTH = F.Address.WIDTH; PER_QUERY = F.Address.PER_QUERY }) (record { number = F.Address.number }) (record { is_default = F.Address.is_default }) lodging.ghosts) (bytes_of_link_lent F.Address.row asked.limits)) }
     ensures unwritten { IfErr result (λ _. memory.new ≡ memory.old) }
 {
-    let config = match config_of::<F>(settings, own, source_specific) {
+    let config = match config_of::<F>(settings, own, source_specific, ranges) {
         Ok(config) => config,
         Err(status) => return Err(status),
     };
@@ -120,11 +127,12 @@ pub(crate) fn link_size<F: Family>(
     settings: Settings,
     own: F::Address,
     source_specific: u8,
+    ranges: Ranges,
 ) -> Option<usize>
-    ensures { let asked = asked_of F.FAMILY settings (F.Address.number own) source_specific in
+    ensures { let asked = asked_of F.FAMILY settings (F.Address.number own) source_specific ranges in
         IsFaultless asked → IsSize (bytes_of_link_lent F.Address.row asked.limits) result }
 {
-    match config_of::<F>(settings, own, source_specific) {
+    match config_of::<F>(settings, own, source_specific, ranges) {
         Ok(config) => BareLink::<F, Lodged>::size(&config),
         Err(_) => None,
     }
@@ -137,16 +145,17 @@ pub(crate) fn workspace_in<'a, F: Family + 'a>(
     settings: Settings,
     own: F::Address,
     source_specific: u8,
+    ranges: Ranges,
 ) -> Result<&'a mut Workspace<F, Lodged>, u32>
 where
     Workspace<F, Lodged>: 'a,
-    ensures workspace { let asked = asked_of F.FAMILY settings (F.Address.number own) source_specific in
+    ensures workspace { let asked = asked_of F.FAMILY settings (F.Address.number own) source_specific ranges in
         MatchResult result (λ made. IsWorkspaceMade asked made.now) (λ status. IsWorkspaceRefused asked status) }
-    ensures granted { let asked = asked_of F.FAMILY settings (F.Address.number own) source_specific in
+    ensures granted { let asked = asked_of F.FAMILY settings (F.Address.number own) source_specific ranges in
         IfErr result (λ status. status ≡ memory_status → memory.old < bytes_with_object (workspace.the_row F.row lodged.the_row F.Address.row F.Envelope.row ⟦<F as Family>⟧ (record { WIDTH = F.Address.WIDTH; PER_QUERY = F.Address.PER_QUERY }) (record { number = F.Address.number }) (record { is_default = F.Address.is_default }) lodging.ghosts) (bytes_of_workspace F.Address.row asked.limits)) }
     ensures unwritten { IfErr result (λ _. memory.new ≡ memory.old) }
 {
-    let config = match config_of::<F>(settings, own, source_specific) {
+    let config = match config_of::<F>(settings, own, source_specific, ranges) {
         Ok(config) => config,
         Err(status) => return Err(status),
     };
@@ -164,11 +173,12 @@ pub(crate) fn workspace_size<F: Family>(
     settings: Settings,
     own: F::Address,
     source_specific: u8,
+    ranges: Ranges,
 ) -> Option<usize>
-    ensures { let asked = asked_of F.FAMILY settings (F.Address.number own) source_specific in
+    ensures { let asked = asked_of F.FAMILY settings (F.Address.number own) source_specific ranges in
         IsFaultless asked → IsSize (bytes_of_workspace F.Address.row asked.limits) result }
 {
-    match config_of::<F>(settings, own, source_specific) {
+    match config_of::<F>(settings, own, source_specific, ranges) {
         Ok(config) => Workspace::<F, Lodged>::size(&config.limits()),
         Err(_) => None,
     }

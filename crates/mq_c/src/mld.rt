@@ -1,23 +1,19 @@
 //! Links of MLD, as C calls them.
 
-ghost use Rattle.std.specs.Prelude.{◌≡◌, ◌+◌, ◌*◌, ◌<◌, ◌≤◌, ◌^◌, ℕ, IsTrue, MatchOption, true, false, length};
+ghost use Rattle.std.specs.Prelude.{◌≡◌, ◌*◌, ◌<◌, ◌≤◌, ◌^◌, ℕ, IsTrue, MatchOption, true, false, length};
 ghost use Rattle.std.specs.Int.{w128, from_be_bytes};
 ghost use Rattle.std.specs.FinMap as map;
-ghost use Rattle.mq_count.specs.Spending.{Spends};
 ghost use Rattle.mq_wire.specs.Family as family;
 ghost use Rattle.mq_wire.specs.PseudoHeader.{pseudo_header};
 ghost use Rattle.mq_sched.specs.Election.{is_querier, Other};
+ghost use Rattle.mq_link.specs.CallCosts.{ReceiveCosts, TickCosts};
 ghost use Rattle.mq_link.specs.Configuration.{IsFaultless};
-ghost use Rattle.mq_link.specs.Cost.{cost_of};
 ghost use Rattle.mq_link.specs.Defaults.{configured_by_default};
 ghost use Rattle.mq_link.specs.Forwarding.{changed_by_datagram, changed_by_tick};
-ghost use Rattle.mq_link.specs.LeastCost.{least_received, least_ticked};
-ghost use Rattle.mq_link.specs.Moved.{most_moved};
 ghost use Rattle.mq_link.specs.State as state;
-ghost use Rattle.mq_link.specs.State.{held_of, sources_in};
-ghost use Rattle.mq_link.specs.Tick.{moment_of, next_of};
+ghost use Rattle.mq_link.specs.Tick.{next_of};
 ghost use Rattle.mq_link.specs.Workspace.{suffices};
-ghost use Rattle.mq_c.specs.Calls.{CallsAt, ReceivesInto, TicksInto};
+ghost use Rattle.mq_c.specs.Calls.{CallsAt, ReceivesInto, TicksInto, is_done};
 ghost use Rattle.mq_c.specs.Changed.{TellsChanged, WorksIn};
 ghost use Rattle.mq_c.specs.Configuring.{IsReconfigured};
 ghost use Rattle.mq_c.specs.Counted.{IsCounted};
@@ -35,7 +31,7 @@ ghost use Rattle.mq_c.specs.Statuses as status;
 use crate::changed::put_changed;
 use crate::configuring::configure;
 use crate::counting::{few, put_counters};
-use crate::forms::{Answer, MldConfig, MldGroup, MldSource, Page};
+use crate::forms::{Answer, MldConfig, MldGroup, MldRange, MldSource, Page};
 use crate::lines::put_mld_line;
 use crate::making::{
     default_settings, link_in, link_size, with_object, workspace_in, workspace_size,
@@ -44,11 +40,12 @@ use crate::milliseconds::milliseconds;
 use crate::mld_objects::{MldLink, MldLinkPlace, MldWorkspace, MldWorkspacePlace};
 use crate::other_querier::other_querier;
 use crate::pages::{put_group, put_groups};
+use crate::ranges::ranges_of;
 use crate::statuses::DONE;
 use crate::{bounds, calls};
 use mq_arena::{LentMemory, Lodged, Unused};
 use mq_count::Addr6;
-use mq_link::{BareLink, Mld, MldEnvelope, Workspace};
+use mq_link::{BareLink, MOST_RANGES, Mld, MldEnvelope, Workspace};
 use std::marker::Brand;
 
 /// Returns the default configuration, with this own address.
@@ -60,6 +57,11 @@ pub extern "C" fn mq_mld_defaults(own: &[u8; 16]) -> MldConfig
         settings: default_settings::<Mld>(),
         own: *own,
         source_specific: 0,
+        ranges: [MldRange {
+            address: [0; 16],
+            length: 0,
+            rule: 0,
+        }; MOST_RANGES],
     }
 }
 
@@ -72,6 +74,7 @@ pub extern "C" fn mq_mld_size(config: MldConfig) -> usize
         config.settings,
         Addr6::from_octets(config.own),
         config.source_specific,
+        ranges_of::<Mld>(&config.ranges),
     ))
 }
 
@@ -94,6 +97,7 @@ pub extern "C" fn mq_mld_init_units(
         config.settings,
         Addr6::from_octets(config.own),
         config.source_specific,
+        ranges_of::<Mld>(&config.ranges),
         start,
     ) {
         Ok(link) => {
@@ -113,6 +117,7 @@ pub extern "C" fn mq_mld_workspace_size(config: MldConfig) -> usize
         config.settings,
         Addr6::from_octets(config.own),
         config.source_specific,
+        ranges_of::<Mld>(&config.ranges),
     ))
 }
 
@@ -134,6 +139,7 @@ pub extern "C" fn mq_mld_workspace_init_units(
         config.settings,
         Addr6::from_octets(config.own),
         config.source_specific,
+        ranges_of::<Mld>(&config.ranges),
     ) {
         Ok(workspace) => {
             *place = MldWorkspacePlace::of(workspace);
@@ -155,6 +161,7 @@ pub extern "C" fn mq_mld_configure(link: &mut MldLink, config: MldConfig) -> u32
         config.settings,
         Addr6::from_octets(config.own),
         config.source_specific,
+        ranges_of::<Mld>(&config.ranges),
     )
 }
 
@@ -180,12 +187,8 @@ pub extern "C" fn mq_mld_receive(
         CallsAt (suffices before.config.room workspace.old.kept) now (ReceivesInto 16 (envelope source.now destination.now hop_limit alert) body.now now before link.new.kept queries.old queries.new result)
         before link.new.kept queries.old queries.new result }
     ensures formed { state.IsWellFormed link.new.kept.config link.new.kept.state }
-    ensures spent { Spends 0 (cost_of (length body.now) (held_of link.old.kept.state)) link.old.kept.spent link.new.kept.spent }
-    ensures least { let before = link.old.kept in
-        let least = least_received before.config (envelope source.now destination.now hop_limit alert) body.now now before.state in
-        suffices before.config.room workspace.old.kept ≡ true → now ≤ 2 ^ 53 →
-        Spends (2 + least) (cost_of (length body.now) (held_of before.state)) before.spent link.new.kept.spent }
-    ensures moved { Spends 0 (most_moved (length body.now) (held_of link.old.kept.state)) link.old.kept.moved link.new.kept.moved }
+    ensures costs { let before = link.old.kept in
+        ReceiveCosts (is_done (suffices before.config.room workspace.old.kept) now) (envelope source.now destination.now hop_limit alert) body.now now before link.new.kept }
     ensures none_left_out { (longest : ℕ) → receive_room 16 longest link.old.kept.config ≤ length queries.old → length body.now ≤ longest → result.unsent ≡ 0 }
 {
     let envelope = MldEnvelope {
@@ -215,16 +218,8 @@ pub extern "C" fn mq_mld_tick(
         before link.new.kept queries.old queries.new result }
     ensures formed { state.IsWellFormed link.new.kept.config link.new.kept.state }
     ensures later { suffices link.old.kept.config.room workspace.old.kept ≡ true → now ≤ 2 ^ 53 → now < next_of link.new.kept.state }
-    ensures spent { let groups = link.old.kept.state.groups in
-        Spends 0 (4 * sources_in groups + 44 * map.len groups + 3) link.old.kept.spent link.new.kept.spent }
-    ensures least { let before = link.old.kept in let groups = before.state.groups in
-        suffices before.config.room workspace.old.kept ≡ true → now ≤ 2 ^ 53 →
-        Spends (2 + least_ticked (moment_of before.state now) groups) (4 * sources_in groups + 44 * map.len groups + 3) before.spent link.new.kept.spent }
-    ensures bounded { Spends 0 (cost_of 0 (held_of link.old.kept.state)) link.old.kept.spent link.new.kept.spent }
-    ensures quiet { moment_of link.old.kept.state now < next_of link.old.kept.state → Spends 0 3 link.old.kept.spent link.new.kept.spent }
-    ensures moved { let groups = link.old.kept.state.groups in
-        Spends 0 (6 * sources_in groups + 136 * map.len groups) link.old.kept.moved link.new.kept.moved }
-    ensures still { moment_of link.old.kept.state now < next_of link.old.kept.state → link.new.kept.moved ≡ link.old.kept.moved }
+    ensures costs { let before = link.old.kept in
+        TickCosts (is_done (suffices before.config.room workspace.old.kept) now) now before link.new.kept }
     ensures none_left_out { tick_room 16 link.old.kept.config ≤ length queries.old → result.unsent ≡ 0 }
 {
     let lent = workspace.lend();

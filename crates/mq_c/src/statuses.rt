@@ -37,5 +37,6 @@ pub(crate) fn status_of(fault: ConfigFault) -> u32
             LimitName::Scheduled => 8,
         },
         ConfigFault::OwnAddress => 9,
+        ConfigFault::LastMemberCount => 14,
     }
 }

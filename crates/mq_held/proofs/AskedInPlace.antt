@@ -2,7 +2,8 @@
 use Rattle.mq_held.proofs.Common.{◌≡◌, ℕ, ◌+◌, ◌≤◌, Bool, true, false, cond, ◌&&◌, refl, List, [], ◌∷◌, ◌++◌, Option, None, Some, length, ltb, get_or, set, sym}
 use Rattle.mq_held.proofs.Common.{ap, ◌∙◌, subst, arith, list_map, count_by, list_any, le-leb, length-map, set-set, IsAscending, set_of, PoolState}
 use Rattle.mq_held.proofs.Common.{IsAscending-map, Source, is_asked_above, source_if_asked, GroupState, IsWellFormed, deadline_of, group_deadline, is_ahead}
-use Rattle.mq_held.proofs.Common.{is_vacant, sendings_of, lowered_to, item_counted, item_has_sendings, above, has_sendings, sendings_counted, some_source}
+use Rattle.mq_held.proofs.Common.{is_vacant, retransmissions_of, lowered_to, item_counted, item_has_retransmissions, above, has_retransmissions}
+use Rattle.mq_held.proofs.Common.{retransmissions_counted, some_source}
 use Rattle.mq_held.proofs.Common.{source_asked, source_counted, number_in, state_of, timers_in, last_member_count, stays, asked_absent, asked_found}
 use Rattle.mq_held.proofs.Common.{ScheduleState, ScheduledGroup, GroupQuery, SentQuery, after_round, is_due, messages_due, waiting_messages, Sends, Inside}
 use Rattle.mq_held.proofs.Common.{ScheduledHead, HasNumber, HeldState, group_at, group_of, groups_by, no_head}
@@ -66,7 +67,7 @@ module _ {K : Type 0} (number : K → ℕ) (timing : Timing) (now : ℕ) (source
 
     -- else it sends what waits, and that is counted
     abbrev pub next_due : Option ℕ
-    next_due = cond (list_any item_has_sendings (row_counted row)) (Some (now + timing.last_member_interval)) None
+    next_due = cond (list_any item_has_retransmissions (row_counted row)) (Some (now + timing.last_member_interval)) None
 
     abbrev pub head_then : ScheduledHead
     head_then = record { head = h.head; schedule = record { group_query = h.schedule.group_query; sources_due = next_due } }
@@ -77,13 +78,13 @@ module _ {K : Type 0} (number : K → ℕ) (timing : Timing) (now : ℕ) (source
     abbrev group_counted : GroupState
     group_counted = state_of h.head (timers_in number (row_counted row))
 
-    counted : sendings_counted group_asked ≡ group_counted
+    counted : retransmissions_counted group_asked ≡ group_counted
     counted = ap (state_of h.head) (sym (timers_in-replaced number (λ s. source_counted) item_counted (λ x. refl) (row_asked row)))
 
-    some_left : some_source (has_sendings group_counted) group_counted ≡ list_any item_has_sendings (row_counted row)
+    some_left : some_source (has_retransmissions group_counted) group_counted ≡ list_any item_has_retransmissions (row_counted row)
     some_left =
         let up_then = IsAscending-map (number_in number) item_counted (row_asked row) (IsAscending-map (number_in number) made row up) in
-        any_in_row number (λ s timer. ltb 0 (sendings_of timer)) (row_counted row) up_then
+        any_in_row number (λ s timer. ltb 0 (retransmissions_of timer)) (row_counted row) up_then
 
     module _ (some : list_any test row ≡ true) (quiet : IsQuietAt now h.schedule) where
       pub asked_then : one_asked timing now (number source) (group_of number h row) ≡ asked_as (Some now)
@@ -93,10 +94,10 @@ module _ {K : Type 0} (number : K → ℕ) (timing : Timing) (now : ℕ) (source
       group_counted_is = sym (ap (after_round timing now) asked_then ∙ round)
         where
           left_if : Bool → GroupState
-          left_if b = cond b (sendings_counted group_asked) group_asked
+          left_if b = cond b (retransmissions_counted group_asked) group_asked
 
           next_of : GroupState → Option ℕ
-          next_of g = cond (some_source (has_sendings g) g) (Some (now + timing.last_member_interval)) None
+          next_of g = cond (some_source (has_retransmissions g) g) (Some (now + timing.last_member_interval)) None
 
           left : left_if (is_due now (Some now)) ≡ group_counted
           left = ap left_if due_now ∙ counted
@@ -204,13 +205,14 @@ module _ {K A : Type 0} {number : K → ℕ} {s : Inside K A} {state : HeldState
   pub up_asked : IsAscending (number_in number) (row_asked number timing now source (row_of s n))
   up_asked = IsAscending-map (number_in number) (made number timing now source) (row_of s n) a.at.up
 
-  -- its sources with sendings: one, where there are any
-  pub least-asked : cond (ltb 0 (last_member_count timing)) 1 0 ≤ count_by item_has_sendings (row_asked number timing now source (row_of s n))
+  -- its sources with retransmissions: one, where there are any
+  pub least-asked : cond (ltb 0 (last_member_count timing)) 1 0 ≤ count_by item_has_retransmissions (row_asked number timing now source (row_of s n))
   least-asked =
       let has = asked-has number (lowered_to timing now) (last_member_count timing) (asked_set number timing now source) in
-      count-made (test number timing now source) item_has_sendings (made number timing now source) (ltb 0 (last_member_count timing)) has (row_of s n) a.above
+      count-made (test number timing now source) item_has_retransmissions (made number timing now source) (ltb 0 (last_member_count timing)) has
+      (row_of s n) a.above
 
-  -- the rows, once its sendings are counted
+  -- the rows, once its retransmissions are counted
   pub rows_counted : {u : PoolState (Source K)} → u ≡ record t { rows = set t.rows n (list_map item_counted (get_or t.rows n [])) }
       → u ≡ record s.sources { rows = set s.sources.rows n (row_counted number timing now source (row_of s n)) }
   rows_counted second =
@@ -226,11 +228,11 @@ module _ {K A : Type 0} {number : K → ℕ} {s : Inside K A} {state : HeldState
     abbrev head_counted : ScheduledHead
     head_counted = head_then number timing now source h (row_of s n) a.at.up
 
-    pub head_is : {left : Bool} {next : ScheduleState} → left ≡ list_any item_has_sendings (list_map item_counted (get_or t.rows n []))
+    pub head_is : {left : Bool} {next : ScheduleState} → left ≡ list_any item_has_retransmissions (list_map item_counted (get_or t.rows n []))
         → next ≡ record h.schedule { sources_due = cond left (Some (now + timing.last_member_interval)) None }
         → ◌≡◌ {A = ScheduledHead} (record { head = h.head; schedule = next }) head_counted
     head_is left next =
-        let some = left ∙ ap (λ xs. list_any item_has_sendings (list_map item_counted xs)) (row-asked refl) in
+        let some = left ∙ ap (λ xs. list_any item_has_retransmissions (list_map item_counted xs)) (row-asked refl) in
         let is = next ∙ (λ i. let s : ScheduleState = record h.schedule { sources_due = cond (some i) (Some (now + timing.last_member_interval)) None } in s) in
         λ i. record { head = h.head; schedule = is i }
 
@@ -251,7 +253,7 @@ module _ {K A : Type 0} {number : K → ℕ} {s : Inside K A} {state : HeldState
         subst (λ (e : ScheduledGroup). Sends takes old (messages_due per_query timing now address (one_asked timing now (number source) e)) new) group_is
         (sent_is number timing now source h (row_of s n) a.at.up a.above quiet_head takes old new per_query address waits)
 
--- Its sendings are counted, too. `h` was its head, and `next` is; `u` are the rows then, and `row` is its own.
+-- Its retransmissions are counted, too. `h` was its head, and `next` is; `u` are the rows then, and `row` is its own.
 pub record IsCounted {K A : Type 0} (number : K → ℕ) (s : Inside K A) (state : HeldState) (n : ℕ) (timing : Timing) (now : ℕ) (source : K)
     (t u : PoolState (Source K)) (row : List (Source K)) (h next : ScheduledHead) : Type 0 where
   pub asked : IsAsked number s state n timing now source t

@@ -44,7 +44,7 @@ pub use Rattle.mq_sets.proofs.Placing.{IsAscending-insert, set_of-found, set_of-
 pub use Rattle.mq_sets.proofs.Stored.{map-insert}
 pub use Rattle.mq_sets.specs.Ascending.{IsAscending, item_with, set_of}
 pub use Rattle.mq_sets.specs.NumberedKeys.{AreFilled, IsSpotFor, IsWithout, items_by, key_in, moved_by_insert, NumberedKey, NumberedKeysState, rank_of}
-pub use Rattle.mq_sets.specs.Pools.{ahead_after, cells_in, cells_reserved, moved_for, NamesRows, PoolState}
+pub use Rattle.mq_sets.specs.Pools.{ahead_after, cells_in, cells_reserved, IsReplaced, moved_for, NamesRows, PoolState}
 pub use Rattle.mq_sets.specs.Search.{bitlen, IsPlaceFor}
 pub use Rattle.mq_sets.specs.Slots.{times}
 pub use Rattle.mq_table.proofs.Asking.{all_asked, some_asked, stays}
@@ -52,11 +52,11 @@ pub use Rattle.mq_table.proofs.AskingOne.{asked_absent, asked_found}
 pub use Rattle.mq_table.proofs.SourceLists.{get-absent, get-found, get-timers_in, len-timers_in}
 pub use Rattle.mq_table.specs.AskedSources.{is_asked_above, source_if_asked}
 pub use Rattle.mq_table.specs.Group.{deadline_of, group_deadline, GroupState, is_ahead, is_include, is_running, is_stopped, is_vacant, IsWellFormed}
-pub use Rattle.mq_table.specs.Group.{sendings_of, timer_at}
+pub use Rattle.mq_table.specs.Group.{retransmissions_of, timer_at}
 pub use Rattle.mq_table.specs.Lowering.{lowered_to}
 pub use Rattle.mq_table.specs.MadeSources.{item_counted}
-pub use Rattle.mq_table.specs.SendingPlaces.{item_has_sendings}
-pub use Rattle.mq_table.specs.Sendings.{above, has_sendings, sendings_counted, some_source, source_asked, source_counted}
+pub use Rattle.mq_table.specs.RetransmissionPlaces.{item_has_retransmissions}
+pub use Rattle.mq_table.specs.Retransmissions.{above, has_retransmissions, retransmissions_counted, some_source, source_asked, source_counted}
 pub use Rattle.mq_table.specs.Stored.{number_in, size_of, state_of, timers_in}
 pub use Rattle.mq_table.specs.Timing.{last_member_count}
 pub use Rattle.mq_table.specs.declared.sources.Source.{Source}
@@ -70,11 +70,11 @@ pub use Rattle.mq_sched.specs.Sending.{after_round, group_due, GroupQuery, is_du
 pub use Rattle.mq_sched.specs.Sink.{Sends}
 pub use Rattle.mq_held.specs.Groups.{group_at, Groups, if_running, one_if, running_in, schedules_in, schedules_of, sources_in, sources_of, unheld, vacant_in}
 pub use Rattle.mq_held.specs.Groups.{with_group, without_vacant}
-pub use Rattle.mq_held.specs.Held.{ahead_with, HasNumber, HeldState, is_vacant_at, IsNumber, moved_by_new_row, moved_by_row}
+pub use Rattle.mq_held.specs.Held.{ahead_with, HasNumber, HeldState, is_vacant_at, IsNumber, IsRowWritten, moved_by_packing}
 pub use Rattle.mq_held.specs.Listed.{entries_from, entry_in, rank_at}
 pub use Rattle.mq_held.specs.Moments.{least, moments_in, moments_of, those_of}
 pub use Rattle.mq_held.specs.Places.{addresses_due, due_in, group_in, has_due, HasPlace, min_or}
-pub use Rattle.mq_held.specs.Restarted.{has_each, restarted, restarted_each, RestartsEach, some_stopped, StandsFrom}
+pub use Rattle.mq_held.specs.Restarted.{has_each, has_room, restarted, restarted_each, RestartsEach, some_stopped, StandsFrom}
 pub use Rattle.mq_held.specs.Stored.{earliest_of, entries_of, entry_of, group_by, group_of, groups_by, IsStored, no_head, timer_moments}
 pub use Rattle.mq_held.specs.declared.held_groups.HeldGroups.TheInside.{Inside}
 pub use Rattle.mq_held.specs.declared.scheduled_head.ScheduledHead.{ScheduledHead}

@@ -1,7 +1,8 @@
 -- The count of a row's sources.
 use Rattle.mq_held.proofs.Common.{ℕ, ◌+◌, ◌<◌, ◌≤◌, ◌≡◌, ◌||◌, ◌&&◌, Bool, true, false, cond, ltb, min, refl, arith, List, [], ◌∷◌, take, drop, get_or, Some}
 use Rattle.mq_held.proofs.Common.{sym, ap, ◌∙◌, ⊎_elim, list_map, count_by, list_any, cases_lt, cond-false, cond-true, le-ltb, lt-ltb, true≢false, get_or-drop}
-use Rattle.mq_held.proofs.Common.{take-append-drop, sum_by-append, sum_by-cons, is_asked_above, source_if_asked, deadline_of, is_ahead, item_has_sendings}
+use Rattle.mq_held.proofs.Common.{take-append-drop, sum_by-append, sum_by-cons, is_asked_above, source_if_asked, deadline_of, is_ahead}
+use Rattle.mq_held.proofs.Common.{item_has_retransmissions}
 use Rattle.mq_held.proofs.Common.{source_asked, Source, SourceTimer, Stopped, Running}
 
 -- 1 for an item that passes a test
@@ -51,11 +52,11 @@ timer-asked limit count true Stopped is = absurd (true≢false (sym is))
 timer-asked limit count true (Running d n) is = cond-true (ltb limit d) (Running limit count) (Running d n) is
 timer-asked limit count false timer is = absurd (true≢false (sym is))
 
--- a source that is asked for has sendings to go
+-- a source that is asked for has retransmissions to go
 pub asked-has : {K : Type 0} (number : K → ℕ) (limit count : ℕ) (asked : ℕ → Bool) (x : Source K) → is_asked_above number limit asked x ≡ true →
-    item_has_sendings (source_if_asked number limit count asked x) ≡ ltb 0 count
+    item_has_retransmissions (source_if_asked number limit count asked x) ≡ ltb 0 count
 asked-has number limit count asked x is =
-    ap (λ timer. item_has_sendings (let y : Source _ = record { address = x.address; timer = timer } in y))
+    ap (λ timer. item_has_retransmissions (let y : Source _ = record { address = x.address; timer = timer } in y))
     (timer-asked limit count (asked (number x.address)) x.timer is)
 
 pub one-at_most : (n : ℕ) → cond (ltb 0 n) 1 0 ≡ min 1 n

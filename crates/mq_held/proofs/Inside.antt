@@ -1,8 +1,8 @@
 -- The groups that a contract sees, by what is stored.
 use Rattle.std.proofs.Common.{◌≡◌, ◌==◌, ◌&&◌, Bool, not, ℕ, ◌<◌, true, true≢false, refl, List, [], length, get_or, set, Option, None, Some, is_some}
-use Rattle.mq_held.proofs.Common.{sym, ap, ◌∙◌, subst, arith, Contains, unwrap_or, nat_cmp, FinMap, le-leb, get_or_read, IsAscending, set_of, NumberedKeysState}
+use Rattle.mq_held.proofs.Common.{sym, ap, ◌∙◌, subst, Contains, unwrap_or, nat_cmp, FinMap, get_or_read, IsAscending, set_of, NumberedKeysState}
 use Rattle.mq_held.proofs.Common.{key_in, cells_in, Source, is_include, is_vacant, number_in, len-timers_in, ScheduledGroup, ScheduledHead, Groups, group_at}
-use Rattle.mq_held.proofs.Common.{sources_of, sources_in, schedules_in, running_in, unheld, HeldState, HasNumber, IsNumber, ahead_with, group_of, group_by}
+use Rattle.mq_held.proofs.Common.{sources_of, sources_in, schedules_in, running_in, unheld, HeldState, HasNumber, IsNumber, group_of, group_by}
 use Rattle.mq_held.proofs.Common.{no_head, groups_by, IsStored}
 use Rattle.std.specs.FinMap as map
 use Rattle.mq_held.proofs.OrderedItems.{item, number_of, key_of, one-key, one-number, has-key, has-number, key-in, number-in, number-within, key-of_number}
@@ -148,7 +148,3 @@ group_found groups address held = by_found (map.get groups address) held
 -- a number has an address
 pub some-address : (state : HeldState) (n : ℕ) → IsNumber state n → (a : ℕ) × HasNumber state a n
 some-address state n is = let found = has-number state.order.items n is in (found.0, record { is = found.1 })
-
--- nothing is written for a group that has no sources
-pub ahead-same : (state : HeldState) (had has : ℕ) → has ≡ 0 → ahead_with state had has ≡ state.ahead
-ahead-same state had has none = rw (none, le-leb 0 had (omega arith)) refl

@@ -1,5 +1,7 @@
+pub mod AddedSources
 pub mod Amounts
 pub mod AskedInPlace
+mod AskedMoments
 mod Common
 pub mod CountedRows
 pub mod DueInOrder

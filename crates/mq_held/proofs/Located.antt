@@ -115,7 +115,7 @@ stored-written {number = number} {n = n} l h row {e} {due} up is formed first =
 
 -- Its row is another, and its head stays.
 module _ {K A : Type 0} {number : K → ℕ} {s : Inside K A} {state : HeldState} {n : ℕ} (l : Located number s state n)
-    (row : List (Source K)) {t : PoolState (Source K)} (rows_are : t ≡ record s.sources { rows = set s.sources.rows n row }) where
+    (row : List (Source K)) {t : PoolState (Source K)} {ahead : ℕ} (rows_are : t ≡ record s.sources { rows = set s.sources.rows n row; ahead = ahead }) where
   pub row-read : {cells : List (Source K)} → cells ≡ get_or t.rows n [] → cells ≡ row
   row-read cells = cells ∙ ap (λ (t : PoolState (Source K)). get_or t.rows n []) rows_are ∙ get_or-set_same s.sources.rows n row [] l.in_rows
 
@@ -144,7 +144,7 @@ module _ {K A : Type 0} {number : K → ℕ} {s : Inside K A} {state : HeldState
         )
 
     pub row-seen : {a : ℕ} (e : ScheduledGroup) → HasNumber state a n → group_of number h row ≡ e
-        → seen number (record s { sources = t }) ≡ record state { groups = map.insert state.groups a e }
+        → seen number (record s { sources = t }) ≡ record state { groups = map.insert state.groups a e; ahead = ahead }
     row-seen e has group_is =
         let same = sym (set-same s.heads.items n h l.in_heads here) in
         (λ i. record {
@@ -153,7 +153,14 @@ module _ {K A : Type 0} {number : K → ℕ} {s : Inside K A} {state : HeldState
           source_room = s.source_room;
           ahead = (rows_are i).ahead;
         })
-        ∙ state-set number l.inside.0 l.was h row e s.sources.ahead state.ahead has l.in_heads group_is (ahead_is number l.inside.0 l.was)
+        ∙ state-set number l.inside.0 l.was h row e ahead ahead has l.in_heads group_is refl
+
+    -- where the rows have as much room before they are packed
+    pub row-seen_still : {a : ℕ} (e : ScheduledGroup) → HasNumber state a n → group_of number h row ≡ e → ahead ≡ s.sources.ahead
+        → seen number (record s { sources = t }) ≡ record state { groups = map.insert state.groups a e }
+    row-seen_still {a} e has group_is still =
+        row-seen e has group_is
+        ∙ (λ i. record state { groups = map.insert state.groups a e; ahead = (still ∙ ahead_is number l.inside.0 l.was) i })
 
 -- A source is at its place in a row.
 pub record Placed {K : Type 0} (number : K → ℕ) (row : List (Source K)) (source place : ℕ) (x : Source K) : Type 0 where

@@ -3,7 +3,7 @@ use Rattle.mq_held.proofs.Common.{◌≡◌, ◌||◌, ℕ, ◌+◌, ◌-◌, �
 use Rattle.mq_held.proofs.Common.{subst, arith, ◌⊎◌, inl, inr, ⊎_elim, nat_le, All, Contains, insert, sum_by, nat_cmp, eq_by_cmp, nat_cmp_total, or-false}
 use Rattle.mq_held.proofs.Common.{cases_lt, eqb_tells, sum_by-insert, IsAscending, set_of, NumberedKey, NumberedKeysState, IsSpotFor, rank_of, cells_reserved}
 use Rattle.mq_held.proofs.Common.{IsPlaceFor, times, set_of-insert, map-insert, is_vacant, ScheduledGroup, Groups, group_at, running_in, sources_in, sources_of}
-use Rattle.mq_held.proofs.Common.{unheld, HeldState, HasNumber, ahead_with, moved_by_row, moved_by_new_row, entry_of, entries_of, groups_by, Inside}
+use Rattle.mq_held.proofs.Common.{unheld, HeldState, HasNumber, ahead_with, IsRowWritten, moved_by_packing, one_if, entry_of, entries_of, groups_by, Inside}
 use Rattle.std.specs.FinMap as map
 use Rattle.std.proofs.lemmas.List.Edits.{length-insert, get_or-insert_below, get_or-insert_above, get_or-insert_at}
 use Rattle.mq_sets.specs.declared.spots.Spot.{Spot}
@@ -140,7 +140,7 @@ module _ {K A : Type 0} {number : K → ℕ} {s : Inside K A} {state : HeldState
   pub made-running : running_in mid.groups ≡ running_in state.groups
   made-running = running-groups number f.after.0 ∙ sym (running-held number f.inside.0 f.was)
 
-  pub made-ahead : (has : ℕ) → ahead_with mid (sources_of (group_at mid.groups a)) has ≡ ahead_with state 0 has
+  made-ahead : (has : ℕ) → ahead_with mid (sources_of (group_at mid.groups a)) has ≡ ahead_with state 0 has
   made-ahead has =
       let rooms = f.room ∙ room_is number f.inside.0 f.was in
       let total = source_room_is number f.inside.0 f.was in
@@ -149,9 +149,25 @@ module _ {K A : Type 0} {number : K → ℕ} {s : Inside K A} {state : HeldState
       else if nat_le has (left i) then left i - has
       else cells_reserved (rooms i) (total i) - (made-sources i - made-size i + has)
 
-  pub made-moved : (has : ℕ) → moved_by_row mid true (sources_of (group_at mid.groups a)) has ≡ moved_by_new_row state has
-  made-moved has =
+  made-moved : (has named count : ℕ) → named ≡ count → moved_by_packing named mid (sources_of (group_at mid.groups a)) has
+      ≡ moved_by_packing count state 0 has
+  made-moved has named count named_is =
       let left = ahead_is number f.inside.0 f.was in
       λ i. if nat_le has (made-size i) then has
       else if nat_le has (left i) then has
-      else has + (made-sources i - made-size i + (made-running i + 1))
+      else has + (made-sources i - made-size i + named_is i)
+
+  pub made-written : (has own ahead moved : ℕ) →
+      IsRowWritten mid (sources_of (group_at mid.groups a)) has own (running_in mid.groups + one_if true) ahead moved →
+      IsRowWritten state 0 has own (running_in state.groups + 1) ahead moved
+  made-written has own ahead moved written =
+      let named : running_in mid.groups + one_if true ≡ running_in state.groups + 1 = ap (λ k. k + 1) made-running in
+      record {
+        how =
+            ⊎_elim
+            (λ (stays : (ahead ≡ mid.ahead) × (moved ≡ own)). inl (stays.0 ∙ ahead_is number f.inside.0 f.was, stays.1))
+            (λ (goes : (ahead ≡ ahead_with mid (sources_of (group_at mid.groups a)) has) ×
+            (moved ≡ moved_by_packing (running_in mid.groups + one_if true) mid (sources_of (group_at mid.groups a)) has)).
+            inr (goes.0 ∙ made-ahead has, goes.1 ∙ made-moved has (running_in mid.groups + one_if true) (running_in state.groups + 1) named))
+            written.how;
+      }

@@ -28,7 +28,7 @@ sum_by-same v w (x ∷ xs) same =
 -- the cells of rows that stand by number
 module _ {T : Type 0} where
   abbrev extent_of : List T → Extent
-  extent_of row = record { start = 0; length = length row }
+  extent_of row = record { start = 0; length = length row; free = 0 }
 
   size-row : (rows : List (List T)) (n : ℕ) → size_of (map extent_of rows) n ≡ length (get_or rows n [])
   size-row [] n = refl

@@ -1,10 +1,11 @@
 -- Groups with several sources heard of again.
 use Rattle.mq_held.proofs.Common.{◌≡◌, ℕ, Bool, true, false, cond, ◌||◌, refl, List, [], ◌∷◌, ◌++◌, Option, None, Some, is_some, sym, ap, ◌∙◌, list_all}
-use Rattle.mq_held.proofs.Common.{list_any, option_map, nat_cmp, eq_by_cmp, nat_cmp_total, and_parts, and_from, or_left, or_right, true≢false, item_with}
-use Rattle.mq_held.proofs.Common.{set_of, found_where_member, Source, SourceTimer, Running, IsWellFormed, sendings_of, timer_at, number_in, timers_in}
-use Rattle.mq_held.proofs.Common.{get-timers_in, ScheduledGroup, ScheduledHead, has_each, restarted, restarted_each, group_of}
+use Rattle.mq_held.proofs.Common.{list_any, nat_cmp, eq_by_cmp, nat_cmp_total, and_parts, and_from, or_left, or_right, true≢false}
+use Rattle.mq_held.proofs.Common.{set_of, Source, SourceTimer, Running, IsWellFormed, retransmissions_of, timer_at, number_in}
+use Rattle.mq_held.proofs.Common.{ScheduledGroup, ScheduledHead, has_each, restarted, restarted_each, group_of}
+use Rattle.mq_held.proofs.Common.{arith, get_or, length}
 use Rattle.std.specs.FinMap as map
-use Rattle.mq_held.proofs.{RestartedTimers.IsWellFormed-restarted, Sorted.tied}
+use Rattle.mq_held.proofs.{AddedSources.contains-row, RestartedTimers.IsWellFormed-restarted, Sorted.tied}
 
 -- a test of all numbers in a list holds for each; a test that holds for one holds for some
 pub each_passes : (test : ℕ → Bool) (ks : List ℕ) (s : ℕ) → list_all test ks ≡ true → list_any (eq_by_cmp nat_cmp s) ks ≡ true → test s ≡ true
@@ -35,30 +36,30 @@ restarted_each-more deadline (y ∷ xs) x e = restarted_each-more deadline xs x 
 
 -- the timer of each source, once one is heard of again
 pub timer-restarted : (deadline source : ℕ) (e : ScheduledGroup) (s : ℕ) → timer_at (restarted deadline source e).group s
-    ≡ cond (eq_by_cmp nat_cmp s source) (Some (Running deadline (sendings_of (timer_at e.group source)))) (timer_at e.group s)
-timer-restarted deadline source e s = map.get-insert nat_cmp_total e.group.sources source (Running deadline (sendings_of (timer_at e.group source))) s
+    ≡ cond (eq_by_cmp nat_cmp s source) (Some (Running deadline (retransmissions_of (timer_at e.group source)))) (timer_at e.group s)
+timer-restarted deadline source e s = map.get-insert nat_cmp_total e.group.sources source (Running deadline (retransmissions_of (timer_at e.group source))) s
 
 -- and once some are
 pub timer-restarted_each : (deadline : ℕ) (xs : List ℕ) (e : ScheduledGroup) (s : ℕ) → timer_at (restarted_each deadline xs e).group s
-    ≡ cond (list_any (eq_by_cmp nat_cmp s) xs) (Some (Running deadline (sendings_of (timer_at e.group s)))) (timer_at e.group s)
+    ≡ cond (list_any (eq_by_cmp nat_cmp s) xs) (Some (Running deadline (retransmissions_of (timer_at e.group s)))) (timer_at e.group s)
 timer-restarted_each deadline [] e s = refl
 timer-restarted_each deadline (x ∷ xs) e s =
     timer-restarted_each deadline xs (restarted deadline x e) s
     ∙ by_tests (eq_by_cmp nat_cmp s x) (list_any (eq_by_cmp nat_cmp s) xs) (timer_at (restarted deadline x e).group s) refl (timer-restarted deadline x e s)
   where
     next : ℕ → SourceTimer
-    next q = Running deadline (sendings_of (timer_at e.group q))
+    next q = Running deadline (retransmissions_of (timer_at e.group q))
 
     either : (any : Bool) (t : Option SourceTimer) → cond any t t ≡ t
     either true t = refl
     either false t = refl
 
     by_tests : (same any : Bool) (t : Option SourceTimer) → eq_by_cmp nat_cmp s x ≡ same → t ≡ cond same (Some (next x)) (timer_at e.group s)
-        → cond any (Some (Running deadline (sendings_of t))) t ≡ cond (same || any) (Some (next s)) (timer_at e.group s)
+        → cond any (Some (Running deadline (retransmissions_of t))) t ≡ cond (same || any) (Some (next s)) (timer_at e.group s)
     by_tests true any t same is =
-        ap (λ t. cond any (Some (Running deadline (sendings_of t))) t) (is ∙ ap (λ q. Some (next q)) (sym (tied s x same)))
+        ap (λ t. cond any (Some (Running deadline (retransmissions_of t))) t) (is ∙ ap (λ q. Some (next q)) (sym (tied s x same)))
         ∙ either any (Some (next s))
-    by_tests false any t differs is = ap (λ t. cond any (Some (Running deadline (sendings_of t))) t) is
+    by_tests false any t differs is = ap (λ t. cond any (Some (Running deadline (retransmissions_of t))) t) is
 
 -- it has the sources that it had
 pub held-restarted : (deadline source : ℕ) (e : ScheduledGroup) (s : ℕ) → map.contains_key e.group.sources s ≡ true →
@@ -66,7 +67,7 @@ pub held-restarted : (deadline source : ℕ) (e : ScheduledGroup) (s : ℕ) → 
 held-restarted deadline source e s there =
     ap is_some (timer-restarted deadline source e s) ∙ by_test (eq_by_cmp nat_cmp s source)
   where
-    by_test : (b : Bool) → is_some (cond b (Some (Running deadline (sendings_of (timer_at e.group source)))) (timer_at e.group s)) ≡ true
+    by_test : (b : Bool) → is_some (cond b (Some (Running deadline (retransmissions_of (timer_at e.group source)))) (timer_at e.group s)) ≡ true
     by_test true = refl
     by_test false = there
 
@@ -82,23 +83,19 @@ timer-there None there = absurd (true≢false (sym there))
 timer-there (Some timer) there = (timer, refl)
 
 -- a group that is held stays one
-pub IsWellFormed-restarted_each : (deadline : ℕ) (xs : List ℕ) (e : ScheduledGroup) → has_each xs e ≡ true → IsWellFormed e.group →
+pub IsWellFormed-restarted_each : (deadline : ℕ) (xs : List ℕ) (e : ScheduledGroup) → IsWellFormed e.group →
     IsWellFormed (restarted_each deadline xs e).group
-IsWellFormed-restarted_each deadline [] e all held = held
-IsWellFormed-restarted_each deadline (x ∷ xs) e all held =
-    let parts = and_parts (map.contains_key e.group.sources x) (has_each xs e) all in
-    let found = timer-there (timer_at e.group x) parts.0 in
-    IsWellFormed-restarted_each deadline xs (restarted deadline x e) (has_each-restarted deadline x xs e parts.1)
-    (IsWellFormed-restarted deadline x found.0 e found.1 held)
+IsWellFormed-restarted_each deadline [] e held = held
+IsWellFormed-restarted_each deadline (x ∷ xs) e held =
+    IsWellFormed-restarted_each deadline xs (restarted deadline x e) (IsWellFormed-restarted deadline x e held)
 
 -- a group has a source exactly where its row has it
 pub has_each-row : {K : Type 0} (number : K → ℕ) (h : ScheduledHead) (row : List (Source K)) (names : List ℕ) → has_each names (group_of number h row)
     ≡ list_all (set_of (number_in number) row) names
-has_each-row {K} number h row names = λ i. list_all (λ s. in_row s i) names
-  where
-    some_mapped : (found : Option (Source K)) → is_some (option_map (λ (x : Source K). x.timer) found) ≡ is_some found
-    some_mapped None = refl
-    some_mapped (Some x) = refl
+has_each-row number h row names = λ i. list_all (λ s. contains-row number row s i) names
 
-    in_row : (s : ℕ) → map.contains_key (timers_in number row) s ≡ set_of (number_in number) row s
-    in_row s = ap is_some (get-timers_in number row s) ∙ some_mapped (item_with (number_in number) row s) ∙ found_where_member (number_in number) row s
+-- a list of one item
+pub one_item : {X : Type 0} (xs : List X) (x : X) → length xs ≡ 1 → x ≡ get_or xs 0 x → xs ≡ x ∷ []
+one_item [] x one is = absurd (omega (arith, one))
+one_item (y ∷ []) x one is = ap (λ z. z ∷ []) (sym is)
+one_item (y ∷ z ∷ xs) x one is = absurd (omega (arith, one))

@@ -235,4 +235,4 @@ module _ {K A : Type 0} {number : K → ℕ} {s : Inside K A} {state : HeldState
   pub formed-each : IsWellFormed (group_of number h row).group
   formed-each =
       subst (λ (e : ScheduledGroup). IsWellFormed e.group) (sym group-each)
-      (IsWellFormed-restarted_each deadline (list_map number named) (group_in number s n) f.all (f.at.inside.0.others_are_held n f.at.held (f.at.other f.some)))
+      (IsWellFormed-restarted_each deadline (list_map number named) (group_in number s n) (f.at.inside.0.others_are_held n f.at.held (f.at.other f.some)))

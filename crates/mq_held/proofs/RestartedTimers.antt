@@ -2,7 +2,8 @@
 use Rattle.mq_held.proofs.Common.{◌≡◌, ℕ, zero, suc, ◌<◌, min, cond, refl, List, [], ◌∷◌, ◌++◌, append_assoc, length, get_or, set, Option, None, Some, IfSome}
 use Rattle.mq_held.proofs.Common.{sym, ap, ◌∙◌, subst, arith, ⊎_elim, option_to_list, flat_map, eq_by_cmp, nat_cmp, nat_cmp_total, FinMap, cases_eq, length-set}
 use Rattle.mq_held.proofs.Common.{get_or-set_same, get_or-set_other, IsAscending, PoolState, Source, SourceTimer, Running, IsWellFormed, deadline_of}
-use Rattle.mq_held.proofs.Common.{group_deadline, is_running, is_stopped, sendings_of, timer_at, number_in, state_of, timers_in, get-found, ScheduledGroup}
+use Rattle.mq_held.proofs.Common.{group_deadline, is_running, is_stopped, retransmissions_of, timer_at, number_in, state_of, timers_in, get-found}
+use Rattle.mq_held.proofs.Common.{ScheduledGroup}
 use Rattle.mq_held.proofs.Common.{group_due, Inside, HeldState, ScheduledHead, those_of, moments_of, restarted, earliest_of, group_of, timer_moments}
 use Rattle.std.specs.FinMap as map
 use Rattle.mq_held.proofs.{HeldMoments.deadlines-row, Located.Located, Located.Placed, Located.first-held, Located.group_in, Located.row_of}
@@ -60,11 +61,10 @@ get-others number (z ∷ row) (suc i) y x q within here same differs =
     ∙ sym (map.get-insert nat_cmp_total (timers_in number row) (number z.address) z.timer q)
 
 -- a group that is held stays one
-pub IsWellFormed-restarted : (deadline source : ℕ) (timer : SourceTimer) (e : ScheduledGroup) → timer_at e.group source ≡ Some timer → IsWellFormed e.group
-    → IsWellFormed (restarted deadline source e).group
-IsWellFormed-restarted deadline source timer e there held =
+pub IsWellFormed-restarted : (deadline source : ℕ) (e : ScheduledGroup) → IsWellFormed e.group → IsWellFormed (restarted deadline source e).group
+IsWellFormed-restarted deadline source e held =
     let sources = e.group.sources in
-    let next = Running deadline (sendings_of (timer_at e.group source)) in
+    let next = Running deadline (retransmissions_of (timer_at e.group source)) in
     record {
       has_source = λ include. (source, ap is_running (get-put sources next refl));
       none_stopped = λ include q.
@@ -74,9 +74,9 @@ IsWellFormed-restarted deadline source timer e there held =
           (cases_eq q source);
     }
 
--- the earliest moment, once another moment that was later has changed
-earliest-later : (xs ys : List ℕ) (was : Option ℕ) (deadline earliest : ℕ) → earliest_of (xs ++ (option_to_list was ++ ys)) ≡ Some earliest
-    → IfSome was (λ d. earliest < d) → earliest_of (xs ++ (deadline ∷ ys)) ≡ Some (min earliest deadline)
+-- the earliest moment, once a moment that was later than it or than the new deadline has changed
+pub earliest-later : (xs ys : List ℕ) (was : Option ℕ) (deadline earliest : ℕ) → earliest_of (xs ++ (option_to_list was ++ ys)) ≡ Some earliest
+    → IfSome was (λ d. min earliest deadline < d) → earliest_of (xs ++ (deadline ∷ ys)) ≡ Some (min earliest deadline)
 earliest-later xs ys was deadline earliest is later =
     sym (earliest-join xs (deadline ∷ ys))
     ∙ sym (turn (option_to_list (earliest_of xs)) (deadline ∷ []))
@@ -93,9 +93,9 @@ earliest-later xs ys was deadline earliest is later =
     some a b is = cc
 
     by_cases : (first last was : Option ℕ) → earliest_of (option_to_list first ++ (option_to_list was ++ option_to_list last)) ≡ Some earliest
-        → IfSome was (λ d. earliest < d) → earliest_of (option_to_list first ++ (deadline ∷ option_to_list last)) ≡ Some (min earliest deadline)
+        → IfSome was (λ d. min earliest deadline < d) → earliest_of (option_to_list first ++ (deadline ∷ option_to_list last)) ≡ Some (min earliest deadline)
     by_cases None None None is later = cc
-    by_cases None None (Some d) is later = let e = some d earliest is in absurd (omega (arith, e, later))
+    by_cases None None (Some d) is later = let e = some d earliest is in ap Some (omega (arith, e, later))
     by_cases None (Some b) None is later = let e = some b earliest is in ap Some (omega (arith, e))
     by_cases None (Some b) (Some d) is later = let e = some (min b d) earliest is in ap Some (omega (arith, e, later))
     by_cases (Some a) None None is later = let e = some a earliest is in ap Some (omega (arith, e))
@@ -104,13 +104,13 @@ earliest-later xs ys was deadline earliest is later =
     by_cases (Some a) (Some b) (Some d) is later = let e = some (min d (min b a)) earliest is in ap Some (omega (arith, e, later))
 
 -- the moments of a row, with one of its sources apart
-record IsParted {K : Type 0} (row : List (Source K)) (i : ℕ) (y x : Source K) : Type 0 where
-  front : List ℕ
-  back : List ℕ
-  was : flat_map timer_moments row ≡ front ++ (timer_moments x ++ back)
-  is : flat_map timer_moments (set row i y) ≡ front ++ (timer_moments y ++ back)
+pub record IsParted {K : Type 0} (row : List (Source K)) (i : ℕ) (y x : Source K) : Type 0 where
+  pub front : List ℕ
+  pub back : List ℕ
+  pub was : flat_map timer_moments row ≡ front ++ (timer_moments x ++ back)
+  pub is : flat_map timer_moments (set row i y) ≡ front ++ (timer_moments y ++ back)
 
-parted : {K : Type 0} (row : List (Source K)) (i : ℕ) (y x : Source K) → i < length row → x ≡ get_or row i x → IsParted row i y x
+pub parted : {K : Type 0} (row : List (Source K)) (i : ℕ) (y x : Source K) → i < length row → x ≡ get_or row i x → IsParted row i y x
 parted [] i y x within here = absurd (omega arith)
 parted (z ∷ row) zero y x within here =
     let back = flat_map timer_moments row in
@@ -127,7 +127,7 @@ parted (z ∷ row) (suc i) y x within here =
 -- A source at a place of a row is heard of again. It was `x`, and is `y`.
 pub record SourceRestarted {K : Type 0} (number : K → ℕ) (row : List (Source K)) (place source deadline : ℕ) (x y : Source K) : Type 0 where
   pub stands : Placed number row source place x
-  pub becomes : y ≡ record { address = x.address; timer = Running deadline (sendings_of (Some x.timer)) }
+  pub becomes : y ≡ record { address = x.address; timer = Running deadline (retransmissions_of (Some x.timer)) }
 
 module _ {K : Type 0} {number : K → ℕ} {row : List (Source K)} {place source deadline : ℕ} {x y : Source K}
     (r : SourceRestarted number row place source deadline x y) (up : IsAscending (number_in number) row) where
@@ -160,8 +160,8 @@ module _ {K : Type 0} {number : K → ℕ} {row : List (Source K)} {place source
 
   pub group-restarted : (h : ScheduledHead) → group_of number h (set row place y) ≡ restarted deadline source (group_of number h row)
   group-restarted h =
-      let timer : y.timer ≡ Running deadline (sendings_of (map.get (timers_in number row) source)) =
-      ap (λ (s : Source K). s.timer) r.becomes ∙ ap (λ t. Running deadline (sendings_of t)) (sym timer-before) in
+      let timer : y.timer ≡ Running deadline (retransmissions_of (map.get (timers_in number row) source)) =
+      ap (λ (s : Source K). s.timer) r.becomes ∙ ap (λ t. Running deadline (retransmissions_of t)) (sym timer-before) in
       ap (λ (m : FinMap nat_cmp SourceTimer). let e : ScheduledGroup = record { group = state_of h.head m; schedule = h.schedule } in e)
       (timers-set ∙ (λ j. map.insert (timers_in number row) ((same ∙ r.stands.is) j) (timer j)))
 
@@ -175,7 +175,12 @@ module _ {K : Type 0} {number : K → ℕ} {row : List (Source K)} {place source
       ap (λ ms. earliest_of (head ++ ms)) (deadlines-row number (set row place y) up-restarted ∙ parts.is)
       ∙ ap (λ (s : Source K). earliest_of (head ++ (parts.front ++ (option_to_list (deadline_of (Some s.timer)) ++ parts.back)))) r.becomes
       ∙ ap earliest_of (sym (append_assoc head parts.front (deadline ∷ parts.back)))
-      ∙ earliest-later (head ++ parts.front) parts.back (deadline_of (Some x.timer)) deadline earliest (ap earliest_of split ∙ is) later
+      ∙ earliest-later (head ++ parts.front) parts.back (deadline_of (Some x.timer)) deadline earliest (ap earliest_of split ∙ is)
+      (sooner (deadline_of (Some x.timer)) later)
+    where
+      sooner : (was : Option ℕ) → IfSome was (λ d. earliest < d) → IfSome was (λ d. min earliest deadline < d)
+      sooner None later = tt
+      sooner (Some d) later = omega (arith, later)
 
 -- the timer of a source, where its place is known
 module _ {K A : Type 0} {number : K → ℕ} {s : Inside K A} {state : HeldState} {n source place : ℕ} {x : Source K} (l : Located number s state n)
@@ -214,7 +219,7 @@ module _ {K A : Type 0} {number : K → ℕ} {s : Inside K A} {state : HeldState
   formed_then =
       let held = r.at.inside.0.others_are_held n r.at.held (r.at.other r.heard.stands.some) in
       subst (λ (e : ScheduledGroup). IsWellFormed e.group) (sym group-then)
-      (IsWellFormed-restarted deadline source x.timer (group_in number s n) (timer-held r.at r.heard.stands) held)
+      (IsWellFormed-restarted deadline source (group_in number s n) held)
 
   pub later_then : (earliest : ℕ) → map.get s.moments.moments n ≡ Some earliest → IfSome (deadline_of (Some x.timer)) (λ d. earliest < d)
       → earliest_of (moments_of (group_of number h row)) ≡ Some (min earliest deadline)

@@ -4,7 +4,7 @@ use Rattle.mq_held.proofs.Common.{set, None, Some, is_some, sym, ap, ◌∙◌, 
 use Rattle.mq_held.proofs.Common.{length-map, get_or-map, length-filter_both, count_by-le-length, length-filter, get_or-le-sum_by, sum_by-set, set_of}
 use Rattle.mq_held.proofs.Common.{NumberedKey, NumberedKeysState, NamesRows, ahead_after, cells_reserved, moved_for, cells_in, times, Source, is_vacant}
 use Rattle.mq_held.proofs.Common.{ScheduledGroup, ScheduledHead, group_at, one_if, running_in, sources_in, sources_of, HeldState, HasNumber, IsNumber}
-use Rattle.mq_held.proofs.Common.{ahead_with, moved_by_row, group_by, no_head, groups_by, IsStored}
+use Rattle.mq_held.proofs.Common.{ahead_with, moved_by_packing, IsRowWritten, IsReplaced, inl, inr, PoolState, group_by, no_head, groups_by, IsStored}
 use Rattle.std.specs.FinMap as map
 use Rattle.mq_held.proofs.{Sorted.ties, Sorted.untied, OrderedItems.item, OrderedItems.number_of, OrderedItems.has-number, OrderedGroups.values-groups}
 use Rattle.mq_held.proofs.{OrderedAmounts.absent-get, OrderedAmounts.has-moment, OrderedAmounts.len-counted, OrderedAmounts.running-groups}
@@ -133,7 +133,7 @@ module _ {K : Type 0} (number : K → ℕ) {order : NumberedKeysState} {heads : 
   -- the room before the rows are packed, and the moves, by the sources that a group had and has
   module _ (n : ℕ) {a : ℕ} (row : List (Source K)) (limit : ℕ) (has : HasNumber state a n) (limit_is : limit ≡ source_room)
       (size : length rows ≡ order.room) where
-    pub ahead-is : ahead_after (record { rows = rows; cell_limit = limit; ahead = ahead }) n row
+    ahead-is : ahead_after (record { rows = rows; cell_limit = limit; ahead = ahead }) n row
         ≡ ahead_with state (sources_of (group_at state.groups a)) (length row)
     ahead-is =
         let had = size-of number known was has in
@@ -149,12 +149,25 @@ module _ {K : Type 0} (number : K → ℕ) {order : NumberedKeysState} {heads : 
         else if nat_le (length row) (ahead_is number known was i) then ahead_is number known was i - length row
         else cells_reserved (room i) (all i) - after i
 
-    pub moved-is : (named : ℕ) (was_vacant : Bool) → named ≡ running_in state.groups + one_if was_vacant
+    moved-is : (named count : ℕ) → named ≡ count
         → moved_for (record { rows = rows; cell_limit = limit; ahead = ahead }) n row named
-        ≡ moved_by_row state was_vacant (sources_of (group_at state.groups a)) (length row)
-    moved-is named was_vacant named_is =
+        ≡ moved_by_packing count state (sources_of (group_at state.groups a)) (length row)
+    moved-is named count named_is =
         let had = size-of number known was has in
         let sources = sources-held number known was in
         λ i. if nat_le (length row) (sym had i) then length row
         else if nat_le (length row) (ahead_is number known was i) then length row
         else length row + (sym sources i - sym had i + named_is i)
+
+    pub row-written : (after : PoolState (Source K)) (own named count moved : ℕ) → named ≡ count
+        → IsReplaced (record { rows = rows; cell_limit = limit; ahead = ahead }) n row own named after moved
+        → IsRowWritten state (sources_of (group_at state.groups a)) (length row) own count after.ahead moved
+    row-written after own named count moved named_is replaced = record {
+      how =
+          ⊎_elim
+          (λ (stays : (after.ahead ≡ ahead) × (moved ≡ own)). inl (stays.0 ∙ ahead_is number known was, stays.1))
+          (λ (goes : (after.ahead ≡ ahead_after (record { rows = rows; cell_limit = limit; ahead = ahead }) n row) ×
+          (moved ≡ moved_for (record { rows = rows; cell_limit = limit; ahead = ahead }) n row named)).
+          inr (goes.0 ∙ ahead-is, goes.1 ∙ moved-is named count named_is))
+          replaced.how;
+    }

@@ -32,8 +32,8 @@ sources_of e = size_of e.group
 abbrev pub sources_in : Groups → ℕ
 sources_in groups = sum_by sources_of (map.values groups)
 
--- The number of schedules. A group's query with sendings to go is one, and so are a group's sources with sendings to
--- go. So a group has at most two.
+-- The number of schedules. A group's query with sendings to go is one, and so are a group's sources with
+-- retransmissions to go. So a group has at most two.
 abbrev pub one_if : Bool → ℕ
 one_if b = if b then 1 else 0
 

@@ -1,5 +1,5 @@
 -- The storage of groups, as a contract sees it.
-use Rattle.std.specs.Prelude.{ℕ, ◌+◌, ◌-◌, ◌≡◌, Bool, true, nat_le, if◌then◌else◌, List, [], ◌∷◌, map as list_map, Option, refl}
+use Rattle.std.specs.Prelude.{ℕ, ◌+◌, ◌-◌, ◌≡◌, ◌⊎◌, Bool, true, nat_le, if◌then◌else◌, List, [], ◌∷◌, map as list_map, Option, refl}
 use Rattle.std.specs.Coded.{Coded, code_by, coded×, coded_ℕ, coded_list, coded_option}
 use Rattle.std.specs.List.{Contains}
 use Rattle.std.specs.Ordering.{nat_cmp}
@@ -13,7 +13,7 @@ use Rattle.mq_table.specs.declared.timers.FilterMode.{FilterMode}
 use Rattle.mq_table.specs.declared.timers.SourceTimer.{SourceTimer}
 use Rattle.mq_sched.specs.Schedule.{ScheduledGroup}
 use Rattle.mq_sched.specs.declared.queries.QuerySchedule.{QuerySchedule}
-use Rattle.mq_held.specs.Groups.{Groups, group_at, one_if, running_in, sources_in}
+use Rattle.mq_held.specs.Groups.{Groups, group_at, sources_in}
 
 -- The groups, the order of their addresses, and two numbers of sources. `order` has the number of each group, and how
 -- many there may be. `source_room` is the most sources that they may have together. `ahead` is the number of sources
@@ -41,16 +41,16 @@ pub record HasNumber (s : HeldState) (address number : ℕ) : Type 0 where
 abbrev pub IsNumber : HeldState → ℕ → Type 0
 IsNumber s number = set_of (λ x. x.number) s.order.items number ≡ true
 
--- The sources that can be written before the rows are packed, after a group's sources were replaced. `had` and `has`
--- are its numbers of sources. It is `ahead_after` of the rows.
+-- The number of sources that fit before the rows are packed, after a group's sources were written. If they are more than
+-- before, they were written at the end. `had` and `has` are its numbers of sources. It is `ahead_after` of the rows.
 abbrev pub ahead_with : HeldState → (had has : ℕ) → ℕ
 ahead_with s had has =
     if nat_le has had then s.ahead
     else if nat_le has s.ahead then s.ahead - has
     else cells_reserved s.order.room s.source_room - (sources_in s.groups - had + has)
 
--- The sources moved and groups looked at, if a group's sources are replaced. They are its own sources. If the rows are
--- packed, they are also those of the other groups, and each group that has a moment then. It is `moved_for` of the
+-- The sources moved and groups looked at, if a group's sources are replaced so. They are its own sources. If the rows
+-- are packed, they are also those of the other groups, and each group that has a moment then. It is `moved_for` of the
 -- rows.
 abbrev pub moved_by_packing : (named : ℕ) → HeldState → (had has : ℕ) → ℕ
 moved_by_packing named s had has =
@@ -58,13 +58,11 @@ moved_by_packing named s had has =
     else if nat_le has s.ahead then has
     else has + (sources_in s.groups - had + named)
 
--- the moves for a group that is held
-abbrev pub moved_by_row : HeldState → (was_vacant : Bool) → (had has : ℕ) → ℕ
-moved_by_row s was_vacant had has = moved_by_packing (running_in s.groups + one_if was_vacant) s had has
-
--- the moves for a group that wasn't held
-abbrev pub moved_by_new_row : HeldState → (has : ℕ) → ℕ
-moved_by_new_row s has = moved_by_packing (running_in s.groups + 1) s 0 has
+-- A group's sources are written, with this number of moves. `had` and `has` are its numbers of sources, and `own` of them
+-- are written if they stay where they are. `ahead` sources can be written before the rows are packed then, and `named`
+-- groups have a moment. It is `IsReplaced` of the rows.
+pub record IsRowWritten (s : HeldState) (had has own named ahead moved : ℕ) : Type 0 where
+  pub how : ((ahead ≡ s.ahead) × (moved ≡ own)) ⊎ ((ahead ≡ ahead_with s had has) × (moved ≡ moved_by_packing named s had has))
 
 -- the group of a number is INCLUDE without sources
 abbrev pub is_vacant_at : HeldState → ℕ → Bool

@@ -9,7 +9,7 @@ ghost use Rattle.mq_table.specs.Group.{is_vacant, IsWellFormed as IsHeld};
 ghost use Rattle.mq_table.specs.Stored.{size_of};
 ghost use Rattle.mq_sched.specs.Schedule.{ScheduledGroup};
 ghost use Rattle.mq_held.specs.Groups.{group_at, kept_as, one_if, running_in, sources_in, sources_of, unheld};
-ghost use Rattle.mq_held.specs.Held.{HasNumber, IsNumber, ahead_with, moved_by_new_row, moved_by_row};
+ghost use Rattle.mq_held.specs.Held.{HasNumber, IsNumber, IsRowWritten};
 ghost use Rattle.mq_held.specs.Moments.{least, moments_of};
 
 use crate::earliest::{count_schedules, earliest_moment};
@@ -87,8 +87,6 @@ impl<K: Key, A: Allocator> HeldGroups<K, A> {
             self.new.groups ≡ map.insert self.old.groups address (kept_as e) }
         ensures order { self.new.order ≡ self.old.order }
         ensures source_room { self.new.source_room ≡ self.old.source_room }
-        ensures ahead { (address : ℕ) → HasNumber self.old address number →
-            self.new.ahead ≡ ahead_with self.old (sources_of (group_at self.old.groups address)) (size_of group.now.state) }
         ensures spent { (address : ℕ) → HasNumber self.old address number →
             let before = group_at self.old.groups address in
             let others = running_in self.old.groups - one_if (not (is_vacant before.group)) in
@@ -99,8 +97,9 @@ impl<K: Key, A: Allocator> HeldGroups<K, A> {
         ensures moved { (address : ℕ) → HasNumber self.old address number →
             let before = group_at self.old.groups address in
             let others = running_in self.old.groups - one_if (not (is_vacant before.group)) in
-            let rows = moved_by_row self.old (is_vacant before.group) (sources_of before) (size_of group.now.state) in
-            Spends rows (rows + 4 + bitlen others) moves.old moves.new }
+            let has = size_of group.now.state in
+            let named = running_in self.old.groups + one_if (is_vacant before.group) in
+            (rows : ℕ) × IsRowWritten self.old (sources_of before) has has named self.new.ahead rows × Spends rows (rows + 4 + bitlen others) moves.old moves.new }
     {
         let was_vacant = self.is_vacant(number);
         if group.is_vacant() {
@@ -156,15 +155,16 @@ impl<K: Key, A: Allocator> HeldGroups<K, A> {
             sources_in self.old.groups + size_of group.now.state ≤ self.old.source_room + old_size }
         ensures groups { let e : ScheduledGroup = record { group = group.now.state; schedule = schedule } in
             (address : ℕ) → HasNumber self.old address number →
-            let ahead = ahead_with self.old (sources_of (group_at self.old.groups address)) (size_of group.now.state) in
-            self.new ≡ record self.old { groups = map.insert self.old.groups address e; ahead = ahead } }
+            self.new ≡ record self.old { groups = map.insert self.old.groups address e; ahead = self.new.ahead } }
         ensures spent { let e : ScheduledGroup = record { group = group.now.state; schedule = schedule } in
             let others = running_in self.old.groups - one_if (not was_vacant) in
             Spends (length (moments_of e) - 1 + min 1 others) (size_of group.now.state + 4 + bitlen others) m.old m.new }
         ensures moved { (address : ℕ) → HasNumber self.old address number →
             let others = running_in self.old.groups - one_if (not was_vacant) in
-            let rows = moved_by_row self.old was_vacant (sources_of (group_at self.old.groups address)) (size_of group.now.state) in
-            Spends (rows + (1 + 3 * one_if was_vacant)) (rows + 4 + bitlen others) moves.old moves.new }
+            let has = size_of group.now.state in
+            let named = running_in self.old.groups + one_if was_vacant in
+            (rows : ℕ) × IsRowWritten self.old (sources_of (group_at self.old.groups address)) has has named self.new.ahead rows
+            × Spends (rows + (1 + 3 * one_if was_vacant)) (rows + 4 + bitlen others) moves.old moves.new }
     {
         let before = self.heads[number as usize];
         let due = earliest_moment(group, schedule, m);
@@ -199,12 +199,13 @@ impl<K: Key, A: Allocator> HeldGroups<K, A> {
         ensures numbers { (other number : ℕ) → HasNumber self.old other number → HasNumber self.new other number }
         ensures room { self.new.order.room ≡ self.old.order.room }
         ensures source_room { self.new.source_room ≡ self.old.source_room }
-        ensures ahead { self.new.ahead ≡ ahead_with self.old 0 (size_of group.now.state) }
         ensures spent { let e : ScheduledGroup = record { group = group.now.state; schedule = schedule } in
             let others = running_in self.old.groups in
             Spends (length (moments_of e) - 1 + min 1 others) (size_of group.now.state + 4 + bitlen others) m.old m.new }
-        ensures moved { let own = moved_by_insert self.old.order.pages spot + moved_by_new_row self.old (size_of group.now.state) in
-            Spends (own + 4) (own + 4 + bitlen (running_in self.old.groups)) moves.old moves.new }
+        ensures moved { let has = size_of group.now.state in
+            let pages = moved_by_insert self.old.order.pages spot in
+            (rows : ℕ) × IsRowWritten self.old 0 has has (running_in self.old.groups + 1) self.new.ahead rows
+            × Spends (pages + rows + 4) (pages + rows + 4 + bitlen (running_in self.old.groups)) moves.old moves.new }
     {
         let number = self.order.insert(spot, address, moves);
         self.order.lemma_is_ordered();

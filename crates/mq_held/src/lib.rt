@@ -12,8 +12,8 @@
 //! ```
 //!
 //! - `HeldGroups`: the finite map from address to group with its schedule, and its queries.
-//! - Changes of one group: `group_edits`. Changes of a row where it is stored: `timers_in_place`, `several_in_place`
-//!   and `queries_in_place`.
+//! - Changes of one group: `group_edits`. Changes of a row where it is stored: `timers_in_place`,
+//!   `several_in_place` and `queries_in_place`.
 //! - The removal of vacant groups: `vacant_groups`. The groups that are due: `due_groups`.
 //! - `HeldGroup`: one group, as it is stored. `HeldEntries`: all, one after the other.
 #![tactic(auto)]
@@ -27,10 +27,11 @@ pub mod held_groups;
 mod queries_in_place;
 mod scheduled_head;
 mod several_in_place;
-mod timers_in_place;
+pub mod timers_in_place;
 mod vacant_groups;
 
 pub use earliest::count_schedules;
 pub use held_entries::HeldEntries;
 pub use held_group::HeldGroup;
 pub use held_groups::HeldGroups;
+pub use timers_in_place::SourceRoom;

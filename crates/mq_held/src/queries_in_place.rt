@@ -9,8 +9,8 @@ ghost use Rattle.mq_sets.specs.Search.{bitlen};
 ghost use Rattle.mq_table.specs.AskedSources.{source_if_asked};
 ghost use Rattle.mq_table.specs.Group.{deadline_of, is_ahead, timer_at};
 ghost use Rattle.mq_table.specs.MadeSources.{item_counted};
-ghost use Rattle.mq_table.specs.SendingPlaces.{PassesBetween, item_has_sendings};
-ghost use Rattle.mq_table.specs.Sendings.{above};
+ghost use Rattle.mq_table.specs.RetransmissionPlaces.{PassesBetween, item_has_retransmissions};
+ghost use Rattle.mq_table.specs.Retransmissions.{above};
 ghost use Rattle.mq_table.specs.Stored.{number_in};
 ghost use Rattle.mq_table.specs.Timing.{last_member_count};
 ghost use Rattle.mq_sched.specs.Rounds.{IsQuietAt};
@@ -22,15 +22,15 @@ ghost use Rattle.mq_held.specs.Held.{HasNumber, IsNumber};
 
 use crate::earliest::count_schedules;
 use crate::held_groups::HeldGroups;
-use crate::timers_in_place::earliest_stored;
+use crate::timers_in_place::earliest_then;
 use mq_count::{Key, Meter, Moment, Moves};
 use mq_sched::{Sink, send_waiting};
 use mq_sets::{Pool, find};
-use mq_table::{SendingPlaces, Source, SourceTimer, Timing, runs_on};
+use mq_table::{RetransmissionPlaces, Source, SourceTimer, Timing, runs_on};
 use std::alloc::Allocator;
 
-/// Lowers the timer of the source at a place of a row to a limit, after which it runs on. Then `count` sendings are to
-/// go for it.
+/// Lowers the timer of the source at a place of a row to a limit, after which it runs on. Then `count` retransmissions
+/// are to go for it.
 fn ask_in_row<K: Key, A: Allocator>(
     rows: &mut Pool<Source<K>, A>,
     number: u16,
@@ -56,28 +56,28 @@ fn ask_in_row<K: Key, A: Allocator>(
     rows.set(number, place, asked, moves);
 }
 
-/// Leaves each source of a row one sending fewer, if it has one. Outside of the places none has one. Returns whether a
-/// source has one left. No comparison.
+/// Leaves each source of a row one retransmission fewer, if it has one. Outside of the places none has one. Returns
+/// whether a source has one left. No comparison.
 fn count_in_row<K: Key, A: Allocator>(
     rows: &mut Pool<Source<K>, A>,
     number: u16,
-    places: SendingPlaces,
+    places: RetransmissionPlaces,
     moves: &mut Moves,
 ) -> bool
     requires number { number < length rows.old.rows }
-    requires between { PassesBetween item_has_sendings places.first places.end (slice_index_or rows.old.rows number []) }
+    requires between { PassesBetween item_has_retransmissions places.first places.end (slice_index_or rows.old.rows number []) }
     ensures rows { let row = slice_index_or rows.old.rows number [] in
         rows.new ≡ record rows.old { rows = slice_set rows.old.rows number (list_map item_counted row) } }
-    ensures left { result ≡ list_any item_has_sendings (list_map item_counted (slice_index_or rows.old.rows number [])) }
-    ensures moved { let count = count_by item_has_sendings (slice_index_or rows.old.rows number []) in
+    ensures left { result ≡ list_any item_has_retransmissions (list_map item_counted (slice_index_or rows.old.rows number [])) }
+    ensures moved { let count = count_by item_has_retransmissions (slice_index_or rows.old.rows number []) in
         Spends count count moves.old moves.new }
 {
     let mut left = false;
     for place in places.first..places.end {
         let held = rows.row(number)[place];
-        if held.timer.has_sendings() {
+        if held.timer.has_retransmissions() {
             let timer = held.timer.counted();
-            left |= timer.has_sendings();
+            left |= timer.has_retransmissions();
             let counted = Source {
                 address: held.address,
                 timer,
@@ -92,10 +92,11 @@ impl<K: Key, A: Allocator> HeldGroups<K, A> {
     /// Asks for a source of the group of a number, for which nothing is due.
     ///
     /// If the source's timer is above the last member query time, it is lowered to it, and the last member query count
-    /// of sendings are to go for it. Then the queries for all sources with sendings to go are sent at once, at most
-    /// `per_query` in each, and counted. RFC 3376 section 6.6.3.2, RFC 3810 section 7.6.3.2. If the timer isn't above
-    /// it, or the group doesn't have the source, nothing changes. Only the querier asks. Returns whether the group has
-    /// the source. No row is copied.
+    /// of retransmissions are to go for it. Then the queries for all sources with retransmissions to go are sent at
+    /// once, at most `per_query` in each, and counted. RFC 3376 section 6.6.3.2, RFC 3810 section 7.6.3.2. If the timer
+    /// isn't above it, or the group doesn't have the source, nothing changes. Only the querier asks. Returns whether
+    /// the group has the source. No row is copied. The earliest moment of the group is compared with each timer only if
+    /// retransmissions for its sources were due before.
     pub fn ask<S: Sink<K>>(
         &mut self,
         number: u16,
@@ -147,11 +148,17 @@ impl<K: Key, A: Allocator> HeldGroups<K, A> {
         let left = count_in_row(&mut self.sources, number, places, moves);
         let mut item = self.heads[number as usize];
         let before = count_schedules(item.schedule);
+        let none_waited = item.schedule.sources_due().is_none();
         item.schedule.count_sources(left, now, timing);
         self.heads[number as usize] = item;
         self.scheduled = self.scheduled - before + count_schedules(item.schedule);
+        let earliest = self.moments.moment(number);
+        // The next queries for sources are due at the limit or before it.
+        timing.is_in_range();
+        let first = item.schedule.sources_due().unwrap_or(limit);
         let row = self.sources.row(number);
-        let due = earliest_stored(&item, row, m);
+        let due = earliest_then(&item, row, none_waited, earliest, first, m);
+        let due = due.unwrap_or(earliest);
         self.moments.change(number, due, m, moves);
         true
     }

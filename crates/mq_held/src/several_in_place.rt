@@ -1,35 +1,31 @@
 //! The timers of several sources, set where their group's row is stored.
 
-ghost use Rattle.std.specs.Prelude.{◌≡◌, ℕ, ◌+◌, ◌-◌, ◌*◌, ◌<◌, ◌≤◌, [], true, length, map as list_map, min, nat_lt, slice_index_or, slice_set, if◌then◌else◌, MatchOption, Some};
+ghost use Rattle.std.specs.Prelude.{◌≡◌, ℕ, ◌+◌, ◌-◌, ◌*◌, ◌<◌, ◌≤◌, [], Bool, false, true, length, map as list_map, min, nat_lt, slice_index_or, slice_set, if◌then◌else◌, MatchOption, Some};
 ghost use Rattle.std.specs.FinMap as map;
 ghost use Rattle.std.specs.List.{HoldsAt, list_all, list_any};
 ghost use Rattle.mq_count.specs.Spending.{Spends};
 ghost use Rattle.mq_sets.specs.Ascending.{IsAscending, set_of};
 ghost use Rattle.mq_sets.specs.Search.{bitlen};
 ghost use Rattle.mq_table.specs.Group as group;
+ghost use Rattle.mq_table.specs.Group.{is_vacant};
 ghost use Rattle.mq_table.specs.Stored.{number_in, timers_in};
-ghost use Rattle.mq_held.specs.Groups.{group_at, running_in, sources_of};
+ghost use Rattle.mq_held.specs.Groups.{group_at, running_in, sources_in, sources_of};
 ghost use Rattle.mq_held.specs.Held.{HasNumber, IsNumber};
 ghost use Rattle.mq_held.specs.Moments.{moments_of};
 ghost use Rattle.mq_held.specs.Restarted as group_then;
-ghost use Rattle.mq_held.specs.Restarted.{RestartsEach, StandsFrom, most_looked, most_set};
+ghost use Rattle.mq_held.specs.Restarted.{RestartsEach, StandsFrom, has_room, most_looked, most_set};
 ghost use Rattle.mq_held.specs.Stored.{earliest_of, group_of};
 
 use crate::held_groups::HeldGroups;
 use crate::scheduled_head::ScheduledHead;
-use crate::timers_in_place::{change_moment, earliest_then, is_later, restarted};
+use crate::timers_in_place::{
+    SourceRoom, change_moment, earliest_then, is_later, is_stopped, restarted,
+};
 use mq_count::{Key, Meter, Moment, Moves};
 use mq_sets::{Pool, find};
-use mq_table::{Source, SourceTimer};
+use mq_table::Source;
 use std::alloc::Allocator;
 use std::cmp::Ordering;
-
-/// Returns whether a timer is stopped.
-fn is_stopped(timer: SourceTimer) -> bool
-    ensures { result ≡ group.is_stopped (Some timer) }
-{
-    matches!(timer, SourceTimer::Stopped)
-}
 
 /// Returns whether each of some ascending names is that of one of some ascending sources. The first is found by binary
 /// search, and the others by one walk from there.
@@ -84,8 +80,8 @@ struct Before {
     is_later: bool,
 }
 
-/// Sets the timers of some of a row's sources to a deadline; their remaining sendings stay. The names ascend, and each
-/// is that of a source of the row. Returns the state of these timers before, against the moment `earliest`.
+/// Sets the timers of some of a row's sources to a deadline; their remaining retransmissions stay. The names ascend,
+/// and each is that of a source of the row. Returns the state of these timers before, against the moment `earliest`.
 fn restart_row<K: Key, A: Allocator>(
     rows: &mut Pool<Source<K>, A>,
     number: u16,
@@ -138,21 +134,25 @@ fn restart_row<K: Key, A: Allocator>(
 impl<K: Key, A: Allocator> HeldGroups<K, A> {
     /// Sets the timers of named sources of a group to a new deadline, if the group has each of them.
     ///
-    /// The names ascend. The remaining sendings of each source stay. Returns whether one of the sources was stopped. If
-    /// the group lacks one of them, returns None and changes nothing. No row is copied. One named source is found by
+    /// The names ascend. The remaining retransmissions of each source stay. If the group lacks the only named source, it
+    /// is added if the limits allow one more. Returns whether the group's filter changes: a source was stopped, or one is added in
+    /// INCLUDE. In any other case, returns None and changes nothing. No row is copied. One named source is found by
     /// binary search.
     pub fn restart_each(
         &mut self,
         number: u16,
         named: &[K],
         deadline: Moment,
+        room: SourceRoom,
         m: &mut Meter,
         moves: &mut Moves,
     ) -> Option<bool>
         requires number { IsNumber self.old number }
         requires named { IsAscending K.number named.now }
+        requires held { (address : ℕ) → HasNumber self.old address number → is_vacant (group_at self.old.groups address).group ≡ false }
+        requires fits { room.sources ≤ self.old.source_room }
         ensures effect { (address : ℕ) → HasNumber self.old address number →
-            RestartsEach K.number address deadline named.now result self.old self.new moves.old moves.new }
+            RestartsEach K.number address deadline named.now (has_room room self.old.groups address) result self.old self.new moves.old moves.new }
         ensures spent { (address : ℕ) → HasNumber self.old address number →
             let size = sources_of (group_at self.old.groups address) in
             let others = running_in self.old.groups - 1 in
@@ -167,13 +167,10 @@ impl<K: Key, A: Allocator> HeldGroups<K, A> {
         if named.len() != 1 {
             return self.restart_several(number, named, deadline, m, moves);
         }
-        match self.restart(number, named[0], deadline, m, moves) {
-            Some(before) => Some(is_stopped(before)),
-            None => None,
-        }
+        self.restart(number, named[0], deadline, room, m, moves)
     }
 
-    /// Acts like `restart_each` for at least one source, by walks over the group's row.
+    /// Acts like `restart_each` for several sources, by walks over the group's row.
     fn restart_several(
         &mut self,
         number: u16,
@@ -184,9 +181,9 @@ impl<K: Key, A: Allocator> HeldGroups<K, A> {
     ) -> Option<bool>
         requires number { IsNumber self.old number }
         requires named { IsAscending K.number named.now }
-        requires some { 0 < length named.now }
+        requires several { 1 < length named.now }
         ensures effect { (address : ℕ) → HasNumber self.old address number →
-            RestartsEach K.number address deadline named.now result self.old self.new moves.old moves.new }
+            (may_add : Bool) → RestartsEach K.number address deadline named.now may_add result self.old self.new moves.old moves.new }
         ensures spent { (address : ℕ) → HasNumber self.old address number →
             let size = sources_of (group_at self.old.groups address) in
             let others = running_in self.old.groups - 1 in

@@ -1,17 +1,19 @@
-//! The timer of one source, set where its group's row is stored.
+//! The timer of one source, set where its group's row is stored. A source that the group lacks is added.
 
-ghost use Rattle.std.specs.Prelude.{◌≡◌, ℕ, ◌+◌, ◌-◌, ◌<◌, true, min, length, is_some, if◌then◌else◌, IfSome, IsTrue, MatchOption, Some, ◌↔◌};
+ghost use Rattle.std.specs.Prelude.{◌≡◌, ℕ, ◌+◌, ◌-◌, ◌<◌, ◌≤◌, [], ◌∷◌, false, true, min, length, is_some, if◌then◌else◌, IfSome, IsTrue, MatchOption, Some, ◌↔◌};
 ghost use Rattle.std.specs.FinMap as map;
 ghost use Rattle.std.specs.Option.{unwrap_or};
 ghost use Rattle.mq_count.specs.Spending.{Spends};
 ghost use Rattle.mq_sets.specs.Ascending.{IsAscending};
 ghost use Rattle.mq_sets.specs.Search.{bitlen};
-ghost use Rattle.mq_table.specs.Group.{deadline_of, sendings_of, timer_at, IsWellFormed};
+ghost use Rattle.mq_table.specs.Group as group;
+ghost use Rattle.mq_table.specs.Group.{deadline_of, is_vacant, retransmissions_of, IsWellFormed};
 ghost use Rattle.mq_table.specs.Stored.{number_in};
-ghost use Rattle.mq_held.specs.Groups.{group_at, running_in, sources_of};
+ghost use Rattle.mq_held.specs.Groups.{group_at, running_in, sources_in, sources_of};
 ghost use Rattle.mq_held.specs.Held.{HasNumber, IsNumber};
 ghost use Rattle.mq_held.specs.Moments.{moments_of};
 ghost use Rattle.mq_held.specs.Restarted as group_then;
+ghost use Rattle.mq_held.specs.Restarted.{RestartsEach, has_room};
 ghost use Rattle.mq_held.specs.Stored.{earliest_of, group_of};
 
 use crate::earliest::{earliest_of_head, earliest_with_row};
@@ -23,17 +25,24 @@ use mq_sets::find;
 use mq_table::{Source, SourceTimer};
 use std::alloc::Allocator;
 
-/// Returns a source with its timer set to a new deadline; its remaining sendings stay.
-pub(crate) fn restarted<K: Key>(before: Source<K>, deadline: Moment) -> Source<K>
-    ensures { result ≡ record { address = before.address; timer = SourceTimer.Running deadline (sendings_of (Some before.timer)) } }
+/// Returns whether a timer is stopped.
+pub(crate) fn is_stopped(timer: SourceTimer) -> bool
+    ensures { result ≡ group.is_stopped (Some timer) }
 {
-    let sendings = match before.timer {
+    matches!(timer, SourceTimer::Stopped)
+}
+
+/// Returns a source with its timer set to a new deadline; its remaining retransmissions stay.
+pub(crate) fn restarted<K: Key>(before: Source<K>, deadline: Moment) -> Source<K>
+    ensures { result ≡ record { address = before.address; timer = SourceTimer.Running deadline (retransmissions_of (Some before.timer)) } }
+{
+    let retransmissions = match before.timer {
         SourceTimer::Stopped => 0,
-        SourceTimer::Running(_, sendings) => sendings,
+        SourceTimer::Running(_, retransmissions) => retransmissions,
     };
     Source {
         address: before.address,
-        timer: SourceTimer::Running(deadline, sendings),
+        timer: SourceTimer::Running(deadline, retransmissions),
     }
 }
 
@@ -83,9 +92,18 @@ pub(crate) fn earliest_then<K: Key>(
     ensures earliest { earliest_of (moments_of (group_of K.number item.now row.now)) ≡ Some (unwrap_or result earliest) }
     ensures spent { Spends (if was_later then 1 else 0) (length row.now + 4) m.old m.new }
 {
-    if !was_later {
-        return Some(earliest_stored(item, row, m));
+    if was_later {
+        earlier_than(earliest, deadline, m)
+    } else {
+        Some(earliest_stored(item, row, m))
     }
+}
+
+/// Returns the earlier of a group's earliest moment and a new deadline, or None if the first stays.
+fn earlier_than(earliest: Moment, deadline: Moment, m: &mut Meter) -> Option<Moment>
+    ensures earlier { unwrap_or result earliest ≡ min earliest deadline }
+    ensures spent { Spends 1 1 m.old m.new }
+{
     if m.reached(earliest, deadline) {
         None
     } else {
@@ -115,43 +133,73 @@ pub(crate) fn change_moment<A: Allocator>(
     }
 }
 
+/// The most sources that a group may have, and all groups together.
+#[derive(Clone, Copy)]
+pub struct SourceRoom {
+    /// The most sources of a group.
+    pub group_sources: usize,
+    /// The most sources of all groups together.
+    pub sources: usize,
+}
+
 impl<K: Key, A: Allocator> HeldGroups<K, A> {
-    /// Sets the timer of a source of the group of a number to a new deadline; its remaining sendings stay. Returns the
-    /// timer before. If the group doesn't have the source, returns None and changes nothing. No row is copied. A row is
-    /// walked over only if the timer had the earliest moment of its group. The row is moved, and so is the group's earliest
-    /// moment if it changes.
-    pub fn restart(
+    /// Returns whether one more source of the group of a number is within these limits.
+    fn has_room(&self, number: u16, room: SourceRoom) -> bool
+        requires number { IsNumber self.now number }
+        ensures { (address : ℕ) → HasNumber self.now address number → result ≡ has_room room self.now.groups address }
+    {
+        self.entry_of(number).sources.len() < room.group_sources && self.sources() < room.sources
+    }
+
+    /// Sets the timer of a source of the group of a number to a new deadline; its remaining retransmissions stay.
+    ///
+    /// If the group doesn't have the source, it is added if the limits allow one more. Returns whether the group's filter
+    /// changes: the source was stopped, or it is added in INCLUDE. If it may not be added, returns None and changes nothing.
+    /// The source is found by binary search, and no row is copied. A row is walked over only if the timer had the earliest moment of
+    /// its group.
+    pub(crate) fn restart(
         &mut self,
         number: u16,
         source: K,
         deadline: Moment,
+        room: SourceRoom,
         m: &mut Meter,
         moves: &mut Moves,
-    ) -> Option<SourceTimer>
+    ) -> Option<bool>
         requires number { IsNumber self.old number }
-        ensures before { (address : ℕ) → HasNumber self.old address number →
-            result ≡ timer_at (group_at self.old.groups address).group (K.number source) }
-        ensures groups { (address : ℕ) → HasNumber self.old address number →
-            let changed = group_then.restarted deadline (K.number source) (group_at self.old.groups address) in
-            let groups = if is_some result then map.insert self.old.groups address changed else self.old.groups in
-            self.new ≡ record self.old { groups = groups } }
+        requires held { (address : ℕ) → HasNumber self.old address number → is_vacant (group_at self.old.groups address).group ≡ false }
+        requires fits { room.sources ≤ self.old.source_room }
+        ensures effect { (address : ℕ) → HasNumber self.old address number →
+            RestartsEach K.number address deadline (source ∷ []) (has_room room self.old.groups address) result self.old self.new moves.old moves.new }
         ensures spent { (address : ℕ) → HasNumber self.old address number →
             let size = sources_of (group_at self.old.groups address) in
             let others = running_in self.old.groups - 1 in
-            MatchOption result (Spends (min 1 size) (bitlen size) m.old m.new) (λ _. Spends 2 (bitlen size + size + 5 + bitlen others) m.old m.new) }
-        ensures moved { let others = running_in self.old.groups - 1 in
-            MatchOption result (moves.new ≡ moves.old) (λ _. Spends 1 (2 + bitlen others) moves.old moves.new) }
+            MatchOption result (Spends (min 1 size) (bitlen size) m.old m.new) (λ _. Spends (1 + min 1 size) (bitlen size + size + 5 + bitlen others) m.old m.new) }
         ensures moment_moved { (address : ℕ) → HasNumber self.old address number →
             let before = group_at self.old.groups address in
             let after = group_then.restarted deadline (K.number source) before in
             let others = running_in self.old.groups - 1 in
-            (earliest_of (moments_of after) ≡ earliest_of (moments_of before) → ⊥) →
-            IfSome result (λ _. Spends 2 (2 + bitlen others) moves.old moves.new) }
+            map.contains_key before.group.sources (K.number source) ≡ true → (earliest_of (moments_of after) ≡ earliest_of (moments_of before) → ⊥) →
+            Spends 2 (2 + bitlen others) moves.old moves.new }
     {
         let item = self.heads[number as usize];
         let row = self.sources.row(number);
-        let Ok(place) = find(row, source, m) else {
-            return None;
+        let place = match find(row, source, m) {
+            Ok(place) => place,
+            Err(place) => {
+                if !self.has_room(number, room) {
+                    return None;
+                }
+                let added = Source {
+                    address: source,
+                    timer: SourceTimer::Running(deadline, 0),
+                };
+                let earlier = earlier_than(self.moments.moment(number), deadline, m);
+                change_moment(&mut self.moments, number, earlier, m, moves);
+                self.sources
+                    .insert(number, place, added, self.moments.numbers(), moves);
+                return Some(item.head.mode.is_include());
+            }
         };
         let before = row[place];
         let earliest = self.moments.moment(number);
@@ -161,6 +209,6 @@ impl<K: Key, A: Allocator> HeldGroups<K, A> {
         let row = self.sources.row(number);
         let due = earliest_then(&item, row, was_later, earliest, deadline, m);
         change_moment(&mut self.moments, number, due, m, moves);
-        Some(before.timer)
+        Some(is_stopped(before.timer))
     }
 }

@@ -4,12 +4,14 @@ use Rattle.mq_link.proofs.Common.{OldReport, LeaveMessage, ReportMessage, WireFa
 use Rattle.mq_link.proofs.Common.{general_messages, AllFit, ScheduledGroup, SentQuery, GeneralQuery, GroupQuery, SourcesQuery, messages_due, DropReason}
 use Rattle.mq_link.proofs.Common.{Refusal, Repeated, Configuration, Refused, per_query, Envelope, setting_of, taken_in, taken_or_dropped, drop_reason, read_of}
 use Rattle.mq_link.proofs.Common.{pseudo_of, counting_read, receipt_of, Setting, Statement, RecordOf, OlderJoin, OlderLeave, Outcome, leaving, limit_passed}
-use Rattle.mq_link.proofs.Common.{unless_passed, changed_by, after_sending, sent_at_once, changed_or_refused, change_in, stated, Seen, Entrance, Stops, GoesOn}
-use Rattle.mq_link.proofs.Common.{entrance, is_repeated, seen_after, judged_from, judged, all_judged, Groups, LinkState, with_group, Step, groups_expired}
-use Rattle.mq_link.proofs.Common.{queries_due, tick_of, moment_of}
+use Rattle.mq_link.proofs.Common.{unless_passed, changed_by, after_sending, sent_at_once, changed_or_refused, change_in, stated, stated_alone, Seen, Entrance}
+use Rattle.mq_link.proofs.Common.{Stops}
+use Rattle.mq_link.proofs.Common.{GoesOn, entrance, is_repeated, seen_after, judged_from, judged, all_judged, Groups, LinkState, with_group, Step}
+use Rattle.mq_link.proofs.Common.{groups_expired, queries_due, tick_of, moment_of}
 use Rattle.std.specs.FinMap as map
 use Rattle.std.specs.FinSet as set
 use Rattle.mq_sched.proofs.FittingRounds.{all_fit}
+use Rattle.mq_link.proofs.{StatedAlone.alone_by}
 
 fit_append : (n : ℕ) (xs ys : List SentQuery) → AllFit n xs → AllFit n ys → AllFit n (xs ++ ys)
 fit_append n [] ys a b = b
@@ -91,6 +93,11 @@ fits-all_judged at seen (r ∷ rs) groups =
     fit_append (per_query at.config.family) first.queries rest.queries (fits-judged at seen r groups)
     (fits-all_judged at (seen_after at.config r groups seen) rs first.groups)
 
+fits-stated_alone : (at : Setting) (group : ℕ) (statement : Statement) (groups : Groups) →
+    AllFit (per_query at.config.family) (stated_alone at group statement groups).queries
+fits-stated_alone at group statement groups =
+    alone_by (λ o. AllFit (per_query at.config.family) o.queries) at group statement groups (fits-stated at group statement groups) tt
+
 -- the queries of a datagram
 fits_taken : (config : Configuration) (envelope : Envelope) (message : Message ℕ) (tick : Step) → AllFit (per_query config.family) tick.queries →
     AllFit (per_query config.family) (taken_in config envelope message tick).step.queries
@@ -98,12 +105,12 @@ unfolding taken_in
 fits_taken config envelope (QueryMessage query) tick fit = fit
 fits_taken config envelope (OldReport version group) tick fit =
     let at = setting_of config tick.state in
-    fit_append (per_query config.family) tick.queries (stated at group (OlderJoin version) tick.state.groups).queries fit
-    (fits-stated at group (OlderJoin version) tick.state.groups)
+    fit_append (per_query config.family) tick.queries (stated_alone at group (OlderJoin version) tick.state.groups).queries fit
+    (fits-stated_alone at group (OlderJoin version) tick.state.groups)
 fits_taken config envelope (LeaveMessage group) tick fit =
     let at = setting_of config tick.state in
-    fit_append (per_query config.family) tick.queries (stated at group OlderLeave tick.state.groups).queries fit
-    (fits-stated at group OlderLeave tick.state.groups)
+    fit_append (per_query config.family) tick.queries (stated_alone at group OlderLeave tick.state.groups).queries fit
+    (fits-stated_alone at group OlderLeave tick.state.groups)
 fits_taken config envelope (ReportMessage records) tick fit =
     let at = setting_of config tick.state in
     fit_append (per_query config.family) tick.queries (all_judged at map.empty records tick.state.groups).queries fit

@@ -2,8 +2,9 @@
 -- it had, so limits are kept.
 use Rattle.mq_link.proofs.Common.{◌≡◌, ℕ, ◌+◌, ◌-◌, ◌≤◌, Bool, true, false, cond, Option, None, Some, IfSome, sym, subst, arith, ltb, leb, nat_cmp, Timing}
 use Rattle.mq_link.proofs.Common.{SourceTimer, Set, kept, GroupState, vacant, is_vacant, is_include, size_of, mode_expired, source_expired, ahead, expired}
-use Rattle.mq_link.proofs.Common.{lowered_by_query, lowered_to, source_lowered, get-kept, some_source, has_sendings, source_cleared, source_counted}
-use Rattle.mq_link.proofs.Common.{sendings_counted, QuerySchedule, ScheduleState, ScheduledGroup, settled, cleared, is_due, sources_due_next, group_counted}
+use Rattle.mq_link.proofs.Common.{lowered_by_query, lowered_to, source_lowered, get-kept, some_source, has_retransmissions, source_cleared, source_counted}
+use Rattle.mq_link.proofs.Common.{retransmissions_counted, QuerySchedule, ScheduleState, ScheduledGroup, settled, cleared, is_due, sources_due_next}
+use Rattle.mq_link.proofs.Common.{group_counted}
 use Rattle.mq_link.proofs.Common.{after_round, Limits, group_expired, if_held}
 use Rattle.std.specs.Option.{option_and_then, unwrap_or, is_some}
 use Rattle.std.specs.FinMap as map
@@ -46,7 +47,7 @@ settled_schedules : (g g' : GroupState) (schedule : ScheduleState) → schedules
     (record { group = g'; schedule = schedule })
 settled_schedules g g' schedule =
     let a = one_if-unless (is_include g.mode) schedule.group_query in
-    let b = one_if-cond (some_source (has_sendings g) g) schedule.sources_due in
+    let b = one_if-cond (some_source (has_retransmissions g) g) schedule.sources_due in
     omega arith
 
 pub expired_no_more : (now : ℕ) (e : ScheduledGroup) → IfSome (if_held (group_expired now e)) (NoMore e)
@@ -66,14 +67,14 @@ counted_at_most timing now (Some q) = by_due (leb q.due now) (ltb 1 q.sendings)
     by_due true true = omega arith
     by_due _ _ = omega arith
 
-pub round_size : (g : GroupState) (due : Bool) → size_of (cond due (sendings_counted g) g) ≤ size_of g
+pub round_size : (g : GroupState) (due : Bool) → size_of (cond due (retransmissions_counted g) g) ≤ size_of g
 round_size g true = len-kept (λ s timer. Some (source_counted timer)) g.sources
 round_size g false = omega arith
 
 round_due : (timing : Timing) (now : ℕ) (g : GroupState) (d : Option ℕ) →
     one_if (is_some (cond (is_due now d) (sources_due_next timing now g) d)) ≤ one_if (is_some d)
 round_due timing now g None = omega arith
-round_due timing now g (Some d) = by_due (leb d now) (some_source (has_sendings g) g)
+round_due timing now g (Some d) = by_due (leb d now) (some_source (has_retransmissions g) g)
   where
     by_due : (due some : Bool) → one_if (is_some (cond due (cond some (Some (now + timing.last_member_interval)) None) (Some d))) ≤ 1
     by_due true true = omega arith
@@ -84,7 +85,7 @@ round_no_more timing now e = record {
   sources = round_size e.group (is_due now e.schedule.sources_due);
   schedules =
       let a = counted_at_most timing now e.schedule.group_query in
-      let b = round_due timing now (cond (is_due now e.schedule.sources_due) (sendings_counted e.group) e.group) e.schedule.sources_due in
+      let b = round_due timing now (cond (is_due now e.schedule.sources_due) (retransmissions_counted e.group) e.group) e.schedule.sources_due in
       omega arith;
 }
 

@@ -1,8 +1,8 @@
 -- The groups of a link while what is to go for them is dropped, one group after the other.
 use Rattle.mq_link.proofs.Common.{◌≡◌, ℕ, zero, suc, ◌+◌, ◌*◌, ◌≤◌, ◌<◌, Bool, true, false, cond, refl, List, length, drop, Option, None, Some, is_some, sym}
 use Rattle.mq_link.proofs.Common.{ap, ◌∙◌, subst, arith, ltb, true≢false, nat_tests, length-map, take_all, sum_by, option_and_then, unwrap_or, nat_cmp}
-use Rattle.mq_link.proofs.Common.{eq_by_cmp, nat_cmp_total, Spends, Spends-none, Spends-join_within, timer_at, sendings_of, IsHeld, SourceTimer, Stopped}
-use Rattle.mq_link.proofs.Common.{Running, some_source, has_sendings, source_cleared, get-kept, same_group, same_sources, ScheduleState, ScheduledGroup}
+use Rattle.mq_link.proofs.Common.{eq_by_cmp, nat_cmp_total, Spends, Spends-none, Spends-join_within, timer_at, retransmissions_of, IsHeld, SourceTimer, Stopped}
+use Rattle.mq_link.proofs.Common.{Running, some_source, has_retransmissions, source_cleared, get-kept, same_group, same_sources, ScheduleState, ScheduledGroup}
 use Rattle.mq_link.proofs.Common.{IsScheduleOf, no_schedule, cleared, some_source-from, held_cleared, tied, Groups, IsServed, groups_cleared}
 use Rattle.std.specs.FinMap as map
 use Rattle.mq_held.specs.Groups.{unheld, group_at, sources_of, sources_in}
@@ -18,15 +18,16 @@ none_of (Some x) is = absurd (true≢false is)
 cleared_silent : (e : ScheduledGroup) → IsScheduleOf e.group e.schedule → e.schedule ≡ no_schedule → cleared e ≡ e
 cleared_silent e fits silent = λ i. record { group = group_is i; schedule = sym silent i }
   where
-    none : some_source (has_sendings e.group) e.group ≡ false
-    none = sym fits.sources_sendings ∙ ap (λ (s : ScheduleState). is_some s.sources_due) silent
+    none : some_source (has_retransmissions e.group) e.group ≡ false
+    none = sym fits.sources_retransmissions ∙ ap (λ (s : ScheduleState). is_some s.sources_due) silent
 
     same_timer : (s : ℕ) (t : Option SourceTimer) → timer_at e.group s ≡ t → option_and_then (λ timer. Some (source_cleared timer)) t ≡ t
     same_timer s None is = refl
     same_timer s (Some Stopped) is = refl
     same_timer s (Some (Running d zero)) is = refl
     same_timer s (Some (Running d (suc n))) is =
-        absurd (true≢false (sym (some_source-from (has_sendings e.group) e.group s (ap is_some is) (ap (λ t. ltb 0 (sendings_of t)) is ∙ positive n)) ∙ none))
+        absurd (true≢false (sym (some_source-from (has_retransmissions e.group) e.group s (ap is_some is)
+        (ap (λ t. ltb 0 (retransmissions_of t)) is ∙ positive n)) ∙ none))
       where
         positive : (n : ℕ) → ltb 0 (suc n) ≡ true
         positive n = grind (arith, nat_tests)

@@ -71,13 +71,13 @@ pub use Rattle.mq_table.specs.Expiry.{ahead, AllAhead, at_zero, expired, held_or
 pub use Rattle.mq_table.specs.Filter.{are_same, Filter, filter_of, names, nothing}
 unfoldable pub use Rattle.mq_table.specs.Filter.{changes_filter}
 pub use Rattle.mq_table.specs.Group.{deadline_of, forwards_in, group_deadline, GroupState, is_ahead, is_include, is_running, is_stopped, is_vacant, IsAnyGroup}
-pub use Rattle.mq_table.specs.Group.{IsWellFormed as IsHeld, running, sendings_of, stopped, timer_at, vacant}
+pub use Rattle.mq_table.specs.Group.{IsWellFormed as IsHeld, running, retransmissions_of, stopped, timer_at, vacant}
 pub use Rattle.mq_table.specs.Lowering.{lowered_by_query, lowered_to, mode_lowered, source_lowered, sources_lowered}
 pub use Rattle.mq_table.specs.Maps.{by_rule, entries_by, kept, with_entry}
 pub use Rattle.mq_table.specs.MergedRecord.{item_is_stopped, keeps_unnamed, takes_none_away}
 unfoldable pub use Rattle.mq_table.specs.MergedRecord.{LooksByHalves}
 pub use Rattle.mq_table.specs.OlderHosts.{hosts_of, older_host, older_report, translated, translated_change, with_sources}
-pub use Rattle.mq_table.specs.Sendings.{above, has_sendings, sendings_counted, some_source, source_asked, source_cleared, source_counted}
+pub use Rattle.mq_table.specs.Retransmissions.{above, has_retransmissions, retransmissions_counted, some_source, source_asked, source_cleared, source_counted}
 pub use Rattle.mq_table.specs.Sets.{∅, Set}
 pub use Rattle.mq_table.specs.Stored.{named_in, number_in, size_of, StoredGroup, timers_in}
 pub use Rattle.mq_table.specs.Table.{change_of, GroupChange, NamedSources, table_row}
@@ -94,7 +94,7 @@ pub use Rattle.mq_table.specs.declared.timers.SourceTimer.TheVariants.{Running, 
 pub use Rattle.mq_table.specs.declared.timing.Timing.{Timing}
 pub use Rattle.mq_sched.proofs.Asked.{some_source-from, some_source-gives, timer_at-sources_asked}
 pub use Rattle.mq_sched.proofs.Collecting.{Sends-append}
-pub use Rattle.mq_sched.proofs.Fits.{fits_acted, fits_after_expiry, fits_after_record, fits_after_round, fits_cleared, sendings_before}
+pub use Rattle.mq_sched.proofs.Fits.{fits_acted, fits_after_expiry, fits_after_record, fits_after_round, fits_cleared, retransmissions_before}
 pub use Rattle.mq_sched.proofs.Rounds.{deadlines_stay, quiet_after_round, quiet_by, quiet_is_silent, same_count, same_round, timer_at-after_round}
 pub use Rattle.mq_sched.proofs.StayHeld.{held_acted, held_after_round, held_cleared}
 pub use Rattle.mq_sched.specs.Announcement.{IsCarried}
@@ -107,24 +107,26 @@ pub use Rattle.mq_sched.specs.Sending.{SentQuery, sources_asked, sources_due_nex
 pub use Rattle.mq_sched.specs.Sink.{Sends, SendsOn}
 pub use Rattle.mq_sched.specs.declared.announced.Announced.{Announced}
 pub use Rattle.mq_sched.specs.declared.queries.QuerySchedule.{QuerySchedule}
+pub use Rattle.mq_held.proofs.AddedSources.{size-added}
 pub use Rattle.mq_held.proofs.Amounts.{len-with_group, no_sources, own_sources, schedules-with_group, sources-with_group, total-entries, total-with}
 pub use Rattle.mq_held.proofs.Amounts.{total-with_group, vacant_sources}
 pub use Rattle.mq_held.proofs.DueInOrder.{few-running}
 pub use Rattle.mq_held.proofs.RestartedEach.{each_passes, has_each-restarted, IsWellFormed-restarted_each, some_passes, timer-restarted, timer-restarted_each}
-pub use Rattle.mq_held.proofs.RestartedEach.{timer-there}
+pub use Rattle.mq_held.proofs.RestartedEach.{one_item, timer-there}
 pub use Rattle.mq_held.proofs.RestartedTimers.{insert-same}
 pub use Rattle.mq_held.proofs.Sorted.{ascending-sorted, find_below, first, second, tied, ties, untied}
 pub use Rattle.mq_held.specs.Groups.{group_at, if_running, kept_as, one_if, running_in, schedules_in, sources_of, unheld, without_vacant}
-pub use Rattle.mq_held.specs.Held.{ahead_with, empty_state, HasNumber, HeldState, is_vacant_at, IsNumber, moved_by_new_row, moved_by_packing, moved_by_row}
+pub use Rattle.mq_held.specs.Held.{ahead_with, empty_state, HasNumber, HeldState, is_vacant_at, IsNumber, IsRowWritten, moved_by_packing}
 pub use Rattle.mq_held.specs.Places.{addresses_due, due_in, has_due}
 pub use Rattle.mq_held.specs.Restarted.{has_each, most_looked, most_set, restarted, restarted_each, some_stopped}
 pub use Rattle.mq_link.specs.Applying.{CanApply, HasEffect}
 pub use Rattle.mq_link.specs.Blocked.{blocks, CanBlock, has_older_hosts, has_schedule_left, is_block}
+pub use Rattle.mq_link.specs.CallCosts.{ReceiveCosts, TickCosts}
 pub use Rattle.mq_link.specs.Changing.{acts_as, change_written, statement_of}
-pub use Rattle.mq_link.specs.Configuration.{as_fault, Configuration, else_fault, is_outside, IsFaultless, IsWithinRoom, limit_fault, timing_fault}
+pub use Rattle.mq_link.specs.Configuration.{as_fault, Configuration, else_fault, is_allowed, is_outside, IsFaultless, IsWithinRoom, limit_fault, timing_fault}
 pub use Rattle.mq_link.specs.Cost.{cost_by, cost_of, least_length, own_cost, record_cost, search_cost, work_cost}
-pub use Rattle.mq_link.specs.Counters.{Applied, count_dropped, count_verdict, count_verdicts, counted_at, Counters, Ignored, is_applied, is_ignored, is_refused}
-pub use Rattle.mq_link.specs.Counters.{reason_number, refusal_number, Refused, Verdict}
+pub use Rattle.mq_link.specs.Counters.{Applied, count_dropped, count_verdict, count_verdicts, counted_at, Counters, Denied, Ignored, is_applied, is_ignored}
+pub use Rattle.mq_link.specs.Counters.{is_refused, reason_number, refusal_number, Refused, Verdict}
 pub use Rattle.mq_link.specs.Events.{answers_of, event_of, HasRun, left_by, messages_of}
 pub use Rattle.mq_link.specs.Family.{general_destination, greatest_response, is_admitted, is_router_address, per_query, response_unit, v1_mutes_leave}
 pub use Rattle.mq_link.specs.Forwarding.{AreThose, changed_by_all, changed_by_message, changed_by_read, changed_by_tick, changes}
@@ -132,8 +134,8 @@ pub use Rattle.mq_link.specs.Handing.{FitsOne, HandsAll, HandsOver, KeepsInterva
 pub use Rattle.mq_link.specs.Heard.{announced_by, asked_by, election_after, group_lowered, groups_heard, query_heard, some_named, suppresses}
 unfoldable pub use Rattle.mq_link.specs.Heard.{groups_cleared, groups_lowered}
 pub use Rattle.mq_link.specs.Judging.{verdict_of}
-pub use Rattle.mq_link.specs.LeastCost.{least_after, least_all, least_by, least_judged, least_merge, least_of, least_received, least_search, least_stated}
-pub use Rattle.mq_link.specs.LeastCost.{least_ticked, least_unless, least_work}
+pub use Rattle.mq_link.specs.LeastCost.{least_after, least_all, least_alone, least_by, least_judged, least_merge, least_of, least_received, least_search}
+pub use Rattle.mq_link.specs.LeastCost.{least_stated, least_ticked, least_unless, least_work}
 pub use Rattle.mq_link.specs.Link.{HasReceived, HasTicked, LinkValue}
 pub use Rattle.mq_link.specs.Moved.{HasMoved, IsPaid, most_moved, most_moved_by_tick, moved_by_edit, moves_by, MovesWithin, own_moves, record_moves}
 pub use Rattle.mq_link.specs.Reading.{IsCarriedIn, most_records, numbered_read, records_in}
@@ -143,7 +145,7 @@ unfoldable pub use Rattle.mq_link.specs.Receive.{read_of, taken_in}
 pub use Rattle.mq_link.specs.Record.{after_sending, all_judged, asking_nothing, change_in, change_stated, changed_by, changed_or_refused, Entrance, entrance}
 pub use Rattle.mq_link.specs.Record.{entrance_as, GoesOn, is_exclude_kind, is_muted, is_repeated, judged_from, kind_named, leaving, limit_passed}
 pub use Rattle.mq_link.specs.Record.{limit_passed_by, met, OlderJoin, OlderJoin as StatesJoin, OlderLeave, OlderLeave as StatesLeave, Outcome, Outcomes}
-pub use Rattle.mq_link.specs.Record.{RecordOf, Seen, seen_after, seen_by, sent_at_once, Setting, Statement, Stops, unless_passed}
+pub use Rattle.mq_link.specs.Record.{RecordOf, Seen, seen_after, seen_by, sent_at_once, Setting, stated_alone, Statement, Stops, unless_passed}
 unfoldable pub use Rattle.mq_link.specs.Record.{judged, stated}
 pub use Rattle.mq_link.specs.Refreshed.{is_restart, most_asked, most_blocked, most_changed, most_copied, most_hosts, most_merged, most_started, most_tried}
 pub use Rattle.mq_link.specs.Refreshed.{restarts}
@@ -159,7 +161,6 @@ pub use Rattle.mq_link.specs.Storage.{group_stored, has_counted, HasRoom, HasSpa
 pub use Rattle.mq_link.specs.Tests.{first_named}
 pub use Rattle.mq_link.specs.Tick.{group_expired, if_held, least, moment_of, moments_in, moments_of, next_of, Step, those_of, tick_at, tick_of, waited}
 unfoldable pub use Rattle.mq_link.specs.Tick.{groups_after_round, groups_expired, queries_due}
-pub use Rattle.mq_link.specs.TickCosts.{TickCosts}
 pub use Rattle.mq_link.specs.Workspace.{IsWorkspace, suffices, with_changed, WorkspaceState}
 pub use Rattle.mq_link.specs.declared.answers.DropReason.{DropReason}
 pub use Rattle.mq_link.specs.declared.answers.DropReason.TheVariants.{BadGroup, BadSource, Checksum, HopLimit, NoAlert, OlderQuery, OwnOrZero, QueryLength}

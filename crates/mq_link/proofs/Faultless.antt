@@ -2,8 +2,9 @@
 use Rattle.mq_link.proofs.Common.{◌≡◌, ℕ, ◌≤◌, Bool, true, false, ◌||◌, refl, [], ◌∷◌, Option, None, Some, sym, subst, arith, ltb, leb, ltb-false, list_map}
 use Rattle.mq_link.proofs.Common.{unwrap_or, nat_cmp, sum_by, Family, Igmp, Mld, IsWithin, AreInRange, query_interval, ScheduledGroup, ConfigFault, Robustness}
 use Rattle.mq_link.proofs.Common.{QueryInterval, ResponseInterval, LastMember, response_unit, greatest_response, Configuration, is_outside, limit_fault}
-use Rattle.mq_link.proofs.Common.{timing_fault, else_fault, as_fault, IsFaultless, first_named}
+use Rattle.mq_link.proofs.Common.{timing_fault, else_fault, as_fault, IsFaultless, first_named, not, OwnAddress, is_router_address}
 use Rattle.std.specs.FinMap as map
+use Rattle.mq_link.specs.declared.configuration.ConfigFault.TheVariants.{LastMemberCount}
 use Rattle.mq_link.specs.declared.configuration.LimitName.{LimitName}
 use Rattle.mq_link.specs.declared.configuration.LimitName.TheVariants.{Groups, GroupSources, Sources, Scheduled}
 use Rattle.mq_link.specs.State.{unheld, sources_of, schedules_of, IsWellFormed, link_at}
@@ -33,6 +34,10 @@ none_of_four : {X : Type 0} (a b c d : Bool) (w x y z : X) → first_named ((w, 
     (c ≡ false) × (d ≡ false)
 none_of_four false false false false w x y z h = (refl, refl, refl, refl)
 none_of_four _ _ _ _ w x y z h = cc
+
+none_of_two : {X : Type 0} (a b : Bool) (w x : X) → first_named ((w, a) ∷ (x, b) ∷ []) ≡ None → (a ≡ false) × (b ≡ false)
+none_of_two false false w x h = (refl, refl)
+none_of_two _ _ w x h = cc
 
 left_false : (a b : Bool) → (a || b) ≡ false → a ≡ false
 left_false true b h = cc
@@ -65,6 +70,12 @@ few_sources config h = (in_limits config h).1.at_most
 pub few_in_all : (config : Configuration) → IsFaultless config → (config.limits.sources ≤ 65535) × (config.limits.scheduled ≤ 65535)
 few_in_all config h = ((in_limits config h).2.at_most, (in_limits config h).3.at_most)
 
+-- the own address and the last member query count
+own_and_count : (config : Configuration) → IsFaultless config → (not (is_router_address config.family config.own) ≡ false) ×
+    (ltb 7 config.timing.last_member_query_count ≡ false)
+own_and_count config h = none_of_two (not (is_router_address config.family config.own)) (ltb 7 config.timing.last_member_query_count)
+    OwnAddress LastMemberCount (second_none (as_fault (limit_fault config.limits)) _ (second_none (timing_fault config.family config.timing) _ h))
+
 pub timing_in_range : (config : Configuration) → IsFaultless config → AreInRange config.timing
 timing_in_range config h =
     let t = config.timing in
@@ -79,6 +90,7 @@ timing_in_range config h =
       response_interval = response_within config.family t.response_interval
           (inside low high t.response_interval (left_false (is_outside low high t.response_interval) (leb (query_interval t) t.response_interval) tests.2));
       last_member_interval = response_within config.family t.last_member_interval (inside low high t.last_member_interval tests.3);
+      last_member_query_count = ltb-false 7 t.last_member_query_count (own_and_count config h).1;
     }
 
 none_held : (group : ℕ) → map.get (map.empty {X = ScheduledGroup} {R = nat_cmp}) group ≡ None

@@ -1,11 +1,13 @@
 -- Groups as a link may hold them, after the end of timers, rounds, the loss of the role and lowering.
 use Rattle.mq_link.proofs.Common.{◌≡◌, ℕ, Bool, true, false, cond, inl, inr, refl, Option, None, Some, IfSome, sym, ap, ◌∙◌, subst, eqb, ltb, true≢false}
 use Rattle.mq_link.proofs.Common.{option_and_then, nat_cmp, Timing, FilterMode, Include, Exclude, SourceTimer, Stopped, Running, Set, kept, GroupState}
-use Rattle.mq_link.proofs.Common.{is_include, vacant, is_vacant, timer_at, sendings_of, IsHeld, IsAnyGroup, mode_expired, source_expired, ahead, expired}
+use Rattle.mq_link.proofs.Common.{is_include, vacant, is_vacant, timer_at, retransmissions_of, IsHeld, IsAnyGroup, mode_expired, source_expired, ahead, expired}
 use Rattle.mq_link.proofs.Common.{lowered_by_query, lowered_to, mode_lowered, source_lowered, sources_lowered, get-kept, IsAnyGroup-expired}
-use Rattle.mq_link.proofs.Common.{IsWellFormed-group_lowered, IsWellFormed-sources_lowered, some_source, has_sendings, sendings_counted, ScheduleState}
+use Rattle.mq_link.proofs.Common.{IsWellFormed-group_lowered, IsWellFormed-sources_lowered, some_source, has_retransmissions, retransmissions_counted}
+use Rattle.mq_link.proofs.Common.{ScheduleState}
 use Rattle.mq_link.proofs.Common.{ScheduledGroup, no_schedule, settled, IsScheduleOf, cleared, is_due, group_counted, sources_due_next, after_round}
-use Rattle.mq_link.proofs.Common.{fits_after_expiry, fits_after_round, fits_cleared, sendings_before, held_after_round, held_cleared, Configuration, Groups}
+use Rattle.mq_link.proofs.Common.{fits_after_expiry, fits_after_round, fits_cleared, retransmissions_before, held_after_round, held_cleared, Configuration}
+use Rattle.mq_link.proofs.Common.{Groups}
 use Rattle.mq_link.proofs.Common.{IsSourceSpecific, IsHeldAs, IsSilent, group_expired, if_held}
 use Rattle.std.specs.FinMap as map
 
@@ -73,7 +75,7 @@ held_expired config now group e h =
     ] refl
 
 pub settled_silent : (g : GroupState) (schedule : ScheduleState) → schedule ≡ no_schedule → settled g schedule ≡ no_schedule
-settled_silent g schedule is = ap (settled g) is ∙ by_tests (is_include g.mode) (some_source (has_sendings g) g)
+settled_silent g schedule is = ap (settled g) is ∙ by_tests (is_include g.mode) (some_source (has_retransmissions g) g)
   where
     by_tests : (a b : Bool) → ◌≡◌ {A = ScheduleState} (record { group_query = cond a None None; sources_due = cond b None None }) no_schedule
     by_tests true true = refl
@@ -87,7 +89,7 @@ silent_expired now group e h = elim (is_vacant (expired now e.group)) as (λ b. 
 ]
 
 -- rounds
-specific_round : (g : GroupState) (due : Bool) → IsSourceSpecific g → IsSourceSpecific (cond due (sendings_counted g) g)
+specific_round : (g : GroupState) (due : Bool) → IsSourceSpecific g → IsSourceSpecific (cond due (retransmissions_counted g) g)
 specific_round g true h = record { include = h.include; no_v1 = h.no_v1; no_v2 = h.no_v2 }
 specific_round g false h = h
 
@@ -107,7 +109,7 @@ silent_round timing now group e h = record { schedule = ap left h.schedule }
     left schedule = record {
       group_query = group_counted timing now schedule.group_query;
       sources_due = cond (is_due now schedule.sources_due)
-          (sources_due_next timing now (cond (is_due now schedule.sources_due) (sendings_counted e.group) e.group)) schedule.sources_due;
+          (sources_due_next timing now (cond (is_due now schedule.sources_due) (retransmissions_counted e.group) e.group)) schedule.sources_due;
     }
 
 -- the loss of the role
@@ -136,19 +138,19 @@ fits_lowered_mode : (limit : ℕ) (e : ScheduledGroup) → IsScheduleOf e.group 
 fits_lowered_mode limit e h = record {
   exclude_only = λ is. h.exclude_only (is_from e.group.mode (sym (lowered_include limit e.group.mode) ∙ include_is (mode_lowered limit e.group.mode) is));
   group_sendings = h.group_sendings;
-  sources_sendings = h.sources_sendings;
+  sources_retransmissions = h.sources_retransmissions;
 }
 
-sendings_lowered : (limit : ℕ) (b : Bool) (t : Option SourceTimer) →
-    sendings_of (option_and_then (λ timer. Some (cond b (source_lowered limit timer) timer)) t) ≡ sendings_of t
-sendings_lowered limit true None = refl
-sendings_lowered limit false None = refl
-sendings_lowered limit true (Some t) = lowered t
+retransmissions_lowered : (limit : ℕ) (b : Bool) (t : Option SourceTimer) →
+    retransmissions_of (option_and_then (λ timer. Some (cond b (source_lowered limit timer) timer)) t) ≡ retransmissions_of t
+retransmissions_lowered limit true None = refl
+retransmissions_lowered limit false None = refl
+retransmissions_lowered limit true (Some t) = lowered t
   where
-    lowered : (t : SourceTimer) → sendings_of (Some (source_lowered limit t)) ≡ sendings_of (Some t)
+    lowered : (t : SourceTimer) → retransmissions_of (Some (source_lowered limit t)) ≡ retransmissions_of (Some t)
     lowered Stopped = refl
     lowered (Running d n) = refl
-sendings_lowered limit false (Some t) = refl
+retransmissions_lowered limit false (Some t) = refl
 
 pub same_tests : (a b : Bool) → (a ≡ true → b ≡ true) → (b ≡ true → a ≡ true) → a ≡ b
 same_tests true true f g = refl
@@ -161,16 +163,18 @@ fits_sources_lowered : (timing : Timing) (now : ℕ) (asked : Set) (e : Schedule
 fits_sources_lowered timing now asked e h = record {
   exclude_only = h.exclude_only;
   group_sendings = h.group_sendings;
-  sources_sendings = h.sources_sendings ∙ same_tests (some_source (has_sendings e.group) e.group) (some_source (has_sendings lowered) lowered)
-      (sendings_before lowered e.group (λ s had. ap (ltb 0) (same s) ∙ had)) (sendings_before e.group lowered (λ s had. ap (ltb 0) (sym (same s)) ∙ had));
+  sources_retransmissions = h.sources_retransmissions ∙
+      same_tests (some_source (has_retransmissions e.group) e.group) (some_source (has_retransmissions lowered) lowered)
+      (retransmissions_before lowered e.group (λ s had. ap (ltb 0) (same s) ∙ had))
+      (retransmissions_before e.group lowered (λ s had. ap (ltb 0) (sym (same s)) ∙ had));
 }
   where
     lowered : GroupState
     lowered = sources_lowered timing now asked e.group
 
-    same : (s : ℕ) → sendings_of (timer_at lowered s) ≡ sendings_of (timer_at e.group s)
-    same s = ap sendings_of (get-kept (λ s timer. Some (cond (asked s) (source_lowered (lowered_to timing now) timer) timer)) e.group.sources s) ∙
-        sendings_lowered (lowered_to timing now) (asked s) (timer_at e.group s)
+    same : (s : ℕ) → retransmissions_of (timer_at lowered s) ≡ retransmissions_of (timer_at e.group s)
+    same s = ap retransmissions_of (get-kept (λ s timer. Some (cond (asked s) (source_lowered (lowered_to timing now) timer) timer)) e.group.sources s) ∙
+        retransmissions_lowered (lowered_to timing now) (asked s) (timer_at e.group s)
 
 pub held_lowered : (config : Configuration) (timing : Timing) (now : ℕ) (s : Bool) (asked : Option Set) (group : ℕ) (e : ScheduledGroup) →
     IsHeldAs config group e → IsHeldAs config group (record { group = lowered_by_query timing now s asked e.group; schedule = e.schedule })

@@ -1,7 +1,9 @@
 -- The outcome of one record, by its entrance.
 use Rattle.mq_link.proofs.Common.{◌≡◌, ℕ, ◌+◌, ◌-◌, ◌*◌, ◌≤◌, Bool, true, false, cond, not, refl, length, Option, None, Some, ap, ◌∙◌, ltb, ltb-false}
-use Rattle.mq_link.proofs.Common.{RecordView, Kind, Long, Repeated, is_admitted, Configuration, cost_by, record_cost, search_cost, work_cost, Verdict, Ignored}
-use Rattle.mq_link.proofs.Common.{Refused, least_by, least_judged, least_search, least_work, moved_by_edit, moves_by, record_moves, RecordOf, Setting, leaving}
+use Rattle.mq_link.proofs.Common.{RecordView, Kind, Long, Repeated, is_admitted, is_allowed, Configuration, cost_by, record_cost, search_cost, work_cost}
+use Rattle.mq_link.proofs.Common.{Verdict}
+use Rattle.mq_link.proofs.Common.{Denied, Ignored, Refused, least_by, least_judged, least_search, least_work, moved_by_edit, moves_by, record_moves, RecordOf}
+use Rattle.mq_link.proofs.Common.{Setting, leaving}
 use Rattle.mq_link.proofs.Common.{stated, Seen, met, Stops, GoesOn, entrance, entrance_as, kind_named, is_repeated, judged_from, judged, seen_by, seen_after}
 use Rattle.std.specs.FinMap as map
 use Rattle.std.specs.FinSet as set
@@ -73,12 +75,14 @@ module _ (at : Setting) (seen : Seen) (r : RecordView ℕ) (groups : Groups) whe
 pub short_enough : (config : Configuration) (r : RecordView ℕ) (so : Kind) → entrance config r ≡ GoesOn so → length r.sources ≤ config.limits.group_sources
 short_enough config r so is = by_kind (kind_named r.kind) is
   where
-    by_tests : (a b : Bool) (kind : Kind) → cond (not a) (Stops Ignored) (cond b (Stops (Refused Long)) (GoesOn kind)) ≡ GoesOn so → b ≡ false
-    by_tests true true kind h = cc
-    by_tests true false kind h = refl
-    by_tests false b kind h = cc
+    by_tests : (a allowed b : Bool) (kind : Kind) →
+        cond (not a) (Stops Ignored) (cond (not allowed) (Stops Denied) (cond b (Stops (Refused Long)) (GoesOn kind))) ≡ GoesOn so → b ≡ false
+    by_tests true true true kind h = cc
+    by_tests true true false kind h = refl
+    by_tests true false b kind h = cc
+    by_tests false allowed b kind h = cc
 
     by_kind : (kind : Option Kind) → entrance_as config r kind ≡ GoesOn so → length r.sources ≤ config.limits.group_sources
     by_kind None h = cc
     by_kind (Some kind) h = ltb-false config.limits.group_sources (length r.sources)
-        (by_tests (is_admitted config.family r.group) (ltb config.limits.group_sources (length r.sources)) kind h)
+        (by_tests (is_admitted config.family r.group) (is_allowed config r.group) (ltb config.limits.group_sources (length r.sources)) kind h)

@@ -1,7 +1,7 @@
 -- Work on a group that keeps its filter: its queries are counted down, running sources are asked for, and it is put back.
 use Rattle.mq_link.proofs.Common.{◌≡◌, ℕ, Bool, true, false, not, cond, ltb, Option, None, Some, refl, sym, ap, ◌∙◌, option_map, nat_cmp, nat_cmp_total}
 use Rattle.mq_link.proofs.Common.{and_parts, Timing, Set, FilterMode, Include, Exclude, SourceTimer, Stopped, Running, GroupState, is_include, timer_at, vacant}
-use Rattle.mq_link.proofs.Common.{is_vacant, Filter, names, filter_of, nothing, are_same, changes_filter, source_asked, source_counted, sendings_counted}
+use Rattle.mq_link.proofs.Common.{is_vacant, Filter, names, filter_of, nothing, are_same, changes_filter, source_asked, source_counted, retransmissions_counted}
 use Rattle.mq_link.proofs.Common.{GroupChange, last_member_count, changes-same, contains-filter_of, same_filter, get_of_empty, ScheduleState, ScheduledGroup}
 use Rattle.mq_link.proofs.Common.{settled, group_asked, sources_asked, acted, after_change, after_round, is_due, timer_at-sources_asked, timer_at-after_round}
 use Rattle.mq_link.proofs.Common.{unheld, kept_as}
@@ -55,7 +55,7 @@ round_keeps_filter timing now e =
     (same_mode (is_due now e.schedule.sources_due))
     ∙ either_named e.group.mode (is_due now e.schedule.sources_due) _ (timer_at e.group s) (counted_named e.group.mode (timer_at e.group s)))
   where
-    same_mode : (b : Bool) → ◌≡◌ {A = FilterMode} (cond b (sendings_counted e.group) e.group).mode e.group.mode
+    same_mode : (b : Bool) → ◌≡◌ {A = FilterMode} (cond b (retransmissions_counted e.group) e.group).mode e.group.mode
     same_mode true = refl
     same_mode false = refl
 

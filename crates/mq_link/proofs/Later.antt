@@ -1,6 +1,6 @@
 -- The next moment after a tick, which is later than that of the tick.
 use Rattle.mq_link.proofs.Common.{◌≡◌, ℕ, ◌<◌, Bool, true, false, cond, refl, Option, None, Some, IfSome, sym, ◌∙◌, subst, arith, option_and_then, Timing}
-use Rattle.mq_link.proofs.Common.{AreInRange, kept, GroupState, is_vacant, group_deadline, expired, AllAhead, get-kept, sendings_counted, ScheduledGroup}
+use Rattle.mq_link.proofs.Common.{AreInRange, kept, GroupState, is_vacant, group_deadline, expired, AllAhead, get-kept, retransmissions_counted, ScheduledGroup}
 use Rattle.mq_link.proofs.Common.{is_due, after_round, ElectionState, ticked, next_moment, quiet_after_round, deadlines_stay, Configuration, Groups, LinkState}
 use Rattle.mq_link.proofs.Common.{IsWellFormed, group_expired, if_held, groups_expired, groups_after_round, tick_at, moments_of, moments_in, next_of}
 use Rattle.std.specs.FinMap as map
@@ -31,7 +31,8 @@ all_ahead m groups = all_then (λ _ _. Unit {0}) (λ _ e. AllAhead m e.group) (�
     (λ _ _ _. tt)
 
 same_heads : (g : GroupState) (due : Bool) → (m : ℕ) → AllAhead m g →
-    (let left = cond due (sendings_counted g) g in IfSome (group_deadline left.mode) (λ d. m < d) × IfSome left.v1 (λ d. m < d) × IfSome left.v2 (λ d. m < d))
+    (let left = cond due (retransmissions_counted g) g in IfSome (group_deadline left.mode) (λ d. m < d) × IfSome left.v1 (λ d. m < d) × IfSome left.v2
+    (λ d. m < d))
 same_heads g true m h = (h.group, h.v1, h.v2)
 same_heads g false m h = (h.group, h.v1, h.v2)
 

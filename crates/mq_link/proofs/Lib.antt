@@ -66,6 +66,7 @@ pub mod Runs
 pub mod ServedGroups
 pub mod Silent
 pub mod SpelledMessages
+pub mod StatedAlone
 pub mod StatedSteps
 pub mod StatusSteps
 pub mod TakenRecords

@@ -1,5 +1,5 @@
 -- The names of lists of no source and of one source.
-use Rattle.mq_link.proofs.Common.{◌≡◌, ℕ, get_or, false, List, [], ◌∷◌, length, sym, ap, ◌∙◌, arith, or-false, nat_cmp, eq_by_cmp, nat_cmp_total, named_in}
+use Rattle.mq_link.proofs.Common.{◌≡◌, ℕ, false, List, [], ◌∷◌, ap, ◌∙◌, or-false, nat_cmp, eq_by_cmp, nat_cmp_total, named_in}
 use Rattle.std.specs.FinSet as set
 
 pub names-none : {K : Type 0} (number : K → ℕ) (xs : List K) → xs ≡ [] → (s : ℕ) → set.contains (named_in number xs) s ≡ false
@@ -9,9 +9,3 @@ pub names-one : {K : Type 0} (number : K → ℕ) (xs : List K) (x : K) → xs �
     ≡ eq_by_cmp nat_cmp s (number x)
 names-one number xs x one s = ap (λ ys. set.contains (named_in number ys) s) one ∙ set.contains-from_list nat_cmp_total (number x ∷ []) s ∙
     or-false (eq_by_cmp nat_cmp s (number x))
-
--- a list of one item
-pub one_item : {X : Type 0} (xs : List X) (x : X) → length xs ≡ 1 → x ≡ get_or xs 0 x → xs ≡ x ∷ []
-one_item [] x one is = absurd (omega (arith, one))
-one_item (y ∷ []) x one is = ap (λ z. z ∷ []) (sym is)
-one_item (y ∷ z ∷ xs) x one is = absurd (omega (arith, one))

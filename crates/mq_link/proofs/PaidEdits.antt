@@ -1,8 +1,10 @@
 -- The moves of a group that is put, made or taken out. Five for each of its sources, and those put by, pay them.
-use Rattle.mq_link.proofs.Common.{◌≡◌, cond, ℕ, ◌+◌, ◌-◌, ◌*◌, ◌/◌, ◌<◌, ◌≤◌, Bool, true, false, not, min, ⊎_elim, None, Some, IfSome, refl, length, sym, ap}
-use Rattle.mq_link.proofs.Common.{◌∙◌, arith, leb, ltb, ◌⊎◌, inl, inr, few-running, slice_index, mul-le-mul_right, cases_lt, le-leb, lt-leb, lt-ltb, le-ltb}
+use Rattle.mq_link.proofs.Common.{◌≡◌, subst, cond, ℕ, ◌+◌, ◌-◌, ◌*◌, ◌/◌, ◌<◌, ◌≤◌, Bool, true, false, not, min, ⊎_elim, None, Some, IfSome, refl}
+use Rattle.mq_link.proofs.Common.{length, sym, ap}
+use Rattle.mq_link.proofs.Common.{◌∙◌, arith, leb, ltb, ◌⊎◌, inl, inr, few-running, slice_index, mul-le-mul_right, cases_lt, le-leb, lt-leb, lt-ltb}
+use Rattle.mq_link.proofs.Common.{le-ltb}
 use Rattle.mq_link.proofs.Common.{Spends, NumberedKeysState, AreFilled, IsSpotFor, moved_by_insert, Spot, bitlen, bitlen-le, bitlen-mono, is_vacant}
-use Rattle.mq_link.proofs.Common.{ScheduledGroup, HeldState, ahead_with, moved_by_packing, moved_by_row, moved_by_new_row, no_sources, vacant_sources}
+use Rattle.mq_link.proofs.Common.{ScheduledGroup, HeldState, ahead_with, IsRowWritten, moved_by_packing, no_sources, vacant_sources}
 use Rattle.mq_link.proofs.Common.{own_sources, total-with, total-entries, put_by_rows, IsPaid, moved_by_edit}
 use Rattle.mq_link.proofs.{GrownGroups.one_at_most, Entries.total-kept, HeldAs.vacant_is, Moved.paid_by}
 use Rattle.std.specs.FinMap as map
@@ -58,43 +60,55 @@ kept_size e = by_test (is_vacant e.group) refl
     by_test false is = refl
 
 -- the rows once a group is set, with what is put by then
-set_paid : (s after : HeldState) (a has : ℕ) (named : ℕ) (left : ScheduledGroup) → sources_of left ≡ has → named ≤ running_in s.groups + 1 →
-    map.len s.groups ≤ s.order.room
+set_paid : (s after : HeldState) (a has own : ℕ) (named rows : ℕ) (left : ScheduledGroup) → sources_of left ≡ has → own ≤ has →
+    named ≤ running_in s.groups + 1 → map.len s.groups ≤ s.order.room
     → sources_of (group_at s.groups a) ≤ sources_in s.groups → sources_in s.groups + has ≤ s.source_room + sources_of (group_at s.groups a)
     → after.groups ≡ map.insert s.groups a left → after.order.room ≡ s.order.room → after.source_room ≡ s.source_room →
-    after.ahead ≡ ahead_with s (sources_of (group_at s.groups a)) has
-    → moved_by_packing named s (sources_of (group_at s.groups a)) has + put_by_rows after ≤ put_by_rows s + 5 * has + 1
-set_paid s after a has named left has_is named_few few own fits groups_are rooms room_is ahead_is =
-    let had = sources_of (group_at s.groups a) in
-    let sizes = sources_set s.groups a left in
-    let total : sources_in (map.insert s.groups a left) ≡ sources_in s.groups - had + has = omega (arith, sizes, has_is, own) in
-    let moments = running_set s.groups a left in
-    let one = one_at_most (not (is_vacant left.group)) in
-    let all = few-running s.groups in
-    let paid = row_paid s.source_room s.order.room (sources_in s.groups) (running_in s.groups) s.ahead had has named
-    (running_in (map.insert s.groups a left)) named_few (omega (arith, all, few)) own fits (omega (arith, moments, one)) in
-    let after_is : put_by_rows after ≡ min (4 * (s.source_room / 4 + s.order.room - ahead_with s had has))
-    (sources_in s.groups - had + has + running_in (map.insert s.groups a left)) =
-    λ i. min (4 * (room_is i / 4 + rooms i - ahead_is i)) ((ap sources_in groups_are ∙ total) i + running_in (groups_are i))
-    in
-    omega (arith, paid, after_is)
+    IsRowWritten s (sources_of (group_at s.groups a)) has own named after.ahead rows
+    → rows + put_by_rows after ≤ put_by_rows s + 5 * has + 1
+set_paid s after a has own named rows left has_is own_few named_few few part fits groups_are rooms room_is written =
+    ⊎_elim stays goes written.how
+  where
+    total : sources_in (map.insert s.groups a left) ≡ sources_in s.groups - sources_of (group_at s.groups a) + has
+    total = let sizes = sources_set s.groups a left in omega (arith, sizes, has_is, part)
 
--- the group of a number is put
-pub put_paid : (s after : HeldState) (a : ℕ) (e : ScheduledGroup) (old new : ℕ) → map.len s.groups ≤ s.order.room
-    → sources_in s.groups + sources_of e ≤ s.source_room + sources_of (group_at s.groups a)
+    moments : running_in (map.insert s.groups a left) ≤ running_in s.groups + 1
+    moments =
+        let set = running_set s.groups a left in
+        let one = one_at_most (not (is_vacant left.group)) in
+        omega (arith, set, one)
+
+    put_by : (ahead : ℕ) → after.ahead ≡ ahead → put_by_rows after ≡ min (4 * (s.source_room / 4 + s.order.room - ahead))
+        (sources_in s.groups - sources_of (group_at s.groups a) + has + running_in (map.insert s.groups a left))
+    put_by ahead is =
+        λ i. min (4 * (room_is i / 4 + rooms i - is i)) ((ap sources_in groups_are ∙ total) i + running_in (groups_are i))
+
+    stays : (after.ahead ≡ s.ahead) × (rows ≡ own) → rows + put_by_rows after ≤ put_by_rows s + 5 * has + 1
+    stays still = let after_is = put_by s.ahead still.0 in let moved = still.1 in omega (arith, after_is, moved, moments, own_few, part)
+
+    goes : (after.ahead ≡ ahead_with s (sources_of (group_at s.groups a)) has) ×
+        (rows ≡ moved_by_packing named s (sources_of (group_at s.groups a)) has) →
+        rows + put_by_rows after ≤ put_by_rows s + 5 * has + 1
+    goes behind =
+        let after_is = put_by (ahead_with s (sources_of (group_at s.groups a)) has) behind.0 in
+        let moved = behind.1 in
+        let all = few-running s.groups in
+        let paid = row_paid s.source_room s.order.room (sources_in s.groups) (running_in s.groups) s.ahead (sources_of (group_at s.groups a)) has named
+        (running_in (map.insert s.groups a left)) named_few (omega (arith, all, few)) part fits moments in
+        omega (arith, paid, after_is, moved)
+
+-- the group of a number is put, and moves some others beside its row
+pub put_paid : (s after : HeldState) (a own named rows others : ℕ) (e : ScheduledGroup) (old new : ℕ) → map.len s.groups ≤ s.order.room
+    → sources_in s.groups + sources_of e ≤ s.source_room + sources_of (group_at s.groups a) → own ≤ sources_of e → named ≤ running_in s.groups + 1
     → after.groups ≡ map.insert s.groups a (kept_as e) → after.order ≡ s.order → after.source_room ≡ s.source_room
-    → after.ahead ≡ ahead_with s (sources_of (group_at s.groups a)) (sources_of e)
-    → (let before = group_at s.groups a in let rows = moved_by_row s (is_vacant before.group) (sources_of before) (sources_of e) in
-    Spends rows (rows + 4 + bitlen (running_in s.groups - one_if (not (is_vacant before.group)))) old new)
+    → IsRowWritten s (sources_of (group_at s.groups a)) (sources_of e) own named after.ahead rows
+    → others ≤ map.len s.groups → Spends rows (rows + 4 + bitlen others) old new
     → IsPaid (5 * sources_of e + 5 + bitlen (map.len s.groups)) (put_by_rows s) (put_by_rows after) old new
-put_paid s after a e old new few fits groups_are order_is room_is ahead_is moved =
-    let before = group_at s.groups a in
-    let one = one_at_most (is_vacant before.group) in
+put_paid s after a own named rows others e old new few fits own_few named_few groups_are order_is room_is written fewer moved =
     let rooms = ap (λ (o : NumberedKeysState). o.room) order_is in
-    let paid = set_paid s after a (sources_of e) (running_in s.groups + one_if (is_vacant before.group)) (kept_as e) (kept_size e)
-    (omega (arith, one)) few (own_sources s.groups a) fits groups_are rooms room_is ahead_is in
-    let digits = bitlen-mono (running_in s.groups - one_if (not (is_vacant before.group))) (map.len s.groups)
-    (let all = few-running s.groups in omega (arith, all)) in
+    let paid = set_paid s after a (sources_of e) own named rows (kept_as e) (kept_size e) own_few named_few few (own_sources s.groups a) fits groups_are
+    rooms room_is written in
+    let digits = bitlen-mono others (map.len s.groups) fewer in
     paid_by (5 * sources_of e + 5 + bitlen (map.len s.groups)) moved (omega (arith, paid, digits))
 
 -- the order of the addresses has few pages, and no page has many
@@ -130,23 +144,21 @@ module _ (s : HeldState) (few : map.len s.groups ≤ 65535) (filled : AreFilled 
   digits_few = few_digits (running_in s.groups) (let all = few-running s.groups in omega (arith, all, few))
 
   -- a group is made
-  pub made_paid : (after : HeldState) (a : ℕ) (spot : Spot) (e : ScheduledGroup) (old new : ℕ) → map.len s.groups ≤ s.order.room → group_at s.groups a ≡ unheld
+  pub made_paid : (after : HeldState) (a rows : ℕ) (spot : Spot) (e : ScheduledGroup) (old new : ℕ) → map.len s.groups ≤ s.order.room →
+      group_at s.groups a ≡ unheld
       → IsSpotFor s.order.items s.order.pages a spot → sources_in s.groups + sources_of e ≤ s.source_room
       → after.groups ≡ map.insert s.groups a e → after.order.room ≡ s.order.room → after.source_room ≡ s.source_room →
-      after.ahead ≡ ahead_with s 0 (sources_of e)
-      → (let own = moved_by_insert s.order.pages spot + moved_by_new_row s (sources_of e) in Spends (own + 4) (own + 4 + bitlen (running_in s.groups)) old new)
+      IsRowWritten s 0 (sources_of e) (sources_of e) (running_in s.groups + 1) after.ahead rows
+      → (let pages = moved_by_insert s.order.pages spot in Spends (pages + rows + 4) (pages + rows + 4 + bitlen (running_in s.groups)) old new)
       → IsPaid (5 * sources_of e + moved_by_edit) (put_by_rows s) (put_by_rows after) old new
-  made_paid after a spot e old new room absent is fits groups_are rooms room_is ahead_is moved =
+  made_paid after a rows spot e old new room absent is fits groups_are rooms room_is written moved =
       let none : sources_of (group_at s.groups a) ≡ 0 = ap sources_of absent ∙ no_sources in
-      let ahead_then : after.ahead ≡ ahead_with s (sources_of (group_at s.groups a)) (sources_of e) = ahead_is ∙
-      ap (λ n. ahead_with s n (sources_of e)) (sym none) in
-      let paid = set_paid s after a (sources_of e) (running_in s.groups + 1) e refl (omega arith) room (own_sources s.groups a)
-      (omega (arith, fits)) groups_are rooms room_is ahead_then in
-      let same : moved_by_packing (running_in s.groups + 1) s (sources_of (group_at s.groups a)) (sources_of e) ≡ moved_by_new_row s (sources_of e) =
-      ap (λ n. moved_by_packing (running_in s.groups + 1) s n (sources_of e)) none in
+      let written_then = subst (λ n. IsRowWritten s n (sources_of e) (sources_of e) (running_in s.groups + 1) after.ahead rows) (sym none) written in
+      let paid = set_paid s after a (sources_of e) (sources_of e) (running_in s.groups + 1) rows e refl (omega arith) (omega arith) room
+      (own_sources s.groups a) (omega (arith, fits)) groups_are rooms room_is written_then in
       let order = insert_few a spot is in
       let digits = digits_few in
-      paid_by (5 * sources_of e + moved_by_edit) moved (omega (arith, paid, same, order, digits))
+      paid_by (5 * sources_of e + moved_by_edit) moved (omega (arith, paid, order, digits))
 
 -- those that are vacant are taken out
 runs_no_more : (k : ℕ) (e : ScheduledGroup) → IfSome (if_running k e) (λ x. runs x ≤ runs e)

@@ -3,7 +3,8 @@ use Rattle.mq_link.proofs.Common.{◌≡◌, ℕ, ◌<◌, Bool, true, false, co
 use Rattle.mq_link.proofs.Common.{eqb, list_map, true≢false, lt-ltb, flat_map, Family, Timing, FilterMode, Include, Exclude, SourceTimer, Stopped, Running}
 use Rattle.mq_link.proofs.Common.{kept, GroupState, is_include, is_running, is_stopped, vacant, is_vacant, timer_at, deadline_of, group_deadline, IsHeld, ahead}
 use Rattle.mq_link.proofs.Common.{mode_expired, at_zero, source_expired, held_or_vacant, expired, AllAhead, get-kept, same_sources, get_of_empty, some_source}
-use Rattle.mq_link.proofs.Common.{has_sendings, QuerySchedule, ScheduleState, ScheduledGroup, settled, IsScheduleOf, GeneralQuery, group_due, messages_due}
+use Rattle.mq_link.proofs.Common.{has_retransmissions, QuerySchedule, ScheduleState, ScheduledGroup, settled, IsScheduleOf, GeneralQuery, group_due}
+use Rattle.mq_link.proofs.Common.{messages_due}
 use Rattle.mq_link.proofs.Common.{after_round, Role, Querier, Other, ElectionState, deadline_ended, returned, general_is_due, after_general, ticked}
 use Rattle.mq_link.proofs.Common.{general_messages, next_moment, IsQuietAt, quiet_is_silent, same_round, per_query, Configuration, Groups, LinkState}
 use Rattle.mq_link.proofs.Common.{IsWellFormed, group_expired, if_held, groups_expired, queries_due, groups_after_round, tick_at, those_of, moments_of}
@@ -157,7 +158,10 @@ same_expired m g held h = ap held_or_vacant same ∙ ap (λ b. cond b vacant g) 
 
 pub same_settled : (g : GroupState) (schedule : ScheduleState) → IsScheduleOf g schedule → settled g schedule ≡ schedule
 same_settled g schedule h =
-    λ i. record { group_query = by_mode g.mode refl i; sources_due = by_due schedule.sources_due (some_source (has_sendings g) g) h.sources_sendings i }
+    λ i. record {
+      group_query = by_mode g.mode refl i;
+      sources_due = by_due schedule.sources_due (some_source (has_retransmissions g) g) h.sources_retransmissions i;
+    }
   where
     by_mode : (mode : FilterMode) → g.mode ≡ mode → cond (is_include mode) None schedule.group_query ≡ schedule.group_query
     by_mode Include is = sym (h.exclude_only is)

@@ -5,10 +5,10 @@ use Rattle.mq_link.proofs.Common.{QueryMessage, OldReport, LeaveMessage, ReportM
 use Rattle.mq_link.proofs.Common.{current_query, type_named, type_of, message_of, fault_of, AreInRange, DropReason, BadGroup, is_admitted, Configuration}
 use Rattle.mq_link.proofs.Common.{Counters, Groups, LinkState, IsWellFormed, Step, OlderJoin, OlderLeave, announced_by, IsCarriedIn, Envelope, message_in}
 use Rattle.mq_link.proofs.Common.{unless_faulty, read_of, drop_reason, envelope_tests, setting_of, taken_in, counting_read, taken_or_dropped, receipt_after}
-use Rattle.mq_link.proofs.Common.{first_named, AreSound}
+use Rattle.mq_link.proofs.Common.{first_named, AreSound, Setting, Statement, stated_alone}
 use Rattle.std.specs.FinMap as map
 use Rattle.mq_wire.specs.Codes.{value8}
-use Rattle.mq_link.proofs.{Ticked.IsCarriedBy, Ticked.IsWellFormed-query_heard, Recorded.stated_leaves, Recorded.all_judged_leave}
+use Rattle.mq_link.proofs.{Ticked.IsCarriedBy, Ticked.IsWellFormed-query_heard, Recorded.stated_leaves, Recorded.all_judged_leave, StatedAlone.alone_by}
 
 -- this fact for the message of bytes
 abbrev pub IsCarriedWhere : Result (Message ℕ) WireFault → Type 0
@@ -109,6 +109,11 @@ admitted_if_kept [] true reason h = refl
 admitted_if_kept [] false reason h = cc
 admitted_if_kept (t ∷ tests) b reason h = admitted_if_kept tests b reason (not_first t.1 t.0 (first_named (tests ++ (reason, not b) ∷ [])) h)
 
+alone_leaves : (at : Setting) (group : ℕ) (st : Statement) (groups : Groups) → 0 < at.election.timing.robustness
+    → is_admitted at.config.family group ≡ true → AreSound at groups → AreSound at (stated_alone at group st groups).groups
+alone_leaves at group st groups positive admitted h =
+    alone_by (λ o. AreSound at o.groups) at group st groups (stated_leaves at group st groups positive admitted h) h
+
 taken_leaves : (config : Configuration) (envelope : Envelope) (message : Message ℕ) (step : Step) → AreInRange config.timing → IsCarriedIn message →
     drop_reason config envelope (Ok message) ≡ None → IsWellFormed config step.state → IsWellFormed config (taken_in config envelope message step).step.state
 unfolding taken_in
@@ -116,11 +121,11 @@ taken_leaves config envelope (QueryMessage query) step own carried kept h =
     IsWellFormed-query_heard config step.state.last envelope.source query step.state own carried h
 taken_leaves config envelope (OldReport version group) step own carried kept h =
     well_formed_with config step.state _ _ h
-    (stated_leaves (setting_of config step.state) group (OlderJoin version) step.state.groups (positive_in config step.state h)
+    (alone_leaves (setting_of config step.state) group (OlderJoin version) step.state.groups (positive_in config step.state h)
     (admitted_if_kept (envelope_tests config.family envelope) (is_admitted config.family group) BadGroup kept) (sound_in config step.state h))
 taken_leaves config envelope (LeaveMessage group) step own carried kept h =
     well_formed_with config step.state _ _ h
-    (stated_leaves (setting_of config step.state) group OlderLeave step.state.groups (positive_in config step.state h)
+    (alone_leaves (setting_of config step.state) group OlderLeave step.state.groups (positive_in config step.state h)
     (admitted_if_kept (envelope_tests config.family envelope) (is_admitted config.family group) BadGroup kept) (sound_in config step.state h))
 taken_leaves config envelope (ReportMessage records) step own carried kept h =
     well_formed_with config step.state _ _ h

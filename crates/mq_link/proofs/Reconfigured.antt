@@ -59,6 +59,7 @@ reconfigured_timing before configured own now e wanted in_force = by_rank (outra
       query_seconds = value_within 31744 before.query_seconds configured.query_seconds e.timing.query_seconds wanted.query_seconds in_force.query_seconds;
       response_interval = wanted.response_interval;
       last_member_interval = wanted.last_member_interval;
+      last_member_query_count = wanted.last_member_query_count;
     }
 
 -- a router that isn't querier afterwards wasn't before
@@ -171,19 +172,6 @@ sound_configured at asked groups family none sound = record {
     each : (group : ℕ) (e : ScheduledGroup) → map.get groups group ≡ Some e → (ltb asked.limits.group_sources (sources_of e) ≡ false) ×
         ((is_source_specific asked group && not (names_sources_alone e.group)) ≡ false)
     each group e is = neither _ _ (allowed asked groups parts.3 group e is)
-
--- the reasons to refuse, in order
-pub refused_room : (before asked : Configuration) (groups : Groups) → exceeds_room before.room asked.limits ≡ true
-    → configure_fault before asked groups ≡ Some Room
-refused_room before asked groups exceeds = rw exceeds refl
-
-pub refused_held : (before asked : Configuration) (groups : Groups) → exceeds_room before.room asked.limits ≡ false → are_barred asked groups ≡ true
-    → configure_fault before asked groups ≡ Some Held
-refused_held before asked groups fits barred = rw (fits, barred) refl
-
-pub not_refused : (before asked : Configuration) (groups : Groups) → exceeds_room before.room asked.limits ≡ false → are_barred asked groups ≡ false
-    → configure_fault before asked groups ≡ None
-not_refused before asked groups fits none = rw (fits, none) refl
 
 -- the limits are within the room of the link
 pub within_room : (before asked : Configuration) → exceeds_room before.room asked.limits ≡ false → IsWithinRoom before

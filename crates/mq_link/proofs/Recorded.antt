@@ -4,11 +4,13 @@ use Rattle.mq_link.proofs.Common.{IfSome, sym, ap, ◌∙◌, subst, arith, eqb,
 use Rattle.mq_link.proofs.Common.{unwrap_or, nat_cmp, eq_by_cmp, nat_cmp_total, OlderVersion, V1, V2, RecordView, Kind, IsIn, IsEx, ToIn, ToEx, Allow, Block}
 use Rattle.mq_link.proofs.Common.{Hosts, Timing, FilterMode, Include, Exclude, SourceTimer, Set, GroupState, is_include, vacant, is_vacant, running, stopped}
 use Rattle.mq_link.proofs.Common.{IsAnyGroup, size_of, membership_interval, NamedSources, GroupChange, table_row, change_of, hosts_of, translated}
-use Rattle.mq_link.proofs.Common.{translated_change, older_host, older_report, lowered_to, IsAnyGroup-change_of, IsWellFormed-older_report, has_sendings}
-use Rattle.mq_link.proofs.Common.{sendings_counted, ScheduleState, ScheduledGroup, no_schedule, settled, IsScheduleOf, acted, after_change, is_due, after_round}
+use Rattle.mq_link.proofs.Common.{translated_change, older_host, older_report, lowered_to, IsAnyGroup-change_of, IsWellFormed-older_report, has_retransmissions}
+use Rattle.mq_link.proofs.Common.{retransmissions_counted, ScheduleState, ScheduledGroup, no_schedule, settled, IsScheduleOf, acted, after_change, is_due}
+use Rattle.mq_link.proofs.Common.{after_round}
 use Rattle.mq_link.proofs.Common.{is_querier, fits_after_record, fits_acted, fits_after_round, held_acted, held_after_round, AreSound, Limits, Refusal}
-use Rattle.mq_link.proofs.Common.{TooManyGroups, GroupSources, Sources, Scheduled, Repeated, Long, is_admitted, v1_mutes_leave, Configuration, Ignored, Refused}
-use Rattle.mq_link.proofs.Common.{IsHeldAs, IsSilent, AreWithin, Statement, RecordOf, OlderJoin, OlderLeave, is_exclude_kind, is_muted, asking_nothing}
+use Rattle.mq_link.proofs.Common.{TooManyGroups, GroupSources, Sources, Scheduled, Repeated, Long, is_admitted, v1_mutes_leave, Configuration, is_allowed}
+use Rattle.mq_link.proofs.Common.{Denied, Ignored}
+use Rattle.mq_link.proofs.Common.{Refused, IsHeldAs, IsSilent, AreWithin, Statement, RecordOf, OlderJoin, OlderLeave, is_exclude_kind, is_muted, asking_nothing}
 use Rattle.mq_link.proofs.Common.{change_stated, limit_passed, Setting, leaving, unless_passed, changed_by, after_sending, sent_at_once, changed_or_refused}
 use Rattle.mq_link.proofs.Common.{change_in, stated, Seen, Entrance, Stops, GoesOn, entrance, entrance_as, kind_named, is_repeated, seen_after, judged_from}
 use Rattle.mq_link.proofs.Common.{judged, all_judged, first_named}
@@ -28,7 +30,7 @@ no_keys : map.keys (map.empty {X = SourceTimer} {R = nat_cmp}) ≡ []
 no_keys = ap (list_map (λ e. e.0)) (entries-known [])
 
 unheld_fits : IsScheduleOf vacant no_schedule
-unheld_fits = record { exclude_only = λ _. refl; group_sendings = tt; sources_sendings = sym (ap (list_any (has_sendings vacant)) no_keys) }
+unheld_fits = record { exclude_only = λ _. refl; group_sendings = tt; sources_retransmissions = sym (ap (list_any (has_retransmissions vacant)) no_keys) }
 
 pub ready : (config : Configuration) (groups : Groups) (group : ℕ) → All (IsHeldAs config) groups → IsReady config group (group_at groups group)
 ready config groups group all = by_group (map.get groups group) refl
@@ -105,8 +107,16 @@ translated_soundly config group mutes muted timing now e kind named h unmuted = 
 
 older_fits : (version : OlderVersion) (timing : Timing) (now : ℕ) (g : GroupState) (schedule : ScheduleState) → IsScheduleOf g (settled g schedule) →
     IsScheduleOf (older_host version timing now g) (settled (older_host version timing now g) schedule)
-older_fits V1 timing now g schedule h = record { exclude_only = h.exclude_only; group_sendings = h.group_sendings; sources_sendings = h.sources_sendings }
-older_fits V2 timing now g schedule h = record { exclude_only = h.exclude_only; group_sendings = h.group_sendings; sources_sendings = h.sources_sendings }
+older_fits V1 timing now g schedule h = record {
+  exclude_only = h.exclude_only;
+  group_sendings = h.group_sendings;
+  sources_retransmissions = h.sources_retransmissions;
+}
+older_fits V2 timing now g schedule h = record {
+  exclude_only = h.exclude_only;
+  group_sendings = h.group_sendings;
+  sources_retransmissions = h.sources_retransmissions;
+}
 
 joined_soundly : (config : Configuration) (group : ℕ) (version : OlderVersion) (timing : Timing) (now : ℕ) (e : ScheduledGroup) (muted : Bool) →
     is_source_specific config group ≡ muted → IsReady config group e →
@@ -150,11 +160,11 @@ acted_size false timing now asks query e = omega arith
 acted_size true timing now true query e = len-kept _ e.group.sources
 acted_size true timing now false query e = len-kept _ e.group.sources
 
-round_include : (g : GroupState) (due : Bool) → is_include (cond due (sendings_counted g) g).mode ≡ is_include g.mode
+round_include : (g : GroupState) (due : Bool) → is_include (cond due (retransmissions_counted g) g).mode ≡ is_include g.mode
 round_include g true = refl
 round_include g false = refl
 
-round_v1 : (g : GroupState) (due : Bool) → ((cond due (sendings_counted g) g).v1 ≡ g.v1) × ((cond due (sendings_counted g) g).v2 ≡ g.v2)
+round_v1 : (g : GroupState) (due : Bool) → ((cond due (retransmissions_counted g) g).v1 ≡ g.v1) × ((cond due (retransmissions_counted g) g).v2 ≡ g.v2)
 round_v1 g true = (refl, refl)
 round_v1 g false = (refl, refl)
 
@@ -177,7 +187,7 @@ still_vacant q timing now asks query e h =
     let empty : size_of e.group ≡ 0 = eqb-true (size_of e.group) 0 (right_true (is_include e.group.mode) (eqb (size_of e.group) 0) h) in
     let asked = acted_size q timing now asks query e in
     let sent = round_size a.group (is_due now a.schedule.sources_due) in
-    vacant_from (cond (is_due now a.schedule.sources_due) (sendings_counted a.group) a.group)
+    vacant_from (cond (is_due now a.schedule.sources_due) (retransmissions_counted a.group) a.group)
     (round_include a.group (is_due now a.schedule.sources_due) ∙ acted_include q timing now asks query e ∙ include) (omega arith)
 
 -- a group after a change and its queries
@@ -313,7 +323,8 @@ entered config r None so is = cc
 entered config r (Some kind) so is = by_test (is_admitted config.family r.group) is
   where
     by_test : (b : Bool) →
-        cond (not b) (Stops Ignored) (cond (ltb config.limits.group_sources (length r.sources)) (Stops (Refused Long)) (GoesOn kind)) ≡ GoesOn so → b ≡ true
+        cond (not b) (Stops Ignored) (cond (not (is_allowed config r.group)) (Stops Denied)
+        (cond (ltb config.limits.group_sources (length r.sources)) (Stops (Refused Long)) (GoesOn kind))) ≡ GoesOn so → b ≡ true
     by_test true is = refl
     by_test false is = cc
 

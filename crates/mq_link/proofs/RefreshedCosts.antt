@@ -193,16 +193,27 @@ twice_bitlen n =
     below : (m n : ℕ) → n < 2 * m + 2 → n < 2 ^ (m + 1)
     below m n few = let rest = above m in let twice : 2 ^ (m + 1) ≡ 2 * 2 ^ m = ap (λ k. 2 ^ k) (add-one m) ∙ double m in omega (arith, rest, few, twice)
 
+-- The comparisons to find whether a statement can be applied in place are few.
+tried_few : (said : StatementKind) (sources named : ℕ) → most_tried said sources named ≤ 2 + 2 * sources
+tried_few said sources named = by_test (is_restart said) (named == 1)
+  where
+    by_test : (b c : Bool) → cond b (2 + cond c (bitlen sources) (sources + bitlen sources)) 0 ≤ 2 + 2 * sources
+    by_test true true = let n = bitlen-few sources in omega (arith, n)
+    by_test true false = let n = bitlen-few sources in omega (arith, n)
+    by_test false c = omega arith
+
 -- A statement tried in place, and then done on a copy, takes at most six comparisons for each source, and so on.
 pub tried_and_copied : (said : StatementKind) (sources named groups : ℕ) →
-    most_tried said sources named + (most_blocked said sources named + most_copied said sources named groups) ≤ 6 * (sources + named) + 17 + bitlen groups
+    most_tried said sources named + (most_blocked said sources named + most_copied said sources named groups)
+    ≤ 6 * (sources + named) + 17 + bitlen groups
 tried_and_copied said sources named groups = by_said said
   where
     by_count : (b : Bool) → (named == 1) ≡ b →
         2 + cond b (bitlen sources)
-        (sources + bitlen sources) + (0 + (cond b (bitlen sources) (sources + named) + 0 + 3 * (sources + named) + 9 + bitlen groups)) ≤ 6 *
+        (sources + bitlen sources) +
+        (0 + (cond b (bitlen sources) (sources + named) + 0 + 3 * (sources + named) + 9 + bitlen groups)) ≤ 6 *
         (sources + named) + 17 + bitlen groups
-    by_count true one = let n = eqb-true named 1 one in let few = twice_bitlen sources in omega (arith, n, few)
+    by_count true one = let n = eqb-true named 1 one in let few = bitlen-few sources in omega (arith, n, few)
     by_count false other = let few = bitlen-few sources in omega (arith, few)
 
     by_block : (b : Bool) → (named == 1) ≡ b →
@@ -216,8 +227,9 @@ tried_and_copied said sources named groups = by_said said
         (sources + named) + 17 + bitlen groups
     others = omega arith
 
-    by_said : (said : StatementKind) → most_tried said sources named + (most_blocked said sources named + most_copied said sources named groups) ≤ 6 *
-        (sources + named) + 17 + bitlen groups
+    by_said : (said : StatementKind) →
+        most_tried said sources named + (most_blocked said sources named + most_copied said sources named groups)
+        ≤ 6 * (sources + named) + 17 + bitlen groups
     by_said (Record IsIn) = by_count (named == 1) refl
     by_said (Record Allow) = by_count (named == 1) refl
     by_said (Record Block) = by_block (named == 1) refl
@@ -225,23 +237,21 @@ tried_and_copied said sources named groups = by_said said
 
 -- A BLOCK done in place takes no more than that either.
 pub blocked_few : (said : StatementKind) (sources named groups : ℕ) →
-    most_tried said sources named + (most_blocked said sources named + 3 * sources + 5 + bitlen groups) ≤ 6 * (sources + named) + 17 + bitlen groups
-blocked_few said sources named groups = by_said said
+    most_tried said sources named + (most_blocked said sources named + 3 * sources + 5 + bitlen groups)
+    ≤ 6 * (sources + named) + 17 + bitlen groups
+blocked_few said sources named groups = by_said said (tried_few said sources named)
   where
-    few : (b : Bool) → cond b (bitlen sources) (sources + bitlen sources) ≤ 2 * sources
-    few true = let n = bitlen-few sources in omega (arith, n)
-    few false = let n = bitlen-few sources in omega (arith, n)
+    by_test : (c : Bool) → cond c (bitlen sources) 0 ≤ sources
+    by_test true = bitlen-few sources
+    by_test false = omega arith
 
-    halves : (b : Bool) → cond b (bitlen sources) 0 ≤ sources
-    halves true = bitlen-few sources
-    halves false = omega arith
-
-    by_said : (said : StatementKind) → most_tried said sources named + (most_blocked said sources named + 3 * sources + 5 + bitlen groups) ≤ 6 *
-        (sources + named) + 17 + bitlen groups
-    by_said (Record IsIn) = omega (arith, few (named == 1))
-    by_said (Record Allow) = omega (arith, few (named == 1))
-    by_said (Record Block) = omega (arith, halves (named == 1))
-    by_said _ = omega arith
+    by_said : (said : StatementKind) → most_tried said sources named ≤ 2 + 2 * sources
+        → most_tried said sources named + (most_blocked said sources named + 3 * sources + 5 + bitlen groups)
+        ≤ 6 * (sources + named) + 17 + bitlen groups
+    by_said (Record IsIn) tried = omega (arith, tried)
+    by_said (Record Allow) tried = omega (arith, tried)
+    by_said (Record Block) tried = omega (arith, by_test (named == 1))
+    by_said _ tried = omega (arith, tried)
 
 -- and more digits are no fewer comparisons
 pub set-mono : (sources named few digits : ℕ) → few ≤ digits → most_set sources named few ≤ most_set sources named digits

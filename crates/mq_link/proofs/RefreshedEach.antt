@@ -1,7 +1,8 @@
 -- A group with several sources heard of again.
 use Rattle.mq_link.proofs.Common.{◌≡◌, ℕ, ◌+◌, Bool, true, false, cond, not, ltb, List, [], ◌∷◌, Option, None, Some, is_some, refl, sym, ap, ◌∙◌, beq, list_any}
 use Rattle.mq_link.proofs.Common.{nat_cmp, eq_by_cmp, nat_cmp_total, and_parts, true≢false, Any-from_list_any, list_any_at, FilterMode, Include, Exclude}
-use Rattle.mq_link.proofs.Common.{SourceTimer, Stopped, Running, names, changes_filter, GroupState, is_stopped, sendings_of, timer_at, has_sendings, size_of}
+use Rattle.mq_link.proofs.Common.{SourceTimer, Stopped, Running, names, changes_filter, GroupState, is_stopped, retransmissions_of, timer_at}
+use Rattle.mq_link.proofs.Common.{has_retransmissions, size_of}
 use Rattle.mq_link.proofs.Common.{changes-same, changes-at, ScheduledGroup, sources_of, has_each, restarted, restarted_each, some_stopped, each_passes}
 use Rattle.mq_link.proofs.Common.{has_each-restarted, some_passes, timer-restarted, timer-restarted_each, timer-there, tied, ties}
 use Rattle.std.specs.FinMap as map
@@ -21,7 +22,7 @@ schedule-restarted_each deadline (x ∷ xs) e = schedule-restarted_each deadline
 restarted-size : (deadline source : ℕ) (timer : SourceTimer) (e : ScheduledGroup) → timer_at e.group source ≡ Some timer →
     sources_of (restarted deadline source e) ≡ sources_of e
 restarted-size deadline source timer e there =
-    map.len-insert nat_cmp_total e.group.sources source (Running deadline (sendings_of (timer_at e.group source))) ∙
+    map.len-insert nat_cmp_total e.group.sources source (Running deadline (retransmissions_of (timer_at e.group source))) ∙
     ap (λ (t : Option SourceTimer). cond (is_some t) (size_of e.group) (size_of e.group + 1)) there
 
 pub size-restarted_each : (deadline : ℕ) (xs : List ℕ) (e : ScheduledGroup) → has_each xs e ≡ true → sources_of (restarted_each deadline xs e) ≡ sources_of e
@@ -31,21 +32,23 @@ size-restarted_each deadline (x ∷ xs) e all =
     let found = timer-there (timer_at e.group x) parts.0 in
     size-restarted_each deadline xs (restarted deadline x e) (has_each-restarted deadline x xs e parts.1) ∙ restarted-size deadline x found.0 e found.1
 
--- the sendings to go stay with a timer that is set anew
-restarted-sendings : (deadline source : ℕ) (e : ScheduledGroup) (s : ℕ) → has_sendings (restarted deadline source e).group s ≡ has_sendings e.group s
-restarted-sendings deadline source e s =
-    ap (λ t. ltb 0 (sendings_of t)) (timer-restarted deadline source e s) ∙ by_test (eq_by_cmp nat_cmp s source) refl
+-- the retransmissions to go stay with a timer that is set anew
+restarted-retransmissions : (deadline source : ℕ) (e : ScheduledGroup) (s : ℕ) → has_retransmissions (restarted deadline source e).group s
+    ≡ has_retransmissions e.group s
+restarted-retransmissions deadline source e s =
+    ap (λ t. ltb 0 (retransmissions_of t)) (timer-restarted deadline source e s) ∙ by_test (eq_by_cmp nat_cmp s source) refl
   where
     by_test : (b : Bool) → eq_by_cmp nat_cmp s source ≡ b →
-        ltb 0 (sendings_of (cond b (Some (Running deadline (sendings_of (timer_at e.group source)))) (timer_at e.group s)))
-        ≡ ltb 0 (sendings_of (timer_at e.group s))
-    by_test true same = ap (λ q. ltb 0 (sendings_of (timer_at e.group q))) (sym (tied s source same))
+        ltb 0 (retransmissions_of (cond b (Some (Running deadline (retransmissions_of (timer_at e.group source)))) (timer_at e.group s)))
+        ≡ ltb 0 (retransmissions_of (timer_at e.group s))
+    by_test true same = ap (λ q. ltb 0 (retransmissions_of (timer_at e.group q))) (sym (tied s source same))
     by_test false differs = refl
 
-pub sendings-restarted_each : (deadline : ℕ) (xs : List ℕ) (e : ScheduledGroup) (s : ℕ) → has_sendings (restarted_each deadline xs e).group s
-    ≡ has_sendings e.group s
-sendings-restarted_each deadline [] e s = refl
-sendings-restarted_each deadline (x ∷ xs) e s = sendings-restarted_each deadline xs (restarted deadline x e) s ∙ restarted-sendings deadline x e s
+pub retransmissions-restarted_each : (deadline : ℕ) (xs : List ℕ) (e : ScheduledGroup) (s : ℕ) → has_retransmissions (restarted_each deadline xs e).group s
+    ≡ has_retransmissions e.group s
+retransmissions-restarted_each deadline [] e s = refl
+retransmissions-restarted_each deadline (x ∷ xs) e s = retransmissions-restarted_each deadline xs (restarted deadline x e) s ∙
+    restarted-retransmissions deadline x e s
 
 -- Another filter is forwarded then exactly where one of the sources was stopped.
 module _ (deadline : ℕ) (xs : List ℕ) (e : ScheduledGroup) (all : has_each xs e ≡ true)
@@ -54,7 +57,7 @@ module _ (deadline : ℕ) (xs : List ℕ) (e : ScheduledGroup) (all : has_each x
   after = (restarted_each deadline xs e).group
 
   abbrev next : ℕ → SourceTimer
-  next s = Running deadline (sendings_of (timer_at e.group s))
+  next s = Running deadline (retransmissions_of (timer_at e.group s))
 
   at : (s : ℕ) (b : Bool) → list_any (eq_by_cmp nat_cmp s) xs ≡ b → timer_at after s ≡ cond b (Some (next s)) (timer_at e.group s)
   at s b is = timer-restarted_each deadline xs e s ∙ ap (λ b. cond b (Some (next s)) (timer_at e.group s)) is
@@ -102,3 +105,33 @@ module _ (deadline : ℕ) (xs : List ℕ) (e : ScheduledGroup) (all : has_each x
           changes-at e.group after s
           ((λ i. not (beq (names e.group.mode (timer_at e.group s)) (names (mode_is i) (at s true inside i)))) ∙
           turned e.group.mode (timer_at e.group s) s refl refl found.4)
+
+-- where the group lacks the source, INCLUDE names it then, and EXCLUDE doesn't
+pub filter-added : (deadline source : ℕ) (e : ScheduledGroup) → timer_at e.group source ≡ None →
+    changes_filter e.group (restarted deadline source e).group ≡ Rattle.mq_table.specs.Group.is_include e.group.mode
+filter-added deadline source e absent =
+    by_mode e.group.mode refl
+  where
+    next : SourceTimer
+    next = Running deadline (retransmissions_of (timer_at e.group source))
+
+    then : GroupState
+    then = (restarted deadline source e).group
+
+    stays : (mode : FilterMode) (b : Bool) (s : ℕ) → eq_by_cmp nat_cmp s source ≡ b → Rattle.mq_table.specs.Group.is_include mode ≡ false →
+        names mode (timer_at e.group s) ≡ names mode (cond b (Some next) (timer_at e.group s))
+    stays Include b s is other = absurd (true≢false other)
+    stays (Exclude d) true s is other = ap is_stopped (ap (timer_at e.group) (tied s source is) ∙ absent)
+    stays (Exclude d) false s is other = refl
+
+    by_mode : (mode : FilterMode) → e.group.mode ≡ mode → changes_filter e.group then ≡ Rattle.mq_table.specs.Group.is_include e.group.mode
+    by_mode Include is =
+        let here : timer_at then source ≡ Some next =
+        timer-restarted deadline source e source ∙ ap (λ b. cond b (Some next) (timer_at e.group source)) (ties source source refl) in
+        changes-at e.group then source (λ i. not (beq (names (is i) (absent i)) (names (is i) (here i))))
+        ∙ sym (ap Rattle.mq_table.specs.Group.is_include is)
+    by_mode (Exclude d) is =
+        let other : Rattle.mq_table.specs.Group.is_include e.group.mode ≡ false = ap Rattle.mq_table.specs.Group.is_include is in
+        changes-same e.group then refl
+        (λ s. stays e.group.mode (eq_by_cmp nat_cmp s source) s refl other ∙ ap (names e.group.mode) (sym (timer-restarted deadline source e s)))
+        ∙ sym other

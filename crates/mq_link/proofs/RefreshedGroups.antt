@@ -1,10 +1,11 @@
 -- A group after a record that changes only the timers of the sources that it names.
 use Rattle.mq_link.proofs.Common.{List, [], ◌∷◌, ◌≡◌, ℕ, ◌+◌, Bool, true, false, cond, ◌&&◌, Option, None, Some, is_some, refl, sym, ap, ◌∙◌, nat_cmp, FinMap}
 use Rattle.mq_link.proofs.Common.{eq-eqb, or_left, true≢false, set_of, Kind, IsIn, Allow, Timing, FilterMode, Include, Exclude, SourceTimer, Running, ∅, Set}
-use Rattle.mq_link.proofs.Common.{GroupState, is_include, is_stopped, running, sendings_of, stopped, timer_at, NamedSources, table_row, change_of}
-use Rattle.mq_link.proofs.Common.{membership_interval, some_source, has_sendings, above, same_sources, timer_then, each_case, both, at_source_of, ScheduleState}
+use Rattle.mq_link.proofs.Common.{GroupState, is_include, is_stopped, running, retransmissions_of, stopped, timer_at, NamedSources, table_row, change_of}
+use Rattle.mq_link.proofs.Common.{membership_interval, some_source, has_retransmissions, above, same_sources, timer_then, each_case, both, at_source_of}
+use Rattle.mq_link.proofs.Common.{ScheduleState}
 use Rattle.mq_link.proofs.Common.{ScheduledGroup, IsScheduleOf, settled, after_change, sources_asked, some_source-gives, timer_at-sources_asked}
-use Rattle.mq_link.proofs.Common.{sendings_before, asking_nothing, restarts}
+use Rattle.mq_link.proofs.Common.{retransmissions_before, asking_nothing, restarts}
 use Rattle.mq_link.proofs.HeldAs.{is_from, same_tests}
 use Rattle.std.specs.FinMap as map
 use Rattle.std.specs.FinSet as set
@@ -51,7 +52,8 @@ none_listed number (x ∷ xs) none = absurd (true≢false (sym (or_left _ _ (eq-
 
 -- the timer of a source that is named is set, any other stays
 abbrev TimerThen : ℕ → FilterMode → Kind → ℕ → Option SourceTimer → Bool → Type 0
-TimerThen gmi mode kind s t a = (is_include mode ≡ true → is_stopped t ≡ false) → timer_then gmi mode kind s t a ≡ cond a (Some (Running gmi (sendings_of t))) t
+TimerThen gmi mode kind s t a = (is_include mode ≡ true → is_stopped t ≡ false) → timer_then gmi mode kind s t a
+    ≡ cond a (Some (Running gmi (retransmissions_of t))) t
 
 timer_kept : (gmi : ℕ) (mode : FilterMode) (kind : Kind) (s : ℕ) (t : Option SourceTimer) (a : Bool) → restarts kind ≡ true → TimerThen gmi mode kind s t a
 timer_kept gmi Include IsIn s t a is = each_case (TimerThen gmi Include IsIn s) (both _ (λ _. refl) (λ _. refl))
@@ -71,13 +73,14 @@ module _ (timing : Timing) (now : ℕ) (g : GroupState) (kind : Kind) (named : N
   gmi = now + membership_interval timing
 
   timers_then : (s : ℕ) → timer_at (change_of timing now g kind named).group s ≡ cond (set.contains named s)
-      (Some (Running gmi (sendings_of (timer_at g s)))) (timer_at g s)
+      (Some (Running gmi (retransmissions_of (timer_at g s)))) (timer_at g s)
   timers_then s =
-      at_source_of (λ _ _ _ _ t. t ≡ cond (set.contains named s) (Some (Running gmi (sendings_of (timer_at g s)))) (timer_at g s)) timing now g kind named s
+      at_source_of (λ _ _ _ _ t. t ≡ cond (set.contains named s) (Some (Running gmi (retransmissions_of (timer_at g s))))
+      (timer_at g s)) timing now g kind named s
       (timer_kept gmi g.mode kind s (timer_at g s) (set.contains named s) is (λ include. none_stopped (is_from g.mode include) s))
 
   pub changes-to : (timers : FinMap nat_cmp SourceTimer) →
-      ((s : ℕ) → cond (set.contains named s) (Some (Running gmi (sendings_of (timer_at g s)))) (timer_at g s) ≡ map.get timers s) →
+      ((s : ℕ) → cond (set.contains named s) (Some (Running gmi (retransmissions_of (timer_at g s)))) (timer_at g s) ≡ map.get timers s) →
       change_of timing now g kind named ≡ asking_nothing (with_timers g timers)
   changes-to timers each =
       let sources = same_sources (change_of timing now g kind named).group.sources timers (λ s. timers_then s ∙ each s) in
@@ -107,21 +110,22 @@ unasked timing now e = λ i. record {
     none : some_source (λ s. ∅ s && above timing now e.group s) e.group ≡ false
     none = by_test (some_source (λ s. ∅ s && above timing now e.group s) e.group) refl
 
--- A change that asks for nothing leaves the schedule as it is, where the group has the mode and the sendings from before.
+-- A change that asks for nothing leaves the schedule as it is, where the group has the mode and the retransmissions
+-- from before.
 module _ (timing : Timing) (now : ℕ) (old new : GroupState) (schedule : ScheduleState) (fits : IsScheduleOf old schedule) (mode : new.mode ≡ old.mode)
-    (sendings : (s : ℕ) → has_sendings new s ≡ has_sendings old s) where
-  same_some : some_source (has_sendings new) new ≡ some_source (has_sendings old) old
+    (retransmissions : (s : ℕ) → has_retransmissions new s ≡ has_retransmissions old s) where
+  same_some : some_source (has_retransmissions new) new ≡ some_source (has_retransmissions old) old
   same_some =
-      same_tests (some_source (has_sendings new) new) (some_source (has_sendings old) old)
-      (sendings_before old new (λ s some. sym (sendings s) ∙ some))
-      (sendings_before new old (λ s some. sendings s ∙ some))
+      same_tests (some_source (has_retransmissions new) new) (some_source (has_retransmissions old) old)
+      (retransmissions_before old new (λ s some. sym (retransmissions s) ∙ some))
+      (retransmissions_before new old (λ s some. retransmissions s ∙ some))
 
   query_stays : (m : FilterMode) → new.mode ≡ m → cond (is_include m) None schedule.group_query ≡ schedule.group_query
   query_stays Include is = sym (fits.exclude_only (sym mode ∙ is))
   query_stays (Exclude d) is = refl
 
-  due_stays : cond (some_source (has_sendings new) new) schedule.sources_due None ≡ schedule.sources_due
-  due_stays = by_due (some_source (has_sendings new) new) schedule.sources_due (fits.sources_sendings ∙ sym same_some)
+  due_stays : cond (some_source (has_retransmissions new) new) schedule.sources_due None ≡ schedule.sources_due
+  due_stays = by_due (some_source (has_retransmissions new) new) schedule.sources_due (fits.sources_retransmissions ∙ sym same_some)
     where
       by_due : (b : Bool) (due : Option ℕ) → is_some due ≡ b → cond b due None ≡ due
       by_due true due is = refl

@@ -5,13 +5,14 @@ use Rattle.mq_link.proofs.Common.{QueryMessage, OldReport, LeaveMessage, ReportM
 use Rattle.mq_link.proofs.Common.{ScheduleState, ScheduledGroup, no_schedule, settled, SentQuery, GeneralQuery, after_change, messages_due, Role, Querier}
 use Rattle.mq_link.proofs.Common.{Other, ElectionState, is_querier, returned, general_is_due, after_general, ticked, Refusal, Repeated, DropReason, per_query}
 use Rattle.mq_link.proofs.Common.{Configuration, Refused, Step, groups_expired, queries_due, tick_at, Statement, RecordOf, OlderJoin, OlderLeave, limit_passed}
-use Rattle.mq_link.proofs.Common.{Setting, leaving, unless_passed, changed_by, after_sending, sent_at_once, changed_or_refused, change_in, stated, Seen}
-use Rattle.mq_link.proofs.Common.{Entrance, Stops, GoesOn, entrance, is_repeated, seen_after, judged_from, judged, all_judged, election_after, Envelope}
-use Rattle.mq_link.proofs.Common.{setting_of, taken_in, taken_or_dropped, counting_read, find_below, first, second, tied, ties, AreSound}
+use Rattle.mq_link.proofs.Common.{Setting, leaving, unless_passed, changed_by, after_sending, sent_at_once, changed_or_refused, change_in, stated, stated_alone}
+use Rattle.mq_link.proofs.Common.{Seen, Entrance, Stops, GoesOn, entrance, is_repeated, seen_after, judged_from, judged, all_judged, election_after}
+use Rattle.mq_link.proofs.Common.{Envelope, setting_of, taken_in, taken_or_dropped, counting_read, find_below, first, second, tied, ties, AreSound}
 use Rattle.std.specs.FinMap as map
 use Rattle.std.specs.FinSet as set
 use Rattle.mq_link.specs.State.{Groups, LinkState, unheld, group_at, with_group, IsSilent, IsWellFormed}
 use Rattle.mq_link.proofs.{HeldAs.All, HeldAs.settled_silent, Ticked.was_other, Ticked.ticked_role, Ticked.silent-groups_expired, Recorded.judged_leaves}
+use Rattle.mq_link.proofs.{StatedAlone.alone_by}
 use Rattle.mq_link.proofs.{Receipts.sound_in, Receipts.positive_in, Receipts.recounted}
 
 abbrev pub Each : {X : Type 0} → (ℕ → X → Type 0) → List (ℕ × X) → Type 0
@@ -46,7 +47,7 @@ from-each P (e ∷ es) h q x is = at_front P e es h.0 q x (eq_by_cmp nat_cmp q e
     at_front P e es here q x true same is later = let value : e.1 ≡ x = cc in subst (λ k. P k x) (sym (tied q e.0 same)) (subst (P e.0) value here)
     at_front P e es here q x false apart is later = later is
 
--- a group without sendings left sends nothing
+-- a group without retransmissions left sends nothing
 pub silent_messages : (n : ℕ) (timing : Timing) (now group : ℕ) (e : ScheduledGroup) → IsSilent e → messages_due n timing now group e ≡ []
 silent_messages n timing now group e h = ap (λ s. messages_due n timing now group (record { group = e.group; schedule = s })) h.schedule
 
@@ -126,14 +127,18 @@ silent_all at seen [] groups positive other h = refl
 silent_all at seen (r ∷ rs) groups positive other h = λ i. silent_judged at seen r groups other (h.silent other) i ++
     silent_all at (seen_after at.config r groups seen) rs (judged at seen r groups).groups positive other (judged_leaves at seen r groups positive h) i
 
+silent_alone : (at : Setting) (group : ℕ) (st : Statement) (groups : Groups) → is_querier at.election.role ≡ false → All (λ _. IsSilent) groups →
+    (stated_alone at group st groups).queries ≡ []
+silent_alone at group st groups other all = alone_by (λ o. o.queries ≡ []) at group st groups (silent_stated at group st groups other all) refl
+
 silent_taken : (config : Configuration) (envelope : Envelope) (message : Message ℕ) (step : Step) → IsWellFormed config step.state →
     is_querier step.state.election.role ≡ false → step.queries ≡ [] → (taken_in config envelope message step).step.queries ≡ []
 unfolding taken_in
 silent_taken config envelope (QueryMessage query) step h other none = none
 silent_taken config envelope (OldReport version group) step h other none = λ i. none i ++
-    silent_stated (setting_of config step.state) group (OlderJoin version) step.state.groups other (h.silent other) i
+    silent_alone (setting_of config step.state) group (OlderJoin version) step.state.groups other (h.silent other) i
 silent_taken config envelope (LeaveMessage group) step h other none = λ i. none i ++
-    silent_stated (setting_of config step.state) group OlderLeave step.state.groups other (h.silent other) i
+    silent_alone (setting_of config step.state) group OlderLeave step.state.groups other (h.silent other) i
 silent_taken config envelope (ReportMessage records) step h other none = λ i. none i ++
     silent_all (setting_of config step.state) map.empty records step.state.groups (positive_in config step.state h) other (sound_in config step.state h) i
 

@@ -120,6 +120,7 @@ adopted_timing configured is_other (Some said) timing own carried in_force = rec
   query_seconds = by_test is_other;
   response_interval = in_force.response_interval;
   last_member_interval = in_force.last_member_interval;
+  last_member_query_count = in_force.last_member_query_count;
 }
   where
     by_test : (b : Bool) → IsWithin 1 31744 (cond b (heard_or configured.query_seconds said.query_seconds) timing.query_seconds)

@@ -1,7 +1,7 @@
 -- The groups of a link after a tick, and its queries, group by group.
 use Rattle.mq_link.proofs.Common.{◌≡◌, ℕ, Bool, true, false, cond, refl, List, [], ◌∷◌, ◌++◌, length, Option, None, Some, sym, ap, ◌∙◌, arith, eqb, and_parts}
 use Rattle.mq_link.proofs.Common.{length-map, nat_tests, option_map, option_and_then, flat_map, list_any, Timing, SourceTimer, expired, GroupState, is_vacant}
-use Rattle.mq_link.proofs.Common.{is_include, IsHeld, with_entry, kept, some_source, has_sendings, get-kept, same_sources, ScheduleState, ScheduledGroup}
+use Rattle.mq_link.proofs.Common.{is_include, IsHeld, with_entry, kept, some_source, has_retransmissions, get-kept, same_sources, ScheduleState, ScheduledGroup}
 use Rattle.mq_link.proofs.Common.{IsScheduleOf, no_schedule, settled, SentQuery, messages_due, after_round, quiet_is_silent, same_round, Family, per_query}
 use Rattle.mq_link.proofs.Common.{Groups, group_expired, if_held, moments_of, groups_expired, groups_after_round, queries_due}
 use Rattle.std.specs.FinMap as map
@@ -25,7 +25,7 @@ vacant_settled g schedule vacant =
     let parts = and_parts (is_include g.mode) (eqb (map.len g.sources) 0) vacant in
     let none : length (map.keys g.sources) ≡ 0 = length-map (map.entries g.sources) (λ (e : ℕ × SourceTimer). e.0) ∙ sym (map.len-entries g.sources) ∙
     grind (arith, nat_tests, parts.1) in
-    let silent : some_source (has_sendings g) g ≡ false = no_keys (has_sendings g) (map.keys g.sources) none in
+    let silent : some_source (has_retransmissions g) g ≡ false = no_keys (has_retransmissions g) (map.keys g.sources) none in
     λ i. record { group_query = cond (parts.0 i) None schedule.group_query; sources_due = cond (silent i) schedule.sources_due None }
 
 module _ (n : ℕ) (timing : Timing) (now : ℕ) where

@@ -68,4 +68,4 @@ as_number false = refl
 
 -- the differences don't depend on the timing
 abbrev pub any_timing : Timing
-any_timing = record { robustness = 0; query_seconds = 0; response_interval = 0; last_member_interval = 0 }
+any_timing = record { robustness = 0; query_seconds = 0; response_interval = 0; last_member_interval = 0; last_member_query_count = 0 }

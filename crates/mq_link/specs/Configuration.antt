@@ -1,5 +1,5 @@
 -- The configuration of a link, and its faults.
-use Rattle.std.specs.Prelude.{◌≡◌, ℕ, ◌≤◌, not, ◌||◌, nat_lt, nat_le, Bool, [], ◌∷◌, Option, None, Some}
+use Rattle.std.specs.Prelude.{◌≡◌, ℕ, ◌≤◌, not, ◌||◌, nat_lt, nat_le, Bool, List, [], ◌∷◌, Option, None, Some}
 use Rattle.mq_table.specs.declared.timing.Timing.{Timing}
 use Rattle.mq_table.specs.Timing.{query_interval}
 use Rattle.mq_wire.specs.Family.{Family}
@@ -7,15 +7,17 @@ use Rattle.mq_link.specs.declared.configuration.Limits.{Limits}
 use Rattle.mq_link.specs.declared.configuration.LimitName.{LimitName}
 use Rattle.mq_link.specs.declared.configuration.LimitName.TheVariants.{Groups, GroupSources, Sources, Scheduled}
 use Rattle.mq_link.specs.declared.configuration.ConfigFault.{ConfigFault}
-use Rattle.mq_link.specs.declared.configuration.ConfigFault.TheVariants.{Robustness, QueryInterval, ResponseInterval, LastMember, Limit, OwnAddress}
+use Rattle.mq_link.specs.declared.configuration.ConfigFault.TheVariants.{Robustness, QueryInterval, ResponseInterval, LastMember, Limit, OwnAddress, LastMemberCount}
 use Rattle.mq_link.specs.Family.{is_router_address, response_unit, greatest_response}
+use Rattle.mq_link.specs.declared.ranges.GroupRange.{GroupRange}
+use Rattle.mq_link.specs.Ranges.{is_allowed_by}
 use Rattle.mq_link.specs.Tests.{first_named}
 
 -- The configuration of a link. `timing` has the Robustness Variable, the Query Interval, the Query Response Interval
--- and the Last Member (Last Listener) Query Interval (RFC 3376 section 8, RFC 3810 section 9). `own` is the router's
--- own address. `source_specific` keeps the source-specific range for source-specific multicast. `room` has the limits
+-- and the Last Member (Last Listener) Query Interval (RFC 3376 section 8, RFC 3810 section 9). It also has the Query
+-- Count of that name. `own` is the router's own address. `source_specific` keeps the source-specific range for source-specific multicast. `room` has the limits
 -- for which memory is allocated when the link is made. Those of a running link may be lowered, and raised again to
--- these.
+-- these. `ranges` says for which groups hosts may ask.
 pub record Configuration : Type 0 where
   pub family : Family
   pub timing : Timing
@@ -23,6 +25,7 @@ pub record Configuration : Type 0 where
   pub own : ℕ
   pub source_specific : Bool
   pub room : Limits
+  pub ranges : List GroupRange
 
 abbrev pub is_outside : (low high : ℕ) → ℕ → Bool
 is_outside low high n = nat_lt n low || nat_lt high n
@@ -64,7 +67,7 @@ abbrev pub configuration_fault : Configuration → Option ConfigFault
 configuration_fault c =
     else_fault (timing_fault c.family c.timing)
     (else_fault (as_fault (limit_fault c.limits))
-    (first_named ((OwnAddress, not (is_router_address c.family c.own)) ∷ [])))
+    (first_named ((OwnAddress, not (is_router_address c.family c.own)) ∷ (LastMemberCount, nat_lt 7 c.timing.last_member_query_count) ∷ [])))
 
 -- The limits are no greater than those of the memory, which is allocated for at most 65535 groups and sources.
 pub record IsWithinRoom (c : Configuration) : Type 0 where
@@ -74,6 +77,10 @@ pub record IsWithinRoom (c : Configuration) : Type 0 where
   pub scheduled : c.limits.scheduled ≤ c.room.scheduled
   pub few_groups : c.room.groups ≤ 65535
   pub few_sources : c.room.sources ≤ 65535
+
+-- hosts may ask for the group
+abbrev pub is_allowed : Configuration → (group : ℕ) → Bool
+is_allowed config group = is_allowed_by config.family config.ranges group
 
 -- a configuration without a fault
 abbrev pub IsFaultless : Configuration → Type 0

@@ -57,11 +57,11 @@ kind_back count Report = refl
 
 -- the numbers of some counters: those that stand alone, and the rows
 abbrev pub Stored : Type 0
-Stored = (ℕ × (ℕ × (ℕ × (ℕ × (ℕ × (ℕ × ℕ)))))) × (List ℕ × (List ℕ × List ℕ))
+Stored = (ℕ × (ℕ × (ℕ × (ℕ × (ℕ × (ℕ × (ℕ × ℕ))))))) × (List ℕ × (List ℕ × List ℕ))
 
 abbrev pub stored_of : Counters → Stored
 stored_of c = (
-  (c.received, (c.dropped, (c.applied, (c.ignored, (c.refused, (c.sent, c.unsent)))))),
+  (c.received, (c.dropped, (c.applied, (c.ignored, (c.refused, (c.sent, (c.unsent, c.denied))))))),
   (reason_row c.dropped_by, (kind_row c.spelled, refusal_row c.refused_by)),
 )
 
@@ -76,7 +76,8 @@ counters_of s = record {
   refused = s.0.1.1.1.1.0;
   refused_by = count_in refusal_number s.1.1.1;
   sent = s.0.1.1.1.1.1.0;
-  unsent = s.0.1.1.1.1.1.1;
+  unsent = s.0.1.1.1.1.1.1.0;
+  denied = s.0.1.1.1.1.1.1.1;
 }
 
 abbrev pub stored_back : (c : Counters) → counters_of (stored_of c) ≡ c
@@ -91,12 +92,13 @@ stored_back c = λ i. record {
   refused_by = λ name. refusal_back c.refused_by name i;
   sent = c.sent;
   unsent = c.unsent;
+  denied = c.denied;
 }
 
 -- the code of these numbers, by which proofs distinguish counters
 abbrev pub counters_code : Coded Counters
 counters_code =
     code_by Stored
-    (coded× (coded× coded_ℕ (coded× coded_ℕ (coded× coded_ℕ (coded× coded_ℕ (coded× coded_ℕ (coded× coded_ℕ coded_ℕ))))))
+    (coded× (coded× coded_ℕ (coded× coded_ℕ (coded× coded_ℕ (coded× coded_ℕ (coded× coded_ℕ (coded× coded_ℕ (coded× coded_ℕ coded_ℕ)))))))
     (coded× (coded_list coded_ℕ) (coded× (coded_list coded_ℕ) (coded_list coded_ℕ))))
     stored_of counters_of stored_back

@@ -38,15 +38,17 @@ kind_number OlderReport = 3
 kind_number Leave = 4
 kind_number Report = 5
 
--- The verdict on a record.
+-- The verdict on a record. A record is also ignored if hosts may not ask for its group.
 pub data Verdict : Type 0 where
   Applied : Verdict
   Ignored : Verdict
+  Denied : Verdict
   Refused : (name : Refusal) → Verdict
 
 -- The counts of datagrams, messages, records and queries. `dropped_by` counts dropped datagrams by reason. `spelled`
 -- counts parsed messages by kind, with the dropped ones. `refused_by` counts refused records by name. `sent` and
--- `unsent` count the queries that the outlet received.
+-- `unsent` count the queries that the outlet received. `denied` counts the ignored records for groups for which hosts
+-- may not ask.
 pub record Counters : Type 0 where
   pub received : ℕ
   pub dropped : ℕ
@@ -58,6 +60,7 @@ pub record Counters : Type 0 where
   pub refused_by : Refusal → ℕ
   pub sent : ℕ
   pub unsent : ℕ
+  pub denied : ℕ
 
 abbrev pub no_counts : Counters
 no_counts = record {
@@ -71,6 +74,7 @@ no_counts = record {
   refused_by = λ name. 0;
   sent = 0;
   unsent = 0;
+  denied = 0;
 }
 
 -- the counts with n more at one name
@@ -93,6 +97,7 @@ count_dropped reason c = record c {
 abbrev pub count_verdict : Verdict → Counters → Counters
 count_verdict Applied c = record c { applied = counted_on c.applied 1 }
 count_verdict Ignored c = record c { ignored = counted_on c.ignored 1 }
+count_verdict Denied c = record c { ignored = counted_on c.ignored 1; denied = counted_on c.denied 1 }
 count_verdict (Refused name) c = record c {
   refused = counted_on c.refused 1;
   refused_by = counted_at refusal_number name 1 c.refused_by;
@@ -113,14 +118,17 @@ count_answers answers c = record c {
 abbrev pub is_applied : Verdict → Bool
 is_applied Applied = true
 is_applied Ignored = false
+is_applied Denied = false
 is_applied (Refused name) = false
 
 abbrev pub is_ignored : Verdict → Bool
 is_ignored Applied = false
 is_ignored Ignored = true
+is_ignored Denied = true
 is_ignored (Refused name) = false
 
 abbrev pub is_refused : Verdict → Bool
 is_refused Applied = false
 is_refused Ignored = false
+is_refused Denied = false
 is_refused (Refused name) = true

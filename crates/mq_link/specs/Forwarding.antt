@@ -11,7 +11,7 @@ use Rattle.mq_wire.specs.declared.message.WireFault.{WireFault}
 use Rattle.mq_link.specs.declared.answers.DropReason.{DropReason}
 use Rattle.mq_link.specs.Configuration.{Configuration}
 use Rattle.mq_link.specs.Receive.{Envelope, drop_reason, pseudo_of, read_of, setting_of}
-use Rattle.mq_link.specs.Record.{Seen, Setting, OlderJoin, OlderLeave, judged, seen_after, stated}
+use Rattle.mq_link.specs.Record.{Seen, Setting, OlderJoin, OlderLeave, judged, seen_after, stated_alone}
 use Rattle.mq_link.specs.Run.{Event, Tick, Datagram}
 use Rattle.mq_link.specs.State.{Groups, LinkState, group_at}
 use Rattle.mq_link.specs.Tick.{tick_of}
@@ -34,8 +34,8 @@ changed_by_all at seen (r ∷ rs) groups address =
 abbrev pub changed_by_message : Setting → Message ℕ → Groups → (address : ℕ) → Bool
 changed_by_message at (QueryMessage query) groups address = false
 changed_by_message at (OldReport version group) groups address =
-    changes groups (stated at group (OlderJoin version) groups).groups address
-changed_by_message at (LeaveMessage group) groups address = changes groups (stated at group OlderLeave groups).groups address
+    changes groups (stated_alone at group (OlderJoin version) groups).groups address
+changed_by_message at (LeaveMessage group) groups address = changes groups (stated_alone at group OlderLeave groups).groups address
 changed_by_message at (ReportMessage records) groups address = changed_by_all at map.empty records groups address
 
 -- the message that was read changes the group, if it isn't dropped

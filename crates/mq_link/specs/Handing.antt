@@ -42,8 +42,8 @@ outgoing_on family terms query =
 -- the number of sources that a query names
 abbrev pub named_in : SentQuery → ℕ
 named_in GeneralQuery = 0
-named_in (GroupQuery group s) = 0
-named_in (SourcesQuery group s sources) = length sources
+named_in (GroupQuery group suppress) = 0
+named_in (SourcesQuery group suppress sources) = length sources
 
 -- one message holds the query
 abbrev pub FitsOne : Family → SentQuery → Type 0

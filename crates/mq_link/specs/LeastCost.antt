@@ -12,7 +12,7 @@ use Rattle.mq_table.specs.OlderHosts.{hosts_of}
 use Rattle.mq_held.specs.Places.{due_in}
 use Rattle.mq_link.specs.declared.answers.DropReason.{DropReason}
 use Rattle.mq_link.specs.Changing.{acts_as}
-use Rattle.mq_link.specs.Configuration.{Configuration}
+use Rattle.mq_link.specs.Configuration.{Configuration, is_allowed}
 use Rattle.mq_link.specs.Family.{v1_mutes_leave}
 use Rattle.mq_link.specs.State.{Groups, LinkState, group_at, sources_of}
 use Rattle.mq_link.specs.Tick.{tick_of}
@@ -43,6 +43,10 @@ least_work at group statement groups =
 abbrev pub least_stated : Setting → ℕ → Statement → Groups → ℕ
 least_stated at group statement groups = least_search groups + least_work at group statement groups
 
+-- the same, and none if hosts may not ask for its group
+abbrev pub least_alone : Setting → ℕ → Statement → Groups → ℕ
+least_alone at group statement groups = if is_allowed at.config group then least_stated at group statement groups else 0
+
 -- The fewest comparisons of a record. There are none if it ends before its group is searched for. Otherwise there are
 -- those of the search. Unless four other records of the datagram have met its group, there are also one for each source
 -- that it names but the first, and the merge.
@@ -66,8 +70,8 @@ least_all at seen (r ∷ rs) groups =
 -- The fewest comparisons of a message that isn't dropped. A query compares the addresses of two routers.
 abbrev pub least_of : Setting → Message ℕ → Groups → ℕ
 least_of at (QueryMessage query) groups = 1
-least_of at (OldReport version group) groups = least_stated at group (OlderJoin version) groups
-least_of at (LeaveMessage group) groups = least_stated at group OlderLeave groups
+least_of at (OldReport version group) groups = least_alone at group (OlderJoin version) groups
+least_of at (LeaveMessage group) groups = least_alone at group OlderLeave groups
 least_of at (ReportMessage records) groups = least_all at map.empty records groups
 
 -- the fewest comparisons after the tick, by what was read

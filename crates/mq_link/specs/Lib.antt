@@ -1,5 +1,6 @@
 pub mod Tests
 pub mod Family
+pub mod Ranges
 pub mod Configuration
 pub mod Counters
 pub mod State
@@ -31,7 +32,7 @@ pub mod Sender
 pub mod Counted
 pub mod Link
 pub mod Configuring
-pub mod TickCosts
+pub mod CallCosts
 pub mod Router
 pub mod Applying
 pub mod LinkCode

@@ -11,6 +11,8 @@ use Rattle.mq_sched.specs.Election.{Role, Querier, Other}
 use Rattle.mq_held.specs.Groups.{Groups}
 use Rattle.mq_held.specs.Held.{scheduled_code}
 use Rattle.mq_link.specs.declared.configuration.Limits.{Limits}
+use Rattle.mq_link.specs.declared.ranges.GroupRange.{GroupRange}
+use Rattle.mq_link.specs.Ranges.{range_code}
 use Rattle.mq_link.specs.Configuration.{Configuration}
 use Rattle.mq_link.specs.Counted.{counters_code}
 use Rattle.mq_link.specs.Counters.{Counters}
@@ -34,9 +36,15 @@ family_code = code_by Bool coded_bool is_mld family_if family_back
 
 abbrev pub variables_code : Coded Variables
 variables_code =
-    code_by ((ℕ × ℕ) × (ℕ × ℕ)) (coded× (coded× coded_ℕ coded_ℕ) (coded× coded_ℕ coded_ℕ))
-    (λ v. ((v.robustness, v.query_seconds), (v.response_interval, v.last_member_interval)))
-    (λ p. record { robustness = p.0.0; query_seconds = p.0.1; response_interval = p.1.0; last_member_interval = p.1.1 })
+    code_by ((ℕ × ℕ) × (ℕ × (ℕ × ℕ))) (coded× (coded× coded_ℕ coded_ℕ) (coded× coded_ℕ (coded× coded_ℕ coded_ℕ)))
+    (λ v. ((v.robustness, v.query_seconds), (v.response_interval, (v.last_member_interval, v.last_member_query_count))))
+    (λ p. record {
+      robustness = p.0.0;
+      query_seconds = p.0.1;
+      response_interval = p.1.0;
+      last_member_interval = p.1.1.0;
+      last_member_query_count = p.1.1.1;
+    })
     (λ _. refl)
 
 abbrev pub limits_code : Coded Limits
@@ -48,10 +56,19 @@ limits_code =
 
 abbrev pub configuration_code : Coded Configuration
 configuration_code =
-    code_by ((Family × Variables) × ((Limits × Limits) × (ℕ × Bool)))
-    (coded× (coded× family_code variables_code) (coded× (coded× limits_code limits_code) (coded× coded_ℕ coded_bool)))
-    (λ c. ((c.family, c.timing), ((c.limits, c.room), (c.own, c.source_specific))))
-    (λ p. record { family = p.0.0; timing = p.0.1; limits = p.1.0.0; own = p.1.1.0; source_specific = p.1.1.1; room = p.1.0.1 })
+    code_by ((Family × Variables) × ((Limits × Limits) × ((ℕ × Bool) × List GroupRange)))
+    (coded× (coded× family_code variables_code)
+    (coded× (coded× limits_code limits_code) (coded× (coded× coded_ℕ coded_bool) (coded_list range_code))))
+    (λ c. ((c.family, c.timing), ((c.limits, c.room), ((c.own, c.source_specific), c.ranges))))
+    (λ p. record {
+      family = p.0.0;
+      timing = p.0.1;
+      limits = p.1.0.0;
+      own = p.1.1.0.0;
+      source_specific = p.1.1.0.1;
+      room = p.1.0.1;
+      ranges = p.1.1.1;
+    })
     (λ _. refl)
 
 -- a role: a flag for the querier, and its two numbers

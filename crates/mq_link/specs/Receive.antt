@@ -25,7 +25,7 @@ use Rattle.mq_link.specs.Configuration.{Configuration}
 use Rattle.mq_link.specs.Counters.{Counters, Verdict, count_received, count_spelled, count_dropped, count_verdicts, is_applied, is_ignored, is_refused}
 use Rattle.mq_link.specs.State.{LinkState}
 use Rattle.mq_link.specs.Tick.{Step, tick_of}
-use Rattle.mq_link.specs.Record.{Setting, OlderJoin, OlderLeave, Outcomes, stated, all_judged, alone}
+use Rattle.mq_link.specs.Record.{Setting, OlderJoin, OlderLeave, Outcomes, stated_alone, all_judged, alone}
 use Rattle.mq_link.specs.Heard.{query_heard}
 
 -- The facts of a datagram beside its bytes. They are its source, and for MLD its destination, its hop limit, and
@@ -70,7 +70,7 @@ envelope_tests Mld envelope =
     ∷ (NoAlert, not envelope.alert)
     ∷ []
 
--- a query of IGMPv1, which takes no part in the election
+-- a query of IGMPv1, which takes no part in the election (RFC 3376 section 7.1)
 abbrev pub is_of_igmpv1 : Family → QueryVersion ℕ → Bool
 is_of_igmpv1 Igmp (Older V1) = true
 is_of_igmpv1 Igmp (Older V2) = false
@@ -147,9 +147,9 @@ unfoldable pub taken_in : Configuration → Envelope → Message ℕ → Step �
 taken_in config envelope (QueryMessage query) tick =
     with_state tick (query_heard config tick.state.last envelope.source query tick.state) (taken [])
 taken_in config envelope (OldReport version group) tick =
-    with_outcomes tick (alone (stated (setting_of config tick.state) group (OlderJoin version) tick.state.groups))
+    with_outcomes tick (alone (stated_alone (setting_of config tick.state) group (OlderJoin version) tick.state.groups))
 taken_in config envelope (LeaveMessage group) tick =
-    with_outcomes tick (alone (stated (setting_of config tick.state) group OlderLeave tick.state.groups))
+    with_outcomes tick (alone (stated_alone (setting_of config tick.state) group OlderLeave tick.state.groups))
 taken_in config envelope (ReportMessage records) tick =
     with_outcomes tick (all_judged (setting_of config tick.state) map.empty records tick.state.groups)
 

@@ -23,8 +23,8 @@ use Rattle.mq_link.specs.declared.answers.Refusal.{Refusal}
 use Rattle.mq_link.specs.declared.answers.Refusal.TheVariants.{Long, Repeated, Groups as TooManyGroups, GroupSources, Sources, Scheduled}
 use Rattle.mq_link.specs.Tests.{first_named}
 use Rattle.mq_link.specs.Family.{is_admitted, v1_mutes_leave, per_query}
-use Rattle.mq_link.specs.Configuration.{Configuration}
-use Rattle.mq_link.specs.Counters.{Verdict, Applied, Ignored, Refused}
+use Rattle.mq_link.specs.Configuration.{Configuration, is_allowed}
+use Rattle.mq_link.specs.Counters.{Verdict, Applied, Denied, Ignored, Refused}
 use Rattle.mq_link.specs.State.{Groups, group_at, with_group, sources_of, sources_in, schedules_in, is_source_specific}
 
 -- the types of records (RFC 3376 section 4.2.12, RFC 3810 section 5.2.12)
@@ -138,6 +138,11 @@ change_in at group statement groups =
 unfoldable pub stated : Setting → ℕ → Statement → Groups → Outcome
 stated at group statement groups = changed_or_refused at group groups (change_in at group statement groups)
 
+-- the outcome of a message of an older version, which is ignored if hosts may not ask for its group
+abbrev pub stated_alone : Setting → ℕ → Statement → Groups → Outcome
+stated_alone at group statement groups =
+    if is_allowed at.config group then stated at group statement groups else leaving groups Denied
+
 -- the number of records of a datagram that have met each group while it was held
 abbrev pub Seen : Type 0
 Seen = FinMap nat_cmp ℕ
@@ -145,8 +150,8 @@ Seen = FinMap nat_cmp ℕ
 abbrev pub met : Seen → ℕ → ℕ
 met seen group = unwrap_or (map.get seen group) 0
 
--- Steps 1 and 2. A record of an unknown type or for a group that isn't admitted is ignored. A record that names more
--- sources than a group may have is refused. Otherwise it goes on, with its kind.
+-- Steps 1 and 2. A record of an unknown type, for a group that isn't admitted, or for a group for which hosts may not ask
+-- is ignored. A record that names more sources than a group may have is refused. Otherwise it goes on, with its kind.
 pub data Entrance : Type 0 where
   Stops : (verdict : Verdict) → Entrance
   GoesOn : (kind : Kind) → Entrance
@@ -155,6 +160,7 @@ abbrev pub entrance_as : Configuration → RecordView ℕ → Option Kind → En
 entrance_as config r None = Stops Ignored
 entrance_as config r (Some kind) =
     if not (is_admitted config.family r.group) then Stops Ignored
+    else if not (is_allowed config r.group) then Stops Denied
     else if nat_lt config.limits.group_sources (length r.sources) then Stops (Refused Long)
     else GoesOn kind
 

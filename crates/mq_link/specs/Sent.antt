@@ -11,12 +11,12 @@ use Rattle.mq_link.specs.Configuration.{Configuration}
 use Rattle.mq_link.specs.Tick.{Step}
 
 -- a query with the robustness variable and the query interval in force
-abbrev pub query_with : Timing → (group response : ℕ) → (s : Bool) → List ℕ → Query ℕ
-query_with timing group response s sources = record {
+abbrev pub query_with : Timing → (group response : ℕ) → (suppress : Bool) → List ℕ → Query ℕ
+query_with timing group response suppress sources = record {
   group = group;
   response = response;
   version = Current (record {
-    suppress = s;
+    suppress = suppress;
     robustness = timing.robustness;
     interval = timing.query_seconds;
     sources = sources;
@@ -27,8 +27,8 @@ query_with timing group response s sources = record {
 -- for its group, with the last member query interval.
 abbrev pub fields_sent : Timing → SentQuery → Query ℕ
 fields_sent timing GeneralQuery = query_with timing 0 timing.response_interval false []
-fields_sent timing (GroupQuery group s) = query_with timing group timing.last_member_interval s []
-fields_sent timing (SourcesQuery group s sources) = query_with timing group timing.last_member_interval s sources
+fields_sent timing (GroupQuery group suppress) = query_with timing group timing.last_member_interval suppress []
+fields_sent timing (SourcesQuery group suppress sources) = query_with timing group timing.last_member_interval suppress sources
 
 -- a message as the outlet receives it: its destination, its query and its bytes
 pub record Outgoing : Type 0 where

@@ -39,7 +39,8 @@ pub enum DropReason {
     NoAlert,
     /// A query from the router's own address, or in IGMP from 0.0.0.0.
     OwnOrZero,
-    /// A query of IGMPv1, whose routers elect no querier.
+    /// A query of IGMPv1: 8 octets with a Max Resp Code of 0 (RFC 3376 section 7.1). Routers of IGMPv1 elect no querier.
+    /// Queries of IGMPv2 and MLDv1 aren't dropped.
     OlderQuery,
     /// An older Report, a Leave or a Done for a group that isn't admitted.
     BadGroup,
@@ -91,7 +92,7 @@ pub enum Refusal {
 pub enum MessageKind {
     /// A query of IGMPv3 or MLDv2.
     Query,
-    /// A query of an older version.
+    /// A query of IGMPv1, IGMPv2 or MLDv1.
     OlderQuery,
     /// A Report of an older version.
     OlderReport,

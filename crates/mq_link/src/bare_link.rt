@@ -1,28 +1,24 @@
 //! One link without a workspace of its own.
 
-ghost use Rattle.std.specs.Prelude.{◌≡◌, ℕ, ◌+◌, ◌*◌, ◌<◌, ◌≤◌, ◌^◌, true, false, [], length, IfOk, IfSome, is_ok, is_some};
+ghost use Rattle.std.specs.Prelude.{◌≡◌, ℕ, ◌<◌, ◌≤◌, ◌^◌, true, false, [], length, IfOk, IfSome, is_ok, is_some};
 ghost use Rattle.std.specs.FinMap as map;
 ghost use Rattle.std.specs.contracts.vec.Vec as page;
 ghost use denote.Builtin.{u16};
 ghost use Rattle.mq_arena.specs.Vectors.{IsSize, Takes};
-ghost use Rattle.mq_count.specs.Spending.{Spends};
 ghost use Rattle.mq_sets.specs.Ascending.{IsAscending};
 ghost use Rattle.mq_table.specs.Stored.{number_in, timers_in};
 ghost use Rattle.mq_sched.specs.Election.{is_querier};
 ghost use Rattle.mq_sched.specs.StoredElection.{IsOtherOf};
-ghost use Rattle.mq_held.specs.Groups.{group_at, sources_of, sources_in};
+ghost use Rattle.mq_held.specs.Groups.{group_at, sources_of};
 ghost use Rattle.mq_held.specs.Places.{HasPlace};
+ghost use Rattle.mq_link.specs.CallCosts.{ReceiveCosts, TickCosts};
 ghost use Rattle.mq_link.specs.Configuring.{Configures};
-ghost use Rattle.mq_link.specs.Cost.{cost_of};
 ghost use Rattle.mq_link.specs.Storage.{IsGroupAt};
-ghost use Rattle.mq_link.specs.LeastCost.{least_received, least_ticked};
 ghost use Rattle.mq_link.specs.Link.{HasTicked, HasReceived, IsUntouched};
-ghost use Rattle.mq_link.specs.Moved.{most_moved};
 ghost use Rattle.mq_link.specs.Sizes.{bytes_of_link};
 ghost use Rattle.mq_link.specs.State as state;
-ghost use Rattle.mq_link.specs.State.{held_of, link_at, IsWellFormed};
-ghost use Rattle.mq_link.specs.Tick.{moment_of, tick_of, next_of};
-ghost use Rattle.mq_link.specs.TickCosts.{TickCosts};
+ghost use Rattle.mq_link.specs.State.{link_at, IsWellFormed};
+ghost use Rattle.mq_link.specs.Tick.{tick_of, next_of};
 ghost use Rattle.mq_link.specs.Workspace.{suffices, with_changed};
 ghost use Rattle.mq_link.specs.Forwarding.{AreThose, changed_by_datagram, changed_by_tick};
 
@@ -145,16 +141,7 @@ impl<F: Family, A: Allocator> BareLink<F, A> {
         ensures config { self.new.config ≡ self.old.config }
         ensures formed { IsWellFormed self.new.config self.new.state }
         ensures later { is_ok result ≡ true → now < next_of self.new.state }
-        ensures spent { let groups = self.old.state.groups in
-            Spends 0 (4 * sources_in groups + 44 * map.len groups + 3) self.old.spent self.new.spent }
-        ensures least { let groups = self.old.state.groups in
-            let least = least_ticked (moment_of self.old.state now) groups in
-            is_ok result ≡ true → Spends (2 + least) (4 * sources_in groups + 44 * map.len groups + 3) self.old.spent self.new.spent }
-        ensures bounded { Spends 0 (cost_of 0 (held_of self.old.state)) self.old.spent self.new.spent }
-        ensures moved { let groups = self.old.state.groups in
-            Spends 0 (6 * sources_in groups + 136 * map.len groups) self.old.moved self.new.moved }
-        ensures quiet { moment_of self.old.state now < next_of self.old.state → Spends 0 3 self.old.spent self.new.spent }
-        ensures still { moment_of self.old.state now < next_of self.old.state → self.new.moved ≡ self.old.moved }
+        ensures costs { TickCosts (is_ok result) now self.old self.new }
     {
         self.is_well_formed();
         if self.fits(workspace) {
@@ -186,10 +173,7 @@ impl<F: Family, A: Allocator> BareLink<F, A> {
         ensures untouched { is_ok result ≡ false → IsUntouched self.old self.new outlet.old outlet.new }
         ensures config { self.new.config ≡ self.old.config }
         ensures formed { IsWellFormed self.new.config self.new.state }
-        ensures spent { Spends 0 (cost_of (length body.now) (held_of self.old.state)) self.old.spent self.new.spent }
-        ensures least { let least = least_received self.old.config (F.envelope_of envelope.now) body.now now self.old.state in
-            is_ok result ≡ true → Spends (2 + least) (cost_of (length body.now) (held_of self.old.state)) self.old.spent self.new.spent }
-        ensures moved { Spends 0 (most_moved (length body.now) (held_of self.old.state)) self.old.moved self.new.moved }
+        ensures costs { ReceiveCosts (is_ok result) (F.envelope_of envelope.now) body.now now self.old self.new }
     {
         self.is_well_formed();
         if self.fits(workspace) {
@@ -214,8 +198,7 @@ impl<F: Family, A: Allocator> BareLink<F, A> {
         ensures ticks { HasTicked O.takes now self.old self.new outlet.old outlet.new }
         ensures formed { IsWellFormed self.new.config self.new.state }
         ensures later { now < next_of self.new.state }
-        ensures costs { TickCosts now self.old self.new }
-        ensures bounded { Spends 0 (cost_of 0 (held_of self.old.state)) self.old.spent self.new.spent }
+        ensures costs { TickCosts true now self.old self.new }
     {
         self.is_well_formed();
         self.router.lemma_is_stored();
@@ -243,9 +226,7 @@ impl<F: Family, A: Allocator> BareLink<F, A> {
         ensures receives { HasReceived O.takes (F.envelope_of envelope.now) body.now now result self.old self.new
             outlet.old outlet.new }
         ensures formed { IsWellFormed self.new.config self.new.state }
-        ensures spent { let least = least_received self.old.config (F.envelope_of envelope.now) body.now now self.old.state in
-            Spends (2 + least) (cost_of (length body.now) (held_of self.old.state)) self.old.spent self.new.spent }
-        ensures moved { Spends 0 (most_moved (length body.now) (held_of self.old.state)) self.old.moved self.new.moved }
+        ensures costs { ReceiveCosts true (F.envelope_of envelope.now) body.now now self.old self.new }
     {
         let mut terms = QueryTerms::of(self.router.config());
         let mut sender = Sender::new(&mut terms, outlet);

@@ -3,7 +3,7 @@
 ghost use Rattle.std.specs.Prelude.{◌≡◌, ℕ, Bool, true, false, not, [], ◌∷◌};
 ghost use Rattle.mq_wire.specs.Family.{Family};
 ghost use Rattle.mq_link.specs.Configuration as spec;
-ghost use Rattle.mq_link.specs.Configuration.{is_outside, as_fault, else_fault, IsFaultless, IsWithinRoom};
+ghost use Rattle.mq_link.specs.Configuration.{is_allowed, is_outside, as_fault, else_fault, IsFaultless, IsWithinRoom};
 ghost use Rattle.mq_link.specs.Configured.{variables, configured, IsGivenOrFaulty};
 ghost use Rattle.mq_link.specs.Defaults.{configured_by_default};
 ghost use Rattle.mq_link.specs.Family.{is_router_address};
@@ -11,6 +11,7 @@ ghost use Rattle.mq_link.specs.Tests.{first_named};
 
 use crate::configuration::{ConfigFault, LimitName, Limits};
 use crate::family::Family;
+use crate::ranges::{Ranges, is_allowed_by};
 use mq_table::Timing;
 use std::marker::Model;
 
@@ -25,6 +26,7 @@ pub struct Config<F: Family> {
     own: F::Address,
     source_specific: bool,
     room: Limits,
+    ranges: Ranges,
 }
 
 impl<F: Family> Model for Config<F> {
@@ -34,11 +36,12 @@ impl<F: Family> Model for Config<F> {
 
     ghost Value = { Configuration };
 
-    ghost view = { λ c. record (configured F.FAMILY c.timing c.limits (F.Address.number c.own) c.source_specific) { room = c.room } };
+    ghost view = { λ c.
+        record (configured F.FAMILY c.timing c.limits (F.Address.number c.own) c.source_specific) { room = c.room; ranges = c.ranges } };
 
     ghost invariant = { λ c.
         IsFaultless (configured F.FAMILY c.timing c.limits (F.Address.number c.own) c.source_specific)
-        × IsWithinRoom (record (configured F.FAMILY c.timing c.limits (F.Address.number c.own) c.source_specific) { room = c.room })
+        × IsWithinRoom (record (configured F.FAMILY c.timing c.limits (F.Address.number c.own) c.source_specific) { room = c.room; ranges = c.ranges })
         × (c.response_interval ≡ c.timing.response_interval) × (c.last_member_interval ≡ c.timing.last_member_interval) };
 }
 
@@ -48,7 +51,8 @@ impl<F: Family> Config<F> {
     /// The Robustness Variable is 1 to 7, and the Query Interval 1 to 31744 seconds. The Query Response Interval and
     /// the Last Member (Last Listener) Query Interval are in milliseconds, and the response code of the family has to
     /// carry them. The Query Response Interval is below the Query Interval (RFC 3376 section 8, RFC 3810 section 9).
-    /// With `source_specific` the source-specific range is kept for source-specific multicast (RFC 4604).
+    /// With `source_specific` the source-specific range is kept for source-specific multicast (RFC 4604). Hosts may ask for
+    /// every group.
     pub fn new(
         robustness: u32,
         query_seconds: u32,
@@ -88,7 +92,21 @@ impl<F: Family> Config<F> {
             own,
             source_specific,
             room: limits,
+            ranges: Ranges::none(),
         })
+    }
+
+    /// Returns this configuration with another Last Member (Last Listener) Query Count.
+    ///
+    /// It is 0 to 7. 0, the count after `new`, stands for the Robustness Variable in force. Another one stays if a query
+    /// announces another Robustness Variable. RFC 3376 sections 8.9 and 8.10, RFC 3810 sections 9.9 and 9.10.
+    pub fn with_last_member_query_count(self, count: u32) -> Result<Config<F>, ConfigFault>
+        ensures { IsGivenOrFaulty (record self { timing = record self.timing { last_member_query_count = count } }) result }
+    {
+        let Some(timing) = self.timing.with_last_member_query_count(count) else {
+            return Err(ConfigFault::LastMemberCount);
+        };
+        Ok(Config { timing, ..self })
     }
 
     /// A lemma: each configuration has no fault, and is of its family. It has no effect at run time.
@@ -142,6 +160,20 @@ impl<F: Family> Config<F> {
         ensures { result ≡ record self { room = room } }
     {
         Config { room, ..self }
+    }
+
+    /// Returns this configuration with other ranges of groups that hosts may ask for.
+    pub fn with_ranges(self, ranges: Ranges) -> Config<F>
+        ensures { result ≡ record self { ranges = ranges } }
+    {
+        Config { ranges, ..self }
+    }
+
+    /// Returns whether hosts may ask for a group.
+    pub fn allows(&self, group: F::Address) -> bool
+        ensures { result ≡ is_allowed self.now (F.Address.number group) }
+    {
+        is_allowed_by::<F>(&self.ranges, group)
     }
 
     /// Returns the router's own address.

@@ -101,6 +101,9 @@ pub enum ConfigFault {
     /// An own address from which no router may send queries.
     #[error("no router may send queries from the own address")]
     OwnAddress,
+    /// A last member query count above 7.
+    #[error("the last member query count is not within 0 to 7")]
+    LastMemberCount,
 }
 
 /// The reason for which a running link refuses a configuration: the first of these that holds.

@@ -3,7 +3,7 @@
 ghost use Rattle.std.specs.Prelude.{◌≡◌, ◌+◌, ◌<◌};
 ghost use Rattle.mq_count.specs.Streams.{counted_on};
 ghost use Rattle.mq_link.specs.Counters as spec;
-ghost use Rattle.mq_link.specs.Counters.{no_counts, counted_at, reason_number, refusal_number, kind_number, Applied, Ignored, Refused};
+ghost use Rattle.mq_link.specs.Counters.{no_counts, counted_at, reason_number, refusal_number, kind_number, Applied, Denied, Ignored, Refused};
 ghost use Rattle.mq_link.specs.Judging.{verdict_of};
 
 use crate::answers::{DropReason, MessageKind, Refusal};
@@ -33,6 +33,7 @@ pub struct Counts {
     refused_by: [u64; REFUSALS],
     sent: u64,
     unsent: u64,
+    denied: u64,
 }
 
 impl Model for Counts {
@@ -54,6 +55,7 @@ impl Model for Counts {
       refused_by = count_in refusal_number c.refused_by;
       sent = c.sent;
       unsent = c.unsent;
+      denied = c.denied;
     } };
 }
 
@@ -111,6 +113,7 @@ impl Counts {
             refused_by: [0; REFUSALS],
             sent: 0,
             unsent: 0,
+            denied: 0,
         }
     }
 
@@ -160,6 +163,10 @@ impl Counts {
         match verdict {
             Verdict::Applied => self.applied = self.applied.saturating_add(1),
             Verdict::Ignored => self.ignored = self.ignored.saturating_add(1),
+            Verdict::Denied => {
+                self.ignored = self.ignored.saturating_add(1);
+                self.denied = self.denied.saturating_add(1);
+            }
             Verdict::Refused(name) => {
                 self.refused = self.refused.saturating_add(1);
                 self.count_refusal(name);
@@ -243,5 +250,12 @@ impl Counts {
         ensures { result ≡ self.now.unsent }
     {
         self.unsent
+    }
+
+    /// Returns the number of ignored records for groups for which hosts may not ask.
+    pub fn denied(&self) -> u64
+        ensures { result ≡ self.now.denied }
+    {
+        self.denied
     }
 }

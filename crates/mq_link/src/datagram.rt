@@ -5,16 +5,16 @@ ghost use Rattle.std.specs.FinMap as map;
 ghost use Rattle.mq_count.specs.Spending.{Spends};
 ghost use Rattle.mq_held.specs.Groups.{sources_in};
 ghost use Rattle.mq_wire.specs.Numbered.{numbered_message};
+ghost use Rattle.mq_link.specs.CallCosts.{ReceiveCosts};
 ghost use Rattle.mq_link.specs.Forwarding.{AreThose, changed_by_datagram, changed_by_message, changed_by_read};
-ghost use Rattle.mq_link.specs.Cost.{cost_of, least_length};
-ghost use Rattle.mq_link.specs.LeastCost.{least_after, least_of, least_received};
+ghost use Rattle.mq_link.specs.Cost.{least_length};
+ghost use Rattle.mq_link.specs.LeastCost.{least_after, least_of};
 ghost use Rattle.mq_link.specs.Link.{HasReceived};
 ghost use Rattle.mq_link.specs.Reading.{numbered_read, most_records, records_in, IsCarriedIn};
 ghost use Rattle.mq_link.specs.Receive as spec;
-ghost use Rattle.mq_link.specs.Moved.{HasMoved, most_moved};
+ghost use Rattle.mq_link.specs.Moved.{HasMoved};
 ghost use Rattle.mq_link.specs.Router.{HasReceipt, link_of, silent_step, state_of};
 ghost use Rattle.mq_link.specs.Sender.{TakesQuery};
-ghost use Rattle.mq_link.specs.State.{held_of};
 ghost use Rattle.mq_link.specs.Workspace.{suffices, with_changed};
 
 use crate::answers::{MessageKind, Received};
@@ -171,9 +171,7 @@ impl<F: Family, A: Allocator> Router<F, A> {
         ensures same_outlet { sender.new.outlet.ghost_name ≡ sender.old.outlet.ghost_name }
         ensures workspace { work.new ≡ with_changed work.old work.new.changed }
         ensures changed { AreThose (changed_by_datagram self.old.at.config (F.envelope_of envelope.now) body.now now (state_of self.old)) work.new.changed }
-        ensures spent { let least = least_received self.old.at.config (F.envelope_of envelope.now) body.now now (state_of self.old) in
-            Spends (2 + least) (cost_of (length body.now) (held_of (state_of self.old))) self.old.spent self.new.spent }
-        ensures moved { Spends 0 (most_moved (length body.now) (held_of (state_of self.old))) self.old.moved self.new.moved }
+        ensures costs { ReceiveCosts true (F.envelope_of envelope.now) body.now now (link_of self.old) (link_of self.new) }
     {
         self.lemma_is_stored();
         self.come_to(work, now, sender);

@@ -1,6 +1,6 @@
 //! The facts of a family of messages that a link needs.
 
-ghost use Rattle.std.specs.Prelude.{◌≡◌, ◌≤◌, ◌==◌, ℕ, Bool};
+ghost use Rattle.std.specs.Prelude.{◌≡◌, ◌*◌, ◌≤◌, ◌==◌, ℕ, Bool};
 ghost use Rattle.mq_wire.specs.Canon.{canon, IsCurrent, source_count, Writes};
 ghost use Rattle.mq_wire.specs.Family as wire;
 ghost use Rattle.mq_wire.specs.Numbered.{numbered_query, numbered_version};
@@ -36,6 +36,11 @@ pub trait Family {
 
     /// The greatest value of the maximum response code in milliseconds.
     const GREATEST_RESPONSE: u32;
+
+    ghost ADDRESS_BITS: { ℕ };
+
+    /// The number of bits of an address.
+    const ADDRESS_BITS: u32;
 
     ghost V1_MUTES_LEAVE: { Bool };
 
@@ -73,6 +78,10 @@ pub trait Family {
     /// Returns whether a group is in the range that may be kept for source-specific multicast (RFC 4604 section 2).
     fn in_source_specific_range(group: Self::Address) -> bool
         ensures { result ≡ family.in_source_specific_range FAMILY (Self.Address.number group) };
+
+    /// Returns the number of an address, most significant octet first.
+    fn number(address: Self::Address) -> u128
+        ensures { result ≡ Self.Address.number address };
 
     /// Returns whether a router may have this address and send queries from it (RFC 3810 section 5.1.14).
     fn is_router_address(address: Self::Address) -> bool
@@ -116,6 +125,8 @@ pub trait Family {
     ghost response_unit: { RESPONSE_UNIT ≡ family.response_unit FAMILY };
 
     ghost greatest_response: { GREATEST_RESPONSE ≡ family.greatest_response FAMILY };
+
+    ghost address_bits: { ADDRESS_BITS ≡ 8 * wire.address_width FAMILY };
 
     ghost v1_mutes_leave: { V1_MUTES_LEAVE ≡ family.v1_mutes_leave FAMILY };
 

@@ -50,6 +50,10 @@ impl Family for Igmp {
 
     const GREATEST_RESPONSE: u32 = 3174400;
 
+    ghost ADDRESS_BITS = { 32 };
+
+    const ADDRESS_BITS: u32 = 32;
+
     ghost V1_MUTES_LEAVE = { true };
 
     const V1_MUTES_LEAVE: bool = true;
@@ -57,6 +61,8 @@ impl Family for Igmp {
     ghost response_unit = { refl };
 
     ghost greatest_response = { refl };
+
+    ghost address_bits = { refl };
 
     ghost v1_mutes_leave = { refl };
 
@@ -83,6 +89,10 @@ impl Family for Igmp {
 
     fn in_source_specific_range(group: Addr4) -> bool {
         number_of(group) / FIRST_OCTET == 232
+    }
+
+    fn number(address: Addr4) -> u128 {
+        u128::from(number_of(address))
     }
 
     fn is_router_address(address: Addr4) -> bool {

@@ -1,5 +1,5 @@
-//! A record that is applied where its group's row is stored, without a copy. It only changes the timers of the sources
-//! that it names, and asks for nothing.
+//! A record that is applied where its group's row is stored, without a copy. It only sets the timers of the sources that
+//! it names, may add one of them, and asks for nothing.
 
 ghost use Rattle.std.specs.Prelude.{◌≡◌, ℕ, ◌+◌, ◌*◌, ◌≤◌, ◌||◌, [], ◌∷◌, false, true, is_ok, is_some, length, map as list_map, min, IfSome, MatchOption, OnSome, None, Some};
 ghost use Rattle.std.specs.FinMap as map;
@@ -28,6 +28,7 @@ use crate::statement::StatementKind;
 use crate::status::Status;
 use crate::storage::{GroupLookup, Storage};
 use mq_count::Key;
+use mq_held::SourceRoom;
 use mq_sched::Sink;
 use mq_table::Kind;
 use std::alloc::Allocator;
@@ -47,9 +48,22 @@ pub(crate) fn restarting(said: StatementKind) -> Option<Kind>
 }
 
 impl<F: Family> Status<F> {
-    /// Applies a record of IS_IN or ALLOW to a held group where the group's row is stored. Nothing is due for the
-    /// group, and it has each source that the record names. Their timers are set anew, and their sendings stay. Returns
-    /// whether the group's filter changed. For any other statement or group, it returns None and changes nothing.
+    /// Returns the most sources that the limits allow.
+    fn source_room(&self) -> SourceRoom
+        ensures { let limits = self.now.config.limits in result ≡ record { group_sources = limits.group_sources; sources = limits.sources } }
+    {
+        let limits = self.config().limits();
+        SourceRoom {
+            group_sources: limits.group_sources as usize,
+            sources: limits.sources as usize,
+        }
+    }
+
+    /// Applies a record of IS_IN or ALLOW to a held group where the group's row is stored.
+    ///
+    /// Nothing is due for the group. It has each source that the record names, or it lacks the only named source and the
+    /// limits allow another. Their timers are set anew, and their retransmissions stay. Returns whether the group's
+    /// filter changed. For any other statement or group, it returns None and changes nothing.
     pub(crate) fn refresh<A: Allocator>(
         &self,
         storage: &mut Storage<F::Address, A>,
@@ -59,13 +73,15 @@ impl<F: Family> Status<F> {
     ) -> Option<bool>
         requires sound { AreSound self.now storage.old.held.groups }
         requires lookup { IsLookup F.Address.number storage.old.held lookup }
+        requires source_room { storage.old.held.source_room ≡ self.now.config.room.sources }
         requires named { IsAscending F.Address.number named.now }
         ensures outcome { let said_so = statement_of said (named_in F.Address.number named.now) in
             OnSome result (stated self.now (F.Address.number lookup.address) said_so storage.old.held.groups ≡ record { verdict = counters.Applied; groups = storage.new.held.groups; queries = [] }) }
         ensures held { OnSome result (is_ok lookup.found ≡ true) }
         ensures left { OnSome result ((e : ScheduledGroup) × (storage.new.held.groups ≡ with_group storage.old.held.groups (F.Address.number lookup.address) e)) }
         ensures changes { IfSome result (λ changes_it. changes_it ≡ changes storage.old.held.groups storage.new.held.groups (F.Address.number lookup.address)) }
-        ensures kept { storage.new.held ≡ record storage.old.held { groups = storage.new.held.groups } }
+        ensures order { storage.new.held.order ≡ storage.old.held.order }
+        ensures sources { storage.new.held.source_room ≡ storage.old.held.source_room }
         ensures none { result ≡ None → storage.new ≡ has_counted storage.old storage.new.meter }
         ensures done { IsHeardAgain self.now.now said (list_map F.Address.number named.now) storage.old.held.groups (F.Address.number lookup.address) → is_some result ≡ true }
         ensures spent { let size = sources_of (group_at storage.old.held.groups (F.Address.number lookup.address)) in
@@ -73,16 +89,19 @@ impl<F: Family> Status<F> {
             let most = 2 + most_set size count (bitlen (map.len storage.old.held.groups)) in
             MatchOption result (Spends 0 (most_tried said size count) storage.old.meter storage.new.meter)
             (λ _. Spends (min size count) most storage.old.meter storage.new.meter) }
-        ensures moved { MovesWithin (length named.now + moved_by_edit) storage.old storage.new }
-        ensures moves { OnSome result (Spends (length named.now) (length named.now + 2 + bitlen (map.len storage.old.held.groups)) storage.old.moves storage.new.moves) }
+        ensures moved { let size = sources_of (group_at storage.old.held.groups (F.Address.number lookup.address)) in
+            MovesWithin (5 * (size + length named.now) + moved_by_edit) storage.old storage.new }
+        // A record that only sets timers anew moves no source but the named ones.
+        ensures moves { IsHeardAgain self.now.now said (list_map F.Address.number named.now) storage.old.held.groups (F.Address.number lookup.address) →
+            Spends 0 (length named.now + 2 + bitlen (map.len storage.old.held.groups)) storage.old.moves storage.new.moves }
     {
         let _kind = restarting(said)?;
         self.lemma_is_sound();
         storage.held.lemma_is_numbered();
-        let at = self.in_force();
         let Ok(number) = lookup.found else {
             return None;
         };
+        let at = self.in_force();
         let schedule = storage.held.entry_of(number).schedule;
         if schedule.is_due(at.moment, &mut storage.meter) {
             return None;
@@ -92,13 +111,16 @@ impl<F: Family> Status<F> {
             number,
             named,
             deadline,
+            self.source_room(),
             &mut storage.meter,
             &mut storage.moves,
         )
     }
 
-    /// Applies a statement where its group's row is stored, by `refresh` or by `block`, if it can be applied there.
-    /// Returns whether the group's filter changed. If it can't be applied there, it returns None and changes nothing.
+    /// Applies a statement where its group's row is stored, if it can be applied there.
+    ///
+    /// It is applied by `refresh` or `block`. Returns whether the group's filter changed. If it can't be applied
+    /// there, it returns None and changes nothing.
     pub(crate) fn apply_in_place<A: Allocator, S: Sink<F::Address>>(
         &self,
         storage: &mut Storage<F::Address, A>,
@@ -109,6 +131,7 @@ impl<F: Family> Status<F> {
     ) -> Option<bool>
         requires sound { AreSound self.now storage.old.held.groups }
         requires lookup { IsLookup F.Address.number storage.old.held lookup }
+        requires source_room { storage.old.held.source_room ≡ self.now.config.room.sources }
         requires named { IsAscending F.Address.number named.now }
         ensures outcome { let said_so = statement_of said (named_in F.Address.number named.now) in
             let outcome = stated self.now (F.Address.number lookup.address) said_so storage.old.held.groups in
@@ -116,7 +139,8 @@ impl<F: Family> Status<F> {
         ensures held { OnSome result (is_ok lookup.found ≡ true) }
         ensures left { OnSome result ((e : ScheduledGroup) × (storage.new.held.groups ≡ with_group storage.old.held.groups (F.Address.number lookup.address) e)) }
         ensures changes { IfSome result (λ changes_it. changes_it ≡ changes storage.old.held.groups storage.new.held.groups (F.Address.number lookup.address)) }
-        ensures kept { storage.new.held ≡ record storage.old.held { groups = storage.new.held.groups } }
+        ensures order { storage.new.held.order ≡ storage.old.held.order }
+        ensures sources { storage.new.held.source_room ≡ storage.old.held.source_room }
         ensures none { result ≡ None → storage.new ≡ has_counted storage.old storage.new.meter }
         ensures unsent { result ≡ None → sink.new ≡ sink.old }
         ensures again { IsHeardAgain self.now.now said (list_map F.Address.number named.now) storage.old.held.groups (F.Address.number lookup.address) → is_some result ≡ true }
@@ -128,7 +152,7 @@ impl<F: Family> Status<F> {
             MatchOption result (Spends 0 (most_tried said size count + most_blocked said size count) storage.old.meter storage.new.meter)
             (λ _. Spends (min size count) (6 * (size + count) + 17 + bitlen (map.len storage.old.held.groups)) storage.old.meter storage.new.meter) }
         ensures moved { let size = sources_of (group_at storage.old.held.groups (F.Address.number lookup.address)) in
-            MovesWithin (size + length named.now + moved_by_edit) storage.old storage.new }
+            MovesWithin (5 * (size + length named.now) + moved_by_edit) storage.old storage.new }
         // A record that only sets timers anew moves no source but the named ones.
         ensures moves { let size = sources_of (group_at storage.old.held.groups (F.Address.number lookup.address)) in
             let count = length named.now in

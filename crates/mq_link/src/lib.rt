@@ -8,7 +8,7 @@
 //!
 //! The code:
 //! - The family: `Family`, which `Igmp` and `Mld` implement, each with its envelope.
-//! - A configuration without a fault: `Config`.
+//! - A configuration without a fault: `Config`, with the `Ranges` of groups that hosts may ask for.
 //! - The reasons to drop a datagram: `dropping`.
 //! - The receiver of the queries that a link sends: `QueryOutlet`. `Datagrams` is one, with an `Outlet` of their bytes.
 //! - The counters: `Counts`.
@@ -36,6 +36,7 @@ pub mod link;
 pub mod mld;
 pub mod outlet;
 mod query_heard;
+pub mod ranges;
 mod record_counts;
 mod report;
 mod router;
@@ -59,4 +60,5 @@ pub use mld::{Mld, MldEnvelope};
 pub use mq_held::{HeldEntries, HeldGroup};
 pub use mq_table::{FilterMode, Source, SourceTimer};
 pub use outlet::{Datagrams, Outlet, QueryOutlet};
+pub use ranges::{GroupRange, MOST_RANGES, Ranges};
 pub use workspace::Workspace;

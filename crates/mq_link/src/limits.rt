@@ -58,17 +58,17 @@ fn limit_passed(
     }
 }
 
-/// Returns whether some source of the list has a sending to go beside the next.
+/// Returns whether some source of the list has a retransmission to go beside the next.
 fn any_has_more<K: Key>(row: &[Source<K>]) -> bool
     ensures { result ≡ list_any item_has_more row.now }
 {
     row.iter().any(|x| match x.timer {
-        SourceTimer::Running(_, sendings) => 1 < sendings,
+        SourceTimer::Running(_, retransmissions) => 1 < retransmissions,
         SourceTimer::Stopped => false,
     })
 }
 
-/// Returns whether the sources of a group have sendings to go after a round at `now`.
+/// Returns whether the sources of a group have retransmissions to go after a round at `now`.
 fn sources_stay_due<K: Key, A: Allocator>(
     schedule: &Schedule,
     group: &Group<K, A>,

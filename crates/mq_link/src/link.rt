@@ -1,29 +1,25 @@
 //! One link with a workspace of its own.
 
-ghost use Rattle.std.specs.Prelude.{◌≡◌, ℕ, ◌+◌, ◌*◌, ◌<◌, ◌≤◌, ◌^◌, [], length, map as map_each, IfOk, IfSome, is_ok, is_some};
+ghost use Rattle.std.specs.Prelude.{◌≡◌, ℕ, ◌+◌, ◌*◌, ◌<◌, ◌≤◌, ◌^◌, [], length, true, map as map_each, IfOk, IfSome, is_ok, is_some};
 ghost use Rattle.std.specs.FinMap as map;
 ghost use Rattle.std.specs.contracts.vec.Vec as page;
 ghost use denote.Builtin.{u16};
 ghost use Rattle.mq_arena.specs.Vectors.{IsSize, Takes};
-ghost use Rattle.mq_count.specs.Spending.{Spends};
 ghost use Rattle.mq_sets.specs.Ascending.{IsAscending};
 ghost use Rattle.mq_table.specs.Stored.{number_in, timers_in};
 ghost use Rattle.mq_sched.specs.Election.{is_querier};
 ghost use Rattle.mq_sched.specs.StoredElection.{IsOtherOf};
 ghost use Rattle.mq_held.specs.Groups.{group_at, sources_of};
 ghost use Rattle.mq_held.specs.Places.{HasPlace};
+ghost use Rattle.mq_link.specs.CallCosts.{ReceiveCosts, TickCosts};
 ghost use Rattle.mq_link.specs.Configuring.{Configures};
-ghost use Rattle.mq_link.specs.Cost.{cost_of};
 ghost use Rattle.mq_link.specs.Storage.{IsGroupAt};
 ghost use Rattle.mq_link.specs.Forwarding.{AreThose, changed_by_datagram, changed_by_tick};
-ghost use Rattle.mq_link.specs.LeastCost.{least_received};
 ghost use Rattle.mq_link.specs.Link.{HasTicked, HasReceived};
-ghost use Rattle.mq_link.specs.Moved.{most_moved};
 ghost use Rattle.mq_link.specs.Sizes.{bytes_of_link, bytes_of_workspace};
 ghost use Rattle.mq_link.specs.State as state;
-ghost use Rattle.mq_link.specs.State.{held_of, link_at, IsWellFormed};
+ghost use Rattle.mq_link.specs.State.{link_at, IsWellFormed};
 ghost use Rattle.mq_link.specs.Tick.{tick_of, next_of};
-ghost use Rattle.mq_link.specs.TickCosts.{TickCosts};
 
 use crate::answers::Received;
 use crate::bare_link::BareLink;
@@ -123,8 +119,7 @@ impl<F: Family, A: Allocator> Link<F, A> {
         ensures ticks { HasTicked O.takes now self.old self.new outlet.old outlet.new }
         ensures formed { IsWellFormed self.new.config self.new.state }
         ensures later { now < next_of self.new.state }
-        ensures costs { TickCosts now self.old self.new }
-        ensures bounded { Spends 0 (cost_of 0 (held_of self.old.state)) self.old.spent self.new.spent }
+        ensures costs { TickCosts true now self.old self.new }
     {
         self.bare.tick_in(&mut self.workspace, now, outlet);
     }
@@ -147,9 +142,7 @@ impl<F: Family, A: Allocator> Link<F, A> {
         ensures receives { HasReceived O.takes (F.envelope_of envelope.now) body.now now result self.old self.new
             outlet.old outlet.new }
         ensures formed { IsWellFormed self.new.config self.new.state }
-        ensures spent { let least = least_received self.old.config (F.envelope_of envelope.now) body.now now self.old.state in
-            Spends (2 + least) (cost_of (length body.now) (held_of self.old.state)) self.old.spent self.new.spent }
-        ensures moved { Spends 0 (most_moved (length body.now) (held_of self.old.state)) self.old.moved self.new.moved }
+        ensures costs { ReceiveCosts true (F.envelope_of envelope.now) body.now now self.old self.new }
     {
         self.bare
             .receive_in(&mut self.workspace, envelope, body, now, outlet)

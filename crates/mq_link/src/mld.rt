@@ -66,6 +66,10 @@ impl Family for Mld {
 
     const GREATEST_RESPONSE: u32 = 8387584;
 
+    ghost ADDRESS_BITS = { 128 };
+
+    const ADDRESS_BITS: u32 = 128;
+
     ghost V1_MUTES_LEAVE = { false };
 
     const V1_MUTES_LEAVE: bool = false;
@@ -73,6 +77,8 @@ impl Family for Mld {
     ghost response_unit = { refl };
 
     ghost greatest_response = { refl };
+
+    ghost address_bits = { refl };
 
     ghost v1_mutes_leave = { refl };
 
@@ -102,6 +108,10 @@ impl Family for Mld {
         let number = number_of(group);
         let flags = number / (1 << 116) % 16;
         number / (1 << 120) == 255 && flags == 3 && number / (1 << 96) % (1 << 16) == 0
+    }
+
+    fn number(address: Addr6) -> u128 {
+        number_of(address)
     }
 
     fn is_router_address(address: Addr6) -> bool {

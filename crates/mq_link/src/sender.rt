@@ -98,10 +98,17 @@ impl<F: Family> QueryTerms<F> {
     {
         match query {
             QueryParts::General => self.query_with(F::unspecified(), self.response, false, &[]),
-            QueryParts::Group { group, s } => self.query_with(group, self.last_member, s, &[]),
-            QueryParts::Sources { group, s, sources } => {
-                self.query_with(group, self.last_member, s, sources)
-            }
+            QueryParts::Group { group, suppress } => self.query_with(
+                group,
+                self.last_member,
+                suppress,
+                &[],
+            ),
+            QueryParts::Sources {
+                group,
+                suppress,
+                sources,
+            } => self.query_with(group, self.last_member, suppress, sources),
         }
     }
 

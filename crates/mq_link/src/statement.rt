@@ -58,6 +58,8 @@ pub(crate) enum StatementKind {
 pub(crate) enum Verdict {
     Applied,
     Ignored,
+    /// Ignored, since hosts may not ask for the group.
+    Denied,
     Refused(Refusal),
 }
 

@@ -1,7 +1,7 @@
 //! The effect of a tick: what is due for the router, and then for the groups that have a moment at or before it. No
 //! other group is touched.
 
-ghost use Rattle.std.specs.Prelude.{◌≡◌, ℕ, ◌+◌, ◌-◌, ◌*◌, ◌^◌, ◌<◌, ◌≤◌, true, false, [], ◌∷◌, ◌++◌, if◌then◌else◌, length, max, None, Some, map as list_map};
+ghost use Rattle.std.specs.Prelude.{◌≡◌, ℕ, ◌+◌, ◌-◌, ◌*◌, ◌^◌, ◌<◌, ◌≤◌, true, false, [], ◌∷◌, if◌then◌else◌, length, max, None, Some, map as list_map};
 ghost use Rattle.std.specs.Option.{option_map};
 ghost use Rattle.std.specs.FinMap as map;
 ghost use Rattle.mq_count.specs.Spending.{Spends};
@@ -15,6 +15,7 @@ ghost use Rattle.mq_held.specs.Groups.{group_at, kept_as, sources_of, sources_in
 ghost use Rattle.mq_held.specs.Held.{HasNumber, IsNumber};
 ghost use Rattle.mq_held.specs.Places.{has_due};
 ghost use Rattle.mq_wire.specs.Family.{Family};
+ghost use Rattle.mq_link.specs.CallCosts.{TickCosts};
 ghost use Rattle.mq_link.specs.Family as definitions;
 ghost use Rattle.mq_link.specs.Forwarding.{AreThose, changed_by_tick, changes};
 ghost use Rattle.mq_link.specs.LeastCost.{least_ticked};
@@ -24,7 +25,6 @@ ghost use Rattle.mq_link.specs.Sender.{TakesQuery, begun};
 ghost use Rattle.mq_link.specs.Storage.{HasSpace, IsReady, KeepsRooms, KeepsSpace};
 ghost use Rattle.mq_link.specs.Workspace.{suffices, with_changed};
 ghost use Rattle.mq_link.specs.Tick.{group_expired, groups_expired, queries_due, groups_after_round, tick_of};
-ghost use Rattle.mq_link.specs.TickCosts.{TickCosts};
 
 use crate::family::Family;
 use crate::outlet::QueryOutlet;
@@ -206,7 +206,7 @@ impl<F: Family, A: Allocator> Router<F, A> {
         ensures workspace { work.new ≡ with_changed work.old work.new.changed }
         ensures changed { AreThose (changed_by_tick self.old.at.config now (state_of self.old)) work.new.changed }
         ensures few { length work.new.changed ≤ map.len self.old.groups }
-        ensures costs { TickCosts now (link_of self.old) (link_of self.new) }
+        ensures costs { TickCosts true now (link_of self.old) (link_of self.new) }
         ensures paid { HasMoved (most_moved_by_tick self.old.groups) self.old self.new }
     {
         self.status.lemma_is_sound();

@@ -2,8 +2,8 @@
 use Rattle.mq_sched.proofs.Common.{◌≡◌, ℕ, Bool, true, cond, List, [], ◌∷◌, IsSome, refl, sym, ap, ◌∙◌, inl, inr, eqb, arith, false≢true, or_left, or_right}
 use Rattle.mq_sched.proofs.Common.{or_cases, eqb-true, eq-eqb, list_any, option_map, Timing, Set, GroupState, timer_at, last_member_count, lowered_to, get-kept}
 use Rattle.mq_sched.proofs.Common.{some_source, source_asked, ScheduledGroup, sources_asked}
-use Rattle.std.specs.FinMap as map
 use Rattle.mq_sched.proofs.Rounds.{among-keys}
+use Rattle.std.specs.FinMap as map
 
 -- the timer of a source after sources were asked for
 pub timer_at-sources_asked : (timing : Timing) (now : ℕ) (asked : Set) (e : ScheduledGroup) (s : ℕ) →

@@ -2,14 +2,14 @@
 use Rattle.mq_sched.proofs.Common.{ℕ, zero, suc, Bool, List, [], ◌∷◌, ◌++◌, length, drop, arith, list_map, length-take, Timing, AllFit, portions_within}
 use Rattle.mq_sched.proofs.Common.{ScheduledGroup, SentQuery, GeneralQuery, GroupQuery, SourcesQuery, sources_queries, messages_due}
 
-fits_within : (most n group : ℕ) (flag : Bool) (xs : List ℕ) → AllFit n (list_map (SourcesQuery group flag) (portions_within most n xs))
-fits_within most n group flag [] = tt
-fits_within zero n group flag (x ∷ xs) = tt
-fits_within (suc most) n group flag (x ∷ xs) = (omega (arith, length-take n (x ∷ xs)), fits_within most n group flag (drop n (x ∷ xs)))
+fits_within : (most n group : ℕ) (suppress : Bool) (xs : List ℕ) → AllFit n (list_map (SourcesQuery group suppress) (portions_within most n xs))
+fits_within most n group suppress [] = tt
+fits_within zero n group suppress (x ∷ xs) = tt
+fits_within (suc most) n group suppress (x ∷ xs) = (omega (arith, length-take n (x ∷ xs)), fits_within most n group suppress (drop n (x ∷ xs)))
 
 -- no portion is longer than one message holds
-pub fits : (n group : ℕ) (flag : Bool) (xs : List ℕ) → AllFit n (sources_queries n group flag xs)
-fits n group flag xs = fits_within (length xs) n group flag xs
+pub fits : (n group : ℕ) (suppress : Bool) (xs : List ℕ) → AllFit n (sources_queries n group suppress xs)
+fits n group suppress xs = fits_within (length xs) n group suppress xs
 
 fit_append : (n : ℕ) (xs ys : List SentQuery) → AllFit n xs → AllFit n ys → AllFit n (xs ++ ys)
 fit_append n [] ys a b = b

@@ -1,6 +1,6 @@
 -- Lists in portions: what they are together, and how long each is.
-use Rattle.std.proofs.Common.{◌≡◌, ℕ, zero, suc, ◌<◌, ◌≤◌, List, [], ◌∷◌, ◌++◌, length, take, drop, refl, ap, ◌∙◌, arith, length-drop}
-use Rattle.mq_sched.proofs.Common.{take-append-drop, take_at, drop_at, length-append, length-take-le, concat, portions_within, portions_of, AllButLast}
+use Rattle.mq_sched.proofs.Common.{◌≡◌, ℕ, zero, suc, ◌<◌, ◌≤◌, List, [], ◌∷◌, ◌++◌, length, take, drop, refl, ap, ◌∙◌, arith, length-drop, take-append-drop}
+use Rattle.mq_sched.proofs.Common.{take_at, drop_at, length-append, length-take-le, concat, portions_within, portions_of, AllButLast}
 
 shorter : (n most : ℕ) (x : ℕ) (xs : List ℕ) → 0 < n → length (x ∷ xs) ≤ suc most → length (drop n (x ∷ xs)) ≤ most
 shorter n most x xs positive enough = omega (arith, length-drop n (x ∷ xs))

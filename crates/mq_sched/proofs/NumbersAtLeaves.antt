@@ -4,12 +4,12 @@ use Rattle.mq_sched.proofs.Common.{MatchOption, if◌then◌else◌, slice_index
 use Rattle.mq_sched.proofs.Common.{eq-eqb, ne_eqb, lt-ltb, le-ltb, le-leb, lt-leb, false≢true, nat_tests, get_or_read, get_or-drop, length-drop, get_or_default}
 use Rattle.mq_sched.proofs.Common.{get_or_past, get_or-set_same, get_or-set_other, get_or_append_left, get_or_push, list_any_at, sum_by-cons, entries_by}
 use Rattle.mq_sched.proofs.Common.{find-entries_by, DeadlinesState, moment_at, moments_at, AreNumbered, IsEarliestMoment, has_come, is_number_due}
-use Rattle.mq_sched.proofs.Common.{IsEarliestLeaf, is_leaf_due, leaf_before, leaf_after}
-use Rattle.std.proofs.Common.{set, map as list_map, drop, Option, None, Some, is_some, sym, ap, ◌∙◌, ⊎_elim, ◌⊎◌, length-append, length-set}
-use Rattle.std.specs.FinMap as map
+use Rattle.mq_sched.proofs.Common.{IsEarliestLeaf, is_leaf_due, leaf_before, leaf_after, set, list_map, drop, Option, None, Some, is_some, sym, ap, ◌∙◌, ⊎_elim}
+use Rattle.mq_sched.proofs.Common.{◌⊎◌, length-append, length-set}
 use Rattle.std.proofs.lemmas.Option.{same_Some}
 use Rattle.mq_sets.specs.Slots.{times}
 use Rattle.mq_sched.proofs.{Counts.count-some, Counts.count-none, Counts.count-map, Counts.count-agree, LeafMoves.after_given_up, LeafMoves.before_given_up}
+use Rattle.std.specs.FinMap as map
 
 same-key : (q k : ℕ) → q ≡ k → eq_by_cmp nat_cmp q k ≡ true
 same-key q k is = grind (arith, nat_tests)

@@ -2,12 +2,13 @@
 use Rattle.mq_sched.proofs.Common.{◌≡◌, ℕ, ◌+◌, ◌-◌, ◌<◌, Bool, true, false, cond, not, ◌&&◌, ◌||◌, List, [], ◌∷◌, ◌++◌, filter, Option, None, Some, IfSome}
 use Rattle.mq_sched.proofs.Common.{refl, sym, ap, ◌∙◌, arith, eqb, ltb, false≢true, true≢false, and_parts, eqb-true, ltb-true, ltb-false, leb-false, lt-leb}
 use Rattle.mq_sched.proofs.Common.{list_map, list_any, concat, option_map, is_some, nat_cmp, unsigned_ties, FinMap, Timing, Set, SourceTimer, GroupState}
-use Rattle.mq_sched.proofs.Common.{timer_at, deadline_of, sendings_of, get-kept, or_none, has_sendings, source_counted, sendings_counted, QuerySchedule}
+use Rattle.mq_sched.proofs.Common.{timer_at, deadline_of, retransmissions_of, get-kept, or_none, has_retransmissions, source_counted, retransmissions_counted}
+use Rattle.mq_sched.proofs.Common.{QuerySchedule}
 use Rattle.mq_sched.proofs.Common.{query_sendings, ScheduleState, ScheduledGroup, IsScheduleOf, SentQuery, GeneralQuery, GroupQuery, SourcesQuery, is_due}
 use Rattle.mq_sched.proofs.Common.{group_due, sources_where, sources_queries, group_messages, source_messages, messages_due, group_counted, after_round}
 use Rattle.mq_sched.proofs.Common.{portions_of, asked_in, asks_group, is_due_at, IsQuietAt}
-use Rattle.std.specs.FinMap as map
 use Rattle.mq_sched.proofs.InPortions.{together}
+use Rattle.std.specs.FinMap as map
 
 or-false : (b : Bool) → (b || false) ≡ b
 or-false true = refl
@@ -28,14 +29,16 @@ among-append : (xs ys : List ℕ) (s : ℕ) → list_any (λ x. eqb s x) (xs ++ 
 among-append [] ys s = refl
 among-append (x ∷ xs) ys s = ap (λ b. eqb s x || b) (among-append xs ys s) ∙ sym (or_assoc (eqb s x) (list_any (λ x. eqb s x) xs) (list_any (λ x. eqb s x) ys))
 
-asked_in-portions : (group : ℕ) (flag : Bool) (portions : List (List ℕ)) (s : ℕ) → asked_in (list_map (SourcesQuery group flag) portions) s
+asked_in-portions : (group : ℕ) (suppress : Bool) (portions : List (List ℕ)) (s : ℕ) → asked_in (list_map (SourcesQuery group suppress) portions) s
     ≡ list_any (λ x. eqb s x) (concat portions)
-asked_in-portions group flag [] s = refl
-asked_in-portions group flag (portion ∷ portions) s = ap (λ b. list_any (λ x. eqb s x) portion || b) (asked_in-portions group flag portions s) ∙
+asked_in-portions group suppress [] s = refl
+asked_in-portions group suppress (portion ∷ portions) s = ap (λ b. list_any (λ x. eqb s x) portion || b) (asked_in-portions group suppress portions s) ∙
     sym (among-append portion (concat portions) s)
 
-asked_in-sources_queries : (n group : ℕ) (flag : Bool) (xs : List ℕ) (s : ℕ) → 0 < n → asked_in (sources_queries n group flag xs) s ≡ list_any (λ x. eqb s x) xs
-asked_in-sources_queries n group flag xs s positive = asked_in-portions group flag (portions_of n xs) s ∙ ap (list_any (λ x. eqb s x)) (together n xs positive)
+asked_in-sources_queries : (n group : ℕ) (suppress : Bool) (xs : List ℕ) (s : ℕ) → 0 < n → asked_in (sources_queries n group suppress xs) s
+    ≡ list_any (λ x. eqb s x) xs
+asked_in-sources_queries n group suppress xs s positive = asked_in-portions group suppress (portions_of n xs) s ∙
+    ap (list_any (λ x. eqb s x)) (together n xs positive)
 
 -- a number is among those that pass a test where it passes and is among all
 among-filter : (p : Set) (ks : List ℕ) (s : ℕ) → list_any (λ x. eqb s x) (filter p ks) ≡ (p s && list_any (λ x. eqb s x) ks)
@@ -58,29 +61,29 @@ among-filter p (k ∷ ks) s = front (p k) ∙ one_more (eqb s k) _ (p k) (p s) _
 pub among-keys : {X : Type 0} (m : FinMap nat_cmp X) (s : ℕ) → list_any (λ x. eqb s x) (map.keys m) ≡ is_some (map.get m s)
 among-keys m s = (λ i. list_any (λ x. unsigned_ties s x i) (map.keys m)) ∙ sym (map.contains_key-keys m s)
 
--- the sources of both queries of a round together are those that have a sending to go
+-- the sources of both queries of a round together are those that have a retransmission to go
 both_queries : (t : Option SourceTimer) (some up : Bool) → (is_some t ≡ false → some ≡ false) →
     (((some && up) && is_some t) || ((some && not up) && is_some t)) ≡ some
 both_queries t some up held = grind (arith, true≢false)
 
-no_sendings : (t : Option SourceTimer) → is_some t ≡ false → ltb 0 (sendings_of t) ≡ false
-no_sendings None e = refl
-no_sendings (Some t) e = absurd (true≢false e)
+no_retransmissions : (t : Option SourceTimer) → is_some t ≡ false → ltb 0 (retransmissions_of t) ≡ false
+no_retransmissions None e = refl
+no_retransmissions (Some t) e = absurd (true≢false e)
 
-asked_in-sources_where : (n group : ℕ) (flag : Bool) (test : Set) (g : GroupState) (s : ℕ) → 0 < n →
-    asked_in (sources_queries n group flag (sources_where test g)) s ≡ (test s && is_some (timer_at g s))
-asked_in-sources_where n group flag test g s positive = grind (arith, asked_in-sources_queries, among-filter, among-keys)
+asked_in-sources_where : (n group : ℕ) (suppress : Bool) (test : Set) (g : GroupState) (s : ℕ) → 0 < n →
+    asked_in (sources_queries n group suppress (sources_where test g)) s ≡ (test s && is_some (timer_at g s))
+asked_in-sources_where n group suppress test g s positive = grind (arith, asked_in-sources_queries, among-filter, among-keys)
 
 asked_in-source_messages : (n : ℕ) (timing : Timing) (now group : ℕ) (e : ScheduledGroup) (s : ℕ) → 0 < n →
-    asked_in (source_messages n timing now group e) s ≡ (is_due now e.schedule.sources_due && has_sendings e.group s)
-asked_in-source_messages n timing now group e s positive = grind (arith, asked_in-append, asked_in-sources_where, both_queries, no_sendings)
+    asked_in (source_messages n timing now group e) s ≡ (is_due now e.schedule.sources_due && has_retransmissions e.group s)
+asked_in-source_messages n timing now group e s positive = grind (arith, asked_in-append, asked_in-sources_where, both_queries, no_retransmissions)
 
 asked_in-group_messages : (timing : Timing) (now group : ℕ) (e : ScheduledGroup) (s : ℕ) → asked_in (group_messages timing now group e) s ≡ false
 asked_in-group_messages timing now group e s = grind arith
 
--- a round asks for the sources that have a sending to go, where they are due
+-- a round asks for the sources that have a retransmission to go, where they are due
 pub asked_in-messages_due : (n : ℕ) (timing : Timing) (now group : ℕ) (e : ScheduledGroup) (s : ℕ) → 0 < n →
-    asked_in (messages_due n timing now group e) s ≡ (is_due now e.schedule.sources_due && has_sendings e.group s)
+    asked_in (messages_due n timing now group e) s ≡ (is_due now e.schedule.sources_due && has_retransmissions e.group s)
 asked_in-messages_due n timing now group e s positive = grind (arith, asked_in-append, asked_in-group_messages, asked_in-source_messages)
 
 asks_group-append : (xs ys : List SentQuery) → asks_group (xs ++ ys) ≡ (asks_group xs || asks_group ys)
@@ -89,9 +92,9 @@ asks_group-append (GeneralQuery ∷ xs) ys = asks_group-append xs ys
 asks_group-append (GroupQuery g f ∷ xs) ys = refl
 asks_group-append (SourcesQuery g f ss ∷ xs) ys = asks_group-append xs ys
 
-no_group_query : (group : ℕ) (flag : Bool) (portions : List (List ℕ)) → asks_group (list_map (SourcesQuery group flag) portions) ≡ false
-no_group_query group flag [] = refl
-no_group_query group flag (portion ∷ portions) = no_group_query group flag portions
+no_group_query : (group : ℕ) (suppress : Bool) (portions : List (List ℕ)) → asks_group (list_map (SourcesQuery group suppress) portions) ≡ false
+no_group_query group suppress [] = refl
+no_group_query group suppress (portion ∷ portions) = no_group_query group suppress portions
 
 -- a round asks the group where its query is due
 pub asks_group-messages_due : (n : ℕ) (timing : Timing) (now group : ℕ) (e : ScheduledGroup) → asks_group (messages_due n timing now group e)
@@ -99,28 +102,28 @@ pub asks_group-messages_due : (n : ℕ) (timing : Timing) (now group : ℕ) (e :
 asks_group-messages_due n timing now group e = grind (arith, asks_group-append, or-false, no_group_query)
 
 abbrev group_after : Bool → GroupState → GroupState
-group_after due g = cond due (sendings_counted g) g
+group_after due g = cond due (retransmissions_counted g) g
 
 -- the new timer of a source after a round
 pub timer_at-after_round : (timing : Timing) (now : ℕ) (e : ScheduledGroup) (s : ℕ) → timer_at (after_round timing now e).group s
     ≡ cond (is_due now e.schedule.sources_due) (option_map source_counted (timer_at e.group s)) (timer_at e.group s)
 timer_at-after_round timing now e s = grind (arith, get-kept)
 
-one_fewer : (t : Option SourceTimer) → ltb 0 (sendings_of t) ≡ true → sendings_of (option_map source_counted t) + 1 ≡ sendings_of t
+one_fewer : (t : Option SourceTimer) → ltb 0 (retransmissions_of t) ≡ true → retransmissions_of (option_map source_counted t) + 1 ≡ retransmissions_of t
 one_fewer t e = grind (arith, false≢true, ltb-true)
 
-none_fewer : (t : Option SourceTimer) → ltb 0 (sendings_of t) ≡ false → option_map source_counted t ≡ t
+none_fewer : (t : Option SourceTimer) → ltb 0 (retransmissions_of t) ≡ false → option_map source_counted t ≡ t
 none_fewer t e = grind (arith, ltb-false)
 
 same_deadline : (b : Bool) (t : Option SourceTimer) → deadline_of (cond b (option_map source_counted t) t) ≡ deadline_of t
 same_deadline b t = grind arith
 
--- a source that a round asks for has one sending fewer
+-- a source that a round asks for has one retransmission fewer
 pub counted_down : (n : ℕ) (timing : Timing) (now group : ℕ) (e : ScheduledGroup) (s : ℕ) → 0 < n → asked_in (messages_due n timing now group e) s
-    ≡ true → sendings_of (timer_at (after_round timing now e).group s) + 1 ≡ sendings_of (timer_at e.group s)
+    ≡ true → retransmissions_of (timer_at (after_round timing now e).group s) + 1 ≡ retransmissions_of (timer_at e.group s)
 counted_down n timing now group e s positive asked =
     let parts = and_parts _ _ (sym (asked_in-messages_due n timing now group e s positive) ∙ asked) in
-    ap (λ t. sendings_of t + 1)
+    ap (λ t. retransmissions_of t + 1)
     (timer_at-after_round timing now e s ∙ ap (λ b. cond b (option_map source_counted (timer_at e.group s)) (timer_at e.group s)) parts.0)
     ∙ one_fewer (timer_at e.group s) parts.1
 
@@ -130,7 +133,7 @@ pub others_stay : (n : ℕ) (timing : Timing) (now group : ℕ) (e : ScheduledGr
 others_stay n timing now group e s positive unasked =
     timer_at-after_round timing now e s ∙ by_due (is_due now e.schedule.sources_due) (sym (asked_in-messages_due n timing now group e s positive) ∙ unasked)
   where
-    by_due : (b : Bool) → (b && has_sendings e.group s) ≡ false → cond b (option_map source_counted (timer_at e.group s)) (timer_at e.group s)
+    by_due : (b : Bool) → (b && has_retransmissions e.group s) ≡ false → cond b (option_map source_counted (timer_at e.group s)) (timer_at e.group s)
         ≡ timer_at e.group s
     by_due true is = none_fewer (timer_at e.group s) is
     by_due false is = refl

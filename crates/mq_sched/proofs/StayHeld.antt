@@ -1,6 +1,7 @@
 -- A group that is held stays held, whatever is asked, sent or dropped.
 use Rattle.mq_sched.proofs.Common.{◌≡◌, ℕ, Bool, true, false, cond, Some, refl, arith, Timing, Set, SourceTimer, Stopped, Running, is_running, IsWellFormed}
-use Rattle.mq_sched.proofs.Common.{last_member_count, lowered_to, source_cleared, source_asked, source_counted, sendings_counted, ScheduledGroup, cleared}
+use Rattle.mq_sched.proofs.Common.{last_member_count, lowered_to, source_cleared, source_asked, source_counted, retransmissions_counted, ScheduledGroup}
+use Rattle.mq_sched.proofs.Common.{cleared}
 use Rattle.mq_sched.proofs.Common.{sources_asked, acted, is_due, after_round}
 use Rattle.mq_table.proofs.Held.{IsWellFormed-replaced, IsWellFormed-group_lowered}
 
@@ -24,7 +25,7 @@ counted_runs (Running d n) = refl
 pub held_after_round : (timing : Timing) (now : ℕ) (e : ScheduledGroup) → IsWellFormed e.group → IsWellFormed (after_round timing now e).group
 held_after_round timing now e held = by_due (is_due now e.schedule.sources_due)
   where
-    by_due : (b : Bool) → IsWellFormed (cond b (sendings_counted e.group) e.group)
+    by_due : (b : Bool) → IsWellFormed (cond b (retransmissions_counted e.group) e.group)
     by_due true = IsWellFormed-replaced e.group e.group.mode (λ s. source_counted) (λ m. m) (λ s t. counted_runs t) held
     by_due false = held
 

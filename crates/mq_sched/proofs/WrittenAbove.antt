@@ -1,7 +1,7 @@
 -- The number of nodes written above a node whose deadline changed.
-use Rattle.mq_sched.proofs.Common.{ℕ, zero, suc, ◌+◌, ◌*◌, ◌/◌, ◌%◌, ◌<◌, ◌≤◌, ◌≡◌, ◌&&◌, Bool, true, false, cond, eqb, leb, not, refl, arith, sym, ap}
-use Rattle.mq_sched.proofs.Common.{◌∙◌, List, length, get_or, set, ⊎_elim, cases_lt, cond-false, cond-true, eq-eqb, eqb-false, eqb-true, le-leb, false≢true}
-use Rattle.mq_sched.proofs.Common.{lt-leb, ne_eqb, get_or-set_other, get_or-set_same, bitlen, bitlen-half, keeps_other, written_above}
+use Rattle.mq_sched.proofs.Common.{ℕ, zero, suc, ◌+◌, ◌*◌, ◌/◌, ◌%◌, ◌<◌, ◌≤◌, ◌≡◌, ◌&&◌, Bool, true, false, cond, eqb, leb, not, refl, arith, sym, ap, ◌∙◌}
+use Rattle.mq_sched.proofs.Common.{List, length, get_or, set, ⊎_elim, cases_lt, cond-false, cond-true, eq-eqb, eqb-false, eqb-true, le-leb, false≢true, lt-leb}
+use Rattle.mq_sched.proofs.Common.{ne_eqb, get_or-set_other, get_or-set_same, bitlen, bitlen-half, keeps_other, written_above}
 use Rattle.std.specs.Bool.{beq}
 
 one_more : (b : Bool) (more : ℕ) → cond b 0 (1 + more) ≤ 1 + more

@@ -37,12 +37,10 @@ heard_or configured value = if value == 0 then configured else value
 -- it also adopts the query interval (RFC 3376 sections 4.1.6 and 4.1.7, RFC 3810 sections 5.1.8 and 5.1.9).
 abbrev pub adopted : Timing → (is_other : Bool) → Option Announced → Timing → Timing
 adopted configured is_other None timing = timing
-adopted configured is_other (Some said) timing = record {
+adopted configured is_other (Some said) timing = record timing {
   robustness = heard_or configured.robustness said.robustness;
   query_seconds =
       if is_other then heard_or configured.query_seconds said.query_seconds else timing.query_seconds;
-  response_interval = timing.response_interval;
-  last_member_interval = timing.last_member_interval;
 }
 
 -- a query from this source takes the role from a querier
@@ -104,11 +102,9 @@ abbrev pub reconfigured_value : (before configured in_force : ℕ) → ℕ
 reconfigured_value before configured in_force = if configured == before then in_force else configured
 
 abbrev pub timing_reconfigured : (before configured : Timing) → Timing → Timing
-timing_reconfigured before configured timing = record {
+timing_reconfigured before configured timing = record configured {
   robustness = reconfigured_value before.robustness configured.robustness timing.robustness;
   query_seconds = reconfigured_value before.query_seconds configured.query_seconds timing.query_seconds;
-  response_interval = configured.response_interval;
-  last_member_interval = configured.last_member_interval;
 }
 
 -- the other querier has no lower address than the router

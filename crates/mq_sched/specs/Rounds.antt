@@ -9,16 +9,16 @@ use Rattle.mq_sched.specs.Sending.{SentQuery, GeneralQuery, GroupQuery, SourcesQ
 abbrev pub asked_in : List SentQuery → Set
 asked_in [] s = false
 asked_in (GeneralQuery ∷ queries) s = asked_in queries s
-asked_in (GroupQuery group flag ∷ queries) s = asked_in queries s
-asked_in (SourcesQuery group flag sources ∷ queries) s =
+asked_in (GroupQuery group suppress ∷ queries) s = asked_in queries s
+asked_in (SourcesQuery group suppress sources ∷ queries) s =
     list_any (λ x. s == x) sources || asked_in queries s
 
 -- a round has a query to the group alone
 abbrev pub asks_group : List SentQuery → Bool
 asks_group [] = false
 asks_group (GeneralQuery ∷ queries) = asks_group queries
-asks_group (GroupQuery group flag ∷ queries) = true
-asks_group (SourcesQuery group flag sources ∷ queries) = asks_group queries
+asks_group (GroupQuery group suppress ∷ queries) = true
+asks_group (SourcesQuery group suppress sources ∷ queries) = asks_group queries
 
 -- nothing is due at or before a moment
 pub record IsQuietAt (now : ℕ) (schedule : ScheduleState) : Type 0 where
@@ -41,6 +41,6 @@ compared_for now schedule =
 abbrev pub AllFit : (per_query : ℕ) → List SentQuery → Type 0
 AllFit per_query [] = Unit {0}
 AllFit per_query (GeneralQuery ∷ queries) = AllFit per_query queries
-AllFit per_query (GroupQuery group flag ∷ queries) = AllFit per_query queries
-AllFit per_query (SourcesQuery group flag sources ∷ queries) =
+AllFit per_query (GroupQuery group suppress ∷ queries) = AllFit per_query queries
+AllFit per_query (SourcesQuery group suppress sources ∷ queries) =
     (length sources ≤ per_query) × AllFit per_query queries

@@ -8,17 +8,17 @@ use Rattle.mq_table.specs.Group.{GroupState, is_include, is_ahead, group_deadlin
 use Rattle.mq_table.specs.Timing.{last_member_count}
 use Rattle.mq_table.specs.Table.{GroupChange}
 use Rattle.mq_table.specs.Lowering.{lowered_to, group_lowered}
-use Rattle.mq_table.specs.Sendings.{some_source, has_sendings, above, sendings_started, sendings_counted}
+use Rattle.mq_table.specs.Retransmissions.{some_source, has_retransmissions, above, retransmissions_started, retransmissions_counted}
 use Rattle.mq_sched.specs.Portions.{portions_of}
 use Rattle.mq_sched.specs.Schedule.{QuerySchedule, ScheduleState, ScheduledGroup, settled}
 
 -- A query that a router sends. It is general, to a group, or to a group for some of its sources, which ascend (RFC 3376
--- section 4.1.11, RFC 3810 section 5.1.13). `s` is the flag Suppress Router-Side Processing: routers that receive it
--- lower nothing (sections 4.1.5 and 5.1.7).
+-- section 4.1.11, RFC 3810 section 5.1.13). `suppress` is the flag Suppress Router-Side Processing: routers that
+-- receive it lower nothing (sections 4.1.5 and 5.1.7).
 pub data SentQuery : Type 0 where
   GeneralQuery : SentQuery
-  GroupQuery : (group : ℕ) (s : Bool) → SentQuery
-  SourcesQuery : (group : ℕ) (s : Bool) (sources : List ℕ) → SentQuery
+  GroupQuery : (group : ℕ) (suppress : Bool) → SentQuery
+  SourcesQuery : (group : ℕ) (suppress : Bool) (sources : List ℕ) → SentQuery
 
 -- Send Q(G). The group timer is lowered, and the last member query count of queries are to go, the first now. INCLUDE
 -- has no group timer, and no row of the tables asks for its group.
@@ -35,12 +35,12 @@ group_asked timing now e = record {
 }
 
 -- Send Q(G,asked). Each source asked for whose timer is above the last member query time is lowered to it, and gets the
--- last member query count of sendings. If there is one, a sending is due now; otherwise the schedule stays.
+-- last member query count of retransmissions. If there is one, a sending is due now; otherwise the schedule stays.
 abbrev pub sources_asked : Timing → ℕ → Set → ScheduledGroup → ScheduledGroup
 sources_asked timing now asked e =
     let g = e.group in
     record {
-      group = sendings_started timing now asked g;
+      group = retransmissions_started timing now asked g;
       schedule = record {
         group_query = e.schedule.group_query;
         sources_due = if some_source (asked ∩ above timing now g) g then Some now else e.schedule.sources_due;
@@ -75,7 +75,7 @@ sources_where test g = filter test (map.keys g.sources)
 
 -- The queries for a list of sources, in portions of what one message holds. No query has an empty list.
 abbrev pub sources_queries : (per_query group : ℕ) → Bool → List ℕ → List SentQuery
-sources_queries per_query group s sources = list_map (SourcesQuery group s) (portions_of per_query sources)
+sources_queries per_query group suppress sources = list_map (SourcesQuery group suppress) (portions_of per_query sources)
 
 abbrev pub group_messages : Timing → ℕ → ℕ → ScheduledGroup → List SentQuery
 group_messages timing now group e =
@@ -83,21 +83,21 @@ group_messages timing now group e =
     then GroupQuery group (is_ahead (lowered_to timing now) (group_deadline e.group.mode)) ∷ []
     else []
 
--- The queries for the sources that have sendings to go. Those whose timer is above the last member query time go with S
--- set, and then the others with S clear.
+-- The queries for the sources that have retransmissions to go. Those whose timer is above the last member query time go
+-- with S set, and then the others with S clear.
 abbrev pub waiting_messages : (per_query : ℕ) → Timing → ℕ → ℕ → GroupState → List SentQuery
 waiting_messages per_query timing now group g =
-    sources_queries per_query group true (sources_where (has_sendings g ∩ above timing now g) g)
-    ++ sources_queries per_query group false (sources_where (has_sendings g ∖ above timing now g) g)
+    sources_queries per_query group true (sources_where (has_retransmissions g ∩ above timing now g) g)
+    ++ sources_queries per_query group false (sources_where (has_retransmissions g ∖ above timing now g) g)
 
 abbrev pub source_messages : (per_query : ℕ) → Timing → ℕ → ℕ → ScheduledGroup → List SentQuery
 source_messages per_query timing now group e =
     if is_due now e.schedule.sources_due then waiting_messages per_query timing now group e.group else []
 
 -- The queries of a group in one round, at or after the moment that is due. First goes its group query, with S set if
--- the group timer is above the last member query time. Then go the sources that have sendings to go: with S set those
--- whose timer is above that time, and then the others with S clear. The sources of either flag go in ascending order,
--- in as few messages as hold them.
+-- the group timer is above the last member query time. Then go the sources that have retransmissions to go: with S set
+-- those whose timer is above that time, and then the others with S clear. The sources of either flag go in ascending
+-- order, in as few messages as hold them.
 abbrev pub messages_due : (per_query : ℕ) → Timing → ℕ → (group : ℕ) → ScheduledGroup → List SentQuery
 messages_due per_query timing now group e =
     group_messages timing now group e ++ source_messages per_query timing now group e
@@ -113,16 +113,16 @@ group_counted timing now (Some q) =
     else None)
     else Some q
 
--- the moment when the sources are due next, if one has a sending to go
+-- the moment when the sources are due next, if one has a retransmission to go
 abbrev pub sources_due_next : Timing → ℕ → GroupState → Option ℕ
 sources_due_next timing now g =
-    if some_source (has_sendings g) g then Some (now + timing.last_member_interval) else None
+    if some_source (has_retransmissions g) g then Some (now + timing.last_member_interval) else None
 
 -- The state after a round, however late it comes. Each query that was sent has one sending fewer.
 abbrev pub after_round : Timing → ℕ → ScheduledGroup → ScheduledGroup
 after_round timing now e =
     let due = is_due now e.schedule.sources_due in
-    let g = if due then sendings_counted e.group else e.group in
+    let g = if due then retransmissions_counted e.group else e.group in
     record {
       group = g;
       schedule = record {

@@ -7,8 +7,8 @@ use Rattle.mq_sched.specs.Sending.{SentQuery, GeneralQuery, GroupQuery, SourcesQ
 -- the query with these parts
 abbrev pub query_of : {K : Type 0} → (K → ℕ) → QueryParts K → SentQuery
 query_of number General = GeneralQuery
-query_of number (Group group s) = GroupQuery (number group) s
-query_of number (Sources group s sources) = SourcesQuery (number group) s (map number sources.now)
+query_of number (Group group suppress) = GroupQuery (number group) suppress
+query_of number (Sources group suppress sources) = SourcesQuery (number group) suppress (map number sources.now)
 
 -- a sink has received these queries and no other, in order; `takes` states the effect of one call
 abbrev pub Sends : {S : Type 0} → (takes : S → SentQuery → S → Type 0) → S → List SentQuery → S → Type 0

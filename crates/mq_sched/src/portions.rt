@@ -19,7 +19,7 @@ const MOST_PER_QUERY: usize = 366;
 #[derive(Drop)]
 struct Collected<K: Key> {
     group: K,
-    s: bool,
+    suppress: bool,
     per_query: usize,
     sources: ArrayVec<K, MOST_PER_QUERY>,
 }
@@ -27,14 +27,14 @@ struct Collected<K: Key> {
 impl<K: Key> Collected<K> {
     /// Sends what is collected, and starts the next message.
     fn send<S: Sink<K>>(&mut self, sink: &mut S)
-        ensures sent { let query = SourcesQuery (K.number self.old.group) self.old.s (map K.number self.old.sources.items) in
+        ensures sent { let query = SourcesQuery (K.number self.old.group) self.old.suppress (map K.number self.old.sources.items) in
             Sends S.takes sink.old (query ∷ []) sink.new }
         ensures parts { self.new ≡ record self.old { sources = self.new.sources } }
         ensures empty { self.new.sources.items ≡ [] }
     {
         sink.send(QueryParts::Sources {
             group: self.group,
-            s: self.s,
+            suppress: self.suppress,
             sources: self.sources.as_slice(),
         });
         self.sources.clear();
@@ -44,7 +44,7 @@ impl<K: Key> Collected<K> {
     fn push<S: Sink<K>>(&mut self, source: K, sink: &mut S)
         requires room { array_vec_len self.old.sources < self.old.per_query }
         requires most { self.old.per_query ≤ 366 }
-        ensures sent { let queries = sources_queries self.old.per_query (K.number self.old.group) self.old.s in
+        ensures sent { let queries = sources_queries self.old.per_query (K.number self.old.group) self.old.suppress in
             (rest : List ℕ) → SendsOn S.takes
             sink.old (queries (map K.number self.old.sources.items ++ (K.number source ∷ rest)))
             sink.new (queries (map K.number self.new.sources.items ++ rest)) }
@@ -61,7 +61,7 @@ impl<K: Key> Collected<K> {
     fn finish<S: Sink<K>>(mut self, sink: &mut S)
         requires { array_vec_len self.sources < self.per_query }
         ensures { let collected = map K.number self.sources.items in
-            Sends S.takes sink.old (sources_queries self.per_query (K.number self.group) self.s collected) sink.new }
+            Sends S.takes sink.old (sources_queries self.per_query (K.number self.group) self.suppress collected) sink.new }
     {
         if !self.sources.is_empty() {
             self.send(sink);
@@ -69,18 +69,19 @@ impl<K: Key> Collected<K> {
     }
 }
 
-/// Returns whether a source has a sending to go with this S flag. It is set if the source's timer is above the limit.
-fn goes<K: Key>(source: &Source<K>, s: bool, limit: Moment, m: &mut Meter) -> bool
-    ensures answer { result ≡ goes_with limit s source.now }
+/// Returns whether a source has a retransmission to go with this S flag. It is set if the source's timer is above the
+/// limit.
+fn goes<K: Key>(source: &Source<K>, suppress: bool, limit: Moment, m: &mut Meter) -> bool
+    ensures answer { result ≡ goes_with limit suppress source.now }
     ensures spent { Spends 0 1 m.old m.new }
 {
-    source.timer.has_sendings() && runs_on(source.timer.deadline(), limit, m) == s
+    source.timer.has_retransmissions() && runs_on(source.timer.deadline(), limit, m) == suppress
 }
 
 /// Sends the queries for those of a group's sources that go with an S flag.
 pub(crate) fn send_sources<K: Key, S: Sink<K>>(
     group: K,
-    s: bool,
+    suppress: bool,
     row: &[Source<K>],
     limit: Moment,
     per_query: usize,
@@ -89,19 +90,19 @@ pub(crate) fn send_sources<K: Key, S: Sink<K>>(
 )
     requires holds_one { 0 < per_query }
     requires most { per_query ≤ 366 }
-    ensures sent { let going = going_with K.number limit s row.now in
-        Sends S.takes sink.old (sources_queries per_query (K.number group) s going) sink.new }
+    ensures sent { let going = going_with K.number limit suppress row.now in
+        Sends S.takes sink.old (sources_queries per_query (K.number group) suppress going) sink.new }
     ensures spent { Spends 0 (length row.now) m.old m.new }
 {
     K::is_small();
     let mut collected = Collected {
         group,
-        s,
+        suppress,
         per_query,
         sources: ArrayVec::new(),
     };
     for source in row {
-        if goes(source, s, limit, m) {
+        if goes(source, suppress, limit, m) {
             collected.push(source.address, sink);
         }
     }

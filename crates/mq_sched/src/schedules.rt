@@ -5,21 +5,21 @@ ghost use Rattle.mq_count.specs.Spending.{Spends};
 ghost use Rattle.mq_sets.specs.Ascending.{IsAscending, set_of};
 ghost use Rattle.mq_table.specs.Group.{timer_at};
 ghost use Rattle.mq_table.specs.Stored.{size_of};
-ghost use Rattle.mq_table.specs.Sendings.{some_source, has_sendings};
+ghost use Rattle.mq_table.specs.Retransmissions.{some_source, has_retransmissions};
 ghost use Rattle.mq_sched.specs.Rounds.{compared_for, is_due_at};
 ghost use Rattle.mq_sched.specs.Schedule.{ScheduledGroup, no_schedule, settled, cleared};
 ghost use Rattle.mq_sched.specs.Sending.{group_asked, sources_asked};
 
 use crate::queries::QuerySchedule;
 use mq_count::{Key, Meter, Moment};
-use mq_table::{FilterMode, Group, Timing, any_has_sendings};
+use mq_table::{FilterMode, Group, Timing, any_has_retransmissions};
 use std::alloc::Allocator;
 use std::marker::Model;
 
 /// The specific queries that are still to go for one group.
 ///
-/// They are its group-specific query, and the moment of the next queries for its sources. The sendings to go for a
-/// source are kept with the source's timer in its group. A contract sees the state of the definitions.
+/// They are its group-specific query, and the moment of the next queries for its sources. The retransmissions to go for
+/// a source are kept with the source's timer in its group. A contract sees the state of the definitions.
 ///
 /// - Started by a record: `start_group` and `start_sources`.
 /// - Sent in time: `round`.
@@ -62,7 +62,7 @@ impl Schedule {
         self.group_query
     }
 
-    /// Returns the moment when the sources that have sendings to go are due, if one has.
+    /// Returns the moment when the sources that have retransmissions to go are due, if one has.
     pub fn sources_due(&self) -> Option<Moment>
         ensures { result ≡ self.now.sources_due }
     {
@@ -112,21 +112,21 @@ impl Schedule {
     }
 
     /// Drops what has lost its cause after a record or expired timers. This is the group query of a group in INCLUDE,
-    /// and the moment for sources if none has a sending to go. No comparison.
+    /// and the moment for sources if none has a retransmission to go. No comparison.
     pub fn settle<K: Key, A: Allocator>(&mut self, group: &Group<K, A>)
         ensures { self.new ≡ settled group.now.state self.old }
     {
         if let FilterMode::Include = group.mode() {
             self.group_query = None;
         }
-        if self.sources_due.is_some() && !has_sendings(group) {
+        if self.sources_due.is_some() && !has_retransmissions(group) {
             self.sources_due = None;
         }
     }
 
     /// Starts the group-and-source-specific query for sources that the group holds. Their timers above the last member
-    /// query time are lowered to it. The last member query count of sendings are to go for each of these sources, the
-    /// first at once. If there is none, nothing changes (RFC 3376 section 6.6.3.2, RFC 3810 section 7.6.3.2).
+    /// query time are lowered to it. The number of retransmissions of each is set to the last member query count, and
+    /// the first goes at once. If there is none, nothing changes (RFC 3376 section 6.6.3.2, RFC 3810 section 7.6.3.2).
     pub fn start_sources<K: Key, A: Allocator>(
         &mut self,
         group: &mut Group<K, A>,
@@ -143,7 +143,7 @@ impl Schedule {
         ensures room { group.new.room ≡ group.old.room }
         ensures spent { Spends (min 1 (length asked.now)) (2 * size_of group.old.state) m.old m.new }
     {
-        if group.start_sendings(asked, now, timing, m) {
+        if group.start_retransmissions(asked, now, timing, m) {
             self.sources_due = Some(now);
         }
     }
@@ -155,14 +155,14 @@ impl Schedule {
             record { group = group.new.state; schedule = self.new } ≡ cleared e }
         ensures room { group.new.room ≡ group.old.room }
     {
-        group.clear_sendings();
+        group.clear_retransmissions();
         *self = Schedule::none();
     }
 }
 
-/// Returns whether some source of the group has a sending to go.
-fn has_sendings<K: Key, A: Allocator>(group: &Group<K, A>) -> bool
-    ensures { result ≡ some_source (has_sendings group.now.state) group.now.state }
+/// Returns whether some source of the group has a retransmission to go.
+fn has_retransmissions<K: Key, A: Allocator>(group: &Group<K, A>) -> bool
+    ensures { result ≡ some_source (has_retransmissions group.now.state) group.now.state }
 {
-    any_has_sendings(group.sources())
+    any_has_retransmissions(group.sources())
 }

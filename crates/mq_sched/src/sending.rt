@@ -4,8 +4,8 @@ ghost use Rattle.std.specs.Prelude.{◌≡◌, ◌+◌, ◌-◌, ◌*◌, ◌^�
 ghost use Rattle.mq_count.specs.Spending.{Spends};
 ghost use Rattle.mq_sets.specs.Ascending.{IsAscending};
 ghost use Rattle.mq_table.specs.Group.{GroupState};
-ghost use Rattle.mq_table.specs.SendingPlaces.{PassesBetween, item_has_sendings};
-ghost use Rattle.mq_table.specs.Sendings.{sendings_counted};
+ghost use Rattle.mq_table.specs.RetransmissionPlaces.{PassesBetween, item_has_retransmissions};
+ghost use Rattle.mq_table.specs.Retransmissions.{retransmissions_counted};
 ghost use Rattle.mq_table.specs.Stored.{number_in, size_of, timers_in};
 ghost use Rattle.mq_sched.specs.Schedule.{ScheduledGroup};
 ghost use Rattle.mq_sched.specs.Sending.{is_due, group_messages, source_messages, messages_due, group_counted, sources_due_next, after_round, waiting_messages};
@@ -16,7 +16,7 @@ use crate::queries::QuerySchedule;
 use crate::schedules::Schedule;
 use crate::sinks::{QueryParts, Sink};
 use mq_count::{Key, Meter, Moment};
-use mq_table::{Group, SendingPlaces, Source, Timing, places_of_sendings, runs_on};
+use mq_table::{Group, RetransmissionPlaces, Source, Timing, places_of_retransmissions, runs_on};
 use std::alloc::Allocator;
 
 /// Returns a query that was sent at `now` with one sending fewer, if one is still to go.
@@ -36,9 +36,9 @@ fn counted(query: &QuerySchedule, now: Moment, timing: &Timing) -> Option<QueryS
     }
 }
 
-/// Sends the queries for the sources of a group that have sendings to go; `row` has its sources. Those whose timers are
-/// above the last member query time go with S set, and then the others with S clear. Returns their places. RFC 3376
-/// section 6.6.3.2, RFC 3810 section 7.6.3.2.
+/// Sends the queries for the sources of a group that have retransmissions to go; `row` has its sources. Those whose
+/// timers are above the last member query time go with S set, and then the others with S clear. Returns their places.
+/// RFC 3376 section 6.6.3.2, RFC 3810 section 7.6.3.2.
 pub fn send_waiting<K: Key, S: Sink<K>>(
     address: K,
     row: &[Source<K>],
@@ -47,18 +47,18 @@ pub fn send_waiting<K: Key, S: Sink<K>>(
     per_query: usize,
     m: &mut Meter,
     sink: &mut S,
-) -> SendingPlaces
+) -> RetransmissionPlaces
     requires in_range { now ≤ 2 ^ 53 }
     requires holds_one { 0 < per_query }
     requires most { per_query ≤ 366 }
     requires ascending { IsAscending (number_in K.number) row.now }
     ensures sent { (g : GroupState) → timers_in K.number row.now ≡ g.sources →
         Sends S.takes sink.old (waiting_messages per_query timing.now now (K.number address) g) sink.new }
-    ensures places { PassesBetween item_has_sendings result.first result.end row.now }
+    ensures places { PassesBetween item_has_retransmissions result.first result.end row.now }
     ensures spent { Spends 0 (2 * length row.now) m.old m.new }
 {
     let limit = now.after(timing.last_member_time());
-    let places = places_of_sendings(row);
+    let places = places_of_retransmissions(row);
     let part = &row[places.first..places.end];
     send_sources(address, true, part, limit, per_query, m, sink);
     send_sources(address, false, part, limit, per_query, m, sink);
@@ -85,16 +85,19 @@ impl Schedule {
         if let Some(query) = &self.group_query {
             if m.reached(query.due, now) {
                 let limit = now.after(timing.last_member_time());
-                let s = runs_on(group.mode().deadline(), limit, m);
+                let suppress = runs_on(group.mode().deadline(), limit, m);
                 let left = counted(query, now, timing);
-                let query: QueryParts<'a, K> = QueryParts::Group { group: address, s };
+                let query: QueryParts<'a, K> = QueryParts::Group {
+                    group: address,
+                    suppress,
+                };
                 sink.send(query);
                 self.group_query = left;
             }
         }
     }
 
-    /// Sends the queries for the sources that have sendings to go, if they are due, and counts them.
+    /// Sends the queries for the sources that have retransmissions to go, if they are due, and counts them.
     fn send_source_queries<K: Key, A: Allocator, S: Sink<K>>(
         &mut self,
         address: K,
@@ -111,7 +114,7 @@ impl Schedule {
         ensures sent { let e : ScheduledGroup = record { group = group.old.state; schedule = self.old } in
             Sends S.takes sink.old (source_messages per_query timing.now now (K.number address) e) sink.new }
         ensures group { let due = is_due now self.old.sources_due in
-            group.new.state ≡ (if due then sendings_counted group.old.state else group.old.state) }
+            group.new.state ≡ (if due then retransmissions_counted group.old.state else group.old.state) }
         ensures next { let due = is_due now self.old.sources_due in
             let next = if due then sources_due_next timing.now now group.new.state else self.old.sources_due in
             self.new ≡ record self.old { sources_due = next } }
@@ -122,14 +125,14 @@ impl Schedule {
             if m.reached(due, now) {
                 let row = group.sources();
                 let places = send_waiting(address, row, now, timing, per_query, m, sink);
-                let left = group.count_sendings_between(places);
+                let left = group.count_retransmissions_between(places);
                 self.count_sources(left, now, timing);
             }
         }
     }
 
-    /// Counts the sources that have sendings to go, which were sent at `now`. If one has a sending left, the next are
-    /// due a last member query interval later. No comparison.
+    /// Counts the sources that have retransmissions to go, which were sent at `now`. If one has a retransmission left,
+    /// the next are due a last member query interval later. No comparison.
     pub fn count_sources(&mut self, some_left: bool, now: Moment, timing: &Timing)
         requires in_range { now ≤ 2 ^ 53 }
         ensures { let next = if some_left then Some (now + timing.now.last_member_interval) else None in
@@ -144,11 +147,11 @@ impl Schedule {
 
     /// Sends what is due at or before `now` for the group of this address, once however late.
     ///
-    /// The group query goes first. Then go the sources that have sendings to go: those whose timers are above the last
-    /// member query time with S set, and then the others with S clear. They go in ascending order, in as few messages
-    /// as hold them. Each query that was sent has one sending fewer, and its next is due a last member query interval
-    /// after `now`. A message holds `per_query` sources. RFC 3376 sections 6.6.3.1 and 6.6.3.2, RFC 3810 sections
-    /// 7.6.3.1 and 7.6.3.2.
+    /// The group query goes first. Then go the sources that have retransmissions to go: those whose timers are above
+    /// the last member query time with S set, and then the others with S clear. They go in ascending order, in as few
+    /// messages as hold them. Each query that was sent has one sending fewer, and its next is due a last member query
+    /// interval after `now`. A message holds `per_query` sources. RFC 3376 sections 6.6.3.1 and 6.6.3.2, RFC 3810
+    /// sections 7.6.3.1 and 7.6.3.2.
     pub fn round<K: Key, A: Allocator, S: Sink<K>>(
         &mut self,
         address: K,

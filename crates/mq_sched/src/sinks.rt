@@ -13,14 +13,14 @@ pub enum QueryParts<'a, K: Key> {
         /// The group.
         group: K,
         /// The flag Suppress Router-Side Processing.
-        s: bool,
+        suppress: bool,
     },
     /// A group-and-source-specific query.
     Sources {
         /// The group.
         group: K,
         /// The flag Suppress Router-Side Processing.
-        s: bool,
+        suppress: bool,
         /// The sources asked for, ascending, at least one and no more than one message holds.
         sources: &'a [K],
     },

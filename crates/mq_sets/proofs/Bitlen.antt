@@ -1,8 +1,7 @@
 -- Laws of `bitlen`.
 use Rattle.mq_sets.proofs.Common.{ℕ, zero, suc, ◌+◌, ◌/◌, ◌^◌, ◌<◌, ◌≤◌, ◌≡◌, arith, refl, subst, bitlen, BitlenIsLeast}
-use Rattle.std.specs.Int.Digits.{digits_of}
+use Rattle.std.{specs.Int.Digits.digits_of, proofs.Math.Pow.pow_mono}
 use Rattle.std.proofs.lemmas.Int.Digits.{length-digits_of_step, length-digits_of-le, number_lt, number_digits_of, all_below_base_digits_of}
-use Rattle.std.proofs.Math.Pow.{pow_mono}
 
 pub bitlen-zero : bitlen 0 ≡ 0
 unfolding bitlen

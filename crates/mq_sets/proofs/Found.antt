@@ -1,9 +1,9 @@
 -- The item of a list that a number finds.
 use Rattle.mq_sets.proofs.Common.{ℕ, ◌≡◌, ◌==◌, arith, refl, List, [], ◌∷◌, map, ◌∙◌, ⊎_elim, option_map, nat_cmp, eq_by_cmp, cases_lt, eq-eqb, lt-ltb, le-ltb}
 use Rattle.mq_sets.proofs.Common.{eqb_tells, item_with, FoundWhereMember, FoundHasNumber, MapsEachNumber}
-use Rattle.std.specs.FinMap as map_of
 use Rattle.std.proofs.lemmas.Cmp.{nat_cmp_total}
 use Rattle.mq_sets.proofs.Ascents.{above-eqb, below-eqb}
+use Rattle.std.specs.FinMap as map_of
 
 module _ {X : Type 0} (number : X → ℕ) where
   pub found_where_member : FoundWhereMember number

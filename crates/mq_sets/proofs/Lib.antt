@@ -9,6 +9,7 @@ pub mod Found
 pub mod KeysAt
 pub mod KeysOfItems
 pub mod KnownBySet
+pub mod Lengthened
 pub mod MergeCount
 pub mod Merges
 pub mod Narrowing
@@ -32,4 +33,5 @@ pub mod SearchCosts
 pub mod SearchedPages
 pub mod Stored
 pub mod WholeMerge
+pub mod WrittenBehind
 pub mod WrittenOver

@@ -1,8 +1,7 @@
 -- One cell of a row that stands among others, once it is another.
 use Rattle.mq_sets.proofs.Common.{◌≡◌, ℕ, zero, suc, ◌+◌, ◌<◌, ◌≤◌, List, [], ◌∷◌, ◌++◌, length, take, drop, set, get_or, refl, sym, ap, ◌∙◌, subst, arith, All}
 use Rattle.mq_sets.proofs.Common.{length-set, take-append-drop, get_or-map, cells_of, rows_of, IsWithin, AreApart, Extent}
-use Rattle.mq_sets.proofs.Stored.{length-cells_of}
-use Rattle.mq_sets.proofs.WrittenOver.{rows-written}
+use Rattle.mq_sets.proofs.{Stored.length-cells_of, WrittenOver.rows-written}
 
 -- an item that is put in its own place
 pub set-same : {X : Type 0} (xs : List X) (i : ℕ) (x : X) → i < length xs → x ≡ get_or xs i x → set xs i x ≡ xs

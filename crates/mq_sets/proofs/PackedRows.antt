@@ -3,12 +3,11 @@ use Rattle.mq_sets.proofs.Common.{ℕ, suc, ◌+◌, ◌<◌, ◌≤◌, ◌≡�
 use Rattle.mq_sets.proofs.Common.{length-append, All, sum_by, cases_lt, cases_eq, map-set_same, same_lists, get_or_default, get_or_past, get_or-map}
 use Rattle.mq_sets.proofs.Common.{get_or-set_same, get_or-set_other, length-set, length-map, All-head, All-tail, All-set, sum_by-cons, sum_by-le, sum_by-set}
 use Rattle.mq_sets.proofs.Common.{sum_by_push, sum_by_more_le, cells_of, rows_of, IsWithin, IsApart, AreApart, cells_said, NamesRows, IsPlaced, times, Extent}
-use Rattle.mq_sets.proofs.Apart.{apart-none, apart-turned}
+use Rattle.mq_sets.proofs.{Apart.apart-none, Apart.apart-turned, Stored.cells_of-append, Stored.cells_of-end, Stored.cells_of-empty, Stored.length-cells_of}
 use Rattle.mq_sets.proofs.Cells.{is_cell, is_cell-same, is_cell-other}
-use Rattle.mq_sets.proofs.Stored.{cells_of-append, cells_of-end, cells_of-empty, length-cells_of}
 
 abbrev pub none : Extent
-none = record { start = 0; length = 0 }
+none = record { start = 0; length = 0; free = 0 }
 
 abbrev pub size_of : List Extent → ℕ → ℕ
 size_of extents n = (get_or extents n none).length
@@ -80,7 +79,7 @@ pub record IsPackedBy {T : Type 0} (cells packed : List T) (from extents : List 
 module _ {T : Type 0} (cells : List T) (from : List Extent) where
   -- one row more, that of number x
   module _ (packed : List T) (extents : List Extent) (numbers : List ℕ) (x : ℕ) (e y : Extent) (in_list : x < length from)
-      (absent : times x numbers ≡ 0) (here : e ≡ get_or extents x e) (inside : All (IsWithin cells) from) (size_is : y.length ≡ e.length)
+      (absent : times x numbers ≡ 0) (here : e ≡ get_or extents x e) (inside : All (IsWithin cells) from) (size_is : y.length ≡ e.length) (full : y.free ≡ 0)
       (start_is : 0 < y.length → y.start ≡ length packed) (placed_is : IsPlaced y) (known : IsPackedBy cells packed from extents numbers) where
     more : List T
     more = cells_of cells e
@@ -137,7 +136,7 @@ module _ {T : Type 0} (cells : List T) (from : List Extent) where
           ⊎_elim
           (λ (same : n ≡ x). rw (same, at_x d) (y_row ∙ ap (cells_of cells) (e_from ∙ get_or_default from x e d in_list)))
           (λ (differs : n ≡ x → ⊥). rw (at_other n d differs)
-          (cells_of-append packed (cells_of cells e) (get_or extents n d) (known.within n d in_n (before n differs some)) ∙
+          (cells_of-append packed (cells_of cells e) (get_or extents n d) (omega (arith, known.within n d in_n (before n differs some))) ∙
           known.row n d in_n (before n differs some)))
           (cases_eq n x);
       apart =
@@ -180,7 +179,7 @@ module _ {T : Type 0} (cells : List T) (from : List Extent) where
         (λ (empty : (get_or from n d).length ≤ 0). omega (arith, empty))
         (cases_lt 0 (get_or from n d).length)
 
-    at_first : (n : ℕ) (d : Extent) → n < length from → times n numbers ≤ 0 → (get_or extents n d).start ≡ 0
+    at_first : (n : ℕ) (d : Extent) → n < length from → times n numbers ≤ 0 → (get_or extents n d).start + (get_or extents n d).free ≡ 0
     at_first n d in_list absent =
         known.placed n d (omega (arith, in_list, known.size)) (unnamed n d in_list absent)
 
@@ -229,7 +228,7 @@ absent-yet numbers k x in_list here once =
 pub record IsNext {T : Type 0} (cells packed : List T) (from : List Extent) (numbers : List ℕ) (x : ℕ) (e : Extent) : Type 0 where
   pub in_list : x < length from
   pub absent : times x numbers ≡ 0
-  pub inside : e.start + e.length ≤ length cells
+  pub inside : e.start + e.length + e.free ≤ length cells
   pub fits : length packed + e.length ≤ cells_said from
 
 pub IsNext-named : {T : Type 0} (cells packed : List T) (from extents : List Extent) (numbers : List ℕ) (k x : ℕ) (e : Extent) → k < length numbers →

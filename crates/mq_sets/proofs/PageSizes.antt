@@ -1,7 +1,6 @@
 -- The sizes of pages, after an insert, a split and in a list of full pages.
 use Rattle.mq_sets.proofs.Common.{ℕ, zero, suc, ◌+◌, ◌-◌, ◌*◌, min, refl, ⊎_elim, ◌<◌, ◌≤◌, ◌≡◌, List, [], ◌∷◌, ◌++◌, length, set, get_or, arith, sum, All}
-use Rattle.mq_sets.proofs.Common.{cases_lt, sum_by-cons, All-cons, All-head, All-tail, All-nil, All-set, small_pairs, AreFilled}
-use Rattle.std.proofs.Common.{length-append, length-set}
+use Rattle.mq_sets.proofs.Common.{cases_lt, sum_by-cons, All-cons, All-head, All-tail, All-nil, All-set, small_pairs, AreFilled, length-append, length-set}
 
 -- fewer neighbours of fewer pages
 pub small_pairs-tail : (x : ℕ) (xs : List ℕ) → small_pairs xs ≤ small_pairs (x ∷ xs)

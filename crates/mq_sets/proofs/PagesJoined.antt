@@ -3,8 +3,7 @@ use Rattle.mq_sets.proofs.Common.{ℕ, suc, ◌+◌, ◌-◌, ◌<◌, ◌≤◌
 use Rattle.mq_sets.proofs.Common.{take-map, take-append-drop, map-set, take-append-le, take-take, drop_at, take-set, drop-set-lt, get_or-map, get_or-set_same}
 use Rattle.mq_sets.proofs.Common.{get_or-set_other, get_or-drop, get_or-take, take-set-le, set_split, drop-map, drop_more, length-map, map-append, get_or_past}
 use Rattle.mq_sets.proofs.Common.{flat_map-append, remove-append_left, remove-append_right, length-remove, cases_lt, eqb_tells, numbers_in, AreFilled}
-use Rattle.mq_sets.proofs.Common.{above_least, joined}
-use Rattle.std.proofs.Common.{subst, arith, sum, add-one, append_assoc, length-append, length-take, length-drop, length-set, ⊎_elim}
+use Rattle.mq_sets.proofs.Common.{above_least, joined, subst, arith, sum, add-one, append_assoc, length-append, length-take, length-drop, length-set, ⊎_elim}
 use Rattle.mq_sets.proofs.PageSizes.{filled-right, filled-left, filled-less}
 use Rattle.mq_sets.proofs.PagedNumbers.{in_parts, numbers-parts, numbers-set, length-numbers-take}
 

@@ -1,7 +1,6 @@
 -- The moved items if a number leaves its page.
 use Rattle.mq_sets.proofs.Common.{ℕ, ◌+◌, ◌-◌, ◌<◌, ◌≤◌, ◌≡◌, min, List, [], length, map, set, get_or, arith, ⊎_elim, remove, cases_lt, lt-ltb, le-ltb, map-set}
-use Rattle.mq_sets.proofs.Common.{get_or-map, length-map, length-remove, above_least, moved_by_join, moved_by_joins, moved_by_remove, have_to_join, Spot}
-use Rattle.std.specs.Prelude.{cond}
+use Rattle.mq_sets.proofs.Common.{get_or-map, length-map, length-remove, above_least, moved_by_join, moved_by_joins, moved_by_remove, have_to_join, Spot, cond}
 
 module _ (pages : List ℕ) (i : ℕ) where
   neither : (i + 1 < length pages → 1 ≤ above_least pages i) → min 1 (length pages - 1 - i) ≤ above_least pages i

@@ -2,16 +2,14 @@
 use Rattle.mq_sets.proofs.Common.{ℕ, zero, suc, ◌+◌, ◌-◌, ◌*◌, ◌/◌, ◌<◌, ◌≤◌, ◌≡◌, arith, refl, List, [], ◌∷◌, length, map, set, get_or, ap, ◌∙◌, min, All}
 use Rattle.mq_sets.proofs.Common.{cases_eq, cases_lt, le-leb, lt-leb, nat_tests, get_or-replicate, length-replicate, get_or-set_same, get_or-set_other, map-set}
 use Rattle.mq_sets.proofs.Common.{length-set, length-map, All-head, All-tail, All-set, sum_by-replicate, sum_by-set, cells_of, rows_of, cells_said, IsWithin}
-use Rattle.mq_sets.proofs.Common.{AreApart, IsStored, PoolState, NamesRows, IsPlaced, MovesArePaid, Extent}
-use Rattle.std.specs.Prelude.{replicate, nat_le, if◌then◌else◌}
-use Rattle.mq_sets.proofs.Apart.{apart-none, apart-set}
-use Rattle.mq_sets.proofs.PackedRows.{none, AreApart-from_pairs}
-use Rattle.mq_sets.proofs.Stored.{cells_of-empty, length-cells_of}
+use Rattle.mq_sets.proofs.Common.{⊎_elim, AreApart, IsStored, PoolState, cells_in, NamesRows, IsPlaced, MovesArePaid, Extent, replicate, if◌then◌else◌}
+use Rattle.std.specs.Prelude.{nat_le}
+use Rattle.mq_sets.proofs.{Apart.apart-none, Apart.apart-set, PackedRows.none, PackedRows.AreApart-from_pairs, Stored.cells_of-empty, Stored.length-cells_of}
 
 -- rows of no cells
 pub IsPlaced-none : (rows : ℕ) → All IsPlaced (replicate rows none)
 IsPlaced-none rows k d in_list empty =
-    ap (λ (e : Extent). e.start) (get_or-replicate rows k none d (omega (arith, in_list, length-replicate rows none)))
+    ap (λ (e : Extent). e.start + e.free) (get_or-replicate rows k none d (omega (arith, in_list, length-replicate rows none)))
 
 module _ {T : Type 0} (rows : ℕ) where
   pub IsStored-none : (limit : ℕ) → IsStored {T = T} (replicate rows none) [] 0 limit
@@ -36,7 +34,7 @@ pub record IsEmptied (extents : List Extent) (place : ℕ) (d empty : Extent) : 
   pub in_list : place < length extents
   pub here : d ≡ get_or extents place d
   pub no_cells : empty.length ≡ 0
-  pub at_first : empty.start ≡ 0
+  pub at_first : empty.start + empty.free ≡ 0
 
 module _ {extents : List Extent} {place : ℕ} {d empty : Extent} (at : IsEmptied extents place d empty) where
   pub emptied-within : {T : Type 0} (cells : List T) → All (IsWithin cells) extents → All (IsWithin cells) (set extents place empty)
@@ -92,5 +90,24 @@ paid : (old_size row_size rows limit ahead cells named all : ℕ) → named ≤ 
     ≤ min (4 * (limit / 4 + rows - ahead)) (cells + named) + 5 * row_size
 paid old_size row_size rows limit ahead cells named all few within sums fits = grind (arith, le-leb, lt-leb, cases_lt)
 
+-- and if the row is written where the old one was
+paid_over : (own row_size old_size rows limit ahead cells named all : ℕ) → own ≤ row_size → all + old_size ≡ cells + row_size
+    → own + min (4 * (limit / 4 + rows - ahead)) (all + named) ≤ min (4 * (limit / 4 + rows - ahead)) (cells + named) + 5 * row_size
+paid_over own row_size old_size rows limit ahead cells named all few sums = grind (arith, le-leb, cases_lt)
+
 pub moves-paid : {T : Type 0} → MovesArePaid T
-moves-paid = grind (arith, sum_by-set, length-set, paid)
+moves-paid state after number row own named moved in_rows own_few few within fits is =
+    let more = sum_by-set length state.rows number row [] in_rows in
+    let same = length-set state.rows number row in
+    let size = length (get_or state.rows number []) in
+    let all = cells_in (set state.rows number row) in
+    rw (is.rows, is.limit, same) (
+    ⊎_elim
+    (λ kept.
+    rw (kept.0, kept.1)
+    (paid_over own (length row) size (length state.rows) state.cell_limit state.ahead (cells_in state.rows) named all own_few (omega (arith, more))))
+    (λ behind.
+    rw (behind.0, behind.1)
+    (paid size (length row) (length state.rows) state.cell_limit state.ahead (cells_in state.rows) named all few within (omega (arith, more))
+    (omega (arith, more, fits))))
+    is.how)

@@ -2,8 +2,7 @@
 use Rattle.mq_sets.proofs.Common.{ℕ, zero, suc, ◌+◌, ◌-◌, ◌*◌, ◌/◌, ◌<◌, ◌≤◌, ◌≡◌, min, List, [], ◌∷◌, length, map, get_or, sym, ap, ◌∙◌, ⊎_elim, arith}
 use Rattle.mq_sets.proofs.Common.{cases_lt, append-nil, get_or-map, length-map, get_or-le-sum_by, Spends, Spends-join_within, Spends-within, numbers_in}
 use Rattle.mq_sets.proofs.Common.{AreFilled, bitlen}
-use Rattle.mq_sets.proofs.Bitlen.{bitlen-half, bitlen-le, bitlen-mono, bitlen-zero}
-use Rattle.mq_sets.proofs.PageSizes.{few_pages, two_pages}
+use Rattle.mq_sets.proofs.{Bitlen.bitlen-half, Bitlen.bitlen-le, Bitlen.bitlen-mono, Bitlen.bitlen-zero, PageSizes.few_pages, PageSizes.two_pages}
 use Rattle.mq_sets.proofs.PagedNumbers.{length-numbers}
 
 -- a 128th of a number has seven binary digits less

@@ -8,14 +8,15 @@ use Rattle.mq_sets.proofs.Apart.{apart-set, apart-behind}
 
 module _ {T : Type 0} where
   -- a row that lies within the cells is the same when cells are appended
-  pub cells_of-append : (cells more : List T) (e : Extent) → IsWithin cells e → cells_of (cells ++ more) e ≡ cells_of cells e
+  pub cells_of-append : (cells more : List T) (e : Extent) → e.start + e.length ≤ length cells → cells_of (cells ++ more) e ≡ cells_of cells e
   cells_of-append cells more e within = grind (arith, length-drop, drop-append-le, take-append-le)
 
   pub rows_of-append : (cells more : List T) (extents : List Extent) → All (IsWithin cells) extents → rows_of (cells ++ more) extents ≡ rows_of cells extents
   rows_of-append cells more [] within = refl
   rows_of-append cells more (e ∷ extents) within =
       let rest = rows_of-append cells more extents (All-tail (IsWithin cells) e extents within) in
-      rw (cells_of-append cells more e (All-head (IsWithin cells) e extents within), rest) refl
+      let here = All-head (IsWithin cells) e extents within in
+      rw (cells_of-append cells more e (omega (arith, here)), rest) refl
 
   -- and still lies within them
   pub IsWithin-append : (cells more : List T) (extents : List Extent) → All (IsWithin cells) extents → All (IsWithin (cells ++ more)) extents
@@ -65,6 +66,7 @@ pub record IsAppended {T : Type 0} (cells copied row : List T) (extents kept : L
   pub apart : AreApart kept
   pub start : y.start ≡ length copied
   pub size : y.length ≡ length row
+  pub full : y.free ≡ 0
 
 module _ {T : Type 0} {cells copied row : List T} {extents kept : List Extent} {place : ℕ} {none y d : Extent}
     (at : IsAppended cells copied row extents kept place none y d) where
@@ -117,7 +119,7 @@ pub IsStored-over : {T : Type 0} (cells written : List T) (row_length : ℕ) (ex
     → used + row_length ≤ cells_limit + d.length → IsStored extents cells used cells_limit → IsStored kept written (used - d.length + row_length) cells_limit
 IsStored-over cells written row_length extents kept place d in_list here within apart lengths fits known =
     let l = λ (e : Extent). e.length in
-    let y : Extent = record { start = d.start; length = row_length } in
+    let y : Extent = record { start = d.start; length = row_length; free = 0 } in
     let said = cells_said-by_lengths kept (set extents place y) (lengths ∙ sym (map-set l extents place y)) in
     let part = get_or-le-sum_by l extents place d in_list in
     let size_then = ap l here in

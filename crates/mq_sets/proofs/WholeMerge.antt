@@ -3,8 +3,8 @@ use Rattle.mq_sets.proofs.Common.{ℕ, ◌<◌, ◌≤◌, ◌≡◌, Bool, true
 use Rattle.mq_sets.proofs.Common.{filter, option_or, cases_lt, eq-eqb, lt-ltb, le-ltb, ltb-true, eqb_tells, All-cons, All-append, All-map, All-weaker}
 use Rattle.mq_sets.proofs.Common.{All-filter, All-head, All-tail, filter_passes, find-append, AllPairs-filter, IsAscending, item_with, merged_lists, number_of}
 use Rattle.mq_sets.proofs.Common.{paired}
-use Rattle.mq_sets.proofs.Ascents.{IsAscending-head, IsAscending-tail, IsAscending-cons, IsAscending-append, IsAscending-map, item_with-above}
-use Rattle.mq_sets.proofs.Ascents.{below-eqb, above-eqb}
+use Rattle.mq_sets.proofs.Ascents.{IsAscending-head, IsAscending-tail, IsAscending-cons, IsAscending-append, IsAscending-map, item_with-above, below-eqb}
+use Rattle.mq_sets.proofs.Ascents.{above-eqb}
 
 module _ {X : Type 0} (number : X → ℕ) (p : X → Bool) (n : ℕ) where
   -- an item of another number, kept or not, changes nothing for n

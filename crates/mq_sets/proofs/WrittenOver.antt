@@ -2,10 +2,9 @@
 use Rattle.mq_sets.proofs.Common.{◌≡◌, ℕ, zero, suc, ◌+◌, ◌-◌, ◌<◌, ◌≤◌, List, [], ◌∷◌, ◌++◌, length, take, drop, set, get_or, refl, sym, ap, ◌∙◌, subst, arith}
 use Rattle.mq_sets.proofs.Common.{inl, inr, append_assoc, length-append, length-take, All, splice, drop-append-add, drop-drop, take-append-drop, All-head}
 use Rattle.mq_sets.proofs.Common.{All-tail, cells_of, rows_of, IsWithin, IsApart, AreApart, Extent}
-use Rattle.mq_sets.proofs.Apart.{apart-turned}
-use Rattle.mq_sets.proofs.Stored.{cells_of-append, cells_of-end}
+use Rattle.mq_sets.proofs.{Apart.apart-turned, Stored.cells_of-append, Stored.cells_of-end}
 
-module _ {T : Type 0} (cells row : List T) (e y : Extent) (start : y.start ≡ e.start) (size : y.length ≡ length row) (fits : length row ≤ e.length)
+module _ {T : Type 0} (cells row : List T) (e y : Extent) (start : y.start ≡ e.start) (size : y.length ≡ length row) (fits : length row ≤ e.length + e.free)
     (inside : IsWithin cells e) where
   abbrev pub written : List T
   written = splice cells e.start (e.start + length row) row
@@ -27,7 +26,7 @@ module _ {T : Type 0} (cells row : List T) (e y : Extent) (start : y.start ≡ e
   written-apart : (x : Extent) → IsApart e x → cells_of written x ≡ cells_of cells x
   written-apart x (inr before) =
       let n = front_length in
-      let in_front : IsWithin front x = omega (arith, n, before) in
+      let in_front : x.start + x.length ≤ length front = omega (arith, n, before) in
       cells_of-append front (row ++ drop (e.start + length row) cells) x in_front
       ∙ sym (ap (λ xs. cells_of xs x) (sym (take-append-drop e.start cells)) ∙ cells_of-append front (drop e.start cells) x in_front)
   written-apart x (inl behind) =

@@ -13,4 +13,4 @@ bytes_of_keys page_size key_size room = bytes_of_pages page_size (room / 128 + 1
 
 -- the bytes of rows of cells of a size
 unfoldable pub bytes_of_rows : (cell_size rows cells : ℕ) → ℕ
-bytes_of_rows cell_size rows cells = bytes_for 8 rows + 2 * bytes_for cell_size (cells_reserved rows cells)
+bytes_of_rows cell_size rows cells = bytes_for 12 rows + 2 * bytes_for cell_size (cells_reserved rows cells)

@@ -1,14 +1,15 @@
 //! Rows of cells by number, in memory that is reserved once.
 
-ghost use Rattle.std.specs.Prelude.{◌≡◌, ◌+◌, ◌^◌, ◌<◌, ◌≤◌, [], length, map, replicate, slice_index_or, slice_set, IfOk, is_ok};
+ghost use Rattle.std.specs.Prelude.{◌≡◌, ℕ, ◌+◌, ◌-◌, ◌^◌, ◌<◌, ◌≤◌, [], length, map, replicate, slice_index_or, slice_set, IfOk, is_ok};
+ghost use Rattle.std.specs.List.{insert};
 ghost use Rattle.mq_arena.specs.Vectors.{IsSize, item_bytes, Takes};
 ghost use Rattle.mq_count.specs.Spending.{Spends};
-ghost use Rattle.mq_sets.specs.Pools.{cells_in, PoolState, NamesRows, MovesArePaid, cells_reserved, moved_for, size_at, with_row};
+ghost use Rattle.mq_sets.specs.Pools.{cells_in, PoolState, NamesRows, IsReplaced, MovesArePaid, cells_reserved, moved_for, size_at, with_row};
 ghost use Rattle.mq_sets.specs.Sizes.{bytes_of_rows};
 
-use crate::extents::{Extent, extent_at, write_over};
+use crate::extents::{Extent, extent_at, insert_over, write_over};
 use crate::memory::Memory;
-use crate::packing::make_space_for;
+use crate::packing::{append_longer, make_space_for};
 use mq_arena::{VectorSource, both_sizes, filled, times_size, vector_size};
 use mq_count::Moves;
 use std::alloc::{Allocator, Global};
@@ -20,8 +21,9 @@ use std::marker::Model;
 /// together. It also sees the number of cells that fit after the last one before the rows are packed. `new` reserves
 /// all memory, and no other call allocates. No edit changes another row or its number.
 ///
-/// All cells stand in one vector. `replace` writes a row over the old one if it is no longer than that. Otherwise it
-/// writes the row after the last cell and forgets the old one. At the end of the vector it packs the rows in use. It
+/// All cells stand in one vector. A row that gets shorter keeps its cells as free ones, until it moves or has no cells.
+/// `replace` writes a row over the old one if it fits into that and its free cells. Otherwise it writes the row after
+/// the last cell and forgets the old one. At the end of the vector it packs the rows in use, without free cells. It
 /// copies them, one after another, into a second vector of the same size, and the two change places. Each vector has
 /// room for all cells that the rows may have, a quarter more, and one cell for each row. So packing copies and looks at
 /// no more than four times the cells that were written after the last one since the packing before.
@@ -84,6 +86,7 @@ impl<T: Copy, A: Allocator> Pool<T, A> {
         let none = Extent {
             start: 0,
             length: 0,
+            free: 0,
         };
         Ok(Pool {
             extents: filled(memory, none, rows)?,
@@ -144,21 +147,22 @@ impl<T: Copy, A: Allocator> Pool<T, A> {
     }
 
     /// Replaces a row. `in_use` names the rows that have cells. The moves are the cells that are written and, if the rows are
-    /// packed, the rows that are looked at.
+    /// packed, the rows that are looked at. A row that is no longer than the old one is written over it. A longer one is, too,
+    /// if the old one has enough free cells.
     pub fn replace(&mut self, number: u16, row: &[T], in_use: &[u16], moves: &mut Moves)
         requires number { number < length self.old.rows }
         requires fits { cells_in self.old.rows + length row.now ≤ self.old.cell_limit + size_at self.old number }
         requires named { NamesRows (map length self.old.rows) in_use.now }
-        ensures rows { self.new ≡ with_row self.old number row.now }
-        ensures moves { let moved = moved_for self.old number row.now (length in_use.now) in
-            Spends moved moved moves.old moves.new }
+        ensures { (moved : ℕ)
+            × IsReplaced self.old number row.now (length row.now) (length in_use.now) self.new moved
+            × Spends moved moved moves.old moves.new }
     {
         if row.is_empty() {
             self.remove_row(number);
             return;
         }
         let before = self.extents[number as usize];
-        if row.len() <= before.length as usize {
+        if row.len() <= before.length as usize + before.free as usize {
             write_over(
                 &mut self.extents,
                 &mut self.cells,
@@ -170,6 +174,37 @@ impl<T: Copy, A: Allocator> Pool<T, A> {
             moves.count(row.len());
         } else {
             self.write_behind(number, row, in_use, moves);
+        }
+    }
+
+    /// Inserts a cell into a row. `in_use` names the rows that have cells. If the row has a free cell, the moves are the new
+    /// cell and those after it. Otherwise they are those of a replacement.
+    pub fn insert(&mut self, number: u16, place: usize, cell: T, in_use: &[u16], moves: &mut Moves)
+        requires number { number < length self.old.rows }
+        requires place { place ≤ size_at self.old number }
+        requires fits { cells_in self.old.rows < self.old.cell_limit }
+        requires named { NamesRows (map length self.old.rows) in_use.now }
+        ensures { let row = insert (slice_index_or self.old.rows number []) place cell in
+            let own = size_at self.old number - place + 1 in
+            (moved : ℕ)
+            × IsReplaced self.old number row own (length in_use.now) self.new moved
+            × Spends moved moved moves.old moves.new }
+    {
+        let before = self.extents[number as usize];
+        if before.free > 0 {
+            insert_over(
+                &mut self.extents,
+                &mut self.cells,
+                &mut self.spare,
+                number as usize,
+                before,
+                place,
+                cell,
+            );
+            self.used += 1;
+            moves.count(before.length as usize - place + 1);
+        } else {
+            self.insert_behind(number, place, cell, in_use, moves);
         }
     }
 
@@ -195,10 +230,56 @@ impl<T: Copy, A: Allocator> Pool<T, A> {
             in_use,
             moves,
         );
+        self.spare.clear();
         self.extents[number as usize] = extent_at(self.cells.len(), row.len());
         self.cells.extend_from_slice(row).unwrap();
         self.used = self.used - forgotten + row.len();
         moves.count(row.len());
+    }
+
+    /// Replaces a row by the row with one cell more, after the last cell.
+    fn insert_behind(
+        &mut self,
+        number: u16,
+        place: usize,
+        cell: T,
+        in_use: &[u16],
+        moves: &mut Moves,
+    )
+        requires number { number < length self.old.rows }
+        requires place { place ≤ size_at self.old number }
+        requires fits { cells_in self.old.rows < self.old.cell_limit }
+        requires named { NamesRows (map length self.old.rows) in_use.now }
+        ensures rows { let row = insert (slice_index_or self.old.rows number []) place cell in self.new ≡ with_row self.old number row }
+        ensures moves { let row = insert (slice_index_or self.old.rows number []) place cell in
+            let moved = moved_for self.old number row (length in_use.now) in
+            Spends moved moved moves.old moves.new }
+    {
+        let size = self.cell_limit + self.cell_limit / 4 + self.extents.len();
+        let before = self.extents[number as usize];
+        let count = before.length as usize + 1;
+        self.extents[number as usize] = extent_at(0, 0);
+        let is_packed = make_space_for(
+            &mut self.extents,
+            &mut self.cells,
+            &mut self.spare,
+            count,
+            size,
+            in_use,
+            moves,
+        );
+        self.extents[number as usize] = extent_at(self.cells.len(), count);
+        append_longer(
+            &mut self.cells,
+            &mut self.spare,
+            is_packed,
+            before,
+            place,
+            cell,
+        );
+        self.spare.clear();
+        self.used += 1;
+        moves.count(count);
     }
 }
 

@@ -2,8 +2,8 @@
 use Rattle.mq_table.proofs.Common.{ℕ, ◌<◌, Bool, true, false, cond, Option, IfSome, sym, subst, arith, ltb-true, option_and_then, nat_cmp, GroupState}
 use Rattle.mq_table.proofs.Common.{FilterMode, Include, Exclude, SourceTimer, is_vacant, vacant, deadline_of, group_deadline, ahead, mode_expired, at_zero}
 use Rattle.mq_table.proofs.Common.{source_expired, expired, AllAhead}
-use Rattle.std.specs.FinMap as map
 use Rattle.mq_table.proofs.{Maps.get-kept, Composed.ended_at}
+use Rattle.std.specs.FinMap as map
 
 ahead_of : (now : ℕ) (o : Option ℕ) → IfSome (option_and_then (ahead now) o) (λ d. now < d)
 ahead_of now o = grind (arith, ltb-true)

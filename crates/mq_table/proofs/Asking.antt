@@ -3,8 +3,7 @@ use Rattle.mq_table.proofs.Common.{◌≡◌, ℕ, ◌+◌, ◌<◌, Bool, true,
 use Rattle.mq_table.proofs.Common.{Some, refl, sym, ap, ◌∙◌, arith, filter_map, list_any, or-false, drop_more, drop-drop, set-get_or, map-append}
 use Rattle.mq_table.proofs.Common.{take-append-drop, list_any_more, list_any-append, set_of, Source, SourceTimer, Stopped, Running, is_ahead, deadline_of}
 use Rattle.mq_table.proofs.Common.{is_first, source_if_asked, is_asked_above}
-use Rattle.mq_table.specs.Sendings.{source_asked}
-use Rattle.mq_table.proofs.InOrder.{found_in_order, are_asked, one_on}
+use Rattle.mq_table.{specs.Retransmissions.source_asked, proofs.InOrder.found_in_order, proofs.InOrder.are_asked, proofs.InOrder.one_on}
 use Rattle.mq_table.proofs.MadeLists.{as_they_were, passed_some, rest_after_some, made_of_all}
 
 -- a timer that is asked for

@@ -2,8 +2,7 @@
 use Rattle.mq_table.proofs.Common.{◌≡◌, ℕ, zero, suc, ◌<◌, ◌==◌, Bool, true, false, cond, ◌||◌, ◌&&◌, List, [], ◌∷◌, length, set, get_or, Some, refl, sym, ap}
 use Rattle.mq_table.proofs.Common.{◌∙◌, arith, list_map, All, list_any, or-false, ne_eqb, eqb-false, eq-eqb, All-head, All-tail, IsAscending, set_of}
 use Rattle.mq_table.proofs.Common.{IsAscending-tail, Source, is_ahead, deadline_of, Running, source_if_asked, is_asked_above, number_in}
-use Rattle.mq_table.specs.Sendings.{source_asked}
-use Rattle.mq_table.proofs.{Asking.above_is_lowered, Asking.made_at, Places.or_none}
+use Rattle.mq_table.{specs.Retransmissions.source_asked, proofs.Asking.above_is_lowered, proofs.Asking.made_at, proofs.Places.or_none}
 
 -- a function that leaves all items but that of a number, and a test that no other passes
 module _ {X : Type 0} (number : X → ℕ) (n : ℕ) (f : X → X) (p : X → Bool) (alone : (x : X) → (number x ≡ n → ⊥) → (f x ≡ x) × (p x ≡ false)) where

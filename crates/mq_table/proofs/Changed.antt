@@ -5,12 +5,11 @@ use Rattle.mq_table.proofs.Common.{item_with, merged_lists, number_of, paired, K
 use Rattle.mq_table.proofs.Common.{Kind, Rule, Source, Timing, Set, GroupState, FilterMode, Include, Exclude, SourceTimer, running, stopped, timer_at}
 use Rattle.mq_table.proofs.Common.{is_include, membership_interval, table_row, timer_by, change_of, timer_after, is_asked_after, mode_after, changes_mode}
 use Rattle.mq_table.proofs.Common.{asks_group_after, timers_in, named_in, number_in, names, changes_filter, source_with, source_made, source_asked, turns}
-use Rattle.mq_table.proofs.Common.{source_turned}
-use Rattle.std.specs.Prelude.{not, map as list_map}
+use Rattle.mq_table.proofs.Common.{source_turned, not, list_map}
+use Rattle.mq_table.proofs.{Filters.changes-by, Filters.named_alike, Filters.not_unlike, TableRows.timer_by-nothing, TableRows.timer_at-change_of}
+use Rattle.mq_table.proofs.{Groups.same_sources, SourceLists.get-timers_in}
 use Rattle.std.specs.FinMap as map
 use Rattle.std.specs.FinSet as set
-use Rattle.mq_table.proofs.{Filters.changes-by, Filters.named_alike, Filters.not_unlike, Groups.same_sources, TableRows.timer_by-nothing}
-use Rattle.mq_table.proofs.{TableRows.timer_at-change_of, SourceLists.get-timers_in}
 
 -- A row of the tables depends, for each source, on its timer before and on whether it is named.
 row-timer : (gmi : ℕ) (mode : FilterMode) (kind : Kind) (g : GroupState) (A : Set) (s : ℕ) →

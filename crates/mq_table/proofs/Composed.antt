@@ -2,8 +2,8 @@
 use Rattle.mq_table.proofs.Common.{◌≡◌, ℕ, ◌≤◌, true, false, cond, Option, None, Some, refl, sym, ap, ◌∙◌, arith, eqb, and_parts, nat_tests, option_and_then}
 use Rattle.mq_table.proofs.Common.{nat_cmp, FinMap, kept, GroupState, FilterMode, Include, Exclude, SourceTimer, is_include, vacant, is_vacant, ahead}
 use Rattle.mq_table.proofs.Common.{mode_expired, source_expired, held_or_vacant, expired}
-use Rattle.std.specs.FinMap as map
 use Rattle.mq_table.proofs.{Maps.get-kept, Groups.same_sources, Held.nothing_held, Held.get_of_empty}
+use Rattle.std.specs.FinMap as map
 
 -- the rest after the end of timers, before it is known whether the group is held
 abbrev pub ended_at : ℕ → GroupState → GroupState

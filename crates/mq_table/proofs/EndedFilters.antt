@@ -4,9 +4,9 @@ use Rattle.mq_table.proofs.Common.{filter_map, cons_option, list_any, option_map
 use Rattle.mq_table.proofs.Common.{IsAscending, item_with, KeepsNumbers, item_with-filter_map, Source, GroupState, FilterMode, Include, Exclude, SourceTimer}
 use Rattle.mq_table.proofs.Common.{is_include, timer_at, vacant, is_vacant, filter_of, names, changes_filter, mode_expired, source_expired, held_or_vacant}
 use Rattle.mq_table.proofs.Common.{expired, runs_out, timer_runs_out, number_in, timers_in}
+use Rattle.mq_table.proofs.{Changed.address-if, Changed.some-if, Filters.changes-by, Filters.not_unlike, Filters.same_filter, SourceLists.get-timers_in}
+use Rattle.mq_table.proofs.{Composed.ended_at, Held.get_of_empty, Maps.get-kept}
 use Rattle.std.specs.FinMap as map
-use Rattle.mq_table.proofs.{Changed.address-if, Changed.some-if, Composed.ended_at, Filters.changes-by, Filters.not_unlike, Filters.same_filter}
-use Rattle.mq_table.proofs.{Held.get_of_empty, Maps.get-kept, SourceLists.get-timers_in}
 
 -- INCLUDE({}) has the filter of a group that isn't held
 none_named : (mode : FilterMode) → names mode None ≡ false

@@ -2,9 +2,9 @@
 use Rattle.mq_table.proofs.Common.{◌≡◌, ℕ, zero, suc, ◌+◌, ◌<◌, ◌≤◌, Bool, true, false, ◌||◌, refl, List, [], ◌∷◌, ◌++◌, length, length-append, get_or, take}
 use Rattle.mq_table.proofs.Common.{drop, Option, None, Some, sym, ap, subst, ◌∙◌, arith, AllWithin, filter_map, list_any, true≢false, filter_map-append}
 use Rattle.mq_table.proofs.Common.{list_any-append, list_any_more, drop-drop, get_or-drop, compared, lies_ahead, moments_by, moments-more, Source, FilterMode}
-use Rattle.mq_table.proofs.Common.{SourceTimer, Stopped, Running, deadline_of, at_zero, source_with, running_among, runs_out, source_left}
+use Rattle.mq_table.proofs.Common.{SourceTimer, Stopped, Running, deadline_of, at_zero, source_with, running_among, runs_out, source_left, option_to_list}
+use Rattle.mq_table.proofs.Common.{is_some}
 use Rattle.std.proofs.lemmas.List.Concat.{flat_map-append}
-use Rattle.std.specs.Option.{option_to_list, is_some}
 
 take_none : {X : Type 0} (n : ℕ) → take {A = X} n [] ≡ []
 take_none zero = refl

@@ -2,9 +2,9 @@
 use Rattle.mq_table.proofs.Common.{◌≡◌, ℕ, Bool, true, false, not, cond, ◌&&◌, ◌||◌, List, [], ◌∷◌, Option, is_some, refl, sym, ap, ◌∙◌, arith, filter, beq}
 use Rattle.mq_table.proofs.Common.{list_any, nat_cmp, eq_by_cmp, nat_cmp_total, true≢false, and_parts, GroupState, FilterMode, SourceTimer, is_include}
 use Rattle.mq_table.proofs.Common.{timer_at, forwards_in, Filter, names, filter_of, forwards_by, are_same, changes_filter}
+use Rattle.mq_table.proofs.Maps.{tied}
 use Rattle.std.specs.FinMap as map
 use Rattle.std.specs.FinSet as set
-use Rattle.mq_table.proofs.Maps.{tied}
 
 -- among the keys that pass a test are those that are there and pass it
 module _ (p : ℕ → Bool) (s : ℕ) where

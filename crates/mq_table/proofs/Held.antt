@@ -5,12 +5,11 @@ use Rattle.mq_table.proofs.Common.{nat_tests, length-map, list_any, option_and_t
 use Rattle.mq_table.proofs.Common.{Timing, GroupState, FilterMode, Include, Exclude, running, SourceTimer, is_running, is_stopped, stopped, vacant, is_vacant}
 use Rattle.mq_table.proofs.Common.{IsWellFormed, IsAnyGroup, Set, kept, membership_interval, NamedSources, table_row, change_of, lowered_to, mode_lowered}
 use Rattle.mq_table.proofs.Common.{source_lowered, group_lowered, sources_lowered, source_expired, held_or_vacant, expired}
-use Rattle.std.specs.FinMap as map
-use Rattle.std.specs.FinSet as set
-use Rattle.mq_count.specs.declared.versions.OlderVersion.{OlderVersion}
-use Rattle.mq_count.specs.declared.versions.OlderVersion.TheVariants.{V1, V2}
+use Rattle.mq_count.specs.declared.versions.OlderVersion.{OlderVersion, TheVariants.V1, TheVariants.V2}
 use Rattle.mq_table.specs.OlderHosts.{older_report}
 use Rattle.mq_table.proofs.{Maps.get-kept, Groups.same_sources, TableRows.none_stopped_of, TableRows.was_included, TableRows.runs_on}
+use Rattle.std.specs.FinMap as map
+use Rattle.std.specs.FinSet as set
 
 ties_itself : (k : ℕ) → eq_by_cmp nat_cmp k k ≡ true
 ties_itself k = grind (arith, nat_tests)

@@ -4,8 +4,7 @@ use Rattle.mq_table.proofs.Common.{Some, refl, sym, ap, ◌∙◌, arith, ⊎_el
 use Rattle.mq_table.proofs.Common.{take_more_set, drop_more, drop-set-lt, eq-eqb, eqb_tells, none-some, All-head, All-tail, filter_map-append, IsAscending}
 use Rattle.mq_table.proofs.Common.{item_with, KeepsNumbers, IsAscending-tail, below-eqb, above-eqb, found_has_number, item_with-filter_map, Source, Timing}
 use Rattle.mq_table.proofs.Common.{GroupState, FilterMode, SourceTimer, timer_at, kept, number_in, timers_in, lowered_to, source_lowered, sources_lowered}
-use Rattle.mq_table.proofs.Common.{source_lowered_at}
-use Rattle.std.specs.Option.{option_map, option_and_then, option_to_list, IfSome}
+use Rattle.mq_table.proofs.Common.{source_lowered_at, option_map, option_and_then, option_to_list, IfSome}
 use Rattle.mq_table.proofs.{Maps.get-kept, Groups.same_sources, SourceLists.get-timers_in}
 
 -- The timers of a list that a rule makes of another are those that the rule's part for timers makes.

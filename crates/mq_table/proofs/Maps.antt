@@ -2,9 +2,9 @@
 use Rattle.mq_table.proofs.Common.{◌≡◌, ℕ, Bool, true, false, cond, ◌||◌, List, [], ◌∷◌, ◌++◌, Option, None, Some, refl, sym, ap, ◌∙◌, arith, list_map, T}
 use Rattle.mq_table.proofs.Common.{list_any, option_and_then, nat_cmp, eq_by_cmp, nat_cmp_total, FinMap, find, is_sorted, nat_tests, with_entry, entries_by}
 use Rattle.mq_table.proofs.Common.{by_rule, kept}
+use Rattle.std.specs.FinSet.{FinSet}
 use Rattle.std.specs.FinMap as map
 use Rattle.std.specs.FinSet as set
-use Rattle.std.specs.FinSet.{FinSet}
 
 -- numbers that tie are equal
 pub tied : (q k : ℕ) → eq_by_cmp nat_cmp q k ≡ true → q ≡ k

@@ -1,12 +1,11 @@
 -- The state of a group, by the list of its sources.
-use Rattle.std.proofs.Common.{◌≡◌, ℕ, ◌<◌, Bool, true, false, cond, ◌||◌, List, [], ◌∷◌, take, drop, filter, Option, None, Some, is_some, IsSome}
-use Rattle.mq_table.proofs.Common.{refl, sym, ap, ◌∙◌, subst, arith, T, lt-ltb, list_map, All, list_any, nat_cmp, is_sorted, take-map, drop-map, All-head}
-use Rattle.mq_table.proofs.Common.{All-tail, All-take, All-drop, option_map, IsAscending, set_of, item_with, found_where_member, IsAscending-head}
-use Rattle.mq_table.proofs.Common.{IsAscending-tail, Source, GroupState, FilterMode, SourceTimer, kept, number_in, timers_in}
-use Rattle.std.specs.FinMap as map
-use Rattle.std.specs.FinMap.Entries.{below_all}
-use Rattle.std.proofs.lemmas.Simd.{map-map}
+use Rattle.mq_table.proofs.Common.{◌≡◌, ℕ, ◌<◌, Bool, true, false, cond, ◌||◌, List, [], ◌∷◌, take, drop, filter, Option, None, Some, is_some, IsSome, refl}
+use Rattle.mq_table.proofs.Common.{sym, ap, ◌∙◌, subst, arith, T, lt-ltb, list_map, All, list_any, nat_cmp, is_sorted, take-map, drop-map, All-head, All-tail}
+use Rattle.mq_table.proofs.Common.{All-take, All-drop, option_map, IsAscending, set_of, item_with, found_where_member, IsAscending-head, IsAscending-tail}
+use Rattle.mq_table.proofs.Common.{Source, GroupState, FilterMode, SourceTimer, kept, number_in, timers_in}
+use Rattle.std.{specs.FinMap.Entries.below_all, proofs.lemmas.Simd.map-map}
 use Rattle.mq_table.proofs.{Maps.keys-from_entries, Maps.kept-from_entries, SourceLists.get-timers_in, SourceLists.get-found}
+use Rattle.std.specs.FinMap as map
 
 -- tests of the numbers of a list's items are tests of the items
 module _ {X : Type 0} (number : X → ℕ) (t : ℕ → Bool) (u : X → Bool) where

@@ -1,10 +1,10 @@
 -- A merge handed out run by run: the sources up to each that is named, and it.
 use Rattle.mq_table.proofs.Common.{◌≡◌, ℕ, Bool, true, false, ◌||◌, zero, suc, ◌+◌, ◌<◌, ◌≤◌, List, [], ◌∷◌, ◌++◌, length, get_or, map, take, drop, Option}
 use Rattle.mq_table.proofs.Common.{None, Some, refl, subst, sym, ap, ◌∙◌, arith, append_assoc, ⊎_elim, All, AllWithin, filter_map, list_any, option_to_list}
-use Rattle.mq_table.proofs.Common.{cases_lt, All-head, All-tail, filter_map-append, at_read, IsAscending, merged_lists, IsAscending-tail}
-use Rattle.std.proofs.lemmas.List.{drop_more, take-append-drop, get_or-take, get_or-drop, length-take, length-drop, append-nil, length-append}
-use Rattle.mq_sets.specs.Search.{IsPlaceFor}
-use Rattle.mq_sets.proofs.Merges.{merged-left_first, merged-right_first, merged-both_first}
+use Rattle.mq_table.proofs.Common.{cases_lt, All-head, All-tail, filter_map-append, at_read, IsAscending, merged_lists, IsAscending-tail, drop_more}
+use Rattle.mq_table.proofs.Common.{take-append-drop, get_or-drop, length-take, length-drop, append-nil, length-append}
+use Rattle.std.proofs.lemmas.List.{get_or-take}
+use Rattle.mq_sets.{specs.Search.IsPlaceFor, proofs.Merges.merged-left_first, proofs.Merges.merged-right_first, proofs.Merges.merged-both_first}
 use Rattle.mq_table.proofs.Pushed.{pushed_next, tested_next}
 
 -- the rest of an ascending list is ascending

@@ -1,9 +1,9 @@
 -- The effect of a row of the tables on one source.
-use Rattle.mq_table.proofs.Common.{◌≡◌, ℕ, ◌+◌, Bool, true, false, Option, None, Some, IsSome, sym, subst, arith, false≢true, Kind, IsIn, IsEx, ToIn, ToEx}
-use Rattle.mq_table.proofs.Common.{Allow, Block, Timing, Set, GroupState, FilterMode, Include, Exclude, SourceTimer, Stopped, Running, is_running, is_stopped}
-use Rattle.mq_table.proofs.Common.{running, stopped, timer_at, membership_interval, NamedSources, TableRow, table_row, timer_by, table_row_met, change_of}
-use Rattle.std.specs.FinSet as set
+use Rattle.mq_table.proofs.Common.{◌≡◌, ℕ, ◌+◌, Bool, true, false, Option, None, Some, IsSome, sym, subst, arith, false≢true, Kind, IsIn, Timing, Set}
+use Rattle.mq_table.proofs.Common.{GroupState, FilterMode, Include, Exclude, SourceTimer, Stopped, Running, is_running, is_stopped, running, stopped, timer_at}
+use Rattle.mq_table.proofs.Common.{membership_interval, NamedSources, TableRow, table_row, timer_by, table_row_met, change_of}
 use Rattle.mq_table.proofs.Maps.{get-by_rule_everywhere}
+use Rattle.std.specs.FinSet as set
 
 -- the row for one source, from its timer before and whether the record names it
 abbrev pub table_row_at : ℕ → FilterMode → Kind → Option SourceTimer → Bool → TableRow

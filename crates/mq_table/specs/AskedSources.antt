@@ -2,7 +2,7 @@
 use Rattle.std.specs.Prelude.{ℕ, Bool, false, ◌==◌, ◌&&◌, if◌then◌else◌, List, [], ◌∷◌, Some}
 use Rattle.mq_table.specs.declared.sources.Source.{Source}
 use Rattle.mq_table.specs.Group.{is_ahead, deadline_of}
-use Rattle.mq_table.specs.Sendings.{source_asked}
+use Rattle.mq_table.specs.Retransmissions.{source_asked}
 
 -- the first of the addresses has this number
 abbrev pub is_first : {K : Type 0} → (K → ℕ) → List K → ℕ → Bool

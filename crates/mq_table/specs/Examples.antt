@@ -10,8 +10,9 @@ default_timing = record {
   query_seconds = 125;
   response_interval = 10000;
   last_member_interval = 1000;
+  last_member_query_count = 0;
 }
 
--- a running timer with no sending to go
+-- a running timer with no retransmission to go
 abbrev pub until : ℕ → SourceTimer
 until deadline = Running deadline 0

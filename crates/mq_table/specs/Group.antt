@@ -52,11 +52,12 @@ abbrev pub is_ahead : ℕ → Option ℕ → Bool
 is_ahead moment None = false
 is_ahead moment (Some deadline) = nat_lt moment deadline
 
--- the number of sendings that are still to go for a source
-abbrev pub sendings_of : Option SourceTimer → ℕ
-sendings_of None = 0
-sendings_of (Some Stopped) = 0
-sendings_of (Some (Running d n)) = n
+-- The number of retransmissions of a source. RFC 3376 section 6.6.3.2 sets it to the last member query count before the
+-- first query goes, so that query counts too. RFC 3810 section 7.6.3.2 has the Source Retransmission Counter.
+abbrev pub retransmissions_of : Option SourceTimer → ℕ
+retransmissions_of None = 0
+retransmissions_of (Some Stopped) = 0
+retransmissions_of (Some (Running d n)) = n
 
 -- the timer of source s, if the group holds it
 abbrev pub timer_at : GroupState → ℕ → Option SourceTimer

@@ -11,8 +11,8 @@ pub mod OlderHosts
 pub mod Expiry
 pub mod Filter
 pub mod Lowering
-pub mod Sendings
-pub mod SendingPlaces
+pub mod Retransmissions
+pub mod RetransmissionPlaces
 pub mod AskedSources
 pub mod MadeSources
 pub mod Examples

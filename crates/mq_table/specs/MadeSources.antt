@@ -5,9 +5,9 @@ use Rattle.mq_table.specs.declared.sources.Source.{Source}
 use Rattle.mq_table.specs.Group.{FilterMode, SourceTimer, Stopped, Running, deadline_of}
 use Rattle.mq_table.specs.Expiry.{source_expired}
 use Rattle.mq_table.specs.Lowering.{source_lowered}
-use Rattle.mq_table.specs.Sendings.{source_counted, source_cleared}
-use Rattle.mq_table.specs.declared.sendings.Recount.{Recount}
-use Rattle.mq_table.specs.declared.sendings.Recount.TheVariants.{OneFewer, NoneLeft}
+use Rattle.mq_table.specs.Retransmissions.{source_counted, source_cleared}
+use Rattle.mq_table.specs.declared.retransmissions.Recount.{Recount}
+use Rattle.mq_table.specs.declared.retransmissions.Recount.TheVariants.{OneFewer, NoneLeft}
 use Rattle.mq_table.specs.MergedRecord.{source_with}
 
 -- a timer expires by `now`
@@ -32,7 +32,7 @@ abbrev pub source_lowered_at : {K : Type 0} → (K → ℕ) → (limit n : ℕ) 
 source_lowered_at number limit n x =
     Some (record { address = x.address; timer = if number x.address == n then source_lowered limit x.timer else x.timer })
 
--- a timer with its sendings counted anew
+-- a timer with its retransmissions counted anew
 abbrev pub timer_recounted : Recount → SourceTimer → SourceTimer
 timer_recounted OneFewer timer = source_counted timer
 timer_recounted NoneLeft timer = source_cleared timer
@@ -40,6 +40,6 @@ timer_recounted NoneLeft timer = source_cleared timer
 abbrev pub source_recounted : {K : Type 0} → Recount → Source K → Source K
 source_recounted recount x = record { address = x.address; timer = timer_recounted recount x.timer }
 
--- a source with one sending fewer
+-- a source with one retransmission fewer
 abbrev pub item_counted : {K : Type 0} → Source K → Source K
 item_counted x = record { address = x.address; timer = source_counted x.timer }

@@ -11,7 +11,7 @@ use Rattle.mq_table.specs.declared.kind.Kind.TheVariants.{IsIn, IsEx, ToIn, ToEx
 use Rattle.mq_table.specs.declared.timing.Timing.{Timing}
 use Rattle.mq_table.specs.Sets.{Set, ∅, ◌∪◌, ◌∩◌, ◌∖◌}
 use Rattle.mq_table.specs.Maps.{by_rule}
-use Rattle.mq_table.specs.Group.{GroupState, FilterMode, Include, Exclude, SourceTimer, Stopped, Running, running, stopped, timer_at, group_deadline, deadline_of, sendings_of}
+use Rattle.mq_table.specs.Group.{GroupState, FilterMode, Include, Exclude, SourceTimer, Stopped, Running, running, stopped, timer_at, group_deadline, deadline_of, retransmissions_of}
 use Rattle.mq_table.specs.Timing.{membership_interval}
 
 -- The sources that a record names; it doesn't matter how often it names one. RFC 3376 sections 4.2.9 and 4.2.15, RFC
@@ -76,14 +76,14 @@ table_row gmi (Exclude d) ToIn X Y A =
     record (exclude d (X ∪ A) (Y ∖ A)) { restart = A; query = X ∖ A; query_group = true }
 
 -- The timer of source s after a row of the tables. `before` is its timer before the record. A source that no action of
--- the row names keeps its deadline. A source that was running keeps its sendings to go, and every other has none. (No
--- row copies the group timer of INCLUDE, which has none, or keeps the deadline of a source that has none.)
+-- the row names keeps its deadline. A source that was running keeps its retransmissions to go, and every other has
+-- none. (No row copies the group timer of INCLUDE, which has none, or keeps the deadline of a source that has none.)
 abbrev pub timer_by : TableRow → ℕ → FilterMode → ℕ → Option SourceTimer → Option SourceTimer
 timer_by row gmi mode s before =
     let group = unwrap_or (group_deadline mode) 0 in
     let kept = unwrap_or (deadline_of before) 0 in
     let deadline = if row.restart s then gmi else (if row.copy s then group else kept) in
-    if row.x s then Some (Running deadline (sendings_of before)) else (if row.y s then Some Stopped else None)
+    if row.x s then Some (Running deadline (retransmissions_of before)) else (if row.y s then Some Stopped else None)
 
 -- The new group and its queries. Host-present timers stay.
 pub record GroupChange : Type 0 where

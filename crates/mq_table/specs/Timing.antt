@@ -1,6 +1,6 @@
 -- The variables of RFC 3376 section 8 and RFC 3810 section 9, and the values computed from them. All are in
 -- milliseconds. The query interval is kept in whole seconds, as messages carry it.
-use Rattle.std.specs.Prelude.{ℕ, ◌+◌, ◌*◌, ◌/◌}
+use Rattle.std.specs.Prelude.{ℕ, ◌+◌, ◌*◌, ◌/◌, ◌==◌, if◌then◌else◌}
 use Rattle.mq_table.specs.declared.timing.Timing.{Timing}
 
 -- QI
@@ -28,10 +28,10 @@ startup_interval t = query_interval t / 4
 abbrev pub startup_count : Timing → ℕ
 startup_count t = t.robustness
 
--- LMQC and LMQT, for MLD the last listener query count and time. RFC 3376 sections 8.9 and 8.10, RFC 3810 sections 9.9
--- and 9.10.
+-- LMQC and LMQT, for MLD the last listener query count and time. The count is the configured one, or by default the
+-- Robustness Variable in force. RFC 3376 sections 8.9 and 8.10, RFC 3810 sections 9.9 and 9.10.
 abbrev pub last_member_count : Timing → ℕ
-last_member_count t = t.robustness
+last_member_count t = if t.last_member_query_count == 0 then t.robustness else t.last_member_query_count
 
 abbrev pub last_member_time : Timing → ℕ
 last_member_time t = t.last_member_interval * last_member_count t

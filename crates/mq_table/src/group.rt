@@ -127,7 +127,7 @@ impl<K: Key, A: Allocator> Group<K, A> {
     }
 
     /// Returns the group's sources in ascending order, each with its timer. A timer has a deadline and a number of
-    /// sendings still to go, or is stopped. They are the row that `load` takes.
+    /// retransmissions still to go, or is stopped. They are the row that `load` takes.
     pub fn sources(&self) -> &[Source<K>]
         ensures timers { timers_in K.number result.now ≡ self.now.state.sources }
         ensures ascending { IsAscending (number_in K.number) result.now }

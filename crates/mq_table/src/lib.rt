@@ -12,9 +12,9 @@ mod merged_records;
 mod merged_runs;
 pub mod older_hosts;
 mod recording;
+pub mod retransmission_places;
+mod retransmissions;
 mod rules;
-pub mod sending_places;
-mod sendings;
 pub mod sources;
 pub mod timers;
 pub mod timing;
@@ -25,7 +25,9 @@ pub use heads::Head;
 pub use kind::Kind;
 pub use mq_count::OlderVersion;
 pub use older_hosts::{Hosts, translate};
-pub use sending_places::{SendingPlaces, any_has_sendings, places_of_sendings};
+pub use retransmission_places::{
+    RetransmissionPlaces, any_has_retransmissions, places_of_retransmissions,
+};
 pub use sources::{Source, timer_among};
 pub use timers::{FilterMode, SourceTimer, runs_on};
 pub use timing::Timing;

@@ -21,8 +21,8 @@ fn lower(timer: &SourceTimer, limit: Moment, m: &mut Meter) -> SourceTimer
 {
     match timer {
         SourceTimer::Stopped => SourceTimer::Stopped,
-        SourceTimer::Running(deadline, sendings) => {
-            SourceTimer::Running(m.earlier(*deadline, limit), *sendings)
+        SourceTimer::Running(deadline, retransmissions) => {
+            SourceTimer::Running(m.earlier(*deadline, limit), *retransmissions)
         }
     }
 }

@@ -1,7 +1,7 @@
 //! The effect of a record on its group, source by source.
 
 ghost use Rattle.std.specs.Prelude.{◌≡◌, true, false};
-ghost use Rattle.mq_table.specs.Group.{Include, Exclude, sendings_of};
+ghost use Rattle.mq_table.specs.Group.{Include, Exclude, retransmissions_of};
 ghost use Rattle.mq_table.specs.AtSource.{timer_after, is_asked_after, mode_after, asks_group_after};
 ghost use Rattle.mq_table.specs.MergedRecord.{turns};
 
@@ -9,12 +9,12 @@ use crate::kind::Kind;
 use crate::timers::{FilterMode, SourceTimer};
 use mq_count::Moment;
 
-/// Returns the number of sendings that are still to go for a source with this timer.
-pub(crate) fn sendings_of(timer: Option<SourceTimer>) -> u32
-    ensures { result ≡ sendings_of timer }
+/// Returns the number of retransmissions that are still to go for a source with this timer.
+pub(crate) fn retransmissions_of(timer: Option<SourceTimer>) -> u32
+    ensures { result ≡ retransmissions_of timer }
 {
     match timer {
-        Some(SourceTimer::Running(_, sendings)) => sendings,
+        Some(SourceTimer::Running(_, retransmissions)) => retransmissions,
         _ => 0,
     }
 }
@@ -35,8 +35,8 @@ impl Rule {
     {
         match self.kind {
             Kind::IsIn | Kind::ToIn | Kind::Allow => {
-                let sendings = sendings_of(before);
-                Some(SourceTimer::Running(self.interval_end, sendings))
+                let retransmissions = retransmissions_of(before);
+                Some(SourceTimer::Running(self.interval_end, retransmissions))
             }
             Kind::Block => match &before {
                 Some(SourceTimer::Running(_, _)) => before,
@@ -55,8 +55,8 @@ impl Rule {
     {
         match self.kind {
             Kind::IsIn | Kind::ToIn | Kind::Allow => {
-                let sendings = sendings_of(before);
-                Some(SourceTimer::Running(self.interval_end, sendings))
+                let retransmissions = retransmissions_of(before);
+                Some(SourceTimer::Running(self.interval_end, retransmissions))
             }
             Kind::IsEx => before.or(Some(SourceTimer::Running(self.interval_end, 0))),
             Kind::Block | Kind::ToEx => before.or(Some(SourceTimer::Running(group, 0))),

@@ -4,8 +4,8 @@ ghost use Rattle.std.specs.Prelude.{◌≡◌, Some, not, nat_lt};
 ghost use Rattle.std.specs.Bool.{beq};
 ghost use Rattle.mq_count.specs.Spending.{Spends};
 ghost use Rattle.mq_table.specs.Filter.{names};
-ghost use Rattle.mq_table.specs.Group.{is_ahead, deadline_of, group_deadline, is_include, sendings_of, wants};
-ghost use Rattle.mq_table.specs.Sendings.{source_counted};
+ghost use Rattle.mq_table.specs.Group.{is_ahead, deadline_of, group_deadline, is_include, retransmissions_of, wants};
+ghost use Rattle.mq_table.specs.Retransmissions.{source_counted};
 
 use mq_count::{Meter, Moment};
 
@@ -25,8 +25,8 @@ pub enum FilterMode {
 pub enum SourceTimer {
     /// A timer at zero.
     Stopped,
-    /// The deadline, and the number of group-and-source-specific queries that are still to go for the source. RFC 3376
-    /// section 6.6.3.2, RFC 3810 section 7.6.3.2.
+    /// The deadline, and the number of retransmissions that are still to go for the source. The first
+    /// group-and-source-specific query counts too (RFC 3376 section 6.6.3.2, RFC 3810 section 7.6.3.2).
     Running(Moment, u32),
 }
 
@@ -89,24 +89,24 @@ impl SourceTimer {
         }
     }
 
-    /// Returns whether a sending is still to go for the source.
-    pub fn has_sendings(&self) -> bool
-        ensures { result ≡ nat_lt 0 (sendings_of (Some self.now)) }
+    /// Returns whether a retransmission is still to go for the source.
+    pub fn has_retransmissions(&self) -> bool
+        ensures { result ≡ nat_lt 0 (retransmissions_of (Some self.now)) }
     {
         match self {
             SourceTimer::Stopped => false,
-            SourceTimer::Running(_, sendings) => 0 < *sendings,
+            SourceTimer::Running(_, retransmissions) => 0 < *retransmissions,
         }
     }
 
-    /// Returns the timer with one sending fewer, if it has one.
+    /// Returns the timer with one retransmission fewer, if it has one.
     pub fn counted(self) -> SourceTimer
         ensures { result ≡ source_counted self }
     {
         match self {
             SourceTimer::Stopped => SourceTimer::Stopped,
-            SourceTimer::Running(deadline, sendings) => {
-                SourceTimer::Running(deadline, sendings.saturating_sub(1))
+            SourceTimer::Running(deadline, retransmissions) => {
+                SourceTimer::Running(deadline, retransmissions.saturating_sub(1))
             }
         }
     }

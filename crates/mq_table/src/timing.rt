@@ -9,14 +9,15 @@ use mq_count::Span;
 use std::marker::Model;
 
 /// The variables, each in its range, and what is computed from them (RFC 3376 section 8, RFC 3810 section 9). They are
-/// the Robustness Variable, the Query Interval, the Query Response Interval and the Last Member (for MLD: Last
-/// Listener) Query Interval. A contract sees these four.
+/// the Robustness Variable, the Query Interval, the Query Response Interval, and the Last Member (for MLD: Last
+/// Listener) Query Interval and Query Count. A contract sees these five.
 #[derive(Clone, Copy, PartialEq, Eq)]
 pub struct Timing {
     robustness: u32,
     query_seconds: u32,
     response_interval: u32,
     last_member_interval: u32,
+    last_member_query_count: u32,
 }
 
 impl Model for Timing {
@@ -24,29 +25,30 @@ impl Model for Timing {
 
     ghost Value = { Variables };
 
-    ghost view = { λ t. record { robustness = t.robustness; query_seconds = t.query_seconds; response_interval = t.response_interval; last_member_interval = t.last_member_interval } };
+    ghost view = { λ t. record { robustness = t.robustness; query_seconds = t.query_seconds; response_interval = t.response_interval; last_member_interval = t.last_member_interval; last_member_query_count = t.last_member_query_count } };
 
     ghost invariant = { λ t. AreInRange (record {
       robustness = t.robustness;
       query_seconds = t.query_seconds;
       response_interval = t.response_interval;
       last_member_interval = t.last_member_interval;
+      last_member_query_count = t.last_member_query_count;
     }) };
 
-    ghost inverse = { λ v. record { robustness = v.robustness; query_seconds = v.query_seconds; response_interval = v.response_interval; last_member_interval = v.last_member_interval } };
+    ghost inverse = { λ v. record { robustness = v.robustness; query_seconds = v.query_seconds; response_interval = v.response_interval; last_member_interval = v.last_member_interval; last_member_query_count = v.last_member_query_count } };
 }
 
 impl Timing {
     /// Returns the timing of these variables, or None if one is out of its range. The ranges are 1 to 7 for the
     /// robustness variable, 1 to 31744 seconds for the query interval, and 1 to 8387584 milliseconds for both other
-    /// intervals.
+    /// intervals. The Last Member Query Count is the robustness variable in force.
     pub fn new(
         robustness: u32,
         query_seconds: u32,
         response_interval: u32,
         last_member_interval: u32,
     ) -> Option<Timing>
-        ensures { let v : Variables = record { robustness = robustness; query_seconds = query_seconds; response_interval = response_interval; last_member_interval = last_member_interval } in
+        ensures { let v : Variables = record { robustness = robustness; query_seconds = query_seconds; response_interval = response_interval; last_member_interval = last_member_interval; last_member_query_count = 0 } in
             SomeIff result (AreInRange v) v }
     {
         if (1..=7).contains(&robustness)
@@ -59,6 +61,7 @@ impl Timing {
                 query_seconds,
                 response_interval,
                 last_member_interval,
+                last_member_query_count: 0,
             })
         } else {
             None
@@ -71,12 +74,31 @@ impl Timing {
         ensures { let v : Variables = record self { robustness = robustness; query_seconds = query_seconds } in
             SomeIff result (AreInRange v) v }
     {
-        Timing::new(
+        match Timing::new(
             robustness,
             query_seconds,
             self.response_interval,
             self.last_member_interval,
-        )
+        ) {
+            Some(timing) => timing.with_last_member_query_count(self.last_member_query_count),
+            None => None,
+        }
+    }
+
+    /// Returns this timing with another Last Member (Last Listener) Query Count, 0 to 7, or None if it is out of range.
+    /// 0 stands for the robustness variable in force, and 7 is the greatest of those.
+    pub fn with_last_member_query_count(self, count: u32) -> Option<Timing>
+        ensures { let v : Variables = record self { last_member_query_count = count } in
+            SomeIff result (AreInRange v) v }
+    {
+        if count <= 7 {
+            Some(Timing {
+                last_member_query_count: count,
+                ..self
+            })
+        } else {
+            None
+        }
     }
 
     /// A lemma: each variable is in its range. It has no effect at run time.
@@ -156,7 +178,11 @@ impl Timing {
     pub fn last_member_count(self) -> u32
         ensures { result ≡ last_member_count self }
     {
-        self.robustness
+        if self.last_member_query_count == 0 {
+            self.robustness
+        } else {
+            self.last_member_query_count
+        }
     }
 
     /// Returns the Last Member (Last Listener) Query Time, to which specific queries lower timers. RFC 3376 section
@@ -164,6 +190,6 @@ impl Timing {
     pub fn last_member_time(self) -> Span
         ensures { result ≡ last_member_time self }
     {
-        Span::from_ms(self.last_member_interval * self.robustness)
+        Span::from_ms(self.last_member_interval * self.last_member_count())
     }
 }

@@ -2,7 +2,7 @@
 use Rattle.mq_wire.proofs.Common.{◌≡◌, ℕ, zero, suc, ◌+◌, ◌*◌, ◌-◌, ◌/◌, ◌%◌, ◌<◌, ◌≤◌, nat_le, false, List, [], ◌∷◌, ◌++◌, Option, Some, None, Result, Ok, Err}
 use Rattle.mq_wire.proofs.Common.{replicate, sum, inl, inr, ◌⊎◌, ap, sym, ◌∙◌, refl, arith, add-zero, option_map, mul-le-mul_right, div-add-mod', mod_below}
 use Rattle.mq_wire.proofs.Common.{nat_tests, leb_tells, WireFault, Truncated, first_cut, cut_from, EndsAt}
-use Rattle.std.proofs.{lemmas.List.Folds.sum_by-replicate, lemmas.List.Sums.sum_by-append}
+use Rattle.std.proofs.lemmas.List.{Folds.sum_by-replicate, Sums.sum_by-append}
 
 -- one span that is whole
 pub step : (len at width : ℕ) (widths : List ℕ) → at + width ≤ len → first_cut len at (width ∷ widths) ≡ first_cut len (at + width) widths

@@ -2,8 +2,7 @@
 use Rattle.mq_wire.proofs.Common.{◌≡◌, ℕ, ◌+◌, ◌*◌, ◌≤◌, false, ◌==◌, inr, List, ◌++◌, length, replicate, None, Some, ap, sym, ◌∙◌, arith, nat_tests}
 use Rattle.mq_wire.proofs.Common.{QueryMessage, QueryType, IsRight, Family, group_end, address_width, number_at, first_cut, source_spans, current_query, Spells}
 use Rattle.mq_wire.proofs.Common.{type_named, type_of}
-use Rattle.mq_wire.specs.declared.query.Query.{Query}
-use Rattle.mq_wire.proofs.{Cuts.behind_count, Spans.whole_at}
+use Rattle.mq_wire.{specs.declared.query.Query.Query, proofs.Cuts.behind_count, proofs.Spans.whole_at}
 
 -- They have as many bytes as they name sources, and the checksum is right.
 pub spells_query : (family : Family) (pseudo bytes : List ℕ) (count : ℕ) (query : Query ℕ) → type_named family (type_of bytes) ≡ Some QueryType →

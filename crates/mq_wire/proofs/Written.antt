@@ -1,8 +1,7 @@
 -- The one encoding of a query, as the code writes it.
 use Rattle.mq_wire.proofs.Common.{◌≡◌, ℕ, ◌+◌, ◌*◌, List, ◌++◌, length, ap, sym, ◌∙◌, refl, big_bytes, QuerierFields, Current, Mld, first_bytes, fields_bytes}
 use Rattle.mq_wire.proofs.Common.{with_checksum, mld_destination, covered_before, canon, without_checksum}
-use Rattle.mq_wire.specs.{declared.query.Query.Query, PseudoHeader.pseudo_header}
-use Rattle.mq_wire.proofs.WrittenParts.{length_query}
+use Rattle.mq_wire.{specs.declared.query.Query.Query, specs.PseudoHeader.pseudo_header, proofs.WrittenParts.length_query}
 
 -- an MLD query behind its pseudo-header, from what was computed
 pub mld_written : (source : ℕ) (query : Query ℕ) (fields : QuerierFields ℕ) (first pseudo : List ℕ) (destination len : ℕ) →

@@ -2,9 +2,8 @@
 use Rattle.mq_wire.proofs.Common.{◌≡◌, ℕ, ◌+◌, ◌*◌, ◌/◌, ◌%◌, ◌≤◌, List, ◌∷◌, ◌++◌, length, take, drop, [], ◌-◌, ap, sym, ◌∙◌, arith, append_assoc}
 use Rattle.mq_wire.proofs.Common.{length-append, drop-drop, length-take-le, drop_all, take_all, length-drop, append-nil, big_bytes, QuerierFields, fields_bytes}
 use Rattle.mq_wire.proofs.Common.{with_checksum, checksum_behind, length-bytes_high_first}
-use Rattle.std.proofs.Math.Seq.{take-append_seam, drop-append_seam}
+use Rattle.std.{proofs.Math.Seq.take-append_seam, proofs.Math.Seq.drop-append_seam, specs.List.flat_map}
 use borrow.Rule.Slice.PartMut.{put_mid}
-use Rattle.std.specs.List.{flat_map}
 
 -- these are written before the place, the rest is unchanged, and the sources of a width are left
 pub record IsWritten (width place : ℕ) (sources left first out : List ℕ) : Type 0 where

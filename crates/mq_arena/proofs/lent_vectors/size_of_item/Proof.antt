@@ -3,10 +3,10 @@ use Rattle.mq_arena.proofs.Common.{◌≡◌, [], ◌∷◌, refl, w64, ftrue, f
 use Rattle.mq_arena.proofs.Common.{vint, capped_fits, size, capped, alloc_all, pass_all, free_all, look_at, sets, ‵, raw, ◌⊛◌, ◌$◌, ◌∵◌, !, qed, by, move, drop}
 use Rattle.mq_arena.proofs.Common.{split, use0, size_word, of_opd, returns, enter, proved_at, leaves}
 use denote.Plain.{uint_Makes}
-use Rattle.mq_arena.specs.contracts.lent_vectors.size_of_item as contract_of
 use Rattle.mq_arena.specs.contracts.lent_vectors.size_of_item.Key.{name as #self}
-use Rattle.mq_arena.proofs.lent_vectors.size_of_item.Statement.{statement}
+use Rattle.mq_arena.specs.contracts.lent_vectors.size_of_item as contract_of
 use Rattle.mq_arena.proofs.lent_vectors.size_of_item.Code as compiled
+use Rattle.mq_arena.proofs.lent_vectors.size_of_item.Statement.{statement}
 
 pub size_of_item_spec : {M : Type 1} → statement M
 size_of_item_spec 𝓤 𝓛 𝓜 𝓡 wired T L =

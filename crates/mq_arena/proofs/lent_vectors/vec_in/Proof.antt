@@ -4,16 +4,16 @@ use Rattle.mq_arena.proofs.Common.{fact, fact_i, tables, u128, usize, SliceRefMu
 use Rattle.mq_arena.proofs.Common.{slice_val, nothing, heard, only, calls_at_last, Stays, stay_dropped, walk_of, Goes-dropped, inst_fn, Fn, a_type, Val, vint}
 use Rattle.mq_arena.proofs.Common.{has_ty, WT, size, Env, WpFn, alloc_all, pass_all, free_all, look_at, look_in_at, get, sets, lands_last, env, regoal, fsplit}
 use Rattle.mq_arena.proofs.Common.{fjoin, await, whole, sub, stop, fld, hop, from, addr, lit, of_opd, no_more, and_then, first, blocks, exec, returns, enter}
-use Rattle.mq_arena.proofs.Common.{handle_tells, after, fm, proved_at, leaves, lodged, Lodged}
+use Rattle.mq_arena.proofs.Common.{handle_tells, after, fm, proved_at, leaves, lodged, Lodged, ‵, raw, ◌⊛◌, some, later, prop, at_ret, ◌$◌, ◌∵◌, !, qed, by}
+use Rattle.mq_arena.proofs.Common.{move, drop, use0, use1, use2, split, pick, rewrite}
 use lib.Dec.{T as IsTrue}
-use types.Kit.{‵, raw, ◌⊛◌, some, later, given, prop, at_ret, ◌$◌, ◌∵◌, !, qed, by, move, drop, use0, use1, use2, split, split3, pick, learn, rewrite}
+use types.Kit.{given, split3, learn}
 use Rattle.std_alloc.proofs.vec.lodge.Met.{met}
-use Rattle.mq_arena.proofs.Taken.{lent}
+use Rattle.mq_arena.{proofs.Taken.lent, specs.contracts.lent_vectors.vec_in.Key.name as #self}
 use Rattle.mq_arena.proofs.EmptyVectors.{LentVec, lent_vec, vector_of_units, Lodges, at_lodge, IsEmptyAt, lodge_goes, lodge_gives}
 use Rattle.mq_arena.specs.contracts.lent_vectors.vec_in as contract_of
-use Rattle.mq_arena.specs.contracts.lent_vectors.vec_in.Key.{name as #self}
-use Rattle.mq_arena.proofs.lent_vectors.vec_in.Statement.{statement}
 use Rattle.mq_arena.proofs.lent_vectors.vec_in.Code as compiled
+use Rattle.mq_arena.proofs.lent_vectors.vec_in.Statement.{statement}
 
 abbrev block : Slot 1
 block = SliceRefMutOf [] tt (plain (λ κs. u128)) (λ κs. tt)

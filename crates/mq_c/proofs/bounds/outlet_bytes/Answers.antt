@@ -1,4 +1,4 @@
-use Rattle.std.proofs.Common.{arith}
+use Rattle.mq_c.proofs.Common.{arith}
 use Rattle.mq_c.proofs.OutletBytes.{told_in_64}
 use Rattle.mq_c.proofs.bounds.outlet_bytes.Goals as goal
 

@@ -1,8 +1,6 @@
-use Rattle.std.proofs.Common.{refl, sym, ap, is_ok, ◌∙◌, subst, arith}
-use Rattle.mq_link.specs.Configuration.{IsFaultless}
-use Rattle.mq_c.specs.Queries.{outbox_of, Puts}
-use Rattle.mq_c.proofs.HandedInto.{handed}
-use Rattle.mq_c.proofs.RoomForReceives.{receive_leaves_none}
+use Rattle.mq_c.proofs.Common.{refl, sym, ap, is_ok, ◌∙◌, subst, arith, IsFaultless, outbox_of, Puts}
+use Rattle.mq_link.specs.CallCosts.{ReceiveCosts}
+use Rattle.mq_c.proofs.{DoneCalls.done_in_range, HandedInto.handed, RoomForReceives.receive_leaves_none}
 use Rattle.mq_c.proofs.calls.receive.Goals as goal
 
 pub returns-in-Ok-clause-receives : goal.returns-in-Ok-clause-receives
@@ -38,3 +36,9 @@ returns-in-Ok-clause-none_left_out g c longest room short =
     receive_leaves_none g.F.Address.WireKey.WIDTH longest (g.F.Family.envelope_of c.args.envelope) c.args.body.now c.args.now _ _ _ _ _
     (subst IsFaultless c.config.ensures c.is_faultless.ensures.faultless) c.is_well_formed.ensures.formed
     ((returns-in-Ok-clause-receives g c).done (omega (arith, c.in-Some.ensures)) enough).0 room short
+
+pub returns-in-Ok-clause-costs : goal.returns-in-Ok-clause-costs
+returns-in-Ok-clause-costs g c =
+    let envelope = g.F.Family.envelope_of c.args.envelope in
+    let done = done_in_range _ _ c.args.now (omega (arith, c.in-Some.ensures)) c.receive.ensures.answer in
+    subst (λ d. ReceiveCosts d envelope c.args.body.now c.args.now c.args.link.now c.receive.new.self) done (rw (← c.in-Some.ensures.1) c.receive.ensures.costs)

@@ -1,7 +1,6 @@
-use Rattle.std.proofs.Common.{refl, sym, ap, is_ok, ◌∙◌, subst, arith}
-use Rattle.mq_c.specs.Queries.{outbox_of, Puts}
-use Rattle.mq_c.proofs.HandedInto.{handed}
-use Rattle.mq_c.proofs.RoomForTicks.{tick_leaves_none}
+use Rattle.mq_c.proofs.Common.{refl, sym, ap, is_ok, ◌∙◌, subst, arith, outbox_of, Puts}
+use Rattle.mq_link.specs.CallCosts.{TickCosts}
+use Rattle.mq_c.proofs.{DoneCalls.done_in_range, HandedInto.handed, RoomForTicks.tick_leaves_none}
 use Rattle.mq_c.proofs.calls.tick.Goals as goal
 
 pub returns-in-Ok-clause-ticks : goal.returns-in-Ok-clause-ticks
@@ -36,5 +35,7 @@ returns-in-Ok-clause-none_left_out g c room =
     tick_leaves_none g.F.Address.WireKey.WIDTH c.args.now _ _ _ _ _
     c.is_well_formed.ensures.formed ((returns-in-Ok-clause-ticks g c).done (omega (arith, c.in-Some.ensures)) enough).0 room
 
-pub returns-in-Ok-clause-least : goal.returns-in-Ok-clause-least
-returns-in-Ok-clause-least g c enough _ = rw (← c.in-Some.ensures.1) (c.tick.ensures.least (c.tick.ensures.answer ∙ enough))
+pub returns-in-Ok-clause-costs : goal.returns-in-Ok-clause-costs
+returns-in-Ok-clause-costs g c =
+    let done = done_in_range _ _ c.args.now (omega (arith, c.in-Some.ensures)) c.tick.ensures.answer in
+    subst (λ d. TickCosts d c.args.now c.args.link.now c.tick.new.self) done (rw (← c.in-Some.ensures.1) c.tick.ensures.costs)

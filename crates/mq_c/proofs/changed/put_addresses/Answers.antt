@@ -1,5 +1,4 @@
-use Rattle.std.proofs.Common.{ap, ◌∙◌, arith}
-use Rattle.mq_c.specs.Changed.{stored_octets}
+use Rattle.mq_c.proofs.Common.{ap, ◌∙◌, arith, stored_octets}
 use Rattle.mq_c.proofs.ToldAddresses.{stand_more, stand_whole}
 use Rattle.mq_c.proofs.changed.put_addresses.Goals as goal
 

@@ -1,4 +1,4 @@
-use Rattle.mq_c.specs.Changed.{stored_octets}
+use Rattle.mq_c.proofs.Common.{stored_octets}
 use Rattle.mq_c.proofs.ToldAddresses.{StandSoFar}
 use Rattle.mq_c.proofs.changed.put_addresses.Given as goal
 

@@ -1,5 +1,4 @@
-use Rattle.std.proofs.Common.{◌≡◌, length, sym, ap, ◌∙◌, arith}
-use Rattle.std.proofs.lemmas.List.{length-map}
+use Rattle.mq_c.proofs.Common.{◌≡◌, length, sym, ap, ◌∙◌, arith, length-map}
 use Rattle.mq_c.proofs.ToldAddresses.{told_from}
 use Rattle.mq_c.proofs.changed.put_changed.Goals as goal
 

@@ -1,6 +1,5 @@
-use Rattle.std.proofs.Common.{◌≡◌, ℕ, ◌++◌, List, length, take, drop, min, refl, ap, ◌∙◌}
-use Rattle.std.proofs.Math.Nat.{min_comm}
-use Rattle.std.proofs.lemmas.List.{drop_min, take_min}
+use Rattle.mq_c.proofs.Common.{◌≡◌, ℕ, ◌++◌, List, length, take, drop, min, refl, ap, ◌∙◌, drop_min}
+use Rattle.std.proofs.{Math.Nat.min_comm, lemmas.List.take_min}
 use Rattle.mq_c.specs.Counted.{counted}
 use Rattle.mq_c.proofs.counting.put_counters.Goals as goal
 

@@ -1,6 +1,4 @@
-use Rattle.std.proofs.Common.{refl, subst}
-use Rattle.mq_link.specs.Workspace.{WorkspaceState}
-use Rattle.mq_c.specs.Changed.{TellsChanged}
+use Rattle.mq_c.proofs.Common.{refl, subst, WorkspaceState, TellsChanged}
 use Rattle.mq_c.specs.Igmp.{octets_with}
 use Rattle.mq_c.proofs.igmp.mq_igmp_changed.Goals as goal
 

@@ -1,8 +1,5 @@
-use Rattle.std.proofs.Common.{ℕ, refl, subst}
-use Rattle.std.specs.Int.{w32, from_be_bytes}
-use Rattle.mq_link.specs.Link.{LinkValue}
-use Rattle.mq_c.specs.Igmp.{group_with, source_with}
-use Rattle.mq_c.specs.Pages.{ShowsGroup, group_form, source_form}
+use Rattle.mq_c.proofs.Common.{ℕ, refl, subst, from_be_bytes, LinkValue, group_with, source_with, ShowsGroup, group_form, source_form}
+use Rattle.std.specs.Int.{w32}
 use Rattle.mq_c.proofs.igmp.mq_igmp_group_at.Goals as goal
 
 pub returns : goal.returns

@@ -1,7 +1,4 @@
-use Rattle.std.proofs.Common.{refl, subst}
-use Rattle.mq_link.specs.Link.{LinkValue}
-use Rattle.mq_c.specs.Igmp.{group_with, source_with}
-use Rattle.mq_c.specs.Pages.{IsPage, group_form, source_form}
+use Rattle.mq_c.proofs.Common.{refl, subst, LinkValue, group_with, source_with, IsPage, group_form, source_form}
 use Rattle.mq_c.proofs.igmp.mq_igmp_groups.Goals as goal
 
 pub returns : goal.returns

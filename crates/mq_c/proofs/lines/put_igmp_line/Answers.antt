@@ -1,5 +1,4 @@
-use Rattle.std.proofs.Common.{[], sym, ◌∙◌}
-use Rattle.mq_wire.specs.Family.{Igmp}
+use Rattle.mq_c.proofs.Common.{[], sym, ◌∙◌, Igmp}
 use Rattle.mq_c.proofs.LentLines.{line_stands}
 use Rattle.mq_c.proofs.lines.put_igmp_line.Goals as goal
 

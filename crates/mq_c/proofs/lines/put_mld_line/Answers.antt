@@ -1,6 +1,4 @@
-use Rattle.std.proofs.Common.{length, sym, ◌∙◌}
-use Rattle.mq_wire.specs.Family.{Mld}
-use Rattle.mq_wire.specs.PseudoHeader.{pseudo_header}
+use Rattle.mq_c.proofs.Common.{length, sym, ◌∙◌, Mld, pseudo_header}
 use Rattle.mq_c.proofs.LentLines.{line_stands}
 use Rattle.mq_c.proofs.lines.put_mld_line.Goals as goal
 

@@ -1,16 +1,11 @@
-use Rattle.std.proofs.Common.{ap, sym, ◌∙◌, arith}
-use denote.Param.{copied}
-use Rattle.mq_link.specs.declared.configuration.Limits.{Limits}
-use Rattle.mq_link.specs.Configuration.{Configuration}
-use Rattle.mq_link.specs.Sizes.{bytes_of_workspace}
-use Rattle.mq_c.specs.Making.{asked_of}
-use Rattle.mq_c.proofs.FaultStatuses.{not_for_memory}
-use Rattle.mq_c.proofs.SizedObjects.{has_room_left, too_small}
+use Rattle.mq_c.proofs.Common.{ap, sym, ◌∙◌, arith, copied, Configuration, asked_of}
+use Rattle.mq_link.specs.{declared.configuration.Limits.Limits, Sizes.bytes_of_workspace}
+use Rattle.mq_c.proofs.{FaultStatuses.not_for_memory, SizedObjects.has_room_left, SizedObjects.too_small}
 use Rattle.mq_c.proofs.making.workspace_in.Goals as goal
 
 pub returns-in-Err-clause-granted : goal.returns-in-Err-clause-granted
 returns-in-Err-clause-granted g c for_memory =
-    let asked = asked_of g.F.Family.FAMILY c.args.settings (g.F.Address.Key.number c.args.own) c.args.source_specific in
+    let asked = asked_of g.F.Family.FAMILY c.args.settings (g.F.Address.Key.number c.args.own) c.args.source_specific c.args.ranges in
     absurd (not_for_memory asked _ c.in-Err.ensures for_memory)
 
 pub returns-then-not-has_room-clause-granted : goal.returns-then-not-has_room-clause-granted

@@ -1,9 +1,6 @@
-use Rattle.std.proofs.Common.{rules, ◌≡◌, refl, sym, ◌∙◌, subst}
-use Rattle.std.specs.Result.{MatchResult}
-use Rattle.std.specs.Str.{IsUtf8}
-use Rattle.std.specs.Fmt.{decimal}
-use Rattle.std.proofs.lemmas.Str.{IsUtf8-from_ascii}
-use Rattle.std.proofs.lemmas.Fmt.{parse-decimal, IsAscii-decimal}
+use Rattle.mq_c.proofs.Common.{rules, ◌≡◌, refl, sym, ◌∙◌, subst}
+use Rattle.std.specs.{Result.MatchResult, Str.IsUtf8, Fmt.decimal}
+use Rattle.std.proofs.lemmas.{Str.IsUtf8-from_ascii, Fmt.parse-decimal, Fmt.IsAscii-decimal}
 use Rattle.mq_c.proofs.milliseconds.milliseconds.Goals as goal
 
 pub unreachable-requires : goal.unreachable-requires

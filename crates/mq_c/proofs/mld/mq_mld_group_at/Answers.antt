@@ -1,8 +1,5 @@
-use Rattle.std.proofs.Common.{ℕ, refl, subst}
-use Rattle.std.specs.Int.{w128, from_be_bytes}
-use Rattle.mq_link.specs.Link.{LinkValue}
+use Rattle.mq_c.proofs.Common.{ℕ, refl, subst, w128, from_be_bytes, LinkValue, ShowsGroup, group_form, source_form}
 use Rattle.mq_c.specs.Mld.{group_with, source_with}
-use Rattle.mq_c.specs.Pages.{ShowsGroup, group_form, source_form}
 use Rattle.mq_c.proofs.mld.mq_mld_group_at.Goals as goal
 
 pub returns : goal.returns

@@ -1,7 +1,5 @@
-use Rattle.std.proofs.Common.{refl, subst}
-use Rattle.mq_link.specs.Link.{LinkValue}
+use Rattle.mq_c.proofs.Common.{refl, subst, LinkValue, IsPage, group_form, source_form}
 use Rattle.mq_c.specs.Mld.{group_with, source_with}
-use Rattle.mq_c.specs.Pages.{IsPage, group_form, source_form}
 use Rattle.mq_c.proofs.mld.mq_mld_groups.Goals as goal
 
 pub returns : goal.returns

@@ -1,8 +1,4 @@
-use Rattle.std.proofs.Common.{ℕ, false, length, subst}
-use Rattle.std.specs.Int.{w128, from_be_bytes}
-use Rattle.mq_wire.specs.Family.{Mld}
-use Rattle.mq_wire.specs.PseudoHeader.{pseudo_header}
-use Rattle.mq_c.specs.LineRoom.{LineStands}
+use Rattle.mq_c.proofs.Common.{ℕ, false, length, subst, w128, from_be_bytes, Mld, pseudo_header, LineStands}
 use Rattle.mq_c.proofs.mld.mq_mld_line.Goals as goal
 
 pub returns : goal.returns

@@ -1,12 +1,6 @@
-use Rattle.std.proofs.Common.{◌≡◌, ◌∙◌, ap, sym, subst, arith}
-use Rattle.mq_table.specs.Group.{group_deadline}
-use Rattle.mq_sched.specs.Schedule.{ScheduledGroup}
-use Rattle.mq_held.specs.Groups.{group_at}
-use Rattle.mq_link.specs.Configuration.{IsFaultless}
-use Rattle.mq_link.proofs.Faultless.{few_sources}
+use Rattle.mq_c.proofs.Common.{◌≡◌, ◌∙◌, ap, sym, subst, arith, group_deadline, ScheduledGroup, group_at, IsFaultless, few_sources, group_form, source_form}
+use Rattle.mq_c.proofs.Common.{deadline_or_none}
 use Rattle.mq_link.proofs.KeptGroups.{absent_sources}
-use Rattle.mq_c.specs.Pages.{group_form, source_form}
-use Rattle.mq_c.specs.Milliseconds.{deadline_or_none}
 use Rattle.mq_c.proofs.OneGroup.{not_shown, shown_whole}
 use Rattle.mq_c.proofs.pages.put_group.Goals as goal
 

@@ -1,10 +1,5 @@
-use Rattle.std.proofs.Common.{◌≤◌, ℕ, ◌∙◌, ap, sym, subst, refl, length, arith}
-use Rattle.mq_table.specs.Group.{group_deadline}
-use Rattle.mq_held.specs.Groups.{sources_of}
-use Rattle.mq_link.specs.Configuration.{IsFaultless}
-use Rattle.mq_link.proofs.Faultless.{few_sources}
-use Rattle.mq_c.specs.Pages.{group_form, source_form}
-use Rattle.mq_c.specs.Milliseconds.{deadline_or_none}
+use Rattle.mq_c.proofs.Common.{◌≤◌, ℕ, ◌∙◌, ap, sym, subst, refl, length, arith, group_deadline, sources_of, IsFaultless, few_sources, group_form, source_form}
+use Rattle.mq_c.proofs.Common.{deadline_or_none}
 use Rattle.mq_c.proofs.ShownGroups.{so_far_more, page_full}
 use Rattle.mq_c.proofs.pages.put_groups.Goals as goal
 

@@ -1,4 +1,4 @@
-use Rattle.mq_c.specs.Pages.{group_form, source_form}
+use Rattle.mq_c.proofs.Common.{group_form, source_form}
 use Rattle.mq_c.proofs.ShownGroups.{SoFar}
 use Rattle.mq_c.proofs.pages.put_groups.Given as goal
 

@@ -1,5 +1,4 @@
-use Rattle.std.proofs.Common.{ap, ◌∙◌, set, arith}
-use Rattle.mq_c.specs.Pages.{stored_form}
+use Rattle.mq_c.proofs.Common.{ap, ◌∙◌, set, arith, stored_form}
 use Rattle.mq_c.proofs.ShownGroups.{one_more, all_put}
 use Rattle.mq_c.proofs.pages.put_sources.Goals as goal
 

@@ -1,6 +1,4 @@
-use Rattle.std.proofs.Common.{◌≡◌, ◌++◌, take, drop}
-use Rattle.std.specs.Prelude.{map as list_map}
-use Rattle.mq_c.specs.Pages.{stored_form}
+use Rattle.mq_c.proofs.Common.{◌≡◌, ◌++◌, take, drop, list_map, stored_form}
 use Rattle.mq_c.proofs.pages.put_sources.Given as goal
 
 -- the sources so far stand at the front

@@ -1,6 +1,4 @@
-use Rattle.std.proofs.Common.{rules, ◌≡◌, ◌+◌, ◌++◌, length, drop, sym, ap, ◌∙◌}
-use Rattle.std.proofs.lemmas.List.{append-nil, append_assoc, drop_all, drop-drop}
-use Rattle.byteorder.specs.Endian.{big_bytes}
+use Rattle.mq_c.proofs.Common.{rules, ◌≡◌, ◌+◌, ◌++◌, length, drop, sym, ap, ◌∙◌, append-nil, append_assoc, drop_all, drop-drop, big_bytes}
 use Rattle.mq_c.proofs.queries.frame.Goals as goal
 
 pub returns : goal.returns

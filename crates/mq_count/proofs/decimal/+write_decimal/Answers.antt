@@ -1,6 +1,5 @@
 use Rattle.mq_count.proofs.Common.{◌≡◌, ◌+◌, ◌/◌, ◌<◌, length, length-append, arith, ap, sym, ◌∙◌, take_more_set}
-use Rattle.std.proofs.lemmas.Fmt.{decimal_digit, decimal_step, length-decimal-le}
-use Rattle.std.specs.Fmt.{decimal}
+use Rattle.std.{proofs.lemmas.Fmt.decimal_digit, proofs.lemmas.Fmt.decimal_step, proofs.lemmas.Fmt.length-decimal-le, specs.Fmt.decimal}
 use Rattle.mq_count.proofs.decimal.+write_decimal.Goals as goal
 
 pub returns-then-number-lt10-clause-text : goal.returns-then-number-lt10-clause-text

@@ -1,4 +1,5 @@
-use Rattle.mq_held.proofs.Common.{◌≡◌, [], Some, length, take, drop, get_or, set, count_by, filter_map, list_any, Spends, item_counted, item_has_sendings}
+use Rattle.mq_held.proofs.Common.{◌≡◌, [], Some, length, take, drop, get_or, set, count_by, filter_map, list_any, Spends, item_counted}
+use Rattle.mq_held.proofs.Common.{item_has_retransmissions}
 use Rattle.mq_held.proofs.queries_in_place.count_in_row.Given as goal
 
 -- the passed places have the results of their sources; the rest, and the other rows, are unchanged
@@ -8,7 +9,7 @@ invariant-loop-place g l = record {
   len : length (get_or l.rows.rows l.fn.number []) ≡ length (get_or l.initial.rows.rows l.fn.number []);
   made : take l.place (get_or l.rows.rows l.fn.number []) ≡ filter_map (λ x. Some (item_counted x)) (take l.place (get_or l.initial.rows.rows l.fn.number []));
   rest : drop l.place (get_or l.rows.rows l.fn.number []) ≡ drop l.place (get_or l.initial.rows.rows l.fn.number []);
-  left : l.left ≡ list_any item_has_sendings (take l.place (get_or l.rows.rows l.fn.number []));
-  moved : Spends (count_by item_has_sendings (take l.place (get_or l.initial.rows.rows l.fn.number [])))
-      (count_by item_has_sendings (take l.place (get_or l.initial.rows.rows l.fn.number []))) l.initial.moves l.moves;
+  left : l.left ≡ list_any item_has_retransmissions (take l.place (get_or l.rows.rows l.fn.number []));
+  moved : Spends (count_by item_has_retransmissions (take l.place (get_or l.initial.rows.rows l.fn.number [])))
+      (count_by item_has_retransmissions (take l.place (get_or l.initial.rows.rows l.fn.number []))) l.initial.moves l.moves;
 }

@@ -1,4 +1,4 @@
-use Rattle.std.proofs.Common.{◌-◌, length}
+use Rattle.mq_sched.proofs.Common.{◌-◌, length}
 use Rattle.mq_sched.proofs.due_leaves.+collect.Given as goal
 
 abbrev pub decreases-collect : goal.decreases-collect

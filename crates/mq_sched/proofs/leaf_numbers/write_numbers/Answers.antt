@@ -1,4 +1,4 @@
-use Rattle.std.proofs.Common.{arith}
+use Rattle.mq_sched.proofs.Common.{arith}
 use Rattle.mq_sched.proofs.leaf_numbers.write_numbers.Goals as goal
 
 pub bounds-numbers-leaf : goal.bounds-numbers-leaf

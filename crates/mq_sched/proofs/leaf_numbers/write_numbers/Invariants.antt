@@ -1,4 +1,4 @@
-use Rattle.std.proofs.Common.{ℕ, ◌<◌, ◌≤◌, ◌≡◌, get_or}
+use Rattle.mq_sched.proofs.Common.{ℕ, ◌<◌, ◌≤◌, ◌≡◌, get_or}
 use Rattle.mq_sched.proofs.leaf_numbers.write_numbers.Given as goal
 
 abbrev pub invariant-loop-leaf : goal.invariant-loop-leaf

@@ -14,25 +14,25 @@ loop-source-preserved g c =
     let spent = Spends-join_within 0 (place + 1) so_far.spent c.goes.ensures.spent (omega arith) (omega arith) in
     elim c.if-goes.branch [
       | then-goes w ↦
-          let more = going_more number c.args.limit c.args.s row place c.source-item.result within c.source-item.is
+          let more = going_more number c.args.limit c.args.suppress row place c.source-item.result within c.source-item.is
           (sym c.goes.ensures.answer ∙ w.if-goes.true) in
           let ahead = rw more at so_far.sent in
-          let pushed = rw (so_far.group, so_far.flag, so_far.per_query) at
-          (w.push.ensures.sent (going_with number c.args.limit c.args.s (drop (place + 1) row))) in
+          let pushed = rw (so_far.group, so_far.suppress, so_far.per_query) at
+          (w.push.ensures.sent (going_with number c.args.limit c.args.suppress (drop (place + 1) row))) in
           rw (w.collected-is, w.sink-is) (record {
             group = ap (λ r. r.group) w.push.ensures.parts ∙ so_far.group;
-            flag = ap (λ r. r.s) w.push.ensures.parts ∙ so_far.flag;
+            suppress = ap (λ r. r.suppress) w.push.ensures.parts ∙ so_far.suppress;
             per_query = ap (λ r. r.per_query) w.push.ensures.parts ∙ so_far.per_query;
             room = omega (arith, w.push.ensures.room, so_far.per_query);
             sent = λ end later. ahead end (pushed end later);
             spent = spent;
           })
       | else-goes w ↦
-          let same = going_same number c.args.limit c.args.s row place c.source-item.result within c.source-item.is
+          let same = going_same number c.args.limit c.args.suppress row place c.source-item.result within c.source-item.is
           (sym c.goes.ensures.answer ∙ w.if-goes.false) in
           rw (w.collected-is, w.sink-is) (record {
             group = so_far.group;
-            flag = so_far.flag;
+            suppress = so_far.suppress;
             per_query = so_far.per_query;
             room = so_far.room;
             sent = rw same at so_far.sent;
@@ -46,9 +46,9 @@ returns-clause-sent g c =
     let row = c.args.row.now in
     let so_far = c.loop-source.invariant in
     let over = drop_all c.loop-source.source-index row (omega (arith, c.loop-source-test.false)) in
-    let none = ap (going_with number c.args.limit c.args.s) over in
-    let last = rw (so_far.group, so_far.flag, so_far.per_query) at c.finish.ensures in
+    let none = ap (going_with number c.args.limit c.args.suppress) over in
+    let last = rw (so_far.group, so_far.suppress, so_far.per_query) at c.finish.ensures in
     so_far.sent c.finish.new.sink
-    (subst (λ xs. Sends g.S.Sink.takes c.loop-source.sink (sources_queries c.args.per_query (number c.args.group) c.args.s xs) c.finish.new.sink)
+    (subst (λ xs. Sends g.S.Sink.takes c.loop-source.sink (sources_queries c.args.per_query (number c.args.group) c.args.suppress xs) c.finish.new.sink)
     (sym (ap (λ xs. list_map number c.loop-source.collected.sources.items ++ xs) none ∙
     append-nil (list_map number c.loop-source.collected.sources.items))) last)

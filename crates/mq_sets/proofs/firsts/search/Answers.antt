@@ -1,6 +1,5 @@
 use Rattle.mq_sets.proofs.Common.{◌<◌, ◌+◌, ◌-◌, ◌/◌, refl, arith, sym, ap, ◌∙◌, subst, length, nat_cmp, key_at, common_steps}
-use Rattle.mq_sets.proofs.KeysAt.{key_at-read}
-use Rattle.mq_sets.proofs.Narrowing.{IsNarrowed-to_above, IsNarrowed-to_below, spent_to_found}
+use Rattle.mq_sets.proofs.{KeysAt.key_at-read, Narrowing.IsNarrowed-to_above, Narrowing.IsNarrowed-to_below, Narrowing.spent_to_found}
 use Rattle.mq_sets.proofs.firsts.search.Goals as goal
 
 pub loop-low-preserved-in-Less : goal.loop-low-preserved-in-Less

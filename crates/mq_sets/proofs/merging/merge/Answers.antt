@@ -1,6 +1,5 @@
-use Rattle.std.proofs.Common.{rules}
-use Rattle.mq_sets.proofs.MergeCount.{comparisons_along-at_least, comparisons_along-at_most}
-use Rattle.mq_sets.proofs.WholeMerge.{merged-ascending, merged-at}
+use Rattle.mq_sets.proofs.Common.{rules}
+use Rattle.mq_sets.proofs.{MergeCount.comparisons_along-at_least, MergeCount.comparisons_along-at_most, WholeMerge.merged-ascending, WholeMerge.merged-at}
 use Rattle.mq_sets.proofs.merging.merge.Goals as goal
 
 pub of-requires : goal.of-requires

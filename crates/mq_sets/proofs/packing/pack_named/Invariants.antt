@@ -1,4 +1,4 @@
-use Rattle.std.proofs.Common.{◌≤◌, take, vec_capacity}
+use Rattle.mq_sets.proofs.Common.{◌≤◌, take, vec_capacity}
 use Rattle.mq_sets.proofs.PackedRows.{IsPackedBy}
 use Rattle.mq_sets.proofs.packing.pack_named.Given as goal
 

@@ -1,6 +1,6 @@
 use Rattle.mq_sets.proofs.Common.{◌≡◌, ◌+◌, ◌*◌, ◌≤◌, [], length, vec_capacity, All, bytes_for, item_bytes}
-use Rattle.std.specs.contracts.vec.Vec as page
 use denote.Builtin.{u16}
+use Rattle.std.specs.contracts.vec.Vec as page
 use Rattle.mq_sets.proofs.pages.empty_pages.Given as goal
 
 abbrev pub invariant-loop : goal.invariant-loop

@@ -1,6 +1,5 @@
-use Rattle.std.proofs.Common.{refl, arith}
-use Rattle.mq_sets.proofs.Narrowing.{IsNarrowed-to_above, IsNarrowed-to_below, spent_to_found, place_left}
-use Rattle.mq_sets.proofs.Placing.{set_of-absent}
+use Rattle.mq_sets.proofs.Common.{refl, arith}
+use Rattle.mq_sets.proofs.{Narrowing.IsNarrowed-to_above, Narrowing.IsNarrowed-to_below, Narrowing.spent_to_found, Narrowing.place_left, Placing.set_of-absent}
 use Rattle.mq_sets.proofs.searching.find.Goals as goal
 
 pub loop-low-preserved-in-Less : goal.loop-low-preserved-in-Less

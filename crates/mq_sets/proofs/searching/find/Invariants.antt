@@ -1,4 +1,4 @@
-use Rattle.std.proofs.Common.{◌-◌}
+use Rattle.mq_sets.proofs.Common.{◌-◌}
 use Rattle.mq_sets.proofs.Narrowing.{IsNarrowed}
 use Rattle.mq_sets.proofs.searching.find.Given as goal
 

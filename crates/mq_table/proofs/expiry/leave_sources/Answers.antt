@@ -1,7 +1,6 @@
-use Rattle.std.proofs.Common.{◌≡◌, ◌+◌, ◌<◌, ◌≤◌, min, false, refl, Option, List, Some, length, length-drop, get_or, take, drop, sym, ap, subst, ◌∙◌}
-use Rattle.mq_table.proofs.Common.{◌||◌, arith, length-set, AllWithin, list_any, take_all, lies_ahead, Spends-join_within, compared-here, compared-past, Source}
-use Rattle.mq_table.proofs.Common.{deadline_of, running_among, runs_out, source_left, source_with, common_steps}
-use Rattle.std.specs.Option.{is_some}
+use Rattle.mq_table.proofs.Common.{◌≡◌, ◌+◌, ◌<◌, ◌≤◌, min, false, refl, Option, List, Some, length, length-drop, get_or, take, drop, sym, ap, subst, ◌∙◌, ◌||◌}
+use Rattle.mq_table.proofs.Common.{arith, length-set, AllWithin, list_any, take_all, lies_ahead, Spends-join_within, compared-here, compared-past, Source}
+use Rattle.mq_table.proofs.Common.{deadline_of, running_among, runs_out, source_left, source_with, common_steps, is_some}
 use Rattle.mq_table.proofs.EndedRuns.{run_stays, ended_leaves, behind_run, run_made, run_rest, running_among-more, running_among-run, any_out-run, any_out-more}
 use Rattle.mq_table.proofs.MadeLists.{passed_some, passed_none, rest_after_some, rest_after_none}
 use Rattle.mq_table.proofs.expiry.leave_sources.Goals as goal

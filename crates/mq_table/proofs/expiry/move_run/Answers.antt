@@ -1,5 +1,5 @@
-use Rattle.std.proofs.Common.{◌≡◌, ◌+◌, ◌-◌, ◌++◌, List, length, length-drop, take, drop, sym, ap, ◌∙◌, arith, append-nil}
-use Rattle.mq_table.proofs.Common.{copy_within, Source, take_all, drop_all, drop-drop, common_steps}
+use Rattle.mq_table.proofs.Common.{◌≡◌, ◌+◌, ◌-◌, ◌++◌, List, length, length-drop, take, drop, sym, ap, ◌∙◌, arith, append-nil, copy_within, Source, take_all}
+use Rattle.mq_table.proofs.Common.{drop_all, drop-drop, common_steps}
 use Rattle.std.proofs.lemmas.List.Edits.{drop-paste}
 use Rattle.mq_table.proofs.EndedRuns.{take_parts}
 use Rattle.mq_table.proofs.expiry.move_run.Goals as goal

@@ -1,4 +1,4 @@
-use Rattle.std.proofs.Common.{sym}
+use Rattle.mq_table.proofs.Common.{sym}
 use Rattle.mq_table.proofs.SourceLists.{get-found, get-absent}
 use Rattle.mq_table.proofs.sources.timer_among.Goals as goal
 

@@ -1,4 +1,4 @@
-use Rattle.std.proofs.Common.{arith}
+use Rattle.mq_wire.proofs.Common.{arith}
 use Rattle.mq_wire.proofs.FoundCodes.{code_is_greatest}
 use Rattle.mq_wire.proofs.codes.code8.Goals as goal
 

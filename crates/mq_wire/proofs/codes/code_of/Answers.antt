@@ -1,4 +1,4 @@
-use Rattle.std.proofs.Common.{◌≡◌, ◌+◌, ◌*◌, ◌/◌, ◌^◌, sym, ◌∙◌, arith}
+use Rattle.mq_wire.proofs.Common.{◌≡◌, ◌+◌, ◌*◌, ◌/◌, ◌^◌, sym, ◌∙◌, arith}
 use Rattle.mq_wire.proofs.FoundCodes.{own, begins, stops, goes_on, ends, shifted, shifted_base, mantissa_bounds, fits_sum}
 use Rattle.mq_wire.proofs.codes.code_of.Goals as goal
 

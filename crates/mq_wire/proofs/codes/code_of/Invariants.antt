@@ -1,4 +1,4 @@
-use Rattle.std.proofs.Common.{◌≡◌, ◌≤◌, ◌+◌, ◌-◌, ◌^◌}
+use Rattle.mq_wire.proofs.Common.{◌≡◌, ◌≤◌, ◌+◌, ◌-◌, ◌^◌}
 use Rattle.mq_wire.specs.Codes as spec
 use Rattle.mq_wire.proofs.codes.code_of.Given as goal
 

@@ -1,4 +1,4 @@
-use Rattle.std.proofs.Common.{length, ◌-◌, arith}
+use Rattle.mq_wire.proofs.Common.{length, ◌-◌, arith}
 use Rattle.mq_wire.proofs.Spans.{addresses_cut, addresses_fit, addresses_end}
 use Rattle.mq_wire.proofs.fields.addresses_end.Goals as goal
 

@@ -1,5 +1,4 @@
-use Rattle.std.proofs.Common.{rules}
-use Rattle.std.proofs.lemmas.Slice.{overwrites}
+use Rattle.std.proofs.{Common.rules, lemmas.Slice.overwrites}
 use Rattle.mq_wire.proofs.mld.pseudo_header.Goals as goal
 
 pub returns : goal.returns

@@ -1,5 +1,5 @@
-use Rattle.std.proofs.Common.{◌≡◌, ◌≤◌, ◌+◌, ◌*◌, ◌++◌, [], length, drop, length-append, append-nil, ap, ◌∙◌, arith}
-use Rattle.mq_wire.proofs.Common.{drop_all, big_bytes, length-bytes_high_first, fields_bytes}
+use Rattle.mq_wire.proofs.Common.{◌≡◌, ◌≤◌, ◌+◌, ◌*◌, ◌++◌, [], length, drop, length-append, append-nil, ap, ◌∙◌, arith, drop_all, big_bytes}
+use Rattle.mq_wire.proofs.Common.{length-bytes_high_first, fields_bytes}
 use Rattle.mq_wire.proofs.WrittenParts.{next_part}
 use Rattle.mq_wire.proofs.writing.write_without_checksum.Goals as goal
 

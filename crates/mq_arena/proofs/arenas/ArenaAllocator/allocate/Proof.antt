@@ -6,17 +6,14 @@ use Rattle.mq_arena.proofs.Common.{stop, fld, hop, from, addr, lit, of_opd, no_m
 use Rattle.mq_arena.proofs.Common.{free_all, look_at, look_in_at, get, get_in, get_tag, sets, sets_last, lands_as, env, usize, RefOf, yes, owns, Ptr, block_ptr}
 use Rattle.mq_arena.proofs.Common.{Slot, plain, types_at, nothing, heard, calls_from, Lasts, lasts, alive, triple_of, Stays, stay_dropped, walk_of}
 use Rattle.mq_arena.proofs.Common.{Goes-dropped, Answer, answer_val, Answer-Ok, Answer-err, after, head, arm_body, fm, proved_at, leaves}
-use Rattle.mq_arena.proofs.Arms.{then_runs}
-use Rattle.mq_arena.proofs.Rooms.{room_of_units}
-use Rattle.mq_arena.proofs.Taken.{Taken, Told, taken}
+use Rattle.mq_arena.proofs.{Arms.then_runs, Rooms.room_of_units, Taken.Taken, Taken.Told, Taken.taken}
+use Rattle.mq_arena.specs.contracts.arenas.ArenaAllocator.allocate.{ended, clauses, Key.name as #self}
 use Rattle.mq_arena.specs.contracts.arenas.Arena as arena
 use Rattle.mq_arena.specs.contracts.arenas.Arena.take as callee
 use Rattle.mq_arena.specs.contracts.arenas.Arena.take.Key as take_key
 use Rattle.mq_arena.proofs.arenas.Arena.take.Met.{met as takes}
-use Rattle.mq_arena.specs.contracts.arenas.ArenaAllocator.allocate.{ended, clauses}
-use Rattle.mq_arena.specs.contracts.arenas.ArenaAllocator.allocate.Key.{name as #self}
-use Rattle.mq_arena.proofs.arenas.ArenaAllocator.allocate.Statement.{statement}
 use Rattle.mq_arena.proofs.arenas.ArenaAllocator.allocate.Code as compiled
+use Rattle.mq_arena.proofs.arenas.ArenaAllocator.allocate.Statement.{statement}
 
 abbrev self : Slot 1
 self = RefOf (0 ∷ []) tt (plain (λ _. arena.the_row)) (λ _. tt)

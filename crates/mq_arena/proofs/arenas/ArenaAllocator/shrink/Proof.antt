@@ -1,17 +1,15 @@
 -- The function `shrink`, which is the trait's: it returns the result of the trait's body. Assumes `Logic`.
-use mathlib.Core.List.{[], ◌∷◌}
-use mathlib.Core.Path.{refl}
-use Rattle.mq_arena.proofs.Common.{inst_fn, Dict, a_type, impl, tcons, tnil, dnil, sep, kept_by, ⊑_static, ⊑_refl, Lfts, tables_of, layout, layouts, glues}
+use Rattle.mq_arena.proofs.Common.{[], ◌∷◌, refl, inst_fn, Dict, a_type, impl, tcons, tnil, dnil, sep, kept_by, ⊑_static, ⊑_refl, Lfts, tables_of, layout}
+use Rattle.mq_arena.proofs.Common.{layouts, glues}
 use Rattle.core.proofs.alloc.Allocator.shrink.Met.{met}
+use Rattle.mq_arena.{proofs.Kept.parameters, proofs.Kept.answer, specs.contracts.arenas.ArenaAllocator.shrink.Key.name as #self}
 use Rattle.core.proofs.alloc.Allocator.shrink.Symbol as trait_body
-use Rattle.mq_arena.proofs.Kept.{parameters, answer}
 use Rattle.mq_arena.proofs.arenas.ArenaAllocator.TheImpl.before.shrink.{bound}
 use Rattle.mq_arena.proofs.arenas.ArenaAllocator.shrink.Code as compiled
 use Rattle.mq_arena.proofs.arenas.ArenaAllocator.shrink.Lts as walk
-use Rattle.mq_arena.proofs.arenas.ArenaAllocator.shrink.Statement.{statement}
 use Rattle.mq_arena.specs.contracts.arenas.ArenaAllocator.TheImpl as block
 use Rattle.mq_arena.specs.contracts.arenas.ArenaAllocator.shrink as contract_of
-use Rattle.mq_arena.specs.contracts.arenas.ArenaAllocator.shrink.Key.{name as #self}
+use Rattle.mq_arena.proofs.arenas.ArenaAllocator.shrink.Statement.{statement}
 
 pub shrink_spec : {M : Type 1} → statement M
 unfolding tables_of Rattle.mq_arena.proofs.Destruct++none.drop.Code.code

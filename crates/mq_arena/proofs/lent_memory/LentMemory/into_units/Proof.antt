@@ -14,11 +14,10 @@ use types.SemTy.{Arr, cells}
 use types.Share.{arr_parts}
 use types.Tokens.{name_new, bor_new}
 use Rattle.mq_arena.proofs.Taken.{Block}
+use Rattle.mq_arena.specs.contracts.lent_memory.LentMemory.into_units.{ended, clauses, Key.name as #self}
 use Rattle.mq_arena.specs.contracts.lent_memory.LentMemory as memory
-use Rattle.mq_arena.specs.contracts.lent_memory.LentMemory.into_units.{ended, clauses}
-use Rattle.mq_arena.specs.contracts.lent_memory.LentMemory.into_units.Key.{name as #self}
-use Rattle.mq_arena.proofs.lent_memory.LentMemory.into_units.Statement.{statement}
 use Rattle.mq_arena.proofs.lent_memory.LentMemory.into_units.Code as compiled
+use Rattle.mq_arena.proofs.lent_memory.LentMemory.into_units.Statement.{statement}
 
 abbrev self : Slot 0
 self = plain (λ _. memory.the_row)

@@ -1,6 +1,6 @@
 -- A `&` to it is a borrow of the whole, which the thread's token opens. Assumes `Logic`.
-use mathlib.Core.List.{[], ◌∷◌}
-use Rattle.mq_arena.proofs.Common.{full_share, fbor, lfts, ‵, raw, later, ◌$◌, ◌∵◌, !, qed, use1, await, updating, now, done, na_bor, bor_na, part_at, part_of}
+use Rattle.mq_arena.proofs.Common.{[], ◌∷◌, full_share, fbor, lfts, ‵, raw, later, ◌$◌, ◌∵◌, !, qed, use1, await, updating, now, done, na_bor, bor_na, part_at}
+use Rattle.mq_arena.proofs.Common.{part_of}
 use denote.Hidden.{guarded_shr_laws}
 use Rattle.mq_arena.specs.contracts.slot.Slot as C
 use Rattle.mq_arena.proofs.slot.Slot.TheLaw.Statement.{statement}

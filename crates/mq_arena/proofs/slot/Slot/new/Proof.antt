@@ -4,14 +4,12 @@ use Rattle.mq_arena.proofs.Common.{◌$◌, ◌∵◌, !, qed, by, move, drop, u
 use Rattle.mq_arena.proofs.Common.{returns, enter, alloc_all, pass_all, free_all, look_at, get, sets, env, yes, left_of, owns, layout, types_at, nothing, alive}
 use Rattle.mq_arena.proofs.Common.{Stays, stay_dropped, walk_of, Goes-blank, one, round, proved_at, leaves, Typed}
 use Rattle.std_alloc.proofs.ResultValues.{and_tt}
-use Rattle.mq_arena.proofs.Cell.{Fields, contents_in}
-use Rattle.mq_arena.proofs.Walks.{slot_at}
+use Rattle.mq_arena.proofs.{Cell.Fields, Cell.contents_in, Walks.slot_at}
+use Rattle.mq_arena.specs.contracts.slot.Slot.new.{ended, clauses, Key.name as #self}
 use Rattle.mq_arena.specs.contracts.unused_memory.Unused as rest
 use Rattle.mq_arena.proofs.unused_memory.Unused.TheLaws as rest_laws
-use Rattle.mq_arena.specs.contracts.slot.Slot.new.{ended, clauses}
-use Rattle.mq_arena.specs.contracts.slot.Slot.new.Key.{name as #self}
-use Rattle.mq_arena.proofs.slot.Slot.new.Statement.{statement}
 use Rattle.mq_arena.proofs.slot.Slot.new.Code as compiled
+use Rattle.mq_arena.proofs.slot.Slot.new.Statement.{statement}
 
 pub new_spec : {M : Type 1} → statement M
 new_spec 𝓤 𝓛 𝓜 𝓡 wired =

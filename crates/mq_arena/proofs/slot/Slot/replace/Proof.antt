@@ -6,11 +6,10 @@ use Rattle.mq_arena.proofs.Common.{free_all, look_at, get, through, sets, sets_l
 use Rattle.mq_arena.proofs.Common.{stay_dropped, walk_of, Goes-dropped, Goes-blank, after, one, leaves}
 use Rattle.mq_arena.proofs.Walks.{slot_at, with_token, proved_with_token}
 use Rattle.mq_arena.proofs.Cell.{quiet, Held, Over, held_Lawful, opens_slot, shuts_slot}
-use Rattle.mq_arena.specs.contracts.slot.Slot.replace.{ended, clauses}
-use Rattle.mq_arena.specs.contracts.slot.Slot.replace.Key.{name as #self}
-use Rattle.mq_arena.proofs.slot.Slot.replace.Statement.{statement}
+use Rattle.mq_arena.specs.contracts.slot.Slot.replace.{ended, clauses, Key.name as #self}
 use Rattle.mq_arena.proofs.slot.Slot.replace.Code as compiled
 use Rattle.mq_arena.proofs.slot.Slot.replace.Code.{code}
+use Rattle.mq_arena.proofs.slot.Slot.replace.Statement.{statement}
 
 pub replace_spec : {M : Type 1} → statement M
 unfolding code

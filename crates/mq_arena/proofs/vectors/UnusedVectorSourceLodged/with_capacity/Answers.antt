@@ -1,7 +1,5 @@
-use Rattle.std.proofs.Common.{ℕ, ◌≡◌, ◌+◌, ◌*◌, ◌^◌, ◌<◌, ◌≤◌, ◌/◌, Bool, true, false, Ok, Err, is_ok, IsOk, arith}
-use Rattle.std.specs.Prelude.{max, Result, IfOk, ◌↔◌}
+use Rattle.mq_arena.proofs.Common.{ℕ, ◌≡◌, ◌+◌, ◌*◌, ◌^◌, ◌<◌, ◌≤◌, true, false, Ok, Err, is_ok, arith, max, Result, IfOk, size_of_block, bytes_for}
 use Rattle.std.proofs.Math.Nat.{mul-le-mul_left, le-mul_of_pos_right}
-use Rattle.mq_arena.proofs.Common.{size_of_block, bytes_for, item_bytes, Takes}
 use Rattle.mq_arena.proofs.vectors.UnusedVectorSourceLodged.with_capacity.Goals as goal
 
 -- an item of no bytes counts as one, so what suffices by that count suffices

@@ -1,14 +1,9 @@
 -- The function `of`, which takes the pointer of a borrowed value.
-use Rattle.std.proofs.Common.{◌≡◌, Some, refl}
-use base.Logic.{emp}
-use contract.Monad.{fact_i}
-use Rattle.mq_c.specs.Rows.{igmp_row}
-use Rattle.mq_c.specs.contracts.igmp_objects.IgmpLinkPlace.{the_heap}
+use Rattle.mq_c.proofs.Common.{◌≡◌, Some, refl, emp, fact_i, igmp_row}
+use Rattle.mq_c.{specs.contracts.igmp_objects.IgmpLinkPlace.the_heap, proofs.Pointers.igmp_link_place, proofs.PointerWalks.stay_meets}
 use Rattle.mq_c.specs.contracts.igmp_objects.IgmpLinkPlace.of as f
-use Rattle.mq_c.proofs.Pointers.{igmp_link_place}
-use Rattle.mq_c.proofs.PointerWalks.{stay_meets}
-use Rattle.mq_c.proofs.igmp_objects.IgmpLinkPlace.of.Statement.{statement}
 use Rattle.mq_c.proofs.igmp_objects.IgmpLinkPlace.of.Code as code
+use Rattle.mq_c.proofs.igmp_objects.IgmpLinkPlace.of.Statement.{statement}
 
 pub of_spec : {M : Type 1} → statement M
 of_spec 𝓤 𝓛 𝓜 𝓡 wired =

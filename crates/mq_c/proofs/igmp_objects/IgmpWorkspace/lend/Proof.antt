@@ -1,15 +1,9 @@
 -- `lend` lends what is behind the pointer, and the object follows it.
-use Rattle.std.proofs.Common.{[], ◌∷◌, refl}
-use types.Kit.{‵, ◌$◌, ◌∵◌, !, qed, done}
-use denote.Follow.{follows}
-use denote.Triple.Walked.{says}
-use Rattle.mq_c.specs.Rows.{igmp_workspace_row}
-use Rattle.mq_c.specs.contracts.igmp_objects.IgmpWorkspace.{the_row}
+use Rattle.mq_c.proofs.Common.{[], ◌∷◌, refl, ‵, ◌$◌, ◌∵◌, !, qed, done, follows, says, igmp_workspace_row}
+use Rattle.mq_c.{specs.contracts.igmp_objects.IgmpWorkspace.the_row, proofs.Pointers.igmp_workspace, proofs.PointerWalks.lend_meets}
 use Rattle.mq_c.specs.contracts.igmp_objects.IgmpWorkspace.lend as f
-use Rattle.mq_c.proofs.Pointers.{igmp_workspace}
-use Rattle.mq_c.proofs.PointerWalks.{lend_meets}
-use Rattle.mq_c.proofs.igmp_objects.IgmpWorkspace.lend.Statement.{statement}
 use Rattle.mq_c.proofs.igmp_objects.IgmpWorkspace.lend.Code as code
+use Rattle.mq_c.proofs.igmp_objects.IgmpWorkspace.lend.Statement.{statement}
 
 pub lend_spec : {M : Type 1} → statement M
 lend_spec 𝓤 𝓛 𝓜 𝓡 wired =

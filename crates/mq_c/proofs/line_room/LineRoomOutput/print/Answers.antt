@@ -1,6 +1,4 @@
-use Rattle.std.proofs.Common.{◌∙◌, sym, ap, drop, take, arith}
-use Rattle.std.proofs.lemmas.List.{drop-drop, take-append-drop}
-use Rattle.std.proofs.lemmas.Grind.{common_steps}
+use Rattle.mq_c.proofs.Common.{◌∙◌, sym, ap, drop, take, arith, drop-drop, take-append-drop, common_steps}
 use Rattle.mq_c.proofs.line_room.LineRoomOutput.print.Goals as goal
 
 pub invariant_of-self-clause-behind : goal.invariant_of-self-clause-behind

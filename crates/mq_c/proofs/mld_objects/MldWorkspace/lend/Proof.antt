@@ -1,15 +1,9 @@
 -- `lend` lends what is behind the pointer, and the object follows it.
-use Rattle.std.proofs.Common.{[], ◌∷◌, refl}
-use types.Kit.{‵, ◌$◌, ◌∵◌, !, qed, done}
-use denote.Follow.{follows}
-use denote.Triple.Walked.{says}
-use Rattle.mq_c.specs.Rows.{mld_workspace_row}
-use Rattle.mq_c.specs.contracts.mld_objects.MldWorkspace.{the_row}
+use Rattle.mq_c.proofs.Common.{[], ◌∷◌, refl, ‵, ◌$◌, ◌∵◌, !, qed, done, follows, says, mld_workspace_row}
+use Rattle.mq_c.{specs.contracts.mld_objects.MldWorkspace.the_row, proofs.Pointers.mld_workspace, proofs.PointerWalks.lend_meets}
 use Rattle.mq_c.specs.contracts.mld_objects.MldWorkspace.lend as f
-use Rattle.mq_c.proofs.Pointers.{mld_workspace}
-use Rattle.mq_c.proofs.PointerWalks.{lend_meets}
-use Rattle.mq_c.proofs.mld_objects.MldWorkspace.lend.Statement.{statement}
 use Rattle.mq_c.proofs.mld_objects.MldWorkspace.lend.Code as code
+use Rattle.mq_c.proofs.mld_objects.MldWorkspace.lend.Statement.{statement}
 
 pub lend_spec : {M : Type 1} → statement M
 lend_spec 𝓤 𝓛 𝓜 𝓡 wired =

@@ -1,14 +1,9 @@
 -- The function `of`, which takes the pointer of a borrowed value.
-use Rattle.std.proofs.Common.{◌≡◌, Some, refl}
-use base.Logic.{emp}
-use contract.Monad.{fact_i}
-use Rattle.mq_c.specs.Rows.{mld_workspace_row}
-use Rattle.mq_c.specs.contracts.mld_objects.MldWorkspacePlace.{the_heap}
+use Rattle.mq_c.proofs.Common.{◌≡◌, Some, refl, emp, fact_i, mld_workspace_row}
+use Rattle.mq_c.{specs.contracts.mld_objects.MldWorkspacePlace.the_heap, proofs.Pointers.mld_workspace_place, proofs.PointerWalks.stay_meets}
 use Rattle.mq_c.specs.contracts.mld_objects.MldWorkspacePlace.of as f
-use Rattle.mq_c.proofs.Pointers.{mld_workspace_place}
-use Rattle.mq_c.proofs.PointerWalks.{stay_meets}
-use Rattle.mq_c.proofs.mld_objects.MldWorkspacePlace.of.Statement.{statement}
 use Rattle.mq_c.proofs.mld_objects.MldWorkspacePlace.of.Code as code
+use Rattle.mq_c.proofs.mld_objects.MldWorkspacePlace.of.Statement.{statement}
 
 pub of_spec : {M : Type 1} → statement M
 of_spec 𝓤 𝓛 𝓜 𝓡 wired =

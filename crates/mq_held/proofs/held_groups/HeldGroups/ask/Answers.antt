@@ -1,12 +1,13 @@
-use Rattle.mq_held.proofs.Common.{count_by, count_by-le-length, list_map, ◌≡◌, cond, ℕ, ◌+◌, ◌-◌, ◌≤◌, Bool, true, false, [], ◌∷◌, Option, length, get_or, set}
-use Rattle.mq_held.proofs.Common.{None, Some, refl, is_some, min, sym, ap, ◌∙◌, subst, arith, true≢false, length-set, Spends-join, Spends-join_within}
-use Rattle.mq_held.proofs.Common.{Spends-within, IsAscending, set_of, PoolState, bitlen, source_if_asked, deadline_of, is_ahead, timer_at, Source, lowered_to}
-use Rattle.mq_held.proofs.Common.{item_has_sendings, above, last_member_count, number_in, timers_in, get-absent, DeadlinesState, ScheduledGroup}
-use Rattle.mq_held.proofs.Common.{waiting_messages, Sends, ScheduledHead, group_at, one_if, HasNumber, IsStored, common_steps}
+use Rattle.mq_held.proofs.Common.{count_by, count_by-le-length, list_map, ◌≡◌, cond, ℕ, ◌+◌, ◌-◌, ◌≤◌, Bool, true, false, [], ◌∷◌, Option, length, get_or}
+use Rattle.mq_held.proofs.Common.{set, None, Some, not, refl, is_some, min, unwrap_or, sym, ap, ◌∙◌, subst, arith, true≢false, length-set, Spends-join}
+use Rattle.mq_held.proofs.Common.{Spends-join_within, Spends-within, IsAscending, set_of, PoolState, bitlen, source_if_asked, deadline_of, is_ahead, timer_at}
+use Rattle.mq_held.proofs.Common.{Source, lowered_to, item_has_retransmissions, above, last_member_count, number_in, timers_in, get-absent, DeadlinesState}
+use Rattle.mq_held.proofs.Common.{ScheduledGroup, waiting_messages, Sends, ScheduledHead, group_at, one_if, HasNumber, IsStored, common_steps}
 use Rattle.mq_held.proofs.{AskedInPlace.IsAsked, AskedInPlace.IsCounted, AskedInPlace.IsUnasked, AskedInPlace.asked-above, AskedInPlace.formed_counted}
 use Rattle.mq_held.proofs.{AskedInPlace.head_is, AskedInPlace.least-asked, AskedInPlace.none_sent, AskedInPlace.quiet_in, AskedInPlace.row-asked}
 use Rattle.mq_held.proofs.{AskedInPlace.rows_counted, AskedInPlace.seen_counted, AskedInPlace.sends_after, AskedInPlace.size-asked, AskedInPlace.size-counted}
 use Rattle.mq_held.proofs.{AskedInPlace.state_unasked, AskedInPlace.unasked-absent, AskedInPlace.unasked-below, AskedInPlace.up_asked, AskedInPlace.up_counted}
+use Rattle.mq_held.proofs.{AskedMoments.earliest-alone, Located.first-held}
 use Rattle.mq_held.proofs.{CountedRows.one-at_most, Inside.has as has-there, Inside.same-address, Located.Located, Located.Placed, Located.located}
 use Rattle.mq_held.proofs.{Located.placed, Located.row-read, Located.row_of, Located.rows-len, Located.stored-written, RestartedTimers.timer-held}
 use Rattle.mq_held.proofs.{StoredEdits.schedules_fit}
@@ -183,15 +184,34 @@ row-row-requires-3 g c =
     let a = asked_so g (goal.at.row-row-requires-3 g c).After-ask_in_row in
     record { number = omega (arith, rows-len a.at _ (rows_counted a c.count_in_row-left.ensures.rows), a.at.in_rows) }
 
-pub earliest_stored-due-requires-clause-ascending : goal.earliest_stored-due-requires-clause-ascending
-earliest_stored-due-requires-clause-ascending g c =
-    let at = goal.at.earliest_stored-due-requires-clause-ascending g c in
+pub moment-earliest-requires : goal.moment-earliest-requires
+moment-earliest-requires g c =
+    let l = at_so g (goal.at.moment-earliest-requires g c).After-self in
+    record { there = l.moment (omega (arith, c.in-Ok.ensures.found_in, ap length c.row-row.ensures.cells)) }
+
+pub earliest_then-due-requires-clause-ascending : goal.earliest_then-due-requires-clause-ascending
+earliest_then-due-requires-clause-ascending g c =
+    let at = goal.at.earliest_then-due-requires-clause-ascending g c in
     up_counted (counted_so g at.After-row-row-3 (asked_so g at.After-ask_in_row))
 
-pub earliest_stored-due-requires-clause-held : goal.earliest_stored-due-requires-clause-held
-earliest_stored-due-requires-clause-held g c =
-    let at = goal.at.earliest_stored-due-requires-clause-held g c in
+pub earliest_then-due-requires-clause-held : goal.earliest_then-due-requires-clause-held
+earliest_then-due-requires-clause-held g c =
+    let at = goal.at.earliest_then-due-requires-clause-held g c in
     formed_counted (counted_so g at.After-row-row-3 (asked_so g at.After-ask_in_row))
+
+pub earliest_then-due-requires-clause-later : goal.earliest_then-due-requires-clause-later
+earliest_then-due-requires-clause-later g c none_waited =
+    let at = goal.at.earliest_then-due-requires-clause-later g c in
+    let r = counted_so g at.After-row-row-3 (asked_so g at.After-ask_in_row) in
+    let limit = c.after-limit.ensures.later ∙ ap (λ k. c.args.now + k) c.last_member_time.ensures in
+    let above = above_by (sym c.if-not-runs_on.false ∙ c.runs_on.ensures.answer) limit c.deadline.ensures c.index-row-place.is in
+    let was = first-held r.asked.at c.index.ensures c.moment-earliest.ensures in
+    let none : is_some c.index.result.now.schedule.sources_due ≡ false =
+    ap is_some (sym c.sources_due.ensures) ∙ c.is_none-none_waited.ensures ∙ ap not none_waited in
+    let next : c.unwrap_or-first.result ≡ unwrap_or c.count_sources.new.self.sources_due (lowered_to c.args.timing.now c.args.now) =
+    c.unwrap_or-first.ensures ∙ (λ i. unwrap_or (c.sources_due-2.ensures i) (limit i)) in
+    earliest-alone r (placed_so g at.After-index-row-place) above c.is_in_range.ensures.robustness.at_least none was
+    ∙ ap (λ d. Some (min c.moment-earliest.result d)) (sym next)
 
 pub change-requires : goal.change-requires
 change-requires g c =
@@ -204,7 +224,8 @@ invariant_of-self g c =
     let r = counted_so g at.After-row-row-3 (asked_so g at.After-ask_in_row) in
     let s = c.self.inside in
     let h : ScheduledHead = record { head = c.index.result.now.head; schedule = c.count_sources.new.self } in
-    let stored = stored-written r.asked.at h _ (up_counted r) refl (formed_counted r) c.earliest_stored-due.ensures.earliest in
+    let stored = stored-written r.asked.at h _ (up_counted r) refl (formed_counted r)
+    (c.earliest_then-due.ensures.earliest ∙ ap Some (sym c.unwrap_or-due.ensures)) in
     let before = sym (c.count_schedules-before.ensures ∙ r.asked.at.own c.index.result.now c.index.ensures) in (
       subst (λ (p : (PoolState (Source _) × DeadlinesState) × ℕ).
           IsStored g.K.Key.number s.order.items (set s.heads.items c.args.number h) p.0.0.rows p.0.1.moments p.1)
@@ -246,7 +267,7 @@ returns-clause-spent g c address has =
     let asked = size-asked a c.row-row-2.ensures.cells ∙ had in
     let then = size-counted (counted_so g at.After-row-row-3 a) ∙ had in
     let looked = Spends-join c.find.ensures.spent c.runs_on.ensures.spent in
-    let told = Spends-join (Spends-join looked c.send_waiting-places.ensures.spent) c.earliest_stored-due.ensures.spent in
+    let told = Spends-join (Spends-join looked c.send_waiting-places.ensures.spent) c.earliest_then-due.ensures.spent in
     Spends-join_within _ _ told c.change.ensures.spent (omega (arith, size)) (omega (arith, asked, then, ap bitlen size, a.at.others))
 
 -- the source that is asked for and the group's moment are moved
@@ -276,8 +297,8 @@ returns-clause-moved g c address has =
     let size = size-asked a refl ∙ sym (a.at.size has) in
     let counted = Spends-join c.ask_in_row.ensures.moved c.count_in_row-left.ensures.moved in
     let asks = above c.args.timing.now c.args.now (group_at c.args.self.now.groups address).group (g.K.Key.number c.args.source) in
-    let sent = ap (count_by item_has_sendings) (row-asked a refl) in
-    let few = count_by-le-length item_has_sendings (get_or c.ask_in_row.new.rows.rows c.args.number []) in
+    let sent = ap (count_by item_has_retransmissions) (row-asked a refl) in
+    let few = count_by-le-length item_has_retransmissions (get_or c.ask_in_row.new.rows.rows c.args.number []) in
     let least = at_most asks (2 + min 1 count) in
     Spends-join_within _ _ counted c.change.ensures.moves (omega (arith, least, least-asked a, sent, one-at_most count)) (omega (arith, few, size, a.at.others))
 

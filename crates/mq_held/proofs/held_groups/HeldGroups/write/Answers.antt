@@ -1,14 +1,15 @@
-use Rattle.std.proofs.Common.{◌≡◌, ◌+◌, ◌-◌, ◌*◌, ◌≤◌, ◌∙◌, not, length, length-set, arith, ap, sym}
+use Rattle.std.proofs.Common.{◌≡◌, ◌+◌, ◌-◌, ◌*◌, ◌≤◌, ◌∙◌, not, length, length-set, set, refl, arith, ap, sym, subst}
 use Rattle.std.specs.FinMap as map
-use Rattle.mq_held.proofs.Common.{Spends-join_within, bitlen, ahead_after, size_of, ScheduledHead, group_at, one_if, sources_of, ahead_with, moved_by_row}
+use Rattle.mq_held.proofs.Common.{Spends-join_within, bitlen, ScheduledHead, group_at, one_if, running_in, sources_of, IsRowWritten}
 use Rattle.mq_held.proofs.Common.{group_of}
-use Rattle.mq_held.proofs.{MomentCounts.Spends-both, Inside.address-of, Inside.moment-there, Inside.source_room_is, Inside.sources-held, Inside.state-set}
+use Rattle.mq_held.proofs.{MomentCounts.Spends-both, Inside.address-of, Inside.moment-there, Inside.source_room_is, Inside.sources-held}
+use Rattle.mq_held.proofs.{Inside.state-set}
 use Rattle.mq_held.proofs.{Located.IsStoredWith, Located.Located, Located.located, Located.stored-written, StoredEdits.group-of-parts}
-use Rattle.mq_held.proofs.{StoredEdits.schedules_fit, StoredMoments.ahead-is, StoredMoments.contains-insert, StoredMoments.len-set, StoredMoments.moment-room}
-use Rattle.mq_held.proofs.{StoredMoments.moved-is, StoredMoments.names-rows}
+use Rattle.mq_held.proofs.{StoredEdits.schedules_fit, StoredMoments.contains-insert, StoredMoments.len-set, StoredMoments.moment-room}
+use Rattle.mq_held.proofs.{StoredMoments.names-rows, StoredMoments.row-written}
 use Rattle.mq_held.proofs.held_groups.HeldGroups.write.Given.{Over}
 use Rattle.mq_held.proofs.held_groups.HeldGroups.write.Goals as goal
-use Rattle.mq_held.proofs.held_groups.HeldGroups.write.Goals.{After-head, After-self}
+use Rattle.mq_held.proofs.held_groups.HeldGroups.write.Goals.{After-head, After-replace, After-self}
 
 -- the group of the number
 at_so : (g : Over) (c : After-self g) → Located g.K.Key.number c.self.inside c.args.self.now c.args.number
@@ -86,13 +87,22 @@ overflow_add-self g c =
     rw (c.count_schedules.ensures, own, c.count_schedules-2.ensures) (schedules_fit g.K.Key.number (stored_so g at.After-head)) in
     omega (arith, few, c.self.invariant.5, c.self.invariant.6)
 
+-- the rows then
+rows_so : (g : Over) (c : After-replace g) → (let s = c.self.inside.sources in
+    c.replace.new.self ≡ record { rows = set s.rows c.args.number c.sources.result.now; cell_limit = s.cell_limit; ahead = c.replace.new.self.ahead })
+rows_so g c =
+    let is = c.replace.ensures.1 in
+    let ahead = c.replace.new.self.ahead in
+    λ i. record { rows = is.rows i; cell_limit = is.limit i; ahead = ahead }
+
 pub invariant_of-self : goal.invariant_of-self
 invariant_of-self g c =
     let at = goal.at.invariant_of-self g c in
+    let is = c.replace.ensures.1 in
     let own = (at_so g at.After-self).own c.index-before.result.now c.index-before.ensures in (
-      rw (c.replace.ensures.rows, c.set_moment.ensures.moments, c.count_schedules.ensures, own, c.count_schedules-2.ensures) (stored_so g at.After-head),
-      rw c.replace.ensures.rows c.self.invariant.1,
-      rw c.replace.ensures.rows (length-set c.self.inside.sources.rows c.args.number c.sources.result.now ∙ c.self.invariant.2),
+      rw (is.rows, c.set_moment.ensures.moments, c.count_schedules.ensures, own, c.count_schedules-2.ensures) (stored_so g at.After-head),
+      c.self.invariant.1 ∙ sym is.limit,
+      ap length is.rows ∙ length-set c.self.inside.sources.rows c.args.number c.sources.result.now ∙ c.self.invariant.2,
       length-set c.self.inside.heads.items c.args.number _ ∙ c.self.invariant.3,
       rw c.set_moment.ensures.moments c.self.invariant.4,
       c.self.invariant.5,
@@ -105,12 +115,10 @@ returns-clause-groups g c address has =
     let number = g.K.Key.number in
     let known = c.self.invariant in
     let row = c.sources.result.now in
-    let pool = c.self.inside.sources in
-    let ahead = ahead_with c.args.self.now (sources_of (group_at c.args.self.now.groups address)) in
-    let left = ahead-is number known.0 c.self.view_is c.args.number row pool.cell_limit has (sym known.1) known.2 ∙ ap ahead c.sources.ensures.len in
-    rw c.replace.ensures.rows
-    (state-set number known.0 c.self.view_is (head_of g at.After-head) row _ (ahead_after pool c.args.number row) (ahead (size_of c.args.group.now.state)) has
-    (at_so g at.After-self).in_heads (group_so g at.After-head) left)
+    let ahead = c.replace.new.self.ahead in
+    rw c.replace.ensures.1.rows
+    (state-set number known.0 c.self.view_is (head_of g at.After-head) row _ ahead ahead has
+    (at_so g at.After-self).in_heads (group_so g at.After-head) refl)
 
 pub returns-clause-spent : goal.returns-clause-spent
 returns-clause-spent g c =
@@ -129,7 +137,12 @@ returns-clause-moved g c address has =
     let named = len-set c.self.inside.moments.moments n c.earliest_moment-due.result was c.numbers.result.now there each in
     let count = named ∙ ap (λ k. k + one_if was) (sym running) in
     let limit = c.self.inside.sources.cell_limit in
-    let rows = moved-is number known.0 c.self.view_is n c.sources.result.now limit has (sym known.1) known.2 (length c.numbers.result.now) was count
-    ∙ ap (moved_by_row c.args.self.now was (sources_of (group_at c.args.self.now.groups address))) c.sources.ensures.len in
-    let digits = ap (λ k. bitlen (k - one_if (not was))) running in
-    Spends-join_within _ _ c.set_moment.ensures.moved c.replace.ensures.moves (omega (arith, rows)) (omega (arith, rows, digits))
+    let written = row-written number known.0 c.self.view_is n c.sources.result.now limit has (sym known.1) known.2 c.replace.new.self
+    (length c.sources.result.now) (length c.numbers.result.now) (running_in c.args.self.now.groups + one_if was) c.replace.ensures.0 count
+    c.replace.ensures.1 in
+    let digits = ap (λ k. bitlen (k - one_if (not was))) running in (
+      c.replace.ensures.0,
+      subst (λ k. IsRowWritten c.args.self.now (sources_of (group_at c.args.self.now.groups address)) k k
+          (running_in c.args.self.now.groups + one_if was) c.replace.new.self.ahead c.replace.ensures.0) c.sources.ensures.len written,
+      Spends-join_within _ _ c.set_moment.ensures.moved c.replace.ensures.2 (omega arith) (omega (arith, digits)),
+    )

@@ -1,4 +1,4 @@
-use Rattle.mq_link.proofs.Common.{◌≡◌, ◌<◌, ap, ◌∙◌, sym, subst, rules, AreThose, changed_by_tick, HasTicked, LinkValue, RouterValue, link_of, LinkState}
+use Rattle.mq_link.proofs.Common.{◌≡◌, ◌<◌, true, ap, ◌∙◌, sym, subst, rules, AreThose, changed_by_tick, HasTicked, LinkValue, RouterValue, link_of, LinkState}
 use Rattle.mq_link.proofs.Common.{next_of, tick_of, TickCosts}
 use Rattle.mq_link.proofs.{HandedOut.with_answers, HandedOver.same_outlet, LinkTicked.has_ticked}
 use Rattle.mq_link.proofs.bare_link.BareLink.tick_in.Given.{Over}
@@ -33,9 +33,9 @@ pub returns-clause-costs : goal.returns-clause-costs
 returns-clause-costs g c =
     let before = c.self.inside.router in
     let costs = c.come_to.ensures.costs in
-    subst (λ (v : LinkValue). TickCosts c.args.now v (link_of c.count_answers.new.self)) c.self.view_is
-    (subst (λ (r : RouterValue). TickCosts c.args.now (link_of before) (link_of r)) (sym (counted g c.before))
-    (record { spent = costs.spent; moved = costs.moved; quiet = costs.quiet; still = costs.still }))
+    subst (λ (v : LinkValue). TickCosts true c.args.now v (link_of c.count_answers.new.self)) c.self.view_is
+    (subst (λ (r : RouterValue). TickCosts true c.args.now (link_of before) (link_of r)) (sym (counted g c.before))
+    (record { spent = costs.spent; least = costs.least; bounded = costs.bounded; moved = costs.moved; quiet = costs.quiet; still = costs.still }))
 
 pub returns-clause-changed : goal.returns-clause-changed
 returns-clause-changed g c =

@@ -1,8 +1,9 @@
-use Rattle.mq_link.proofs.Common.{◌≡◌, ℕ, ◌+◌, ◌*◌, ◌<◌, max, false, Some, refl, ap, sym, ◌∙◌, subst, arith, list_map, length-map, Spends, Spends-join_within}
-use Rattle.mq_link.proofs.Common.{ticked, ScheduledGroup, Sends, has_due, QuerierContext, Configuration, AreThose, changed_by_tick, changes, least_ticked}
+use Rattle.mq_link.proofs.Common.{◌≡◌, ℕ, ◌+◌, ◌*◌, ◌<◌, max, true, false, Some, refl, ap, sym, ◌∙◌, subst, arith, list_map, length-map}
+use Rattle.mq_link.proofs.Common.{Spends, Spends-join_within, Spends-within, ticked, ScheduledGroup, Sends, has_due, QuerierContext, Configuration}
+use Rattle.mq_link.proofs.Common.{AreThose, changed_by_tick, changes, least_ticked}
 use Rattle.mq_link.proofs.Common.{KeepsIntervals, IsPaid, most_moved_by_tick, Setting, HasStep, RouterValue, link_of, router_of, state_of, TakesQuery, begun}
-use Rattle.mq_link.proofs.Common.{LinkState, sources_in, HasSpace, put_by_rows, groups_after_round, groups_expired, moment_of, next_of, queries_due, tick_of}
-use Rattle.mq_link.proofs.Common.{TickCosts, with_changed}
+use Rattle.mq_link.proofs.Common.{LinkState, cost_of, held_of, sources_in, HasSpace, put_by_rows, groups_after_round, groups_expired, moment_of, next_of}
+use Rattle.mq_link.proofs.Common.{queries_due, tick_of, TickCosts, with_changed}
 use Rattle.std.specs.FinMap as map
 use Rattle.mq_link.proofs.{DueSent.due_sent, Faultless.timing_in_range, LinkStored.ready_in, LinkStored.stored_next, LinkStored.none_due, LinkTicked.HasDone}
 use Rattle.mq_link.proofs.{LinkTicked.does_tick, LinkTicked.sound_after_tick, Moved.paid_moves, PaidEdits.put_by_few, Rooms.enough_groups, Rooms.enough_room}
@@ -158,18 +159,21 @@ returns-clause-costs g c =
     let served = c.tick_groups.ensures in
     let first = Spends-join_within 2 2 c.later-now.ensures.spent c.tick-is_due.ensures.spent (omega arith) (omega arith) in
     let least = rw (moment_so g c) at served.spent in
+    let spent = subst (λ m. Spends (2 + least_ticked m groups) most inside.spent after.spent) (at_moment g c)
+    (Spends-join_within (2 + least_ticked c.later-now.result groups) most first least (omega arith) (omega arith)) in
     let none_due_then : moment_of (state_of inside) c.args.now < next_of (state_of inside) →
     (address : ℕ) (e : ScheduledGroup) → map.get groups address ≡ Some e → has_due c.in_force-at.result.moment e ≡ false =
     λ before. none_due (state_of inside) c.in_force-at.result.moment
     (subst (λ m. m < next_of (state_of inside)) (sym (moment_so g c ∙ at_moment g c)) before) in
-    let costs : TickCosts c.args.now (link_of inside) (link_of after) = record {
-      spent = subst (λ m. Spends (2 + least_ticked m groups) most inside.spent after.spent) (at_moment g c)
-          (Spends-join_within (2 + least_ticked c.later-now.result groups) most first least (omega arith) (omega arith));
+    let costs : TickCosts true c.args.now (link_of inside) (link_of after) = record {
+      spent = Spends-within 0 most spent (omega arith) (omega arith);
+      least = λ _. spent;
+      bounded = Spends-within 0 (cost_of 0 (held_of (state_of inside))) spent (omega arith) (omega arith);
       moved = paid_moves (6 * sources_in groups + 136 * map.len groups) served.moved (omega (arith, put_by_few parts.storage.held));
       quiet = λ before. Spends-join_within 2 3 first (served.quiet (none_due_then before)) (omega arith) (omega arith);
       still = λ before. served.still (none_due_then before);
     } in
-    subst (λ (r : RouterValue). TickCosts c.args.now (link_of r) (link_of after)) c.self.view_is costs
+    subst (λ (r : RouterValue). TickCosts true c.args.now (link_of r) (link_of after)) c.self.view_is costs
 
 pub returns-clause-paid : goal.returns-clause-paid
 returns-clause-paid g c =

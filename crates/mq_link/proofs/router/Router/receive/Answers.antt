@@ -1,6 +1,6 @@
-use Rattle.mq_link.proofs.Common.{◌≡◌, ◌+◌, ◌||◌, max, length, refl, ap, ◌∙◌, sym, subst, arith, Spends, Spends-within, ticked, Configuration, cost_of}
-use Rattle.mq_link.proofs.Common.{changed_by_read, changed_by_tick, least_after, drop_reason, setting_of, Setting, RouterValue, state_of, LinkState, held_of}
-use Rattle.mq_link.proofs.Common.{tick_of, suffices, with_changed}
+use Rattle.mq_link.proofs.Common.{◌≡◌, ◌+◌, ◌||◌, max, true, length, refl, ap, ◌∙◌, sym, subst, arith, Spends, Spends-within, ticked, Configuration, cost_of}
+use Rattle.mq_link.proofs.Common.{changed_by_read, changed_by_tick, least_after, drop_reason, setting_of, Setting, ReceiveCosts, RouterValue, link_of, state_of}
+use Rattle.mq_link.proofs.Common.{LinkState, held_of, tick_of, suffices, with_changed}
 use Rattle.mq_link.proofs.{HandedOut.with_answers, HandedOver.same_outlet, LinkReceived.has_received, LinkReceived.read_in, ListedGroups.those_so}
 use Rattle.mq_link.proofs.{TickedSizes.received_within, TickedSizes.moved_within, TickedSizes.least_after_tick}
 use Rattle.mq_link.proofs.router.Router.receive.Given.{Over}
@@ -27,39 +27,31 @@ returns-clause-receives g c =
 pub returns-clause-same_outlet : goal.returns-clause-same_outlet
 returns-clause-same_outlet g c = same_outlet _ _ _ _ _ c.take_in-received.ensures.receipt.step.sent ∙ same_outlet _ _ _ _ _ c.come_to.ensures.step.sent
 
-pub returns-clause-spent : goal.returns-clause-spent
-returns-clause-spent g c =
+pub returns-clause-costs : goal.returns-clause-costs
+returns-clause-costs g c =
     let family = g.F.Family.FAMILY in
     let before = c.args.self.now in
     let between = c.come_to.new.self in
+    let left = c.take_in-received.new.self in
     let config = before.at.config in
     let envelope = g.F.Family.envelope_of c.args.envelope.now in
     let moment = max before.at.now c.args.now in
+    let timing = (ticked config.timing moment before.at.election).timing in
     let leaves = c.come_to.ensures.step.leaves in
-    let spent = received_within (ticked config.timing moment before.at.election).timing moment before.groups between.groups
-    (length c.args.body.now) _ _ _ _ _ (ap (λ (s : LinkState). s.groups) leaves.state_is) c.come_to.ensures.few
-    (Spends-within _ _ c.come_to.ensures.costs.spent (omega arith) (omega arith)) c.take_in-received.ensures.spent in
+    let groups = ap (λ (s : LinkState). s.groups) leaves.state_is in
+    let most = cost_of (length c.args.body.now) (held_of (state_of before)) in
+    let spent = received_within timing moment before.groups between.groups (length c.args.body.now) _ _ _ _ _ groups c.come_to.ensures.few
+    (Spends-within _ _ (c.come_to.ensures.costs.least refl) (omega arith) (omega arith)) c.take_in-received.ensures.spent in
     let least = (λ i. let at : Setting = record { config = leaves.config i; election = between.at.election; now = between.at.now } in
     least_after at envelope (read_in family envelope c.args.body.now) between.groups)
     ∙ least_after_tick family config envelope c.args.body.now c.args.now moment (state_of before)
     (state_of between) c.lemma_is_stored.ensures.family refl leaves.state_is
     in
-    let so = subst (λ n. Spends (2 + n) (cost_of (length c.args.body.now) (held_of (state_of before))) before.spent c.take_in-received.new.self.spent)
-    least spent in
-    subst (Spends _ _ before.spent) (sym (ap (λ (r : RouterValue). r.spent) (counted g c))) so
-
-pub returns-clause-moved : goal.returns-clause-moved
-returns-clause-moved g c =
-    let before = c.args.self.now in
-    let between = c.come_to.new.self in
-    let left = c.take_in-received.new.self in
-    let config = before.at.config in
-    let moment = max before.at.now c.args.now in
-    let leaves = c.come_to.ensures.step.leaves in
-    let moved = moved_within (ticked config.timing moment before.at.election).timing moment before.groups between.groups
-    (length c.args.body.now) _ _ _ _ _ _ (ap (λ (s : LinkState). s.groups) leaves.state_is) c.lemma_is_stored.ensures.put_by c.come_to.ensures.paid
-    c.take_in-received.ensures.moved in
-    subst (Spends _ _ before.moved) (sym (ap (λ (r : RouterValue). r.moved) (counted g c))) moved
+    let moved = moved_within timing moment before.groups between.groups (length c.args.body.now) _ _ _ _ _ _ groups c.lemma_is_stored.ensures.put_by
+    c.come_to.ensures.paid c.take_in-received.ensures.moved in
+    let enough = subst (λ n. Spends (2 + n) most before.spent left.spent) least spent in
+    subst (λ (r : RouterValue). ReceiveCosts true envelope c.args.body.now c.args.now (link_of before) (link_of r)) (sym (counted g c))
+    (record { spent = Spends-within 0 most enough (omega arith) (omega arith); least = λ _. enough; moved = moved })
 
 pub take_in-received-requires-clause-enough : goal.take_in-received-requires-clause-enough
 take_in-received-requires-clause-enough g c =

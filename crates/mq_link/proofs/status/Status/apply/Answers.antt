@@ -3,6 +3,8 @@ use Rattle.mq_link.proofs.Common.{Err, MatchResult, is_ok, result_ok, true≢fal
 use Rattle.mq_link.proofs.Common.{HeldState, HasNumber, Storage, CanApply, HasEffect, statement_of, changes, least_work, most_copied, AreMarked, KeepsNumbers}
 use Rattle.mq_link.proofs.Common.{met_in, has_counted}
 use Rattle.std.specs.FinMap as map
+use Rattle.std.specs.List.{Contains}
+use Rattle.mq_sets.specs.NumberedKeys.{NumberedKeysState}
 use Rattle.mq_held.specs.Groups.{Groups, group_at, sources_of}
 use Rattle.mq_link.proofs.{Applied.can_apply_still, Applied.effect_before, ChangedRecords.length-by, ChangedRecords.marked_by, ChangedRecords.met_in-by}
 use Rattle.mq_link.proofs.{MetNumbers.AreNumbered, Moved.paid_within, RefreshedCosts.least_named, RefreshedCosts.tried_and_copied}
@@ -25,7 +27,9 @@ within_so g c = subst (λ o. IfSome o (λ n. n < length c.args.work.now.changed)
     by_found (Err spot) is = tt
 
 keeps_so : (g : Over) (c : After-ok g) → KeepsNumbers c.args.storage.now.held c.apply_in_place.new.storage.held
-keeps_so g c = subst (KeepsNumbers c.args.storage.now.held) (sym c.in-Some.ensures.kept) (λ a n has. record { is = has.is })
+keeps_so g c a n has =
+    let order = c.apply_in_place.ensures.order in
+    record { is = subst (λ (o : NumberedKeysState). Contains o.items (record { number = n; key = a })) (sym order) has.is }
 
 abbrev IsNumbered : HeldState → ℕ → Option ℕ → Type 0
 IsNumbered held a number = MatchOption number (map.contains_key held.groups a ≡ false) (HasNumber held a)
@@ -57,14 +61,13 @@ returns-in-Some-clause-effect g c =
     let numbered_next : AreNumbered next.held = record { held = is.held; of_one = is.of_one; same = is.same; one = is.one } in
     let address = g.F.Address.Key.number c.args.lookup.address in
     let left = c.in-Some.ensures.left in
-    let kept = c.in-Some.ensures.kept in
     let counted = c.count_changed.ensures in
     let changes_it = c.in-Some.changes in
     let most = met_in-by counts changes_it number within in
     record {
       outcome = rw c.as_slice.ensures.members at c.in-Some.ensures.outcome;
       numbers = keeps_so g c.before;
-      rooms = record { groups = ap (λ (s : HeldState). s.order.room) kept; sources = ap (λ (s : HeldState). s.source_room) kept };
+      rooms = record { groups = ap (λ (o : NumberedKeysState). o.room) c.apply_in_place.ensures.order; sources = c.apply_in_place.ensures.sources };
       room = record { group = omega arith; named = refl; asked = omega arith; met = refl; changed = ap length counted ∙ length-by counts changes_it number };
       met = refl;
       changed = λ before marked.

@@ -1,7 +1,8 @@
 use Rattle.mq_link.proofs.Common.{◌+◌, ◌*◌, cond, min, length, ap, ◌∙◌, subst, arith, Spends, Spends-join_within, Spends-within, bitlen, Storage, most_blocked}
+use Rattle.mq_link.proofs.Common.{MovesWithin, moved_by_edit}
 use Rattle.std.specs.FinMap as map
 use Rattle.mq_held.specs.Groups.{group_at, sources_of, with_group}
-use Rattle.mq_link.proofs.RefreshedCosts.{blocked_few, set_few}
+use Rattle.mq_link.proofs.{Moved.paid_within, RefreshedCosts.blocked_few, RefreshedCosts.set_few}
 use Rattle.mq_link.proofs.status.Status.apply_in_place.Goals as goal
 
 pub returns-in-Some-clause-spent : goal.returns-in-Some-clause-spent
@@ -31,3 +32,10 @@ returns-then-block-clause-spent g c =
     (c.refresh.ensures.none c.in-None.is) c.block.ensures.spent in
     let blocked = rw c.if-block.true at told in
     Spends-join_within _ _ tried blocked (omega arith) (omega (arith, blocked_few c.args.said (sources_of (group_at groups a)) count (map.len groups)))
+
+pub returns-then-block-clause-moved : goal.returns-then-block-clause-moved
+returns-then-block-clause-moved g c =
+    let a = g.F.Address.Key.number c.args.lookup.address in
+    let count = length c.args.named.now in
+    subst (λ (s : Storage _ _). MovesWithin (5 * (sources_of (group_at s.held.groups a) + count) + moved_by_edit) s c.block.new.storage)
+    (c.refresh.ensures.none c.in-None.is) (paid_within _ c.block.ensures.moved (omega arith))

@@ -1,10 +1,11 @@
-use Rattle.mq_link.proofs.Common.{◌≡◌, ℕ, zero, suc, ◌+◌, ◌*◌, ◌≤◌, ◌==◌, ◌||◌, Bool, true, false, cond, min, [], ◌∷◌, is_some, length, refl, sym, ap, ◌∙◌}
+use Rattle.mq_link.proofs.Common.{◌≡◌, ℕ, zero, suc, ◌+◌, ◌*◌, ◌≤◌, ◌==◌, ◌||◌, Bool, true, false, cond, min, [], ◌∷◌, is_some, length, one_item, refl}
+use Rattle.mq_link.proofs.Common.{sym, ap, ◌∙◌}
 use Rattle.mq_link.proofs.Common.{subst, arith, eq-eqb, eqb-false, eqb-true, or_right, true≢false, nil_from_length, Spends, Spends-join_within, bitlen}
 use Rattle.mq_link.proofs.Common.{is_include, timer_at, named_in, IsQuietAt, ScheduledGroup, quiet_by, group_at, sources_of, HasNumber, HeldState, Storage}
 use Rattle.mq_link.proofs.Common.{IsPaid, moved_by_edit, most_blocked, put_by_rows, common_steps}
 use Rattle.std.specs.FinMap as map
 use Rattle.mq_link.proofs.{BlockDone.IsDone, BlockDone.done_named, BlockDone.done_unnamed, BlockDone.rows_named, Faultless.few_groups, Moved.paid_by}
-use Rattle.mq_link.proofs.{OneNamed.one_item, PaidEdits.few_digits}
+use Rattle.mq_link.proofs.PaidEdits.{few_digits}
 use Rattle.mq_link.proofs.status.Status.block.Given.{Over}
 use Rattle.mq_link.proofs.status.Status.block.Goals as goal
 use Rattle.mq_link.proofs.status.Status.block.Goals.{Else-there, Then-is_empty, Then-there}

@@ -10,6 +10,6 @@ returns-clause-moved g c =
     let s = c.args.self.now.held in
     let numbered = c.lemma_is_numbered.ensures in
     let absent = spot_absent s _ _ c.requires.spot numbered.held in
-    made_paid s (omega (arith, numbered.fits, c.requires.few)) numbered.filled numbered.few_pages c.insert.new.self _ c.args.spot
+    made_paid s (omega (arith, numbered.fits, c.requires.few)) numbered.filled numbered.few_pages c.insert.new.self _ c.insert.ensures.moved.0 c.args.spot
     (record { group = c.args.group.now.state; schedule = c.args.schedule }) _ _ numbered.fits (absent_unheld _ _ absent) c.requires.spot
-    c.requires.fits c.insert.ensures.groups c.insert.ensures.room c.insert.ensures.source_room c.insert.ensures.ahead c.insert.ensures.moved
+    c.requires.fits c.insert.ensures.groups c.insert.ensures.room c.insert.ensures.source_room c.insert.ensures.moved.1 c.insert.ensures.moved.2

@@ -1,6 +1,5 @@
 use Rattle.mq_sched.proofs.Common.{◌<◌, ◌≤◌, ◌≡◌, ◌-◌, ◌*◌, ◌/◌, ◌⊎◌, inl, inr, arith, ap, length, set, ◌∙◌, Spends-within, Spends-join_within, bitlen-mono}
-use Rattle.mq_sched.proofs.Common.{TreeState, common_steps}
-use Rattle.std.proofs.lemmas.List.{get_or_read, take_at, length-set, get_or-take}
+use Rattle.mq_sched.proofs.Common.{TreeState, common_steps, get_or_read, take_at, length-set, get_or-take}
 use Rattle.mq_sched.proofs.{Shrinking.shrunk, Shrinking.pair_below, Shrinking.went_to, WrittenAbove.written-few}
 use Rattle.mq_sched.proofs.deadline_tree.DeadlineTree.shrink.Goals as goal
 use Rattle.mq_sched.proofs.deadline_tree.DeadlineTree.shrink.Goals.{then-leaf-last, else-leaf-last}

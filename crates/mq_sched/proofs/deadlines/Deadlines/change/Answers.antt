@@ -1,6 +1,6 @@
 use Rattle.mq_sched.proofs.Common.{◌+◌, ◌≡◌, ◌∙◌, cond, arith, ap, refl, nat_cmp_total, DeadlinesState, moments_at}
-use Rattle.std.specs.FinMap as map
 use Rattle.mq_sched.proofs.NumbersAtLeaves.{leaf-of_held, moments-changed}
+use Rattle.std.specs.FinMap as map
 use Rattle.mq_sched.proofs.deadlines.Deadlines.change.Given.{Over}
 use Rattle.mq_sched.proofs.deadlines.Deadlines.change.Goals as goal
 

@@ -1,7 +1,7 @@
 use Rattle.mq_sched.proofs.Common.{◌-◌, ◌/◌, ◌≡◌, ◌∙◌, arith, ap, length, take, drop, slice_index, list_map, take_all, take_at, length-drop, length-map}
 use Rattle.mq_sched.proofs.Common.{length-take-le, DeadlinesState}
-use Rattle.std.specs.FinMap as map
 use Rattle.mq_sched.proofs.NumbersAtLeaves.{found_behind, due-numbers}
+use Rattle.std.specs.FinMap as map
 use Rattle.mq_sched.proofs.deadlines.Deadlines.due.Goals as goal
 
 pub write_numbers-requires : goal.write_numbers-requires

@@ -1,7 +1,7 @@
 use Rattle.mq_sched.proofs.Common.{◌+◌, ◌*◌, ◌/◌, ◌<◌, ◌≡◌, ◌∙◌, ◌++◌, ◌∷◌, [], cond, arith, ap, refl, length, set, length-set, nat_cmp_total, AreNumbered}
 use Rattle.mq_sched.proofs.Common.{DeadlinesState, moments_at}
-use Rattle.std.specs.FinMap as map
 use Rattle.mq_sched.proofs.NumbersAtLeaves.{first-below, none-of_absent, AreNumbered-grown, moments-made}
+use Rattle.std.specs.FinMap as map
 use Rattle.mq_sched.proofs.deadlines.Deadlines.insert.Given.{Over}
 use Rattle.mq_sched.proofs.deadlines.Deadlines.insert.Goals as goal
 

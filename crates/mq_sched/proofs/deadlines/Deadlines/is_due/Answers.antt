@@ -1,7 +1,7 @@
 use Rattle.mq_sched.proofs.Common.{ℕ, ◌≡◌, ◌<◌, ◌≤◌, Bool, true, false, refl, sym, ap, ◌∙◌, arith, length, get_or, ⊎_elim, nat_le, cases_lt, le-leb, lt-leb}
 use Rattle.mq_sched.proofs.Common.{false≢true, get_or_read, Spends-none, DeadlinesState, is_number_due}
-use Rattle.std.specs.FinMap as map
 use Rattle.mq_sched.proofs.NumbersAtLeaves.{IsLeafOf, due-at, due-none, there-at, there-none}
+use Rattle.std.specs.FinMap as map
 use Rattle.mq_sched.proofs.deadlines.Deadlines.is_due.Given.{Over}
 use Rattle.mq_sched.proofs.deadlines.Deadlines.is_due.Goals as goal
 use Rattle.mq_sched.proofs.deadlines.Deadlines.is_due.Goals.{then-leaf-first-via-then-leaf-first, then-leaf-first-via-else-leaf-first+then-leaf-len}

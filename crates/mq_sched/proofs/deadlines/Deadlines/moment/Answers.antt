@@ -1,6 +1,6 @@
 use Rattle.mq_sched.proofs.Common.{◌∙◌, Some, arith, ap, sym, slice_index, DeadlinesState}
-use Rattle.std.specs.FinMap as map
 use Rattle.mq_sched.proofs.NumbersAtLeaves.{leaf-of_held, moment-there, get-moments_at}
+use Rattle.std.specs.FinMap as map
 use Rattle.mq_sched.proofs.deadlines.Deadlines.moment.Goals as goal
 
 pub index-requires : goal.index-requires

@@ -1,7 +1,7 @@
 use Rattle.mq_sched.proofs.Common.{ℕ, ◌+◌, ◌-◌, ◌*◌, ◌/◌, ◌<◌, ◌≤◌, ◌≡◌, ◌∙◌, cond, arith, ap, sym, subst, refl, length, get_or, drop, rules, nat_cmp_total}
 use Rattle.mq_sched.proofs.Common.{take_at, length-take-le, get_or-take, leaf_after, DeadlinesState, AreNumbered, moments_at}
-use Rattle.std.specs.FinMap as map
 use Rattle.mq_sched.proofs.NumbersAtLeaves.{IsLeafOf, leaf-of_held, AreNumbered-left, moments-gone}
+use Rattle.std.specs.FinMap as map
 use Rattle.mq_sched.proofs.deadlines.Deadlines.remove.Given.{Over}
 use Rattle.mq_sched.proofs.deadlines.Deadlines.remove.Goals as goal
 

@@ -1,8 +1,8 @@
 use Rattle.mq_sched.proofs.Common.{◌≡◌, true, cond, [], ◌∙◌, sym, ap, subst, le-leb, between_in_group, is_due, waiting_messages, Sends}
 use Rattle.mq_sched.proofs.schedules.Schedule.send_source_queries.Goals as goal
 
-pub count_sendings_between-left-requires : goal.count_sendings_between-left-requires
-count_sendings_between-left-requires g c =
+pub count_retransmissions_between-left-requires : goal.count_retransmissions_between-left-requires
+count_retransmissions_between-left-requires g c =
     let places = c.send_waiting-places.result in
     between_in_group g.K.Key.number c.args.group.now.state c.sources-row.result.now c.sources-row.ensures.ascending c.sources-row.ensures.timers
     places.first places.end c.send_waiting-places.ensures.places

@@ -1,9 +1,7 @@
 use Rattle.mq_sets.proofs.Common.{ℕ, ◌≡◌, ◌<◌, ◌≤◌, ◌+◌, suc, List, [], ◌∷◌, ◌++◌, sym, ap, ◌∙◌, subst, arith, length, map, take, drop, set, get_or}
 use Rattle.mq_sets.proofs.Common.{vec_capacity, remove, All, map-set, get_or-map, length-map, length-remove, get_or-remove_below, All-append, All-take}
-use Rattle.mq_sets.proofs.Common.{All-drop, All-set, All-push, PagesState, joined, common_steps}
-use Rattle.std.proofs.Common.{length-append, length-set, Vec}
-use Rattle.mq_sets.proofs.Stored.{map-remove}
-use Rattle.mq_sets.proofs.PagedNumbers.{paged, paged-same}
+use Rattle.mq_sets.proofs.Common.{All-drop, All-set, All-push, PagesState, joined, common_steps, length-append, length-set, Vec}
+use Rattle.mq_sets.proofs.{Stored.map-remove, PagedNumbers.paged, PagedNumbers.paged-same}
 use Rattle.mq_sets.proofs.pages.Pages.join.Goals as goal
 
 abbrev IsPage : {A : Type 0} → Vec ℕ A → Type 0

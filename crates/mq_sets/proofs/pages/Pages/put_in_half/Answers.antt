@@ -1,6 +1,5 @@
 use Rattle.mq_sets.proofs.Common.{◌+◌, ◌-◌, [], ap, ◌∙◌, arith, length, length-take, length-drop, set, get_or, rules, insert, le-leb, lt-leb, Spends-join}
-use Rattle.mq_sets.proofs.Common.{Spends-within, PagesState, moved_behind, common_steps}
-use Rattle.std.specs.Prelude.{cond}
+use Rattle.mq_sets.proofs.Common.{Spends-within, PagesState, moved_behind, common_steps, cond}
 use Rattle.mq_sets.proofs.PagedNumbers.{halved, halved-is, room-halved, first-halved, second-halved, first-fits, first-room, second-fits, second-room}
 use Rattle.mq_sets.proofs.PagedNumbers.{numbers-first, filled-first, numbers-second, filled-second}
 use Rattle.mq_sets.proofs.pages.Pages.put_in_half.Goals as goal

@@ -1,6 +1,7 @@
-use Rattle.std.proofs.Common.{ℕ, ◌≡◌, ◌<◌, ◌≤◌, ◌+◌, ◌-◌, min, List, [], sym, ap, ◌∙◌, subst, arith, length, length-set, map, set, sum, take, get_or, not}
-use Rattle.mq_sets.proofs.Common.{rules, remove, length-map, Spends-join_within, Spends-within, PagesState, AreFilled, above_least, joined, moved_by_joins}
+use Rattle.mq_sets.proofs.Common.{ℕ, ◌≡◌, ◌<◌, ◌≤◌, ◌+◌, ◌-◌, min, List, [], sym, ap, ◌∙◌, subst, arith, length, length-set, map, set, sum, take, get_or, rules}
+use Rattle.mq_sets.proofs.Common.{remove, length-map, Spends-join_within, Spends-within, PagesState, AreFilled, above_least, joined, moved_by_joins}
 use Rattle.mq_sets.proofs.Common.{moved_by_remove, numbers_in}
+use Rattle.std.proofs.Common.{not}
 use Rattle.mq_sets.proofs.PagesMoved.{joins-behind, joins-before, joins-none, moved-join, moved-remove}
 use Rattle.mq_sets.proofs.PagesJoined.{numbers-joined, numbers-remove, filled-joined, filled-joined_before, filled-left_of, least-is, page-within, left-within}
 use Rattle.mq_sets.proofs.pages.Pages.remove.Given.{Over}

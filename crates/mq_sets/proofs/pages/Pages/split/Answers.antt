@@ -1,9 +1,7 @@
 use Rattle.mq_sets.proofs.Common.{ℕ, ◌≡◌, ◌<◌, ◌≤◌, ◌+◌, List, [], ◌∷◌, sym, ap, ◌∙◌, arith, length, map, take, drop, set, get_or, subst, length-append}
 use Rattle.mq_sets.proofs.Common.{vec_capacity, insert, All, map-set, get_or-map, length-map, length-insert, All-append, All-cons, All-take, All-drop, All-set}
-use Rattle.mq_sets.proofs.Common.{All-pop, PagesState}
-use Rattle.std.proofs.Common.{length-take, length-drop, length-set, Vec}
-use Rattle.mq_sets.proofs.Stored.{map-insert}
-use Rattle.mq_sets.proofs.PagedNumbers.{paged, paged-same}
+use Rattle.mq_sets.proofs.Common.{All-pop, PagesState, length-take, length-drop, length-set, Vec}
+use Rattle.mq_sets.proofs.{Stored.map-insert, PagedNumbers.paged, PagedNumbers.paged-same}
 use Rattle.mq_sets.proofs.pages.Pages.split.Goals as goal
 
 abbrev IsPage : {A : Type 0} → Vec ℕ A → Type 0

@@ -1,5 +1,5 @@
-use Rattle.std.proofs.Common.{ℕ, ◌≡◌, ◌<◌, ◌+◌, List, [], sym, ap, ◌∙◌, arith, length, map, set, get_or, length-set, Vec}
-use Rattle.mq_sets.proofs.Common.{remove, map-set, get_or-map, length-map, PagesState}
+use Rattle.mq_sets.proofs.Common.{ℕ, ◌≡◌, ◌<◌, ◌+◌, List, [], sym, ap, ◌∙◌, arith, length, map, set, get_or, length-set, Vec, remove, map-set, get_or-map}
+use Rattle.mq_sets.proofs.Common.{length-map, PagesState}
 use Rattle.mq_sets.proofs.PagedNumbers.{paged, paged-same}
 use Rattle.mq_sets.proofs.pages.Pages.take_out.Goals as goal
 

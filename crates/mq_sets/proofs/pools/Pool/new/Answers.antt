@@ -1,6 +1,5 @@
 use Rattle.mq_sets.proofs.Common.{◌+◌, ◌-◌, ◌/◌, ◌≡◌, arith, refl, replicate, length-replicate}
-use Rattle.mq_sets.proofs.PackedRows.{none}
-use Rattle.mq_sets.proofs.RowEdits.{IsStored-none, IsPlaced-none, rows_of-none}
+use Rattle.mq_sets.proofs.{PackedRows.none, RowEdits.IsStored-none, RowEdits.IsPlaced-none, RowEdits.rows_of-none}
 use Rattle.mq_sets.proofs.pools.Pool.new.Goals as goal
 
 pub invariant_of-result : goal.invariant_of-result

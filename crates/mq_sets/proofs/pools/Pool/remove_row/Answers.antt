@@ -1,6 +1,5 @@
 use Rattle.mq_sets.proofs.Common.{◌∙◌, ap, arith, set, [], length-set, PoolState}
-use Rattle.mq_sets.proofs.RowEdits.{IsEmptied, IsStored-emptied, emptied-placed, emptied-rows, with_parts}
-use Rattle.mq_sets.proofs.Stored.{shows}
+use Rattle.mq_sets.proofs.{RowEdits.IsEmptied, RowEdits.IsStored-emptied, RowEdits.emptied-placed, RowEdits.emptied-rows, RowEdits.with_parts, Stored.shows}
 use Rattle.mq_sets.proofs.pools.Pool.remove_row.Given.{Over}
 use Rattle.mq_sets.proofs.pools.Pool.remove_row.Goals as goal
 use Rattle.mq_sets.proofs.pools.Pool.remove_row.Goals.{After-extent_at}

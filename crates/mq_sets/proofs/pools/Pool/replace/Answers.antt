@@ -1,6 +1,6 @@
 use Rattle.mq_sets.proofs.Common.{ℕ, ◌≡◌, sym, ◌<◌, ◌≤◌, arith, ap, ◌∙◌, length, map, set, ⊎_elim, cases_lt, false≢true, eq-eqb, length-map, length-set, Extent}
+use Rattle.mq_sets.proofs.Common.{common_steps, inl, refl, PoolState}
 use Rattle.mq_sets.proofs.Stored.{IsStored-over, shows, whole_again}
-use Rattle.std.proofs.lemmas.Grind.{common_steps}
 use Rattle.mq_sets.proofs.pools.Pool.replace.Goals as goal
 
 pub invariant_of-self : goal.invariant_of-self
@@ -35,14 +35,8 @@ invariant_of-self g c =
       omega (arith, kept_rows, known.6),
     )
 
-pub returns-then-row-before-clause-rows : goal.returns-then-row-before-clause-rows
-returns-then-row-before-clause-rows g c = grind (arith, common_steps)
-
 pub write_over-requires-clause-place : goal.write_over-requires-clause-place
 write_over-requires-clause-place g c = grind (arith, common_steps)
-
-pub returns-then-row-before-clause-moves : goal.returns-then-row-before-clause-moves
-returns-then-row-before-clause-moves g c = grind (arith, common_steps)
 
 pub write_behind-requires-clause-longer : goal.write_behind-requires-clause-longer
 write_behind-requires-clause-longer g c = grind (arith, common_steps)
@@ -50,5 +44,14 @@ write_behind-requires-clause-longer g c = grind (arith, common_steps)
 pub overflow_sub-self : goal.overflow_sub-self
 overflow_sub-self g c = grind (arith, common_steps)
 
-pub returns-then-is_empty-clause-rows : goal.returns-then-is_empty-clause-rows
-returns-then-is_empty-clause-rows g c = grind (arith, common_steps)
+pub returns-then-row-before : goal.returns-then-row-before
+returns-then-row-before g c =
+    let was = ap (λ (s : PoolState _). set s.rows c.args.number c.args.row.now) c.self.view_is in (
+      length c.args.row.now,
+      record {
+        rows = grind (arith, common_steps);
+        limit = ap (λ (s : PoolState _). s.cell_limit) c.self.view_is;
+        how = inl (grind (arith, common_steps), refl);
+      },
+      grind (arith, common_steps),
+    )

@@ -1,7 +1,5 @@
 use Rattle.mq_sets.proofs.Common.{◌+◌, ◌∙◌, ap, arith, set, get_or, [], length-set, PoolState}
-use Rattle.mq_sets.proofs.OneCell.{rows-one_cell}
-use Rattle.mq_sets.proofs.RowEdits.{with_parts}
-use Rattle.mq_sets.proofs.Stored.{shows}
+use Rattle.mq_sets.proofs.{OneCell.rows-one_cell, RowEdits.with_parts, Stored.shows}
 use Rattle.mq_sets.proofs.pools.Pool.set.Goals as goal
 
 pub returns-clause-rows : goal.returns-clause-rows

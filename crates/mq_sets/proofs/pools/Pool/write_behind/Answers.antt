@@ -1,8 +1,9 @@
-use Rattle.mq_sets.proofs.Common.{ℕ, ◌+◌, ◌-◌, ◌/◌, ◌<◌, ◌≤◌, ◌≡◌, ◌++◌, ◌∙◌, ap, arith, subst, sym, length, length-append, map, set, refl, rules, []}
-use Rattle.mq_sets.proofs.Common.{length-map, length-set, All-set, sum_by-set, Spends, Spends-join, cells_in, cells_said, rows_of, PoolState, IsPlaced}
-use Rattle.mq_sets.proofs.Common.{IsStored, cells_reserved, size_at, Extent, common_steps}
-use Rattle.mq_sets.proofs.RowEdits.{IsEmptied, emptied-apart, emptied-named, emptied-said, sizes-rows_of, with_parts, ahead-written, moved-written}
-use Rattle.mq_sets.proofs.Stored.{IsAppended, IsStored-appended, Shows, rows_of-appended, shows}
+use Rattle.mq_sets.proofs.Common.{ℕ, ◌+◌, ◌-◌, ◌/◌, ◌<◌, ◌≤◌, ◌≡◌, ◌∙◌, ap, arith, subst, sym, length, length-append, map, set, length-map}
+use Rattle.mq_sets.proofs.Common.{length-set, All-set, Spends, Spends-join, PoolState, IsPlaced}
+use Rattle.mq_sets.proofs.Common.{cells_reserved, Extent, common_steps}
+use Rattle.mq_sets.proofs.RowEdits.{IsEmptied, emptied-apart, emptied-named, emptied-said, sizes-rows_of}
+use Rattle.mq_sets.proofs.{Stored.IsAppended, Stored.IsStored-appended, Stored.Shows, Stored.shows}
+use Rattle.mq_sets.proofs.WrittenBehind.{count-appended, moved-behind, state-behind}
 use Rattle.mq_sets.proofs.pools.Pool.write_behind.Given.{Over}
 use Rattle.mq_sets.proofs.pools.Pool.write_behind.Goals as goal
 use Rattle.mq_sets.proofs.pools.Pool.write_behind.Goals.{After-count, After-extent_at}
@@ -60,24 +61,14 @@ unwrap-requires g c =
     let space = c.make_space_for.ensures in
     c.extend_from_slice.ensures.succeeds (omega (arith, space.space, space.capacity, c.make_space_for.new.cells.ok.0))
 
--- the rows then
-written_so : (g : Over) (c : After-count g) → IsEmptied c.self.inside.extents.items c.args.number c.index.result.now c.extent_at.result
-    → c.self.inside.used + length c.args.row.now ≤ c.self.inside.cell_limit + c.index.result.now.length → (let i = c.self.inside in let row = c.args.row.now in
-    let cells = c.make_space_for.new.cells.items ++ row in let extents = set c.make_space_for.new.extents.items c.args.number c.extent_at-2.result in
-    IsStored extents cells (i.used - c.index.result.now.length + length row) i.cell_limit
-    × (rows_of cells extents ≡ set (rows_of i.cells.items i.extents.items) c.args.number row) × (length extents ≡ length i.extents.items))
-written_so g c e fits =
-    let extents = c.self.inside.extents.items in
-    let number = c.args.number in
-    let row = c.args.row.now in
+-- the row stands behind the last cell then
+appended_so : (g : Over) (c : After-count g) → IsEmptied c.self.inside.extents.items c.args.number c.index.result.now c.extent_at.result
+    → IsAppended c.self.inside.cells.items c.make_space_for.new.cells.items c.args.row.now c.self.inside.extents.items c.make_space_for.new.extents.items
+    c.args.number c.extent_at.result c.extent_at-2.result c.index.result.now
+appended_so g c e =
     let space = c.make_space_for.ensures in
-    let kept = c.make_space_for.new.extents.items in
-    let copied = c.make_space_for.new.cells.items in
-    let y = c.extent_at-2.result in
-    let l : Extent → ℕ = λ e. e.length in
-    let then = set extents number c.extent_at.result in
-    let some : 0 < length row = omega (arith, c.requires.longer) in
-    let at : IsAppended c.self.inside.cells.items copied row extents kept number c.extent_at.result y c.index.result.now = record {
+    let some : 0 < length c.args.row.now = omega (arith, c.requires.longer) in
+    record {
       in_list = e.in_list;
       here = e.here;
       same_rows = space.rows;
@@ -86,11 +77,8 @@ written_so g c e fits =
       apart = space.apart;
       start = omega (arith, c.extent_at-2.ensures.start some, c.len-2.ensures, c.make_space_for.new.cells.ok.0);
       size = c.extent_at-2.ensures.length;
-    } in (
-      IsStored-appended at fits c.self.invariant.0,
-      rows_of-appended at,
-      length-set kept number y ∙ sym (length-map kept l) ∙ ap length space.lengths ∙ length-map then l ∙ length-set extents number c.extent_at.result,
-    )
+      full = c.extent_at-2.ensures.free;
+    }
 
 pub invariant_of-self : goal.invariant_of-self
 invariant_of-self g c =
@@ -99,57 +87,34 @@ invariant_of-self g c =
     let kept = c.make_space_for.new.extents.items in
     let y = c.extent_at-2.result in
     let at = goal.at.invariant_of-self g c in
-    let now = written_so g at.After-count (emptied_so g at.After-extent_at) (fits_so g at.After-extent_at) in
-    let same = length-set kept c.args.number y in
+    let now = appended_so g at.After-count (emptied_so g at.After-extent_at) in
     let count : c.len.result ≡ length c.self.inside.extents.items = omega (arith, c.len.ensures, c.self.inside.extents.ok.0) in
     let items = rw c.unwrap.ensures at c.extend_from_slice.ensures.items in (
-      rw items now.0,
+      rw items (IsStored-appended now (fits_so g at.After-extent_at) known.0),
       All-set IsPlaced kept c.args.number y c.extent_at-2.ensures.placed space.placed,
-      space.empty,
-      omega (arith, same, now.2, count, space.capacity, c.extend_from_slice.ensures.capacity),
-      omega (arith, same, now.2, count, space.spare_capacity),
-      rw items (omega (arith, same, now.2, count, space.space, length-append c.make_space_for.new.cells.items c.args.row.now)),
-      omega (arith, same, now.2, known.6),
+      c.clear.ensures.items,
+      omega (arith, count-appended now, count, space.capacity, c.extend_from_slice.ensures.capacity),
+      omega (arith, count-appended now, count, space.spare_capacity, c.clear.ensures.capacity),
+      rw items (omega (arith, count-appended now, count, space.space, length-append c.make_space_for.new.cells.items c.args.row.now)),
+      omega (arith, count-appended now, known.6),
     )
 
 pub returns : goal.returns
 returns g c =
     let at = goal.at.returns g c in
-    let number = c.args.number in
-    let row = c.args.row.now in
-    let was = c.args.self.now in
     let i = c.self.inside in
-    let used = length i.cells.items in
-    let is = shown_so g at.After-extent_at in
     let e = emptied_so g at.After-extent_at in
+    let now = appended_so g at.After-count e in
     let space = c.make_space_for.ensures in
-    let others = cells_said (set i.extents.items number c.extent_at.result) in
-    let all = cells_reserved (length was.rows) was.cell_limit in
     let count : c.len.result ≡ length i.extents.items = omega (arith, c.len.ensures, i.extents.ok.0) in
-    let size_is : i.cell_limit + i.cell_limit / 4 + c.len.result ≡ all = omega (arith, is.count, is.limit_is, count) in
-    let within : used ≤ all = omega (arith, is.count, is.limit_is, c.self.invariant.5) in
-    let ahead_is : was.ahead ≡ all - used = omega (arith, is.count, is.limit_is, is.ahead_is) in
+    let size : i.cell_limit + i.cell_limit / 4 + c.len.result ≡ cells_reserved (length i.extents.items) i.cell_limit = omega (arith, count) in
+    let known = c.self.invariant in
+    let items = rw c.unwrap.ensures at c.extend_from_slice.ensures.items in
     record {
-      rows =
-          let now = written_so g at.After-count e (fits_so g at.After-extent_at) in
-          let kept = c.make_space_for.new.extents.items in
-          let copied = c.make_space_for.new.cells.items in
-          let items = rw c.unwrap.ensures at c.extend_from_slice.ensures.items in
-          let more = sum_by-set length was.rows number row [] c.requires.number in
-          let filled = rw size_is at space.filled in
-          let left : (i.cell_limit + i.cell_limit / 4 + length (set kept number c.extent_at-2.result)) - length (copied ++ row)
-          ≡ all - (length copied + length row) =
-          omega (arith, now.2, is.count, is.limit_is, length-append copied row) in
-          let cells = cells_in (set was.rows number row) in
-          let ahead = ahead-written (size_at was number) (length row) all used was.ahead others c.requires.longer within ahead_is (length copied) cells filled
-          (omega (arith, more, is.used, is.size, emptied-said e)) in
-          rw items (with_parts was _ _ _ _ _ _ _ c.self.view_is (now.1 ∙ ap (λ (s : PoolState _). set s.rows number row) c.self.view_is) (left ∙ ahead));
+      rows = rw items (state-behind now e c.self.view_is known.0 c.requires.number c.requires.longer known.5 size space.filled);
       moves =
-          let counted = rw size_is at space.moves in
-          let named = length c.args.in_use.now in
-          let moved = moved-written (size_at was number) (length row) all used was.ahead others c.requires.longer within ahead_is named (cells_in was.rows)
-          (omega (arith, is.used, is.size, emptied-said e)) in
-          subst (λ (n : ℕ). Spends n n c.args.moves.now c.count.new.self) moved (Spends-join counted c.count.ensures);
+          let moved = moved-behind now e c.self.view_is known.0 c.requires.number c.requires.longer known.5 size (length c.args.in_use.now) in
+          subst (λ (n : ℕ). Spends n n c.args.moves.now c.count.new.self) moved (Spends-join space.moves c.count.ensures);
     }
 
 pub overflow_sub-self : goal.overflow_sub-self

@@ -1,8 +1,8 @@
 use Rattle.mq_table.proofs.Common.{◌+◌, ◌∙◌, sym, subst, IsSome, List, Result, Ok, Err, ap, refl, arith, filter_map, merged_lists, Rule, Source, mode_after}
 use Rattle.mq_table.proofs.Common.{number_in, named_in, size_of, source_made, GroupState, timer_at}
 use Rattle.std.specs.Result.{OnErr}
-use Rattle.mq_table.proofs.{TableRows.asked_is_held, SourceLists.len-timers_in, Changed.made_ascends, Changed.asked_ascends, Changed.recorded_group}
-use Rattle.mq_table.proofs.{Changed.recorded_query, Changed.recorded_query_group}
+use Rattle.mq_table.proofs.{TableRows.asked_is_held, SourceLists.len-timers_in}
+use Rattle.mq_table.proofs.Changed.{made_ascends, asked_ascends, recorded_group, recorded_query, recorded_query_group}
 use Rattle.mq_table.proofs.group.Group.apply.Goals as goal
 
 -- a fact that holds also holds after an error

@@ -1,4 +1,4 @@
-use Rattle.std.proofs.Common.{◌==◌, ◌∙◌, ap}
+use Rattle.mq_table.proofs.Common.{◌==◌, ◌∙◌, ap}
 use Rattle.mq_table.proofs.SourceLists.{len-timers_in}
 use Rattle.mq_table.proofs.group.Group.is_vacant.Goals as goal
 

@@ -1,4 +1,4 @@
-use Rattle.std.proofs.Common.{arith}
+use Rattle.mq_wire.proofs.Common.{arith}
 use Rattle.mq_wire.proofs.RecordLists.{first_is_whole, first_handed, others_whole, one_fewer}
 use Rattle.mq_wire.proofs.records.RecordsIterator.next.Goals as goal
 

@@ -1,6 +1,5 @@
 use Rattle.mq_wire.proofs.Common.{◌≡◌, ◌∷◌, ◌-◌, ℕ, take, drop, sym, ◌∙◌, arith, ap, big_number, addresses}
-use Rattle.mq_wire.specs.Sources.{listed_in}
-use Rattle.mq_wire.proofs.Addresses.{first_address}
+use Rattle.mq_wire.{specs.Sources.listed_in, proofs.Addresses.first_address}
 use Rattle.mq_wire.proofs.sources.SourcesIterator.next.Goals as goal
 
 pub returns-else-count-eq0-clause-steps : goal.returns-else-count-eq0-clause-steps
