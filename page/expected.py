@@ -62,9 +62,9 @@ def verdict(program, data, fields, is_checked):
         return "Nothing was judged: there is no general query of this family."
     words = ["check", "--json", *commands(fields, True)["check"][1:]]
     ran = subprocess.run([program, *words], input=data, capture_output=True, check=False)
-    found = json.loads(ran.stdout.splitlines()[-1])["summary"]
-    if not found["judged"]:
+    if ran.returncode == 4:
         return f"Nothing was judged: {ran.stderr.decode().strip().partition('nothing judged: ')[2]}."
+    found = json.loads(ran.stdout.splitlines()[-1])["summary"]
     standard, count = {"igmp": "RFC 3376", "mld": "RFC 3810"}[fields["family"]], found["findings"]
     if count == 0:
         return f"{fields['own']} is as {standard} says."

@@ -127,6 +127,8 @@ function interfaces(file, capture) {
 
 function all_of(file) {
   const capture = readFileSync(file);
+  // The program's check converts a capture, and takes one network. The module's reads a classic capture, which has no tags once converted.
+  const one = file.startsWith("samples/") ? spawnSync(program, ["convert"], { input: capture, maxBuffer: 2 ** 30 }).stdout : capture;
   beside(file, capture, "page_show", ["show"]);
   beside(file, capture, "page_show", ["show", "--json"], null, null, 1);
   beside(file, capture, "page_convert", ["convert"]);
@@ -143,9 +145,9 @@ function all_of(file) {
     const late = { changes: 1, until: 400000n };
     beside(file, capture, replay, ["replay", family, "--json", "--own", text, "--changes", "--until", "400000"], with_settings(family, { ...late, json: 1 }));
     beside(file, capture, replay, ["replay", family, "--own", text, "--changes", "--until", "400000"], with_settings(family, late));
-    beside(file, capture, check, checked, with_settings(family, {}));
-    beside(file, capture, check, [...checked, "--cite", "--within", "5"], with_settings(family, { cite: 1, within: 5 }));
-    beside(file, capture, check, [...checked, "--json"], with_settings(family, { json: 1 }));
+    beside(file, one, check, checked, with_settings(family, {}));
+    beside(file, one, check, [...checked, "--cite", "--within", "5"], with_settings(family, { cite: 1, within: 5 }));
+    beside(file, one, check, [...checked, "--json"], with_settings(family, { json: 1 }));
   }
 }
 

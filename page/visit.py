@@ -1,6 +1,5 @@
 """A visit of the page: what a person does there, and what is seen."""
 
-import os
 import re
 import tempfile
 import time

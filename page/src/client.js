@@ -12,7 +12,7 @@ export class Client {
   // Starts a Worker with the module, and returns when it is ready for other calls.
   start(module) {
     this.worker = new Worker(this.url);
-    this.worker.onmessage = ({ data }) => (data.progress ? this.onProgress(data.progress) : this.settle(data));
+    this.worker.onmessage = ({ data }) => (data.progress ? this.onProgress(data.progress) : this.finish(data));
     this.worker.onerror = (event) => this.failAll(new Error(event.message || "The Worker of this page can't be started."));
     return this.call("start", { module });
   }
@@ -23,7 +23,7 @@ export class Client {
     this.failAll(new Error("The work was stopped."));
   }
 
-  settle({ id, answer, failure }) {
+  finish({ id, answer, failure }) {
     const { resolve, reject } = this.waiting.get(id);
     this.waiting.delete(id);
     if (failure === undefined) resolve(answer);

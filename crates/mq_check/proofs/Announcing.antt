@@ -1,28 +1,24 @@
 -- The search for the querier of a capture, packet by packet.
-use Rattle.std.proofs.Common.{◌≡◌, ◌⊎◌, ℕ, ◌+◌, Bool, true, false, List, [], ◌∷◌, Option, None, Some, Result, Ok, Err, refl, ap, sym, subst}
-use Rattle.std.proofs.Common.{◌∙◌, inl, inr}
-use Rattle.mq_pcap.specs.declared.fault.PcapFault.{PcapFault}
-use Rattle.mq_pcap.specs.declared.fault.PcapFault.TheVariants as fault
-use Rattle.mq_pcap.specs.declared.form.Form.{Form}
-use Rattle.mq_pcap.specs.declared.link_type.LinkType.{LinkType}
-use Rattle.mq_pcap.specs.Capture.{Captured, Captures, is_read}
-use Rattle.mq_pcap.specs.Filling.{InputState, Takes}
-use Rattle.mq_wire.specs.Family.{Family}
-use Rattle.mq_replay.specs.declared.walked.Walked.{Walked}
-use Rattle.mq_replay.specs.PlacedPackets.{Place, PlacedPacket, at_first, place_behind}
-use Rattle.mq_replay.specs.Walking.{IsBrokenOff, IsEndedByFault, IsStopped, ReadCapture, StepsOver, StepsOverAll, Walks}
-use Rattle.mq_check.specs.declared.announced.Announced.{Announced}
-use Rattle.mq_replay.specs.declared.capture_fault.CaptureFault.{CaptureFault}
-use Rattle.mq_replay.specs.declared.capture_fault.CaptureFault.TheVariants as answer
-use Rattle.mq_check.specs.declared.sought.Sought.{Sought}
+use Rattle.mq_check.proofs.Common.{◌≡◌, ◌⊎◌, ℕ, ◌+◌, Bool, true, false, List, [], ◌∷◌, Option, None, Some, Result, Ok, Err, refl, ap, sym, subst, ◌∙◌, inl, inr}
+use Rattle.mq_check.proofs.Common.{LinkType, InputState, Family, Walked, CaptureFault, PlacedPacket}
+use Rattle.mq_pcap.specs.{declared.fault.PcapFault.PcapFault, declared.form.Form.Form, Capture.Captured, Capture.Captures, Capture.is_read, Filling.Takes}
+use Rattle.mq_walk.specs.PlacedPackets.{Place, at_first, place_behind}
+use Rattle.mq_walk.specs.Walking.{IsBrokenOff, IsEndedByFault, IsStopped, ReadCapture, StepsOver, StepsOverAll, Walks}
+use Rattle.mq_check.specs.{declared.announced.Announced.Announced, declared.sought.Sought.Sought, Numbered.numbered_announced_if, Numbered.numbered_answer}
 use Rattle.mq_check.specs.Announced.{Announces, IsRead, IsReadBy, LooksIn, TakesLooked, by_fault, concluded, found_in, sought_in, sought_of}
-use Rattle.mq_check.specs.Numbered.{numbered_announced_if, numbered_answer}
+use Rattle.mq_pcap.specs.declared.fault.PcapFault.TheVariants as fault
+use Rattle.mq_walk.specs.declared.capture_fault.CaptureFault.TheVariants as answer
+
+-- the end of a walk, without its place
+abbrev pub end_of : {X E : Type 0} → Result X E → Result (Unit {0}) E
+end_of (Ok x) = Ok tt
+end_of (Err e) = Err e
 
 module _ {X : Type 0} (family : Family) (state : X → Option (Sought ℕ)) where
   abbrev takes : PlacedPacket → X → X → Result (Unit {0}) PcapFault → Type 0
   takes packet x x' r = TakesLooked family packet (state x) (state x') r
 
-  -- what packets say of the querier
+  -- the querier that packets announce
   looked_over : (link : LinkType) (at to : Place) (packets : List Captured) (x x' : X) → StepsOver takes link at packets x to x' →
       state x' ≡ sought_in family link at packets (state x)
   unfolding sought_in
@@ -51,18 +47,15 @@ module _ {X : Type 0} (family : Family) (state : X → Option (Sought ℕ)) wher
     ended = ended;
   }
 
-  pub looked_well : (old new : InputState) (x x' : X) (w : Walked) → state x ≡ None → Walks takes (λ f e. e ≡ f) old new x x' (Ok w) →
-      LooksIn family old new (state x') (Ok tt)
-  looked_well old new x x' w none walks =
+  pub looked : (old new : InputState) (x x' : X) (r : Result Walked PcapFault) → state x ≡ None → Walks takes (λ f e. e ≡ f) old new x x' r →
+      LooksIn family old new (state x') (end_of r)
+  looked old new x x' (Ok w) none walks =
       let walked = walks.ended in
       let to : Place = record { first = walked.first; before = w.last; number = w.packets + 1 } in
       let all : StepsOverAll takes walks.read.header walks.read.packets x x' = rw walked.header (to, walked.steps) in
       looks_in old new x' walks.read (Ok tt) walks.takes_in walks.capture (all_looked walks.read.header walks.read.packets x x' none all)
       (walked.end, walked.at_end, walked.failed)
-
-  pub looked_early : (old new : InputState) (x x' : X) (e : PcapFault) → state x ≡ None → Walks takes (λ f e. e ≡ f) old new x x' (Err e) →
-      LooksIn family old new (state x') (Err e)
-  looked_early old new x x' e none walks = by_end walks.ended
+  looked old new x x' (Err e) none walks = by_end walks.ended
     where
       c : ReadCapture
       c = walks.read
@@ -81,18 +74,15 @@ module _ {X : Type 0} (family : Family) (state : X → Option (Sought ℕ)) wher
 -- a fault of the result is one of the capture
 abbrev pub IsOfCapture : CaptureFault → Type 0
 IsOfCapture (answer.Pcap f) = Unit {0}
-IsOfCapture answer.Write = ⊥
-IsOfCapture (answer.Gap at) = ⊥
-IsOfCapture (answer.Waiting at) = ⊥
-IsOfCapture answer.Memory = ⊥
+IsOfCapture _ = ⊥
 
 abbrev fault_in : {X : Type 0} → Result X CaptureFault → CaptureFault
 fault_in (Ok x) = answer.Memory
 fault_in (Err e) = e
 
-pub of_capture : {X : Type 0} (found : Option X) (read : Result (Unit {0}) PcapFault) (e : CaptureFault) → concluded found read ≡ Err e → IsOfCapture e
+pub of_capture : {X Y : Type 0} (found : Option X) (read : Result Y PcapFault) (e : CaptureFault) → concluded found read ≡ Err e → IsOfCapture e
 of_capture found (Ok done) e is = absurd (cc is)
-of_capture {X} found (Err f) e is = by_kind (is_read f) found is
+of_capture {X} {Y} found (Err f) e is = by_kind (is_read f) found is
   where
     by_kind : (b : Bool) (o : Option X) → by_fault b o f ≡ Err e → IsOfCapture e
     by_kind true o is = subst IsOfCapture (ap fault_in is) tt
@@ -110,28 +100,22 @@ numbered_concluded {K} number found (Err f) = by_kind (is_read f) found
     by_kind false None = refl
     by_kind false (Some x) = refl
 
+concludes : {K : Type 0} (found : Option (Announced K)) (read : Result Walked PcapFault) → concluded found read ≡ concluded found (end_of read)
+concludes found (Ok w) = refl
+concludes found (Err f) = refl
+
 pub announces : {K : Type 0} (family : Family) (number : K → ℕ) (old new : InputState) (sought : Option (Sought ℕ)) (found : Option (Announced K))
-    (read : Result (Unit {0}) PcapFault) (r : Result (Option (Announced K)) CaptureFault)
-    → LooksIn family old new sought read → numbered_announced_if number found ≡ found_in sought → r ≡ concluded found read →
+    (read : Result Walked PcapFault) (r : Result (Option (Announced K)) CaptureFault)
+    → LooksIn family old new sought (end_of read) → numbered_announced_if number found ≡ found_in sought → r ≡ concluded found read →
     Announces family old new (numbered_answer number r)
 announces {K} family number old new sought found read r looks finds is = by_answer (numbered_answer number r)
-    (ap (numbered_answer number) is ∙ numbered_concluded number found read ∙ ap (λ (o : Option (Announced ℕ)). concluded o read) finds)
+    (ap (numbered_answer number) (is ∙ concludes found read) ∙ numbered_concluded number found (end_of read)
+    ∙ ap (λ (o : Option (Announced ℕ)). concluded o (end_of read)) finds)
   where
-    by_answer : (a : Result (Option (Announced ℕ)) CaptureFault) → a ≡ concluded (found_in sought) read → Announces family old new a
-    by_answer (Ok x) is = (sought, read, looks, is)
-    by_answer (Err (answer.Pcap f)) is = (sought, read, looks, is)
-    by_answer (Err answer.Write) is = absurd (of_capture (found_in sought) read _ (sym is))
-    by_answer (Err (answer.Gap at)) is = absurd (of_capture (found_in sought) read _ (sym is))
-    by_answer (Err (answer.Waiting at)) is = absurd (of_capture (found_in sought) read _ (sym is))
+    by_answer : (a : Result (Option (Announced ℕ)) CaptureFault) → a ≡ concluded (found_in sought) (end_of read) → Announces family old new a
+    by_answer (Ok x) is = (sought, end_of read, looks, is)
+    by_answer (Err (answer.Pcap f)) is = (sought, end_of read, looks, is)
+    by_answer (Err answer.Write) is = absurd (of_capture (found_in sought) (end_of read) _ (sym is))
+    by_answer (Err (answer.Gap at)) is = absurd (of_capture (found_in sought) (end_of read) _ (sym is))
+    by_answer (Err (answer.Waiting at)) is = absurd (of_capture (found_in sought) (end_of read) _ (sym is))
     by_answer (Err answer.Memory) is = tt
-
--- a fault other than that of a failed read
-pub unread : (f : PcapFault) → (f ≡ fault.Read → ⊥) → is_read f ≡ false
-unread fault.Read other = absurd (other refl)
-unread fault.Magic other = refl
-unread fault.Version other = refl
-unread fault.LinkType other = refl
-unread (fault.CutHeader at) other = refl
-unread (fault.CutData at) other = refl
-unread (fault.TooLong at) other = refl
-unread fault.Endless other = refl

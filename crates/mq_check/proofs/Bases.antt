@@ -1,12 +1,7 @@
--- What a verdict rests on, in the terms of the code.
-use Rattle.std.proofs.Common.{◌≡◌, ℕ, refl}
-use Rattle.std.specs.Prelude.{Option, None, Some}
-use Rattle.mq_wire.specs.Family.{Family}
-use Rattle.mq_sched.specs.declared.roles.OtherQuerier.{OtherQuerier}
-use Rattle.mq_sched.specs.Election.{Role, Querier, Other}
-use Rattle.mq_sched.specs.StoredElection.{IsOtherOf}
-use Rattle.mq_check.specs.declared.basis.Basis.{Basis}
-use Rattle.mq_check.specs.Basis.{with_other_named, with_other_querier}
+-- The basis of a verdict, in the terms of the code.
+use Rattle.mq_check.proofs.Common.{◌≡◌, ℕ, refl, Option, None, Some, Family, Basis, with_other_querier}
+use Rattle.mq_sched.specs.{declared.roles.OtherQuerier.OtherQuerier, Election.Role, Election.Querier, Election.Other, StoredElection.IsOtherOf}
+use Rattle.mq_check.specs.Basis.{with_other_named}
 
 -- the other router that the link names is the one of its role
 pub other_named : {K : Type 0} (family : Family) (number : K → ℕ) (role : Role) (other : Option (OtherQuerier K)) (b : Basis) →

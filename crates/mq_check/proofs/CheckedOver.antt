@@ -1,34 +1,17 @@
 -- A check in the code, and what its verdict comes to.
-use Rattle.std.proofs.Common.{◌≡◌, ℕ, zero, suc, ◌+◌, ◌-◌, ◌^◌, min, Bool, true, false, if◌then◌else◌, List, ◌++◌, length, Option}
-use Rattle.std.proofs.Common.{Result, Ok, Err, refl, ap, sym, subst, ◌∙◌, append_assoc, arith}
-use Rattle.std.proofs.Math.Bool.{or-false}
-use Rattle.mq_pcap.specs.Filling.{InputState}
-use Rattle.mq_wire.specs.Family.{Family}
-use Rattle.mq_link.specs.Configuration.{Configuration}
-use Rattle.mq_text.specs.Printing.{GrowsByBeginning, OutputState, Passes}
-use Rattle.mq_replay.specs.declared.capture_fault.CaptureFault.{CaptureFault}
-use Rattle.mq_replay.specs.declared.capture_fault.CaptureFault.TheVariants as answer
-use Rattle.mq_replay.specs.declared.walked.Walked.{Walked}
-use Rattle.mq_replay.specs.Courses.{Report}
-use Rattle.mq_replay.specs.PlacedPackets.{PlacedPacket}
-use Rattle.mq_replay.specs.PuttingReports.{IsRestPut, PutsReport, end_of, rest_at}
-use Rattle.mq_replay.proofs.ReportedOver.{IsPassed, IsStepped, Puts, WalksUpToGap, come_to_the_end, report_behind, reported_early, reported_well, rest_joined}
-use Rattle.mq_check.specs.declared.basis.Basis.{Basis}
-use Rattle.mq_check.specs.declared.check_terms.CheckTerms.{CheckTerms}
-use Rattle.mq_check.specs.declared.finding.Finding.{Finding}
-use Rattle.mq_check.specs.declared.totals.FindingCounts.{FindingCounts}
-use Rattle.mq_check.specs.declared.totals.Totals.{Totals}
-use Rattle.mq_check.specs.Check.{Checked, Outcome, at_the_start, behind, check_of, concluded, ended_at, found_text, looked_ahead, quiet, settled_through}
-use Rattle.mq_check.specs.Check.{basis_at_end, kinds_of, totals_of, with_packet}
-use Rattle.mq_check.specs.Checking.{CheckingValue, counted_up, told_at_end}
-use Rattle.mq_check.specs.Coming.{CheckState, ChecksPacket, Comes, TakesChecked, checked_in}
-use Rattle.mq_check.specs.Ending.{counted_behind, end_text, ended_behind}
-use Rattle.mq_check.specs.FindingLines.{certain_in, finding_lines, last_lines, of_kind, possible_in}
-use Rattle.mq_check.specs.General.{silence_up_to}
-use Rattle.mq_check.specs.Repeated.{all_reported, no_differences, reported, with_findings}
-use Rattle.mq_check.specs.Telling.{FindingWriterState, Tells, counted_by, counted_kinds, counted_times, no_kinds, none_counted, nothing_told, reported_by}
-use Rattle.mq_check.proofs.Repeating.{reported_of_both}
-use Rattle.mq_check.proofs.Tellings.{counted_more, lines_of_both, none_told, then_told}
+use Rattle.mq_check.proofs.Common.{◌≡◌, ℕ, zero, suc, ◌+◌, ◌-◌, ◌^◌, min, Bool, true, false, if◌then◌else◌, List, ◌++◌, length, Option, Result, Ok, Err, refl}
+use Rattle.mq_check.proofs.Common.{ap, sym, subst, ◌∙◌, append_assoc, arith, or-false, InputState, Family, Configuration, GrowsByBeginning, OutputState, Passes}
+use Rattle.mq_check.proofs.Common.{CaptureFault, Walked, Report, PlacedPacket, IsRestPut, Basis, CheckTerms, Finding, FindingCounts, Totals, Checked, Outcome}
+use Rattle.mq_check.proofs.Common.{behind, looked_ahead, quiet, purged_through, basis_at_end, with_packet, CheckingValue, counted_up, told_at_end, CheckState}
+use Rattle.mq_check.proofs.Common.{Comes, checked_in, counted_behind, end_text, ended_behind, finding_lines, last_lines, silence_up_to, reported, with_findings}
+use Rattle.mq_check.proofs.Common.{FindingWriterState, Tells, counted_by, counted_kinds, counted_times, reported_by}
+use Rattle.mq_walk.specs.PuttingReports.{PutsReport, end_of, rest_at}
+use Rattle.mq_walk.proofs.ReportedOver.{IsPassed, IsStepped, Puts, WalksUpToGap, come_to_the_end, report_behind, reported_early, reported_well, rest_joined}
+use Rattle.mq_check.specs.Check.{at_the_start, check_of, concluded, ended_at, found_text, kinds_of, totals_of}
+use Rattle.mq_check.specs.{Coming.ChecksPacket, Coming.TakesChecked, Telling.no_kinds, Telling.none_counted, Telling.nothing_told}
+use Rattle.mq_check.specs.{FindingLines.certain_in, FindingLines.of_kind, FindingLines.possible_in, Repeated.all_reported, Repeated.no_differences}
+use Rattle.mq_check.proofs.{Repeating.reported_of_both, Tellings.counted_more, Tellings.lines_of_both, Tellings.none_told, Tellings.then_told}
+use Rattle.mq_walk.specs.declared.capture_fault.CaptureFault.TheVariants as answer
 
 -- counts that go up one by one stay at the greatest
 counted_to : (n : ℕ) → counted_times n 0 ≡ min n (2 ^ 64 - 1)
@@ -63,7 +46,7 @@ unfolding ended_at ended_behind
 ended_joined config within told moment number found r lasts counts = by_room c.waiting.is_full
   where
     done : Outcome
-    done = settled_through config within moment r
+    done = purged_through config within moment r
 
     ahead : Outcome
     ahead = looked_ahead config within moment done.checked
@@ -104,11 +87,9 @@ ended_joined config within told moment number found r lasts counts = by_room c.w
     behind : Bool → Report Totals
     behind b =
         if b
-        then record { text = finding_lines config.family told.additions (reported_by told more); answer = Err (answer.Waiting number) }
-        else record {
+        then record { text = finding_lines config.family told.additions (reported_by told more); answer = Err (answer.Waiting number) } else record {
           text = end_text config.family told.additions rest (counted_behind told.count c rests rest);
-          answer =
-              Ok (counted_behind told.count c rests rest);
+          answer = Ok (counted_behind told.count c rests rest);
         }
 
     reported_then : (fs : List (Finding ℕ)) → all_reported told.additions (found ++ fs) ≡ first ++ reported_by told fs
@@ -146,7 +127,7 @@ unfolding ended_at
 only_waits config terms moment number o e is = by_room ahead.checked.checking.waiting.is_full is
   where
     done : Outcome
-    done = settled_through config terms.within moment o.checked
+    done = purged_through config terms.within moment o.checked
 
     ahead : Outcome
     ahead = looked_ahead config terms.within moment done.checked
@@ -169,13 +150,13 @@ only_waits config terms moment number o e is = by_room ahead.checked.checking.wa
     by_room true is = sym (cc is)
     by_room false is = absurd (cc is)
 
--- the lines of what was told first, in the terms of a verdict
+-- the first lines, in the terms of a verdict
 told_lines : (config : Configuration) (terms : CheckTerms) (family : Family) (found : List (Finding ℕ)) (told : FindingWriterState) → family ≡ config.family →
     told.additions ≡ terms.additions → told.last ≡ no_differences
     → finding_lines family told.additions (reported_by told found) ≡ finding_lines config.family terms.additions (all_reported terms.additions found)
 told_lines config terms family found told is_family is_cite is_new = λ i. finding_lines (is_family i) (is_cite i) (reported (is_cite i).once (is_new i) found)
 
--- what was told went to the writer as the lines of a verdict
+-- the written findings are the lines of a verdict
 pub lines_passed : {E : Type 0} (config : Configuration) (terms : CheckTerms) (family : Family) (found : List (Finding ℕ)) (told told' : FindingWriterState)
     (a b : OutputState) → family ≡ config.family → told.additions ≡ terms.additions → told.last ≡ no_differences
     → Tells {T = Unit} {E = E} family found told told' a b (Ok tt) →
@@ -200,7 +181,7 @@ module _ {X : Type 0} (family : Family) (state : X → CheckState) where
   abbrev held : X → List ℕ
   held x = (state x).told.held
 
-  -- the code has come to this outcome, whose findings were told after the start
+  -- the code has this outcome, and its findings stand after the start
   pub record IsCheckedAt (config : Configuration) (terms : CheckTerms) (start : FindingWriterState) (before : OutputState) (o : Outcome) (x : X) : Type 0 where
     pub checked : checked_in (state x).link (state x).queries ≡ o.checked
     pub same_config : (state x).link.config ≡ config
@@ -255,9 +236,7 @@ module _ {X : Type 0} (family : Family) (state : X → CheckState) where
               (ap (λ (t : FindingWriterState). t.additions) is_new) (ap (λ (t : FindingWriterState). t.last) is_new) tells,
           tells.failed,
         )
-    stepped_at packet o x x' (Err (answer.Gap number)) at step = absurd step
-    stepped_at packet o x x' (Err (answer.Pcap f)) at step = absurd step
-    stepped_at packet o x x' (Err answer.Memory) at step = absurd step
+    stepped_at packet o x x' _ at step = absurd step
 
   -- a check from its start
   module _ {Y : Type 0} (inner : Y → X) (old new : InputState) (y y' : Y) (is_family : family ≡ (state (inner y)).link.config.family)
@@ -289,7 +268,7 @@ module _ {X : Type 0} (family : Family) (state : X → CheckState) where
         (stepped_at config terms start before is_family is_new) y here old new y' e walks
 
     module _ (w : Walked) (walks : WalksUpToGap inner takes old new y y' (Ok w)) where
-      -- what stays
+      -- unchanged parts
       pub kept : ((state (inner y')).terms ≡ terms) × ((out (inner y')).failed ≡ before.failed)
       kept =
           let at = come_to_the_end (check_of config terms) Is out held before start.held inner takes
@@ -300,16 +279,14 @@ module _ {X : Type 0} (family : Family) (state : X → CheckState) where
       pub verdict_well : (after : Option (List ℕ)) (left : List ℕ) (it : Result Totals CaptureFault)
           → IsRestPut (rest_at (λ end. ended_behind (state (inner y')).link.config (state (inner y')).terms.within (state (inner y')).told end (w.packets + 1)
           (checked_in (state (inner y')).link (state (inner y')).queries)) (end_of (state (inner y')).terms.until w.last (w.packets + 1)))
-          (out (inner y')).held after (held (inner y')) left it
-          → PutsReport (check_of config terms) old new before.held after start.held left it
+          (out (inner y')).held after (held (inner y')) left it → PutsReport (check_of config terms) old new before.held after start.held left it
       verdict_well after left it put =
           let told = (state (inner y')).told in
           let number = w.packets + 1 in
           let rest = rest_at (λ end. ended_behind (state (inner y')).link.config (state (inner y')).terms.within told end number
           (checked_in (state (inner y')).link (state (inner y')).queries)) (end_of (state (inner y')).terms.until w.last number) in
           reported_well (check_of config terms) Is out held before start.held inner takes (passed_at config terms start before is_family is_new)
-          (stepped_at config terms start before is_family is_new) y here old new y' w walks after left it rest
-          (λ o at.
+          (stepped_at config terms start before is_family is_new) y here old new y' w walks after left it rest (λ o at.
           let cited : told.additions ≡ terms.additions = at.tells.additions ∙ ap (λ (t : FindingWriterState). t.additions) is_new in
           let is_last = ap (λ (t : FindingWriterState). t.last) is_new in
           let lasts : told.last ≡ with_findings o.found no_differences = at.tells.last ∙ ap (with_findings o.found) is_last in

@@ -1,94 +1,89 @@
--- What a check makes of one datagram, and of one packet.
-use Rattle.std.proofs.Common.{◌≡◌, ℕ, Bool, List, ◌++◌, Option, None, Some, Result, Ok, Err, refl, ap, subst, ◌∙◌}
-use Rattle.mq_pcap.specs.declared.link_type.LinkType.{LinkType}
-use Rattle.mq_pcap.specs.Frame.{carried_in}
-use Rattle.mq_wire.specs.declared.query.Query.{Query}
-use Rattle.mq_wire.specs.Family.{Family}
-use Rattle.mq_link.specs.Configuration.{Configuration}
-use Rattle.mq_link.specs.Link.{LinkValue}
-use Rattle.mq_text.specs.Printing.{OutputState}
-use Rattle.mq_replay.specs.Report.{Datagram, datagram_of}
-use Rattle.mq_check.specs.declared.finding.Finding.{Finding}
-use Rattle.mq_check.specs.Check.{Checked, Outcome, behind, settled_at, destination_in, faults_in, noted, received, seen_at, seen_or_received}
-use Rattle.mq_check.specs.Check.{with_datagram, with_faults, with_packet, ticked_through}
-use Rattle.mq_check.specs.Basis.{with_frame}
-use Rattle.mq_check.specs.Basis as basis
-use Rattle.mq_check.specs.Checking.{CheckingValue, faults_seen, query_came, settled}
-use Rattle.mq_check.specs.Coming.{Comes, checked_in}
-use Rattle.mq_check.specs.Queries.{query_seen}
-use Rattle.mq_check.specs.Telling.{FindingWriterState}
-use Rattle.mq_check.specs.Wanting.{WantingValue}
+-- The step of a check at one datagram, and at one packet.
+use Rattle.mq_check.proofs.Common.{◌≡◌, ℕ, Bool, List, ◌++◌, Option, None, Some, Result, Ok, Err, refl, ap, subst, ◌∙◌, LinkType, carried_in, Query, Family}
+use Rattle.mq_check.proofs.Common.{Configuration, LinkValue, OutputState, Datagram, datagram_of, Finding, Checked, Outcome, behind, judged_at, purged_at}
+use Rattle.mq_check.proofs.Common.{taken, with_packet, ticked_through, CheckingValue, query_came, purged, told, with_s_judged, is_set, Groups, Comes}
+use Rattle.mq_check.proofs.Common.{checked_in, FindingWriterState, WantingValue}
+use Rattle.mq_check.specs.Check.{destination_in, faults_in, noted, seen_at, seen_or_received, with_datagram, with_faults}
+use Rattle.mq_check.specs.{Basis.with_frame, Checking.faults_seen, Queries.query_seen}
 use Rattle.mq_check.proofs.Tellings.{none_told, then_told, told_broken, broken_as}
+use Rattle.mq_check.specs.Basis as basis
 
--- what waits behind the headers of a packet
-abbrev pub headers_checked : Configuration → LinkType → (moment number : ℕ) → (frame : List ℕ) → Datagram → CheckingValue → CheckingValue
-headers_checked config link moment number frame datagram c = faults_seen moment number (faults_in config link frame datagram) (settled moment c)
+-- the entries that wait after the headers of a packet
+abbrev pub headers_checked : Configuration → LinkType → (within moment number : ℕ) → (frame : List ℕ) → Datagram → Groups → CheckingValue → CheckingValue
+headers_checked config link within moment number frame datagram groups c =
+    faults_seen moment number (faults_in config link frame datagram) (purged moment (with_s_judged within (Some moment) (is_set groups) c))
 
--- a datagram that the link was handed
+-- a datagram that the link receives
 pub datagram_received : (config : Configuration) (link : LinkType) (within moment number : ℕ) (frame : List ℕ) (datagram : Datagram)
     (before after : LinkValue) (queries left new : WantingValue)
-    → left.checking ≡ headers_checked config link moment number frame datagram queries.checking → left.basis ≡ queries.basis →
-    checked_in after new ≡ received config within moment datagram (checked_in before left) → None ≡ query_seen config datagram
+    → left.checking ≡ headers_checked config link within moment number frame datagram before.state.groups queries.checking → left.basis ≡ queries.basis →
+    checked_in after new ≡ taken config within moment datagram (checked_in before left) → None ≡ query_seen config datagram
     → checked_in after new ≡ (with_datagram config link within moment number frame (Some datagram) (checked_in before queries)).checked
-datagram_received config link within moment number frame datagram before after queries left new settles kept is none =
+datagram_received config link within moment number frame datagram before after queries left new purges kept is none =
     let to = destination_in config.family link frame datagram.envelope in
-    is ∙ (λ i. received config within moment datagram (record { link = before.state; checking = settles i; basis = kept i }))
+    is ∙ (λ i. taken config within moment datagram (record { link = before.state; checking = purges i; basis = kept i }))
     ∙ ap (λ (q : Option (Query ℕ)). seen_or_received config within moment to datagram q
-    (with_faults moment number (faults_in config link frame datagram) (settled_at moment (checked_in before queries)))) none
+    (with_faults moment number (faults_in config link frame datagram) (purged_at moment (judged_at within (Some moment) (checked_in before queries))))) none
 
 -- a query of the querier that is checked
 pub datagram_seen : (config : Configuration) (link : LinkType) (within moment number to : ℕ) (frame : List ℕ) (datagram : Datagram) (query : Query ℕ)
     (before : LinkValue) (queries left new : WantingValue)
-    → left.checking ≡ headers_checked config link moment number frame datagram queries.checking → left.basis ≡ queries.basis →
+    → left.checking ≡ headers_checked config link within moment number frame datagram before.state.groups queries.checking → left.basis ≡ queries.basis →
     new.basis ≡ queries.basis → new.checking ≡ query_came within config before.state moment left.basis.packets to query left.checking
     → to ≡ destination_in config.family link frame datagram.envelope → Some query ≡ query_seen config datagram
     → checked_in before new ≡ (with_datagram config link within moment number frame (Some datagram) (checked_in before queries)).checked
 unfolding seen_at
-datagram_seen config link within moment number to frame datagram query before queries left new settles left_so kept is goes some =
+datagram_seen config link within moment number to frame datagram query before queries left new purges left_so kept is goes some =
     let there = destination_in config.family link frame datagram.envelope in
-    let r = with_faults moment number (faults_in config link frame datagram) (settled_at moment (checked_in before queries)) in
+    let r = with_faults moment number (faults_in config link frame datagram) (purged_at moment (judged_at within (Some moment) (checked_in before queries))) in
     let here : checked_in before new ≡ seen_at config within moment there query r =
     λ i. record {
       link = before.state;
-      checking =
-          (is ∙ (λ j. query_came within config before.state moment (left_so j).packets (goes j) query (settles j))) i;
+      checking = (is ∙ (λ j. query_came within config before.state moment (left_so j).packets (goes j) query (purges j))) i;
       basis = kept i;
     } in
     here ∙ ap (λ (q : Option (Query ℕ)). seen_or_received config within moment there datagram q r) some
 
 -- the same in the terms of the code
 pub received_comes : (config config' : Configuration) (link : LinkType) (within moment m number : ℕ) (frame : List ℕ) (datagram : Datagram)
-    (before after : LinkValue) (queries left new : WantingValue)
-    → None ≡ query_seen config' datagram → config' ≡ config → m ≡ moment →
-    left.checking ≡ headers_checked config' link m number frame datagram queries.checking → left.basis ≡ queries.basis →
-    checked_in after new ≡ received config within moment datagram (checked_in before left)
+    (before after : LinkValue) (queries left new : WantingValue) → None ≡ query_seen config' datagram → config' ≡ config → m ≡ moment →
+    left.checking ≡ headers_checked config' link within m number frame datagram before.state.groups queries.checking → left.basis ≡ queries.basis →
+    checked_in after new ≡ taken config within moment datagram (checked_in before left)
     → checked_in after new ≡ (with_datagram config link within moment number frame (Some datagram) (checked_in before queries)).checked
-received_comes config config' link within moment m number frame datagram before after queries left new none is_config is_moment settles kept is =
+received_comes config config' link within moment m number frame datagram before after queries left new none is_config is_moment purges kept is =
     datagram_received config link within moment number frame datagram before after queries left new
-    (settles ∙ (λ i. headers_checked (is_config i) link (is_moment i) number frame datagram queries.checking)) kept is
+    (purges ∙ (λ i. headers_checked (is_config i) link within (is_moment i) number frame datagram before.state.groups queries.checking)) kept is
     (none ∙ ap (λ (k : Configuration). query_seen k datagram) is_config)
 
 pub seen_comes : (config config' config'' : Configuration) (link : LinkType) (within moment m number to : ℕ) (frame : List ℕ) (datagram : Datagram)
     (query : Query ℕ) (family : Family) (before : LinkValue) (queries left new : WantingValue)
     → Some query ≡ query_seen config' datagram → config' ≡ config → m ≡ moment →
-    left.checking ≡ headers_checked config' link m number frame datagram queries.checking → left.basis ≡ queries.basis → new.basis ≡ queries.basis
-    → new.checking ≡ query_came within config'' before.state moment left.basis.packets to query left.checking → config'' ≡ config
+    left.checking ≡ headers_checked config' link within m number frame datagram before.state.groups queries.checking → left.basis ≡ queries.basis → new.basis
+    ≡ queries.basis → new.checking ≡ query_came within config'' before.state moment left.basis.packets to query left.checking → config'' ≡ config
     → to ≡ destination_in family link frame datagram.envelope → family ≡ config.family
     → checked_in before new ≡ (with_datagram config link within moment number frame (Some datagram) (checked_in before queries)).checked
-seen_comes config config' config'' link within moment m number to frame datagram query family before queries left new some is_config is_moment settles
+seen_comes config config' config'' link within moment m number to frame datagram query family before queries left new some is_config is_moment purges
     left_so kept is same_config goes is_family =
     datagram_seen config link within moment number to frame datagram query before queries left new
-    (settles ∙ (λ i. headers_checked (is_config i) link (is_moment i) number frame datagram queries.checking)) left_so kept
+    (purges ∙ (λ i. headers_checked (is_config i) link within (is_moment i) number frame datagram before.state.groups queries.checking)) left_so kept
     (is ∙ (λ i. query_came within (same_config i) before.state moment left.basis.packets to query left.checking))
     (goes ∙ ap (λ (f : Family). destination_in f link frame datagram.envelope) is_family)
     (some ∙ ap (λ (k : Configuration). query_seen k datagram) is_config)
 
 -- the headers were looked at behind what was over, by a configuration that the code names otherwise
-pub headers_left : (config config' : Configuration) (link : LinkType) (m number : ℕ) (frame : List ℕ) (datagram : Datagram) (old mid new : CheckingValue)
-    → config ≡ config' → mid ≡ settled m old → new ≡ faults_seen m number (faults_in config link frame datagram) mid →
-    new ≡ headers_checked config' link m number frame datagram old
-headers_left config config' link m number frame datagram old mid new is_config settles looks =
-    looks ∙ (λ i. faults_seen m number (faults_in (is_config i) link frame datagram) (settles i))
+pub headers_left : (config config' : Configuration) (link : LinkType) (within m number : ℕ) (frame : List ℕ) (datagram : Datagram) (groups : Groups)
+    (old judged mid new : CheckingValue) → config ≡ config' → judged ≡ with_s_judged within (Some m) (is_set groups) old → mid ≡ purged m judged →
+    new ≡ faults_seen m number (faults_in config link frame datagram) mid → new ≡ headers_checked config' link within m number frame datagram groups old
+headers_left config config' link within m number frame datagram groups old judged mid new is_config judges purges looks =
+    looks ∙ (λ i. faults_seen m number (faults_in (is_config i) link frame datagram) ((purges ∙ ap (purged m) judges) i))
+
+-- the findings after the judgement of S
+pub told_judged : (within m moment : ℕ) (groups : Groups) (queries judged : WantingValue)
+    → judged ≡ record queries { checking = with_s_judged within (Some m) (is_set groups) queries.checking } → m ≡ moment
+    → told within m judged.checking ≡ told within moment (with_s_judged within (Some moment) (is_set groups) queries.checking)
+told_judged within m moment groups queries judged judges same =
+    ap (λ (w : WantingValue). told within m w.checking) judges
+    ∙ (λ i. told within (same i) (with_s_judged within (Some (same i)) (is_set groups) queries.checking))
 
 -- one thing came, and then another, or a write failed by then
 pub both_came : {S T E E' : Type 0} (family : Family) (first second : Outcome) (a b c : LinkValue) (q r : WantingValue) (t u v : FindingWriterState)

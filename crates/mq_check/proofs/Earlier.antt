@@ -1,16 +1,7 @@
 -- Schedules from before the capture, in the terms of the code.
-use Rattle.std.proofs.Common.{◌≡◌, ℕ, ◌-◌, false, ap, ◌∙◌}
-use Rattle.std.specs.Prelude.{Option}
-use Rattle.mq_check.specs.declared.asked.Asked.{Asked}
-use Rattle.mq_check.specs.declared.entry.Entry.{Entry}
-use Rattle.mq_check.specs.declared.entry.Entry.TheVariants.{Wanted}
-use Rattle.mq_check.specs.declared.entry.Need.TheVariants.{Optional}
-use Rattle.mq_check.specs.declared.terms.Terms.{Terms}
-use Rattle.mq_check.specs.declared.waiting.Side.TheVariants.{OfWanted}
-use Rattle.mq_check.specs.Schedules.{SchedulesValue, begun, dropped, due_after, gone_on, left_in_next, next_in}
-use Rattle.mq_check.specs.Schedules.{schedules_wanted, terms_of, terms_or}
-use Rattle.mq_check.specs.Schedules.{with_cause, with_next, without_next}
-use Rattle.mq_check.specs.Waiting.{WaitingValue, with_entry, with_partner}
+use Rattle.mq_check.proofs.Common.{◌≡◌, ℕ, ◌-◌, false, ap, ◌∙◌, Option, Asked, Entry, Wanted, Optional, Terms, OfWanted, SchedulesValue, due_after, next_in}
+use Rattle.mq_check.proofs.Common.{schedules_wanted, terms_or, without_next, WaitingValue, with_entry, with_partner}
+use Rattle.mq_check.specs.Schedules.{begun, dropped, gone_on, left_in_next, terms_of, with_cause, with_next}
 
 pub cause_noted : (moment : ℕ) (terms : Terms ℕ) (asked : Asked ℕ) (viewed old : SchedulesValue) (partnered put : WaitingValue)
     → viewed ≡ old → partnered ≡ with_partner OfWanted asked 0 terms viewed.causes → put ≡ with_entry (Wanted moment asked terms Optional false) partnered
@@ -45,8 +36,7 @@ went_on moment seen terms asked left due next viewed old left_out new same is_ne
 
 pub has_begun : (moment : ℕ) (wanted : Terms ℕ) (asked : Asked ℕ) (count due : ℕ) (viewed old wanting left_out new : SchedulesValue)
     → viewed ≡ old → count ≡ viewed.repeats.count → due ≡ due_after viewed.repeats moment → wanting ≡ schedules_wanted moment wanted asked old →
-    left_out ≡ without_next asked wanting → new ≡ with_next count due wanted asked left_out
-    → new ≡ begun moment wanted asked old
+    left_out ≡ without_next asked wanting → new ≡ with_next count due wanted asked left_out → new ≡ begun moment wanted asked old
 unfolding begun
 has_begun moment wanted asked count due viewed old wanting left_out new same counts dues wants drops is =
     is ∙ (λ i. with_next ((counts ∙ ap (λ (s : SchedulesValue). s.repeats.count) same) i)

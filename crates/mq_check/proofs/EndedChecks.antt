@@ -1,40 +1,26 @@
 -- The end of a check: what is put then.
-use Rattle.std.proofs.Common.{◌≡◌, ℕ, true, false, if◌then◌else◌, List, [], ◌++◌, Option, Result, Ok, Err, append_assoc}
-use Rattle.std.proofs.Common.{append-nil, refl, ap, sym, subst, ◌∙◌}
-use Rattle.mq_wire.specs.Family.{Family}
-use Rattle.mq_link.specs.Configuration.{Configuration}
-use Rattle.mq_text.specs.Printing.{GrowsByBeginning, OutputState, Passes}
-use Rattle.mq_text.proofs.Passing.{broken_behind, broken_within, both_passed}
-use Rattle.mq_replay.specs.Courses.{Report}
-use Rattle.mq_replay.specs.PuttingReports.{IsRestPut}
-use Rattle.mq_check.specs.declared.basis.Basis.{Basis}
-use Rattle.mq_replay.specs.declared.capture_fault.CaptureFault.{CaptureFault}
-use Rattle.mq_replay.specs.declared.capture_fault.CaptureFault.TheVariants as answer
-use Rattle.mq_check.specs.declared.check_terms.Additions.{Additions}
-use Rattle.mq_check.specs.declared.finding.Finding.{Finding}
-use Rattle.mq_check.specs.declared.totals.FindingCounts.{FindingCounts}
-use Rattle.mq_check.specs.declared.totals.Totals.{Totals}
-use Rattle.mq_check.specs.Check.{Checked, Outcome, basis_at_end, looked_ahead, settled_through}
-use Rattle.mq_check.specs.Checking.{CheckingValue, told_at_end}
-use Rattle.mq_check.specs.Ending.{counted_behind, end_behind, end_text, ended_behind}
-use Rattle.mq_check.specs.FindingLines.{finding_lines, last_lines}
-use Rattle.mq_check.specs.General.{silence_up_to}
-use Rattle.mq_check.specs.Repeated.{reported, with_findings}
-use Rattle.mq_check.specs.Telling.{FindingWriterState, Tells, counted_by, reported_by}
-use Rattle.mq_check.proofs.Repeating.{reported_of_both}
+use Rattle.mq_check.proofs.Common.{◌≡◌, ℕ, Bool, true, false, if◌then◌else◌, List, [], ◌++◌, Option, Result, Ok, Err, append_assoc, append-nil, refl, ap, sym}
+use Rattle.mq_check.proofs.Common.{subst, ◌∙◌, Family, Configuration, GrowsByBeginning, OutputState, Passes, broken_behind, broken_within, both_passed}
+use Rattle.mq_check.proofs.Common.{CaptureFault, Report, IsRestPut, Basis, Additions, Finding, FindingCounts, Totals, Checked, Outcome, basis_at_end}
+use Rattle.mq_check.proofs.Common.{looked_ahead, purged_through, CheckingValue, told_at_end, counted_behind, end_text, ended_behind, finding_lines, last_lines}
+use Rattle.mq_check.proofs.Common.{silence_up_to, reported, with_findings, FindingWriterState, Tells, counted_by, reported_by}
+use Rattle.mq_check.{specs.Ending.end_behind, proofs.Repeating.reported_of_both}
 use Rattle.mq_check.proofs.Tellings.{lines_of_both, reported_after, counted_more, tells_as, then_told, told_broken}
+use Rattle.mq_walk.specs.declared.capture_fault.CaptureFault.TheVariants as answer
 
 -- the basis at the end, by what the code reads
-pub rests_on_end : (rests before at : Basis) (refused counted : ℕ) → rests ≡ record before { refused = refused } → before ≡ at → refused ≡ counted →
-    rests ≡ record at { refused = counted }
-rests_on_end rests before at refused counted is same counts = is ∙ (λ i. record (same i) { refused = counts i })
+pub rests_on_end : (rests before at : Basis) (refused counted : ℕ) (crowded is_crowded : Bool)
+    → rests ≡ record before { refused = refused; is_crowded = crowded } → before ≡ at → refused ≡ counted → crowded ≡ is_crowded
+    → rests ≡ record at { refused = counted; is_crowded = is_crowded }
+rests_on_end rests before at refused counted crowded is_crowded is same counts crowds =
+    is ∙ (λ i. record (same i) { refused = counts i; is_crowded = crowds i })
 
--- the same of a family that is named otherwise
+-- the same for a family with another name
 pub tells_in : {T E : Type 0} (family other : Family) (found : List (Finding ℕ)) (old new : FindingWriterState) (a b : OutputState) (r : Result T E) →
     family ≡ other → Tells family found old new a b r → Tells other found old new a b r
 tells_in {T} {E} family other found old new a b r same tells = subst (λ (f : Family). Tells {T = T} {E = E} f found old new a b r) same tells
 
--- the same of a verdict that is named otherwise
+-- the same for a verdict with another name
 pub rest_as : (v w : Report Totals) (before after : Option (List ℕ)) (held left : List ℕ) (r : Result Totals CaptureFault) → v ≡ w →
     IsRestPut v before after held left r → IsRestPut w before after held left r
 rest_as v w before after held left r same put = subst (λ (x : Report Totals). IsRestPut x before after held left r) same put
@@ -72,7 +58,7 @@ pub all_broken : {T E : Type 0} (family : Family) (found : List (Finding ℕ)) (
     → Tells {T = T} family found old new a b (Err e) → GrowsByBeginning a.held b.held (old.held ++ end_text family old.additions (reported_by old found) totals)
 all_broken family found old new a b e totals tells = broken_within a.held b.held old.held _ (last_lines old.additions.json totals) tells.text
 
--- what was counted
+-- the counts
 pub totals_counted : (general specific : ℕ) (counted count : FindingCounts) (state other checking : CheckingValue) (rests : Basis)
     (found : List (Finding ℕ)) → state ≡ checking → other ≡ checking → general ≡ state.general → specific ≡ other.specific → counted ≡ counted_by found count
     → record { general = general; specific = specific; findings = counted.certain; possible = counted.possible; kinds = counted.kinds; basis = rests }
@@ -128,12 +114,11 @@ pub ended_full : {E : Type 0} (family : Family) (number : ℕ) (c : CheckingValu
     IsRestPut (end_behind family old number c rests found last) a.held b.held old.held new.held (Err (answer.Waiting number))
 ended_full family number c rests found last old new a b is tells = rw is (refl, tells.text)
 
--- what is found at the end was put behind what was found up to it
+-- the findings of the end stand after those before it
 ended_open : (family : Family) (told mid : FindingWriterState) (number : ℕ) (c : CheckingValue) (rests : Basis) (found last : List (Finding ℕ)) →
     c.waiting.is_full ≡ false
     → mid.additions ≡ told.additions → mid.last ≡ with_findings found told.last → mid.count ≡ counted_by (reported_by told found) told.count
-    → end_behind family told number c rests found last
-    ≡ record {
+    → end_behind family told number c rests found last ≡ record {
       text = finding_lines family told.additions (reported_by told found) ++ end_text family told.additions (reported_by mid last)
           (counted_behind mid.count c rests (reported_by mid last));
       answer = Ok (counted_behind mid.count c rests (reported_by mid last));
@@ -178,8 +163,7 @@ ended_put family number c rests found last old mid new x y z totals is tells cou
 
 pub ended_unput : {E : Type 0} (family : Family) (number : ℕ) (c : CheckingValue) (rests : Basis) (found last : List (Finding ℕ))
     (old mid : FindingWriterState) (x y z : OutputState) → c.waiting.is_full ≡ false
-    → Tells {T = Unit} {E = E} family found old mid x y (Ok tt)
-    → GrowsByBeginning y.held z.held
+    → Tells {T = Unit} {E = E} family found old mid x y (Ok tt) → GrowsByBeginning y.held z.held
     (mid.held ++ end_text family mid.additions (reported_by mid last) (counted_behind mid.count c rests (reported_by mid last)))
     → GrowsByBeginning x.held z.held (old.held ++ (end_behind family old number c rests found last).text)
 ended_unput family number c rests found last old mid x y z is tells begun =
@@ -190,27 +174,27 @@ ended_unput family number c rests found last old mid x y z is tells begun =
     subst (λ (v : Report Totals). GrowsByBeginning x.held z.held (old.held ++ v.text)) (sym same)
     (broken_behind x.held y.held z.held old.held mid.held _ _ tells.text cited)
 
--- the end, from a check at the end and one that has looked ahead
+-- the end, from a check at the end and a check that has looked ahead
 abbrev end_from : Configuration → (within : ℕ) → FindingWriterState → (moment number : ℕ) → (found : List (Finding ℕ)) → (at left : Checked) → Report Totals
 end_from config within told moment number found at left =
     end_behind config.family told number left.checking (basis_at_end at) (found ++ (looked_ahead config within moment at).found)
     (told_at_end within config.timing moment (silence_up_to within config.timing moment at.checking.phase) left.checking)
 
--- the end in the terms of the code: the check at the end, and the one that has looked ahead
+-- the end in the terms of the code: the check at the end, and the check that has looked ahead
 pub ended_as : (config : Configuration) (within : ℕ) (told : FindingWriterState) (moment number : ℕ) (r at left : Checked) →
-    at ≡ (settled_through config within moment r).checked → left ≡ (looked_ahead config within moment at).checked
-    → ended_behind config within told moment number r ≡ end_from config within told moment number (settled_through config within moment r).found at left
+    at ≡ (purged_through config within moment r).checked → left ≡ (looked_ahead config within moment at).checked
+    → ended_behind config within told moment number r ≡ end_from config within told moment number (purged_through config within moment r).found at left
 unfolding ended_behind
 ended_as config within told moment number r at left is ahead =
-    let found = (settled_through config within moment r).found in
+    let found = (purged_through config within moment r).found in
     ap (λ (k : Checked). end_from config within told moment number found k (looked_ahead config within moment k).checked) (sym is)
     ∙ ap (λ (k : Checked). end_from config within told moment number found at k) (sym ahead)
 
--- what was told up to the end, and by the look-ahead
+-- the findings up to the end, and those of the look-ahead
 told_ahead : {S T E E' : Type 0} (config : Configuration) (within end : ℕ) (r at : Checked) (o : Outcome) (family : Family) (old mid new : FindingWriterState)
     (x y z : OutputState) (s : S) (answered : Result T E) → family ≡ config.family → o ≡ looked_ahead config within end at
-    → Tells {E = E'} family (settled_through config within end r).found old mid x y (Ok s) → Tells family o.found mid new y z answered
-    → Tells config.family ((settled_through config within end r).found ++ (looked_ahead config within end at).found) old new x z answered
+    → Tells {E = E'} family (purged_through config within end r).found old mid x y (Ok s) → Tells family o.found mid new y z answered
+    → Tells config.family ((purged_through config within end r).found ++ (looked_ahead config within end at).found) old new x z answered
 told_ahead config within end r at o family old mid new x y z s answered is_family is first second =
     tells_in family config.family _ old new x z answered is_family
     (then_told family _ _ old mid new x y z s answered first (tells_as family _ _ mid new y z answered (ap (λ (p : Outcome). p.found) is) second))
@@ -218,10 +202,10 @@ told_ahead config within end r at o family old mid new x y z s answered is_famil
 -- a write failed up to the end
 pub broken_to_end : {T E : Type 0} (config : Configuration) (within end number : ℕ) (r : Checked) (family : Family) (old new : FindingWriterState)
     (x y : OutputState) (e : E) → family ≡ config.family
-    → Tells {T = T} family (settled_through config within end r).found old new x y (Err e) →
+    → Tells {T = T} family (purged_through config within end r).found old new x y (Err e) →
     GrowsByBeginning x.held y.held (old.held ++ (ended_behind config within old end number r).text)
 broken_to_end {T} {E} config within end number r family old new x y e is_family tells =
-    let done = settled_through config within end r in
+    let done = purged_through config within end r in
     let ahead = looked_ahead config within end done.checked in
     let here : Tells {T = T} {E = E} config.family done.found old new x y (Err e) =
     tells_in {T = T} family config.family _ old new x y (Err e) is_family tells in
@@ -233,8 +217,8 @@ broken_to_end {T} {E} config within end number r family old new x y e is_family 
 -- a write failed in the look-ahead
 pub broken_ahead : {S T E E' : Type 0} (config : Configuration) (within end number : ℕ) (r at : Checked) (o : Outcome) (family : Family)
     (old mid new : FindingWriterState) (x y z : OutputState) (s : S) (e : E) → family ≡ config.family
-    → at ≡ (settled_through config within end r).checked → o ≡ looked_ahead config within end at
-    → Tells {E = E'} family (settled_through config within end r).found old mid x y (Ok s) → Tells {T = T} family o.found mid new y z (Err e)
+    → at ≡ (purged_through config within end r).checked → o ≡ looked_ahead config within end at
+    → Tells {E = E'} family (purged_through config within end r).found old mid x y (Ok s) → Tells {T = T} family o.found mid new y z (Err e)
     → GrowsByBeginning x.held z.held (old.held ++ (ended_behind config within old end number r).text)
 broken_ahead {T = T} config within end number r at o family old mid new x y z s e is_family is same first second =
     let left = (looked_ahead config within end at).checked in
@@ -245,8 +229,8 @@ broken_ahead {T = T} config within end number r at o family old mid new x y z s 
 -- too much waits after the look-ahead
 pub full_at_end : {E E' : Type 0} (config : Configuration) (within end number : ℕ) (r at left : Checked) (o : Outcome) (family : Family)
     (old mid new : FindingWriterState) (x y z : OutputState) → family ≡ config.family
-    → at ≡ (settled_through config within end r).checked → o ≡ looked_ahead config within end at → left ≡ o.checked → left.checking.waiting.is_full ≡ true
-    → Tells {T = Unit} {E = E'} family (settled_through config within end r).found old mid x y (Ok tt) →
+    → at ≡ (purged_through config within end r).checked → o ≡ looked_ahead config within end at → left ≡ o.checked → left.checking.waiting.is_full ≡ true
+    → Tells {T = Unit} {E = E'} family (purged_through config within end r).found old mid x y (Ok tt) →
     Tells {T = Unit} {E = E} family o.found mid new y z (Ok tt)
     → IsRestPut (ended_behind config within old end number r) x.held z.held old.held new.held (Err (answer.Waiting number))
 full_at_end {E} config within end number r at left o family old mid new x y z is_family is same ahead full first second =
@@ -258,12 +242,11 @@ full_at_end {E} config within end number r at left o family old mid new x y z is
 -- the end was put whole, or not
 pub put_at_end : {E E' : Type 0} (config : Configuration) (within end number : ℕ) (r at left : Checked) (o : Outcome) (rests : Basis)
     (last : List (Finding ℕ)) (family : Family) (old mid near new : FindingWriterState) (x y z w : OutputState) (totals : Totals) → family ≡ config.family
-    → at ≡ (settled_through config within end r).checked → o ≡ looked_ahead config within end at → left ≡ o.checked → rests ≡ basis_at_end at
+    → at ≡ (purged_through config within end r).checked → o ≡ looked_ahead config within end at → left ≡ o.checked → rests ≡ basis_at_end at
     → last ≡ told_at_end within config.timing end (silence_up_to within config.timing end at.checking.phase) left.checking →
     left.checking.waiting.is_full ≡ false
-    → Tells {T = Unit} {E = E'} family (settled_through config within end r).found old mid x y (Ok tt) →
-    Tells {T = Unit} {E = E} family o.found mid near y z (Ok tt)
-    → totals ≡ counted_behind near.count left.checking rests (reported_by near last)
+    → Tells {T = Unit} {E = E'} family (purged_through config within end r).found old mid x y (Ok tt) →
+    Tells {T = Unit} {E = E} family o.found mid near y z (Ok tt) → totals ≡ counted_behind near.count left.checking rests (reported_by near last)
     → Passes z.held w.held near.held new.held
     (end_text family near.additions (reported_by near last) (counted_behind near.count left.checking rests (reported_by near last)))
     → IsRestPut (ended_behind config within old end number r) x.held w.held old.held new.held (Ok totals)
@@ -282,12 +265,11 @@ put_at_end {E} config within end number r at left o rests last family old mid ne
 
 pub unput_at_end : {E E' : Type 0} (config : Configuration) (within end number : ℕ) (r at left : Checked) (o : Outcome) (rests : Basis)
     (last : List (Finding ℕ)) (family : Family) (old mid near : FindingWriterState) (x y z w : OutputState) → family ≡ config.family
-    → at ≡ (settled_through config within end r).checked → o ≡ looked_ahead config within end at → left ≡ o.checked → rests ≡ basis_at_end at
+    → at ≡ (purged_through config within end r).checked → o ≡ looked_ahead config within end at → left ≡ o.checked → rests ≡ basis_at_end at
     → last ≡ told_at_end within config.timing end (silence_up_to within config.timing end at.checking.phase) left.checking →
     left.checking.waiting.is_full ≡ false
-    → Tells {T = Unit} {E = E'} family (settled_through config within end r).found old mid x y (Ok tt) →
-    Tells {T = Unit} {E = E} family o.found mid near y z (Ok tt)
-    → GrowsByBeginning z.held w.held
+    → Tells {T = Unit} {E = E'} family (purged_through config within end r).found old mid x y (Ok tt) →
+    Tells {T = Unit} {E = E} family o.found mid near y z (Ok tt) → GrowsByBeginning z.held w.held
     (near.held ++ end_text family near.additions (reported_by near last) (counted_behind near.count left.checking rests (reported_by near last)))
     → GrowsByBeginning x.held w.held (old.held ++ (ended_behind config within old end number r).text)
 unput_at_end {E} config within end number r at left o rests last family old mid near x y z w is_family is same ahead basis finds free first second begun =

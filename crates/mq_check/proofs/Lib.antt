@@ -1,3 +1,5 @@
+mod Common
+pub mod Alike
 pub mod Announcing
 pub mod Bases
 pub mod CheckedOver
@@ -6,11 +8,12 @@ pub mod Earlier
 pub mod EndedChecks
 pub mod Entering
 pub mod Excusing
+pub mod JudgedEntries
 pub mod LinkedSlots
 pub mod MarkedEntries
 pub mod Repeating
-pub mod Rooms
 pub mod Scheduling
+pub mod Seeking
 pub mod SeenQueries
 pub mod Steppings
 pub mod Tellings

@@ -1,11 +1,9 @@
--- How the entries of one slot stay linked.
-use Rattle.std.proofs.Common.{◌≡◌, ◌⊎◌, inl, inr, ℕ, ◌+◌, ◌-◌, ◌^◌, ◌<◌, ◌≤◌, List, [], ◌∷◌, ◌++◌, length, drop, set, get_or, refl, ap, sym, subst, ◌∙◌, arith}
-use Rattle.std.specs.Prelude.{replicate, min}
-use Rattle.std.proofs.lemmas.List.{get_or-set_same, get_or-set_other, get_or-replicate, get_or_past, length-replicate, length_push}
-use Rattle.std.proofs.lemmas.List.{get_or_push, get_or_append_left, length-drop}
-use Rattle.std.proofs.lemmas.Grind.{get_or_after_one}
-use Rattle.std.proofs.lemmas.Bool.{cases_eq, cases_lt}
-use Rattle.mq_check.specs.Trails.{Reaches, AreNumbers, AreLinked, IsClosed}
+-- The entries of one slot, which stay linked.
+use Rattle.mq_check.proofs.Common.{◌≡◌, ◌⊎◌, inl, inr, ℕ, ◌+◌, ◌-◌, ◌^◌, ◌<◌, ◌≤◌, List, [], ◌∷◌, ◌++◌, length, drop, set, get_or, refl, ap, sym, subst, ◌∙◌}
+use Rattle.mq_check.proofs.Common.{arith, min, get_or-set_same, get_or-set_other, length-replicate, length_push, get_or_push, get_or_append_left, length-drop}
+use Rattle.mq_check.proofs.Common.{get_or_after_one, cases_eq, cases_lt, Reaches, AreNumbers, AreLinked}
+use Rattle.std.{specs.Prelude.replicate, proofs.lemmas.List.get_or-replicate, proofs.lemmas.List.get_or_past}
+use Rattle.mq_check.specs.Trails.{IsClosed}
 
 -- lists that were made
 pub linked_none : (nexts lasts : List ℕ) (base : ℕ) → AreLinked [] nexts lasts base

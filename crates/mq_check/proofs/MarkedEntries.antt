@@ -1,50 +1,31 @@
--- What waits is found by its slots.
-use Rattle.std.proofs.Common.{◌≡◌, inl, inr, ℕ, zero, suc, ◌+◌, ◌-◌, ◌<◌, ◌≤◌, Bool, true, false, List, [], ◌∷◌, ◌++◌, length, drop, set, get_or}
-use Rattle.std.proofs.Common.{refl, ap, sym, subst, ◌∙◌, add-one, arith}
-use Rattle.std.specs.Prelude.{map as list_map, None, Some, ◌==◌, ◌&&◌, nat_le, not}
-use Rattle.std.specs.List.{list_any}
-use Rattle.std.proofs.lemmas.Bool.{cases_Bool, cases_eq, cases_lt, eqb-true}
-use Rattle.std.proofs.lemmas.Bool.Decides.{nat_tests}
-use Rattle.std.proofs.lemmas.List.{get_or-set_same, get_or-set_other, length-set, length-drop, length_push, get_or_push, get_or_append_left}
-use Rattle.std.proofs.lemmas.List.{get_or_read, get_or_default, map-append, map-set}
-use Rattle.std.proofs.lemmas.Grind.{get_or_after_one}
-use Rattle.mq_check.specs.declared.asked.Asked.{Asked}
-use Rattle.mq_check.specs.declared.asked.Asked.TheVariants.{AllGroups, Group, Source}
-use Rattle.mq_check.specs.declared.entry.Entry.{Entry}
-use Rattle.mq_check.specs.declared.entry.Entry.TheVariants.{Wanted, Seen, Interval, Silence, Packet}
-use Rattle.mq_check.specs.declared.terms.Terms.{Terms}
-use Rattle.mq_check.specs.declared.waiting.Side.{Side}
-use Rattle.mq_check.specs.declared.waiting.Side.TheVariants.{OfWanted, OfSeen}
-use Rattle.mq_check.specs.Entries.{moment_of, joined, is_group_wanted}
-use Rattle.mq_check.specs.Queries.{is_same}
-use Rattle.mq_check.specs.Slots.{slot_of, slot_in, wanted_slot, wanted_moment, entry_at, AreMarked, AreNoneOf, AreBounded}
-use Rattle.mq_check.specs.Trails.{TrailsValue, IsNear, Reaches}
-use Rattle.mq_check.specs.Waiting.{is_free, is_open}
+-- Waiting entries, by their slots.
+use Rattle.mq_check.proofs.Common.{◌≡◌, inl, inr, ℕ, zero, suc, ◌+◌, ◌-◌, ◌<◌, ◌≤◌, Bool, true, false, List, [], ◌∷◌, ◌++◌, length, drop, set, get_or, refl, ap}
+use Rattle.mq_check.proofs.Common.{sym, subst, ◌∙◌, add-one, arith, list_map, None, Some, ◌==◌, ◌&&◌, nat_le, not, list_any, cases_eq, cases_lt, nat_tests}
+use Rattle.mq_check.proofs.Common.{get_or-set_same, get_or-set_other, length-set, length-drop, length_push, get_or_push, get_or_append_left, get_or_read}
+use Rattle.mq_check.proofs.Common.{map-append, map-set, get_or_after_one, Asked, AllGroups, Source, Entry, Wanted, Seen, Interval, Silence, Packet, Terms, Side}
+use Rattle.mq_check.proofs.Common.{OfWanted, OfSeen, moment_of, joined, is_group_wanted, wanted_slot, wanted_moment, entry_at, AreMarked, AreNoneOf, AreBounded}
+use Rattle.mq_check.proofs.Common.{TrailsValue, Reaches, is_free, is_open}
+use Rattle.std.proofs.lemmas.{Bool.cases_Bool, Bool.eqb-true, List.get_or_default}
+use Rattle.mq_check.specs.{declared.asked.Asked.TheVariants.Group, Queries.is_same, Slots.slot_of, Slots.slot_in, Trails.IsNear}
 use Rattle.mq_check.proofs.Waits.{IsPassed, none_passed, one_passed}
 
--- what asks about the same is the same
+-- entries with one subject have one slot
 same_asked : (a b : Asked ℕ) → is_same a b ≡ true → a ≡ b
 same_asked AllGroups AllGroups same = refl
-same_asked AllGroups (Group g) same = cc
-same_asked AllGroups (Source g s) same = cc
-same_asked (Group g) AllGroups same = cc
 same_asked (Group g) (Group g') same = ap Group (grind (arith, nat_tests))
-same_asked (Group g) (Source g' s) same = cc
-same_asked (Source g s) AllGroups same = cc
-same_asked (Source g s) (Group g') same = cc
 same_asked (Source g s) (Source g' s') same =
     let group : g ≡ g' = grind (arith, nat_tests) in
     let source : s ≡ s' = grind (arith, nat_tests) in
     λ i. Source (group i) (source i)
+same_asked _ _ same = cc
 
 both_first : (a b : Bool) → a && b ≡ true → a ≡ true
 both_first true b is = refl
 both_first false b is = is
 
 both_second : (a b : Bool) → a && not b ≡ true → b ≡ false
-both_second true true is = cc
 both_second true false is = refl
-both_second false b is = cc
+both_second _ _ is = cc
 
 both_last : (a b : Bool) → a && b ≡ true → b ≡ true
 both_last true b is = is
@@ -55,16 +36,9 @@ pub free_slot : (width : ℕ) (side : Side) (asked : Asked ℕ) (entry : Entry �
 free_slot width OfWanted asked (Wanted moment asked' terms is_optional true) free = let found = both_second (is_same asked asked') true free in cc
 free_slot width OfWanted asked (Wanted moment asked' terms is_optional false) free = ap (slot_of width OfWanted)
     (sym (same_asked asked asked' (both_first _ _ free)))
-free_slot width OfWanted asked (Seen moment asked' terms partner is_querier) free = cc
-free_slot width OfWanted asked (Interval moment packet after wanted) free = cc
-free_slot width OfWanted asked (Silence moment after wanted) free = cc
-free_slot width OfWanted asked (Packet moment number fault) free = cc
-free_slot width OfSeen asked (Wanted moment asked' terms is_optional is_found) free = cc
 free_slot width OfSeen asked (Seen moment asked' terms (Some partner) is_querier) free = let found = both_second (is_same asked asked') true free in cc
 free_slot width OfSeen asked (Seen moment asked' terms None is_querier) free = ap (slot_of width OfSeen) (sym (same_asked asked asked' (both_first _ _ free)))
-free_slot width OfSeen asked (Interval moment packet after wanted) free = cc
-free_slot width OfSeen asked (Silence moment after wanted) free = cc
-free_slot width OfSeen asked (Packet moment number fault) free = cc
+free_slot width _ asked _ free = cc
 
 true_isnt_false : true ≡ false → ⊥
 true_isnt_false is = cc
@@ -73,18 +47,11 @@ and_false : (a : Bool) → a && false ≡ false
 and_false true = refl
 and_false false = refl
 
--- one that has found its partner is free for nothing
+-- an entry with a partner is free for nothing
 joined_free : (side : Side) (asked : Asked ℕ) (other : Terms ℕ) (entry : Entry ℕ) → is_open side asked (joined other entry) ≡ false
 joined_free OfWanted asked other (Wanted moment asked' terms is_optional is_found) = and_false (is_same asked asked')
-joined_free OfWanted asked other (Seen moment asked' terms partner is_querier) = refl
-joined_free OfWanted asked other (Interval moment packet after wanted) = refl
-joined_free OfWanted asked other (Silence moment after wanted) = refl
-joined_free OfWanted asked other (Packet moment number fault) = refl
-joined_free OfSeen asked other (Wanted moment asked' terms is_optional is_found) = refl
 joined_free OfSeen asked other (Seen moment asked' terms partner is_querier) = and_false (is_same asked asked')
-joined_free OfSeen asked other (Interval moment packet after wanted) = refl
-joined_free OfSeen asked other (Silence moment after wanted) = refl
-joined_free OfSeen asked other (Packet moment number fault) = refl
+joined_free _ asked other _ = refl
 
 pub marked_none : (width horizon : ℕ) (t : TrailsValue) → t.slots ≡ [] → AreMarked width horizon [] t
 marked_none width horizon t none = record {
@@ -98,8 +65,7 @@ marked_none width horizon t none = record {
 pub marked_pushed : (width horizon : ℕ) (entries : List (Entry ℕ)) (entry : Entry ℕ) (old new : TrailsValue) → AreMarked width horizon entries old →
     new.slots ≡ old.slots ++ slot_in width entry ∷ []
     → Reaches new (length old.slots) → IsNear new (length old.slots) → ((k : ℕ) → k < length old.slots → Reaches old k → Reaches new k) →
-    ((k : ℕ) → k < length old.slots → IsNear old k → IsNear new k)
-    → AreMarked width horizon (entries ++ entry ∷ []) new
+    ((k : ℕ) → k < length old.slots → IsNear old k → IsNear new k) → AreMarked width horizon (entries ++ entry ∷ []) new
 marked_pushed width horizon entries entry old new marked slots here near others nears =
     let put : List (Entry ℕ) = entries ++ entry ∷ [] in
     let before : (place : ℕ) → place < length entries → entry_at put place ≡ entry_at entries place =
@@ -155,13 +121,11 @@ marked_joined width horizon entries at other entry old new marked there slots ot
       long = ap length slots ∙ marked.long ∙ sym long;
       slot = λ place side asked within free.
           let inside : place < length entries = omega (arith, within, long) in
-          ap (λ (s : List ℕ). get_or s place 0) slots
-          ∙ marked.slot place side asked inside
+          ap (λ (s : List ℕ). get_or s place 0) slots ∙ marked.slot place side asked inside
           (ap (is_open side asked) (sym (get_or-set_other entries at place (joined other entry) (Interval 0 0 0 0) (not_at place side asked free))) ∙ free);
       reached = λ place side asked within free.
           let inside : place < length entries = omega (arith, within, long) in
-          others place (omega (arith, inside, marked.long)) (not_at place side asked free)
-          (marked.reached place side asked inside
+          others place (omega (arith, inside, marked.long)) (not_at place side asked free) (marked.reached place side asked inside
           (ap (is_open side asked) (sym (get_or-set_other entries at place (joined other entry) (Interval 0 0 0 0) (not_at place side asked free))) ∙ free));
       near = λ place side asked within free.
           let inside : place < length entries = omega (arith, within, long) in
@@ -217,13 +181,12 @@ marked_near width horizon from slot place entries old new marked later none slot
   long = ap length slots ∙ marked.long;
   slot = λ k side asked within free. ap (λ (s : List ℕ). get_or s k 0) slots ∙ marked.slot k side asked within free;
   reached = λ k side asked within free. others k (marked.reached k side asked within free);
-  near = λ k side asked within free. nears k
-      (λ here. elim (cases_lt k place) [
-        | inl less ↦
-            let isnt = none.none side asked k (sym here ∙ marked.slot k side asked within (both_first _ _ free)) less within in
-            absurd (true_isnt_false (sym free ∙ isnt))
-        | inr more ↦ more
-      ]) (marked.near k side asked within (free_earlier side asked horizon from (entry_at entries k) later free));
+  near = λ k side asked within free. nears k (λ here. elim (cases_lt k place) [
+    | inl less ↦
+        let isnt = none.none side asked k (sym here ∙ marked.slot k side asked within (both_first _ _ free)) less within in
+        absurd (true_isnt_false (sym free ∙ isnt))
+    | inr more ↦ more
+  ]) (marked.near k side asked within (free_earlier side asked horizon from (entry_at entries k) later free));
 }
 
 -- none of a slot is free before one of its starts
@@ -322,8 +285,7 @@ pub bounded_none : (width : ℕ) (latest : List ℕ) → AreBounded width [] lat
 bounded_none width latest = record { by = λ place within. absurd (omega arith) }
 
 pub bounded_pushed : (width : ℕ) (entries : List (Entry ℕ)) (entry : Entry ℕ) (latest : List ℕ) (later : ℕ) → AreBounded width entries latest →
-    wanted_slot width entry < length latest
-    → get_or latest (wanted_slot width entry) 0 ≤ later → wanted_moment entry ≤ later →
+    wanted_slot width entry < length latest → get_or latest (wanted_slot width entry) 0 ≤ later → wanted_moment entry ≤ later →
     AreBounded width (entries ++ entry ∷ []) (set latest (wanted_slot width entry) later)
 bounded_pushed width entries entry latest later bounded known first second =
     let slot = wanted_slot width entry in
@@ -351,10 +313,7 @@ bounded_pushed width entries entry latest later bounded known first second =
 joined_bounded : (width : ℕ) (latest : List ℕ) (other : Terms ℕ) (entry : Entry ℕ) → wanted_moment entry ≤ get_or latest (wanted_slot width entry) 0 →
     wanted_moment (joined other entry) ≤ get_or latest (wanted_slot width (joined other entry)) 0
 joined_bounded width latest other (Wanted moment asked terms is_optional is_found) bound = bound
-joined_bounded width latest other (Seen moment asked terms partner is_querier) bound = bound
-joined_bounded width latest other (Interval moment packet after wanted) bound = bound
-joined_bounded width latest other (Silence moment after wanted) bound = bound
-joined_bounded width latest other (Packet moment number fault) bound = bound
+joined_bounded width latest other _ bound = bound
 
 pub bounded_joined : (width : ℕ) (entries : List (Entry ℕ)) (at : ℕ) (other : Terms ℕ) (entry : Entry ℕ) (latest : List ℕ) →
     AreBounded width entries latest → at < length entries → entry ≡ get_or entries at entry
@@ -387,8 +346,7 @@ bounded_popped width entries rest latest bounded popped =
 
 -- where a query for a group is wanted later than all of its slot, none is
 later_than : (width moment group : ℕ) (latest : List ℕ) (entry : Entry ℕ) → get_or latest (slot_of width OfWanted (Group group)) 0 < moment →
-    wanted_moment entry ≤ get_or latest (wanted_slot width entry) 0
-    → is_group_wanted moment group entry ≡ false
+    wanted_moment entry ≤ get_or latest (wanted_slot width entry) 0 → is_group_wanted moment group entry ≡ false
 later_than width moment group latest (Wanted moment' asked terms is_optional is_found) below bound =
     elim (cases_Bool (is_same (Group group) asked && (moment == moment'))) [
       | inl is ↦
@@ -397,10 +355,7 @@ later_than width moment group latest (Wanted moment' asked terms is_optional is_
           absurd (omega (arith, ap (λ (a : Asked ℕ). get_or latest (slot_of width OfWanted a) 0) same, at, below, bound))
       | inr isnt ↦ isnt
     ]
-later_than width moment group latest (Seen moment' asked terms partner is_querier) below bound = refl
-later_than width moment group latest (Interval moment' packet after wanted) below bound = refl
-later_than width moment group latest (Silence moment' after wanted) below bound = refl
-later_than width moment group latest (Packet moment' number fault) below bound = refl
+later_than width moment group latest _ below bound = refl
 
 none_of_all : (p : Entry ℕ → Bool) (entries : List (Entry ℕ)) → ((place : ℕ) → place < length entries → p (entry_at entries place) ≡ false) →
     list_any p entries ≡ false
@@ -411,8 +366,7 @@ none_of_all p (entry ∷ entries) none =
     rw first rest
 
 pub none_wanted : (width moment group : ℕ) (entries : List (Entry ℕ)) (latest : List ℕ) (slot at : ℕ) → AreBounded width entries latest →
-    slot ≡ slot_of width OfWanted (Group group) → at ≡ get_or latest slot 0 → at < moment
-    → list_any (is_group_wanted moment group) entries ≡ false
+    slot ≡ slot_of width OfWanted (Group group) → at ≡ get_or latest slot 0 → at < moment → list_any (is_group_wanted moment group) entries ≡ false
 none_wanted width moment group entries latest slot at bounded is read below =
     let before : get_or latest (slot_of width OfWanted (Group group)) 0 < moment = omega (arith, ap (λ (s : ℕ). get_or latest s 0) is, read, below) in
     none_of_all _ entries (λ place within. later_than width moment group latest (entry_at entries place) before (bounded.by place within))
@@ -425,7 +379,7 @@ one_wanted p (first ∷ entries) (suc place) entry within read is =
     let rest = one_wanted p entries place entry (omega (arith, within)) read is in
     elim (cases_Bool (p first)) [ inl passes ↦ rw passes refl | inr fails ↦ rw fails rest ]
 
--- the same of what is made of each item
+-- the same for the result of each item
 pub made_behind : {X : Type 0} (f : X → Entry ℕ) (items more : List X) → more ≡ drop 1 items → list_map f more ≡ drop 1 (list_map f items)
 made_behind f [] more is = ap (list_map f) is
 made_behind f (x ∷ items) more is = ap (list_map f) is

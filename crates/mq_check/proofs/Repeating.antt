@@ -1,8 +1,6 @@
 -- Reported findings of two lists, one after the other.
-use Rattle.std.proofs.Common.{◌≡◌, ℕ, Bool, true, false, List, [], ◌∷◌, ◌++◌, refl, ap, ◌∙◌}
-use Rattle.mq_check.specs.declared.finding.Finding.{Finding}
-use Rattle.mq_check.specs.declared.repeated.LastDifferences.{LastDifferences}
-use Rattle.mq_check.specs.Repeated.{is_left_out, reported, unless, with_finding, with_findings}
+use Rattle.mq_check.proofs.Common.{◌≡◌, ℕ, Bool, true, false, List, [], ◌∷◌, ◌++◌, refl, ap, ◌∙◌, Finding, LastDifferences, is_left_out, reported, unless}
+use Rattle.mq_check.proofs.Common.{with_finding, with_findings}
 
 -- the state after both lists
 pub last_of_both : (xs ys : List (Finding ℕ)) (last : LastDifferences) → with_findings (xs ++ ys) last ≡ with_findings ys (with_findings xs last)

@@ -1,14 +1,8 @@
 -- A query that was seen, in the terms of the code.
-use Rattle.std.proofs.Common.{◌≡◌, ℕ, Bool, true, false, if◌then◌else◌, ap, sym, ◌∙◌}
-use Rattle.mq_wire.specs.declared.query.Query.{Query}
-use Rattle.mq_wire.specs.Family.{Family}
-use Rattle.mq_table.specs.declared.timing.Timing.{Timing}
-use Rattle.mq_link.specs.Configuration.{Configuration}
-use Rattle.mq_check.specs.declared.terms.Terms.{Terms}
-use Rattle.mq_check.specs.Checking.{CheckingValue, general_seen, query_came, specific_seen}
+use Rattle.mq_check.proofs.Common.{◌≡◌, ℕ, Bool, true, false, if◌then◌else◌, ap, sym, ◌∙◌, Query, Family, Timing, Configuration, Terms, CheckingValue}
+use Rattle.mq_check.proofs.Common.{query_came, general_terms, terms_of, standing_in}
+use Rattle.mq_check.specs.{Checking.general_seen, Checking.specific_seen, Queries.asked_in, Queries.is_general}
 use Rattle.mq_link.specs.State.{LinkState}
-use Rattle.mq_check.specs.Queries.{asked_in, general_terms, is_general, terms_of}
-use Rattle.mq_check.specs.Standing.{standing_in}
 
 -- one of two, by whether it is general
 abbrev by_kind : CheckingValue → CheckingValue → Bool → CheckingValue

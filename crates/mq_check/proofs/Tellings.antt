@@ -1,26 +1,13 @@
--- Findings that were told, one after the other.
-use Rattle.std.proofs.Common.{◌≡◌, ℕ, zero, suc, ◌+◌, Bool, true, false, ◌||◌, List, [], ◌∷◌, ◌++◌, length, Result, Ok, Err, IfOk, is_err, append-nil}
-use Rattle.std.proofs.Common.{filter, length-append, refl, ap, sym, subst, ◌∙◌, arith}
-use Rattle.std.proofs.Math.Bool.{or-false}
-use Rattle.std.proofs.lemmas.Grind.{flat_map-append}
-use Rattle.std.proofs.lemmas.List.{map-append}
-use Rattle.std.proofs.lemmas.List.Elements.{filter-append}
-use Rattle.mq_wire.specs.Family.{Family}
-use Rattle.mq_text.specs.Printing.{OutputState, Puts}
-use Rattle.mq_text.proofs.Passing.{nothing_passed, then_put, put_as, broken_within}
-use Rattle.mq_check.specs.declared.asked.Asked.{Asked}
-use Rattle.mq_check.specs.declared.check_terms.Additions.{Additions}
-use Rattle.mq_check.specs.declared.finding.Difference.{Difference}
-use Rattle.mq_check.specs.declared.finding.Finding.{Finding}
-use Rattle.mq_check.specs.declared.finding.Finding.TheVariants.{Missing, Extra, PossiblyMissing, PossiblyExtra, Differs, Interval, Silence, Packet}
-use Rattle.mq_check.specs.Checking.{counted_up}
-use Rattle.mq_check.specs.Entries.{differ_at}
-use Rattle.mq_check.specs.FindingLines.{finding_line, finding_lines, is_certain, is_kind, is_possible}
-use Rattle.mq_check.specs.declared.repeated.LastDifferences.{LastDifferences}
-use Rattle.mq_check.specs.declared.totals.FindingCounts.{FindingCounts}
-use Rattle.mq_check.specs.declared.totals.KindCounts.{KindCounts}
-use Rattle.mq_check.specs.Repeated.{is_left_out, reported, unless, with_finding, with_findings}
-use Rattle.mq_check.specs.Telling.{FindingWriterState, Tells, counted_by, counted_kinds, counted_one, counted_times, reported_by}
+-- Reported findings, in sequence.
+use Rattle.mq_check.proofs.Common.{◌≡◌, ℕ, zero, suc, ◌+◌, Bool, true, false, ◌||◌, List, [], ◌∷◌, ◌++◌, length, Result, Ok, Err, IfOk, is_err, append-nil}
+use Rattle.mq_check.proofs.Common.{refl, ap, sym, subst, ◌∙◌, arith, or-false, map-append, Family, OutputState, Puts, then_put, put_as, broken_within, Asked}
+use Rattle.mq_check.proofs.Common.{Additions, Finding, PossiblyExtra, counted_up, finding_lines, LastDifferences, FindingCounts, is_left_out, reported, unless}
+use Rattle.mq_check.proofs.Common.{with_finding, with_findings, FindingWriterState, Tells, counted_by, counted_kinds, counted_one, counted_times, reported_by}
+use Rattle.std.proofs.{Common.filter, Common.length-append, lemmas.Grind.flat_map-append, lemmas.List.Elements.filter-append}
+use Rattle.mq_text.proofs.Passing.{nothing_passed}
+use Rattle.mq_check.specs.declared.{finding.Difference.Difference, totals.KindCounts.KindCounts}
+use Rattle.mq_check.specs.declared.finding.Finding.TheVariants.{Missing, Extra, PossiblyMissing, Differs, Interval, Silence, Packet}
+use Rattle.mq_check.specs.{Entries.differ_at, FindingLines.finding_line, FindingLines.is_certain, FindingLines.is_kind, FindingLines.is_possible}
 use Rattle.mq_check.proofs.Repeating.{last_of_both, reported_of_both}
 
 -- a count that went up so many times, and then so many more
@@ -38,7 +25,7 @@ pub lines_of_both : (family : Family) (additions : Additions) (xs ys : List (Fin
     ≡ finding_lines family additions xs ++ finding_lines family additions ys
 lines_of_both family additions xs ys = flat_map-append (finding_line family additions) xs ys
 
--- the reported ones of two lists, if those of the first one were told
+-- the reported findings of two lists, after those of the first list
 pub reported_after : (told mid : FindingWriterState) (xs ys : List (Finding ℕ)) → mid.additions ≡ told.additions → mid.last ≡ with_findings xs told.last
     → reported_by told (xs ++ ys) ≡ reported_by told xs ++ reported_by mid ys
 reported_after told mid xs ys additions last =
@@ -81,7 +68,7 @@ both_counted xs ys all old mid new (Ok x) both first second =
     second ∙ ap (counted_by ys) first ∙ sym (counted_more xs ys old) ∙ ap (λ (fs : List (Finding ℕ)). counted_by fs old) (sym both)
 both_counted xs ys all old mid new (Err e) both first second = tt
 
--- some were told, and then others
+-- some findings, and then others
 pub then_told : {S T E E' : Type 0} (family : Family) (xs ys : List (Finding ℕ)) (old mid new : FindingWriterState) (a b c : OutputState)
     (x : S) (r : Result T E)
     → Tells {E = E'} family xs old mid a b (Ok x) → Tells family ys mid new b c r → Tells family (xs ++ ys) old new a c r
@@ -113,25 +100,19 @@ told_broken {T} family xs ys old new a b e first =
       failed = first.failed;
     }
 
--- the same is told whichever fault it is
+-- the report is the same for each fault
 pub broken_as : {S T E E' : Type 0} (family : Family) (xs : List (Finding ℕ)) (old new : FindingWriterState) (a b : OutputState) (e : E) (e' : E')
     → Tells {T = S} family xs old new a b (Err e) → Tells {T = T} family xs old new a b (Err e')
 broken_as family xs old new a b e e' tells = record { additions = tells.additions; last = tt; count = tt; text = tells.text; failed = tells.failed }
 
--- one was told
+-- one reported finding
 noted : {T E : Type 0} (new last : LastDifferences) (r : Result T E) → new ≡ last → IfOk r (λ _. new ≡ last)
 noted new last (Ok x) is = is
 noted new last (Err e) is = tt
 
 counted_alone : (x : Finding ℕ) (old : FindingCounts) → counted_one x old ≡ counted_by (x ∷ []) old
 counted_alone (Missing moment packet asked) old = refl
-counted_alone (Extra moment packet asked reason) old = refl
-counted_alone (PossiblyMissing moment packet asked) old = refl
-counted_alone (PossiblyExtra moment packet asked) old = refl
-counted_alone (Differs moment packet asked difference) old = refl
-counted_alone (Interval moment packet after wanted) old = refl
-counted_alone (Silence moment after wanted) old = refl
-counted_alone (Packet moment number fault) old = refl
+counted_alone _ old = refl
 
 one_counted : {T E : Type 0} (x : Finding ℕ) (old new : FindingCounts) (r : Result T E) → new ≡ counted_one x old →
     IfOk r (λ _. new ≡ counted_by (x ∷ []) old)
@@ -175,7 +156,7 @@ one_left_out {T} {E} family x old new at y is same =
     } in
     subst (λ (t : FindingWriterState). Tells {T = T} {E = E} family (x ∷ []) old t at at (Ok y)) (sym same) left
 
--- fields that differ were told, and then others; or a write failed and others were not told
+-- the differing fields are reported, and then others; or a write failed and others are not reported
 pub fields_told : {S T E E' : Type 0} (family : Family) (moment packet : ℕ) (asked : Asked ℕ) (xs ys : List (Difference ℕ)) (old mid new : FindingWriterState)
     (a b c : OutputState) (x : S) (r : Result T E)
     → Tells {E = E'} family (differ_at moment packet asked xs) old mid a b (Ok x) → Tells family (differ_at moment packet asked ys) mid new b c r →

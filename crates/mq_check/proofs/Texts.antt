@@ -1,6 +1,5 @@
 -- Texts that are put together.
-use Rattle.std.proofs.Common.{◌≡◌, refl, ℕ, List, ◌++◌}
-use Rattle.std.proofs.lemmas.List.{append_assoc}
+use Rattle.mq_check.proofs.Common.{◌≡◌, refl, ℕ, List, ◌++◌, append_assoc}
 
 pub three_parts : (old a b c : List ℕ) → old ++ a ++ b ++ c ≡ old ++ (a ++ b ++ c)
 three_parts old a b c = simp append_assoc refl

@@ -1,15 +1,10 @@
 -- A check in the code, and the ticks between packets.
-use Rattle.std.proofs.Common.{◌≡◌, ℕ, zero, suc, ◌+◌, ◌<◌, ◌≤◌, Result, Ok, Err, refl, sym, subst, ◌∙◌, append_assoc, append-nil, arith}
-use Rattle.mq_wire.specs.Family.{Family}
-use Rattle.mq_link.specs.Configuration.{Configuration}
+use Rattle.mq_check.proofs.Common.{◌≡◌, ℕ, zero, suc, ◌+◌, ◌<◌, ◌≤◌, Result, Ok, Err, refl, sym, subst, ◌∙◌, append_assoc, append-nil, arith, Some, Family}
+use Rattle.mq_check.proofs.Common.{Configuration, Checked, Outcome, behind, judged_at, quiet, told, CheckState, checked_in}
 use Rattle.mq_link.specs.Tick.{next_of}
-use Rattle.mq_replay.specs.Ticks.{TicksInTurn, ticked_within}
-use Rattle.mq_replay.proofs.Ticking.{none_within, one_within, through_within}
-use Rattle.mq_check.specs.Check.{Checked, Outcome, behind, quiet, ticked_at}
-use Rattle.mq_check.specs.Checking.{told}
-use Rattle.mq_check.specs.Coming.{CheckState, ChecksTick, ChecksTo, checked_in}
-use Rattle.mq_check.proofs.CheckedPackets.{both_came, first_broken}
-use Rattle.mq_check.proofs.Tellings.{none_told}
+use Rattle.mq_walk.{specs.Ticks.TicksInTurn, specs.Ticks.ticked_within, proofs.Ticking.none_within, proofs.Ticking.one_within, proofs.Ticking.through_within}
+use Rattle.mq_check.specs.{Check.ticked_at, Coming.ChecksTick, Coming.ChecksTo}
+use Rattle.mq_check.proofs.{CheckedPackets.both_came, CheckedPackets.first_broken, Tellings.none_told}
 
 -- the tick at the next moment
 abbrev pub next_in : Outcome → ℕ
@@ -23,17 +18,16 @@ abbrev pub rest_of : (most : ℕ) → Configuration → (within limit : ℕ) →
 rest_of most config within limit r = ticked_within next_in (tick_in config within) most limit (quiet r)
 
 pub one_ticked : (most : ℕ) (config : Configuration) (within limit : ℕ) (r : Checked) → next_of r.link < limit
-    → rest_of (suc most) config within limit r
-    ≡ behind (told within (next_of r.link) r.checking) (rest_of most config within limit (ticked_at config within (next_of r.link) r).checked)
+    → rest_of (suc most) config within limit r ≡ behind (told within (next_of r.link) (judged_at within (Some (next_of r.link)) r).checking)
+    (rest_of most config within limit (ticked_at config within (next_of r.link) r).checked)
 one_ticked most config within limit r due =
-    let found = told within (next_of r.link) r.checking in
+    let found = told within (next_of r.link) (judged_at within (Some (next_of r.link)) r).checking in
     let next = (ticked_at config within (next_of r.link) r).checked in
     one_within next_in (tick_in config within) most limit (quiet r) due
     ∙ (λ i. ticked_within next_in (tick_in config within) most limit (record { checked = next; found = sym (append-nil found) i }))
-    ∙ through_within next_in (tick_in config within) next_in (tick_in config within) (behind found) (λ o. refl)
-    (λ o i. record {
+    ∙ through_within next_in (tick_in config within) next_in (tick_in config within) (behind found) (λ o. refl) (λ o i. record {
       checked = (ticked_at config within (next_in o) o.checked).checked;
-      found = append_assoc found o.found (told within (next_in o) o.checked.checking) i;
+      found = append_assoc found o.found (told within (next_in o) (judged_at within (Some (next_in o)) o.checked).checking) i;
     }) most limit (quiet next)
 
 module _ {X : Type 0} (family : Family) (state : X → CheckState) where

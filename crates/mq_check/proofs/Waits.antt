@@ -1,28 +1,18 @@
--- What waits: the first entry that is free, the one that has found its partner, and what is over.
-use Rattle.std.proofs.Common.{◌≡◌, ℕ, suc, ◌+◌, ◌<◌, ◌≤◌, Bool, true, false, List, [], ◌∷◌, ◌++◌, length, take, drop, set, get_or, refl, ap, sym, ◌∙◌}
-use Rattle.std.proofs.Common.{append_assoc, append-nil, add-one, arith}
-use Rattle.std.specs.Option.{option_to_list}
-use Rattle.std.specs.Prelude.{Option, None, Some, IfSome, map as list_map, flat_map, take_while}
-use Rattle.std.specs.List.{list_any, prefix_len}
-use Rattle.std.proofs.Math.ListN.{get_or-map as mapped_at}
-use Rattle.std.proofs.lemmas.List.{length-map as mapped_long}
-use Rattle.std.proofs.Math.Seq.{drop-cons, take-suc, drop-length, take-length}
-use Rattle.std.proofs.lemmas.List.{get_or_read, map-append, map-set, set_split}
-use Rattle.std.proofs.lemmas.Bool.{lt-ltb, le-ltb}
-use borrow.Author.Tests.{ltb-true}
-use Rattle.mq_check.specs.declared.asked.Asked.{Asked}
-use Rattle.mq_check.specs.declared.entry.Entry.{Entry}
-use Rattle.mq_check.specs.declared.terms.Terms.{Terms}
-use Rattle.mq_check.specs.declared.waiting.Side.{Side}
-use Rattle.mq_check.specs.Entries.{is_over, terms_in, joined, first_terms, first_joined, first_entry, findings_of}
-use Rattle.mq_check.specs.Places.{IsNoneFree, IsFirstFree, IsNoneOver, IsFirstOver}
-use Rattle.mq_check.specs.Waiting.{WaitingValue, room, is_free, with_entry, with_partner, told, settled}
+-- Waiting entries: the first free entry, an entry with a partner, and expired entries.
+use Rattle.mq_check.proofs.Common.{◌≡◌, ℕ, suc, ◌+◌, ◌<◌, ◌≤◌, Bool, true, false, List, [], ◌∷◌, ◌++◌, length, take, drop, set, get_or, refl, ap, sym, ◌∙◌}
+use Rattle.mq_check.proofs.Common.{append_assoc, append-nil, add-one, arith, Option, None, Some, IfSome, list_map, flat_map, list_any, mapped_long, drop-length}
+use Rattle.mq_check.proofs.Common.{take-length, get_or_read, map-append, map-set, ltb-true, Asked, Entry, Terms, Side, terms_in, joined, first_terms}
+use Rattle.mq_check.proofs.Common.{first_entry, judged, WaitingValue, is_free, with_entry, with_partner}
+use Rattle.std.specs.{Option.option_to_list, Prelude.take_while, List.prefix_len}
+use Rattle.std.proofs.{Math.ListN.get_or-map as mapped_at, Math.Seq.drop-cons, Math.Seq.take-suc, lemmas.List.set_split, lemmas.Bool.lt-ltb, lemmas.Bool.le-ltb}
+use Rattle.mq_check.specs.Entries.{is_over, first_joined}
+use Rattle.mq_check.specs.{Places.IsNoneFree, Places.IsFirstFree, Places.IsNoneOver, Places.IsFirstOver, Waiting.room, Waiting.told, Waiting.purged}
 
--- what is made of each is as many
+-- the results of all items are as many
 pub made_long : {X Y : Type 0} (f : X → Y) (xs : List X) (ys : List Y) → list_map f xs ≡ ys → length ys ≡ length xs
 made_long f xs ys made = ap length (sym made) ∙ mapped_long xs f
 
--- an element as it was read, at its place in the list of what is made of each
+-- the element that was read, at its place in the list of results
 pub made_at : {X Y : Type 0} (f : X → Y) (xs : List X) (ys : List Y) (place : ℕ) (x : X) → list_map f xs ≡ ys → x ≡ get_or xs place x →
     f x ≡ get_or ys place (f x)
 made_at f xs ys place x made is = ap f is ∙ sym (mapped_at f xs place x) ∙ ap (λ (zs : List _). get_or zs place (f x)) made
@@ -45,7 +35,7 @@ pub record IsPassed (side : Side) (asked : Asked ℕ) (from : ℕ) (entries : Li
 pub none_passed : (side : Side) (asked : Asked ℕ) (from : ℕ) (entries : List (Entry ℕ)) → IsPassed side asked from entries 0
 none_passed side asked from entries = record { terms = refl; entry = refl; joined = λ other. refl }
 
--- what is found at an entry that isn't free, and at one that is
+-- the findings at an entry that isn't free, and at a free entry
 skipped_terms : (test : Entry ℕ → Bool) (entry : Entry ℕ) (rest : List (Entry ℕ)) → test entry ≡ false → first_terms test (entry ∷ rest) ≡ first_terms test rest
 skipped_terms test entry rest is = rw is refl
 
@@ -115,17 +105,13 @@ none_free side asked from entries place all passed =
           ∙ ap (λ (n : ℕ). take n entries) all ∙ take-length entries;
     }
 
--- none of the entries before a place passes a test
-pub none_any : (p : Entry ℕ → Bool) (entries : List (Entry ℕ)) → list_any p entries ≡ list_any p (drop 0 entries)
-none_any p entries = refl
-
-skipped_any : (p : Entry ℕ → Bool) (entry : Entry ℕ) (rest : List (Entry ℕ)) → p entry ≡ false → list_any p (entry ∷ rest) ≡ list_any p rest
+skipped_any : {X : Type 0} (p : X → Bool) (entry : X) (rest : List X) → p entry ≡ false → list_any p (entry ∷ rest) ≡ list_any p rest
 skipped_any p entry rest is = rw is refl
 
-found_any : (p : Entry ℕ → Bool) (entry : Entry ℕ) (rest : List (Entry ℕ)) → p entry ≡ true → list_any p (entry ∷ rest) ≡ true
+found_any : {X : Type 0} (p : X → Bool) (entry : X) (rest : List X) → p entry ≡ true → list_any p (entry ∷ rest) ≡ true
 found_any p entry rest is = rw is refl
 
-pub one_any : (p : Entry ℕ → Bool) (entries : List (Entry ℕ)) (place : ℕ) (entry : Entry ℕ) → place < length entries →
+pub one_any : {X : Type 0} (p : X → Bool) (entries : List X) (place : ℕ) (entry : X) → place < length entries →
     entry ≡ get_or entries place entry → p entry ≡ false
     → list_any p entries ≡ list_any p (drop place entries) → list_any p entries ≡ list_any p (drop (place + 1) entries)
 one_any p entries place entry within is fails passed =
@@ -133,71 +119,70 @@ one_any p entries place entry within is fails passed =
     passed ∙ ap (list_any p) (from_place entries place entry within is) ∙ skipped_any p entry (drop (suc place) entries) fails in
     rw add-one next
 
-pub any_at : (p : Entry ℕ → Bool) (entries : List (Entry ℕ)) (place : ℕ) (entry : Entry ℕ) → place < length entries →
-    entry ≡ get_or entries place entry → p entry ≡ true
-    → list_any p entries ≡ list_any p (drop place entries) → list_any p entries ≡ true
+pub any_at : {X : Type 0} (p : X → Bool) (entries : List X) (place : ℕ) (entry : X) → place < length entries →
+    entry ≡ get_or entries place entry → p entry ≡ true → list_any p entries ≡ list_any p (drop place entries) → list_any p entries ≡ true
 any_at p entries place entry within is passes passed =
     passed ∙ ap (list_any p) (from_place entries place entry within is) ∙ found_any p entry (drop (suc place) entries) passes
 
-pub any_of_none : (p : Entry ℕ → Bool) (entries : List (Entry ℕ)) (place : ℕ) → place ≡ length entries
+pub any_of_none : {X : Type 0} (p : X → Bool) (entries : List X) (place : ℕ) → place ≡ length entries
     → list_any p entries ≡ list_any p (drop place entries) → list_any p entries ≡ false
 any_of_none p entries place all passed = passed ∙ ap (λ (n : ℕ). list_any p (drop n entries)) all ∙ ap (list_any p) (drop-length entries)
 
--- nothing is told where there was no room for something, where nothing waits, or where the first entry isn't over
+-- nothing is reported without room for an entry, without an entry, or if the first entry isn't over
 pub none_of_full : (keep now : ℕ) (w : WaitingValue) → w.is_full ≡ true → IsNoneOver keep now w
-unfolding told settled
-none_of_full keep now w full = record { told = λ within changed. rw full refl; settled = rw full refl }
+unfolding told purged
+none_of_full keep now w full = record { told = λ within changed refused. rw full refl; purged = rw full refl }
 
 pub none_of_none : (keep now : ℕ) (w : WaitingValue) → w.is_full ≡ false → w.entries ≡ [] → IsNoneOver keep now w
-unfolding told settled
+unfolding told purged
 none_of_none keep now w free none =
     record {
-      told = λ within changed. rw (free, none) refl;
-      settled =
+      told = λ within changed refused. rw (free, none) refl;
+      purged =
           rw free (λ i. record { entries = (ap (λ (es : List (Entry ℕ)). drop (prefix_len (is_over keep now) es) es) none ∙ sym none) i; is_full = false });
     }
 
-not_over_told : (keep within now : ℕ) (changed : Option ℕ) (entry : Entry ℕ) (rest : List (Entry ℕ)) → is_over keep now entry ≡ false →
-    flat_map (findings_of within changed) (take_while (is_over keep now) (entry ∷ rest)) ≡ []
-not_over_told keep within now changed entry rest is = rw is refl
+not_over_told : (keep within now : ℕ) (changed : Option ℕ) (refused : List ℕ) (entry : Entry ℕ) (rest : List (Entry ℕ)) → is_over keep now entry ≡ false →
+    flat_map (judged within changed refused) (take_while (is_over keep now) (entry ∷ rest)) ≡ []
+not_over_told keep within now changed refused entry rest is = rw is refl
 
-not_over_settled : (keep now : ℕ) (entry : Entry ℕ) (rest : List (Entry ℕ)) → is_over keep now entry ≡ false →
+not_over_purged : (keep now : ℕ) (entry : Entry ℕ) (rest : List (Entry ℕ)) → is_over keep now entry ≡ false →
     drop (prefix_len (is_over keep now) (entry ∷ rest)) (entry ∷ rest) ≡ entry ∷ rest
-not_over_settled keep now entry rest is = rw is refl
+not_over_purged keep now entry rest is = rw is refl
 
 pub none_of_first : (keep now : ℕ) (w : WaitingValue) (entry : Entry ℕ) (rest : List (Entry ℕ)) → w.is_full ≡ false → w.entries ≡ entry ∷ rest →
     is_over keep now entry ≡ false → IsNoneOver keep now w
-unfolding told settled
+unfolding told purged
 none_of_first keep now w entry rest free split is =
     record {
-      told = λ within changed. rw (free, split) (not_over_told keep within now changed entry rest is);
-      settled = rw free (λ i. record {
-        entries = (ap (λ (es : List (Entry ℕ)). drop (prefix_len (is_over keep now) es) es) split ∙ not_over_settled keep now entry rest is ∙
+      told = λ within changed refused. rw (free, split) (not_over_told keep within now changed refused entry rest is);
+      purged = rw free (λ i. record {
+        entries = (ap (λ (es : List (Entry ℕ)). drop (prefix_len (is_over keep now) es) es) split ∙ not_over_purged keep now entry rest is ∙
             sym split) i;
         is_full = false;
       });
     }
 
-over_told : (keep within now : ℕ) (changed : Option ℕ) (entry : Entry ℕ) (rest : List (Entry ℕ)) → is_over keep now entry ≡ true
-    → flat_map (findings_of within changed) (take_while (is_over keep now) (entry ∷ rest)) ≡ findings_of within changed entry ++
-    flat_map (findings_of within changed) (take_while (is_over keep now) rest)
-over_told keep within now changed entry rest is = let more : 1 + prefix_len (is_over keep now) rest ≡ suc (prefix_len (is_over keep now) rest) =
+over_told : (keep within now : ℕ) (changed : Option ℕ) (refused : List ℕ) (entry : Entry ℕ) (rest : List (Entry ℕ)) → is_over keep now entry ≡ true
+    → flat_map (judged within changed refused) (take_while (is_over keep now) (entry ∷ rest)) ≡ judged within changed refused entry ++
+    flat_map (judged within changed refused) (take_while (is_over keep now) rest)
+over_told keep within now changed refused entry rest is = let more : 1 + prefix_len (is_over keep now) rest ≡ suc (prefix_len (is_over keep now) rest) =
     omega arith in rw (is, more) refl
 
-over_settled : (keep now : ℕ) (entry : Entry ℕ) (rest : List (Entry ℕ)) → is_over keep now entry ≡ true
+over_purged : (keep now : ℕ) (entry : Entry ℕ) (rest : List (Entry ℕ)) → is_over keep now entry ≡ true
     → drop (prefix_len (is_over keep now) (entry ∷ rest)) (entry ∷ rest) ≡ drop (prefix_len (is_over keep now) rest) rest
-over_settled keep now entry rest is = let more : 1 + prefix_len (is_over keep now) rest ≡ suc (prefix_len (is_over keep now) rest) = omega arith in
+over_purged keep now entry rest is = let more : 1 + prefix_len (is_over keep now) rest ≡ suc (prefix_len (is_over keep now) rest) = omega arith in
     rw (is, more) refl
 
 pub first_over : (keep now : ℕ) (old new : WaitingValue) (entry : Entry ℕ) → old.is_full ≡ false → new.is_full ≡ false →
     old.entries ≡ entry ∷ new.entries → is_over keep now entry ≡ true → IsFirstOver keep now old new entry
-unfolding told settled
+unfolding told purged
 first_over keep now old new entry free still split is =
     record {
       is_over = ltb-true _ _ is;
-      told = λ within changed. rw (free, still, split) (over_told keep within now changed entry new.entries is);
-      settled = rw (free, still) (λ i. record {
-        entries = (ap (λ (es : List (Entry ℕ)). drop (prefix_len (is_over keep now) es) es) split ∙ over_settled keep now entry new.entries is) i;
+      told = λ within changed refused. rw (free, still, split) (over_told keep within now changed refused entry new.entries is);
+      purged = rw (free, still) (λ i. record {
+        entries = (ap (λ (es : List (Entry ℕ)). drop (prefix_len (is_over keep now) es) es) split ∙ over_purged keep now entry new.entries is) i;
         is_full = false;
       });
       fewer = let more = ap length split in omega (arith, more);

@@ -1,15 +1,7 @@
 -- A packet of a check, in the terms of a walk.
-use Rattle.std.proofs.Common.{◌≡◌, ◌||◌, [], Result, Ok, Err}
-use Rattle.std.specs.Prelude.{IfOk, is_err}
-use Rattle.mq_wire.specs.Family.{Family}
-use Rattle.mq_link.specs.Link.{LinkValue}
-use Rattle.mq_text.specs.Printing.{OutputState, Puts}
-use Rattle.mq_check.specs.Check.{Checked, Outcome}
-use Rattle.mq_check.specs.Coming.{Comes, checked_in}
-use Rattle.mq_check.specs.Telling.{FindingWriterState}
-use Rattle.mq_check.specs.Wanting.{WantingValue}
-use Rattle.mq_check.proofs.Tellings.{broken_as}
-use Rattle.mq_check.proofs.WrittenEarly.{then_nothing}
+use Rattle.mq_check.proofs.Common.{◌≡◌, ◌||◌, [], Result, Ok, Err, IfOk, is_err, Family, LinkValue, OutputState, Puts, Checked, Outcome, Comes, checked_in}
+use Rattle.mq_check.proofs.Common.{FindingWriterState, WantingValue}
+use Rattle.mq_check.proofs.{Tellings.broken_as, WrittenEarly.then_nothing}
 
 still_checked : {T E : Type 0} (checked : Checked) (outcome : Outcome) (r : Result T E) → checked ≡ outcome.checked → IfOk r (λ _. checked ≡ outcome.checked)
 still_checked checked outcome (Ok x) is = is
@@ -39,8 +31,7 @@ comes_well family o link link' queries old new a b comes = record {
     last = comes.tells.last;
     count = comes.tells.count;
     text = comes.tells.text;
-    failed =
-        comes.tells.failed;
+    failed = comes.tells.failed;
   };
 }
 

@@ -1,15 +1,7 @@
 -- Findings that are written before a read that may wait.
-use Rattle.std.proofs.Common.{◌≡◌, ℕ, Bool, ◌||◌, List, [], ◌++◌, Result, Ok, Err, IfOk, is_err, append-nil, ap, ◌∙◌}
-use Rattle.std.proofs.Math.Bool.{or-false}
-use Rattle.mq_wire.specs.Family.{Family}
-use Rattle.mq_text.specs.Printing.{OutputState, Puts}
-use Rattle.mq_text.proofs.Passing.{put_as, then_put}
-use Rattle.mq_check.specs.declared.finding.Finding.{Finding}
-use Rattle.mq_check.specs.FindingLines.{finding_lines}
-use Rattle.mq_check.specs.declared.repeated.LastDifferences.{LastDifferences}
-use Rattle.mq_check.specs.declared.totals.FindingCounts.{FindingCounts}
-use Rattle.mq_check.specs.Repeated.{with_findings}
-use Rattle.mq_check.specs.Telling.{FindingWriterState, Tells, counted_by, reported_by}
+use Rattle.mq_check.proofs.Common.{◌≡◌, ℕ, Bool, ◌||◌, List, [], ◌++◌, Result, Ok, Err, IfOk, is_err, append-nil, ap, ◌∙◌, or-false, Family, OutputState, Puts}
+use Rattle.mq_check.proofs.Common.{put_as, then_put, Finding, finding_lines, LastDifferences, FindingCounts, with_findings, FindingWriterState, Tells}
+use Rattle.mq_check.proofs.Common.{counted_by, reported_by}
 
 still_counted : {T E : Type 0} (xs : List (Finding ℕ)) (old mid new : FindingCounts) (r : Result T E) → mid ≡ counted_by xs old → new ≡ mid →
     IfOk r (λ _. new ≡ counted_by xs old)
@@ -21,7 +13,7 @@ still_noted : {T E : Type 0} (xs : List (Finding ℕ)) (old mid new : LastDiffer
 still_noted xs old mid new (Ok x) noted same = same ∙ noted
 still_noted xs old mid new (Err e) noted same = tt
 
--- some were told, and then nothing more was put
+-- some findings are reported, and then nothing more is put
 pub then_nothing : (T E : Type 0) (family : Family) (xs : List (Finding ℕ)) (old mid new : FindingWriterState) (a b c : OutputState) (x : T) (r : Result T E)
     → Tells {T = T} {E = E} family xs old mid a b (Ok x) → Puts b.held c.held mid.held new.held [] r → new.additions ≡ mid.additions →
     new.last ≡ mid.last → new.count ≡ mid.count → c.failed ≡ (b.failed || is_err r)

@@ -17,14 +17,16 @@ use Rattle.mq_lines.specs.Text.{query_sources}
 use Rattle.mq_link.specs.Family.{is_router_address}
 use Rattle.mq_link.specs.Receive.{envelope_tests}
 use Rattle.mq_link.specs.Tests.{first_named}
-use Rattle.mq_replay.specs.Listing.{IsOfTheFile}
-use Rattle.mq_replay.specs.PlacedPackets.{Place, PlacedPacket, at_first, place_behind, placed}
-use Rattle.mq_replay.specs.Report.{Datagram, datagram_of}
+use Rattle.mq_walk.specs.declared.capture_fault.CaptureFault.{CaptureFault}
+use Rattle.mq_walk.specs.declared.capture_fault.CaptureFault.TheVariants as answer
+use Rattle.mq_walk.specs.Walking.{IsOfTheFile}
+use Rattle.mq_walk.specs.PlacedPackets.{Place, PlacedPacket, at_first, place_behind, placed}
+use Rattle.mq_walk.specs.Datagrams.{Datagram, datagram_of}
 use Rattle.mq_check.specs.declared.announced.Announced.{Announced}
+use Rattle.mq_check.specs.declared.others.Others.{Others}
 use Rattle.mq_check.specs.declared.sought.AskedLast.{AskedLast}
 use Rattle.mq_check.specs.declared.sought.Sought.{Sought}
-use Rattle.mq_replay.specs.declared.capture_fault.CaptureFault.{CaptureFault}
-use Rattle.mq_replay.specs.declared.capture_fault.CaptureFault.TheVariants as answer
+use Rattle.mq_check.specs.Others.{no_others, with_source}
 use Rattle.mq_check.specs.Queries.{if_acted_on, is_general, query_spelled}
 
 -- a value, unless it is 0
@@ -32,11 +34,11 @@ abbrev pub if_any : ℕ → Option ℕ
 if_any zero = None
 if_any (suc n) = Some (suc n)
 
--- QRV and the interval of QQIC, which older queries don't have. If one is 0, its default holds (RFC 3376 sections 4.1.6
--- and 4.1.7, RFC 3810 sections 5.1.8 and 5.1.9).
+-- QRV and the interval of QQIC, which older queries don't have. A querier says QRV 0 if its Robustness Variable is above 7. If
+-- the interval is 0, its default holds. RFC 3376 sections 4.1.6 and 4.1.7, RFC 3810 sections 5.1.8 and 5.1.9.
 abbrev pub robustness_in : QueryVersion ℕ → Option ℕ
 robustness_in (Older version) = None
-robustness_in (Current fields) = if_any fields.robustness
+robustness_in (Current fields) = Some fields.robustness
 
 abbrev pub interval_in : QueryVersion ℕ → Option ℕ
 interval_in (Older version) = None
@@ -63,14 +65,14 @@ shown_response family passed announced =
     else announced
 
 -- the querier by its first general query
-abbrev pub sought_by : (moment source : ℕ) → Query ℕ → (beside : Option ℕ) → Sought ℕ
-sought_by moment source query beside = record {
+abbrev pub sought_by : (moment source : ℕ) → Query ℕ → (others : Others ℕ) → Sought ℕ
+sought_by moment source query others = record {
   querier = source;
   robustness = robustness_in query.version;
   query_seconds = interval_in query.version;
   response_interval = if_any query.response;
   last_member_interval = None;
-  beside = beside;
+  others = others;
   general = moment;
   asked = None;
 }
@@ -82,20 +84,15 @@ with_general_again moment s = record s {
   general = moment;
 }
 
--- the lower one of an address and another, if there is another
-abbrev pub lower_of : (source : ℕ) → Option ℕ → ℕ
-lower_of source None = source
-lower_of source (Some other) = if nat_lt other source then other else source
-
 -- the querier after a general query from a higher address
 abbrev pub with_other : (source : ℕ) → Sought ℕ → Sought ℕ
-with_other source s = record s { beside = Some (lower_of source s.beside) }
+with_other source s = record s { others = with_source source s.others }
 
 -- The querier after a general query. The lowest source is elected (RFC 3376 section 6.6.2, RFC 3810 section 7.6.2).
 abbrev pub with_general : (moment source : ℕ) → Query ℕ → Sought ℕ → Sought ℕ
 with_general moment source query s =
     if nat_lt source s.querier
-    then sought_by moment source query (Some s.querier)
+    then sought_by moment source query (with_source s.querier s.others)
     else if source == s.querier
     then with_general_again moment s
     else with_other source s
@@ -133,7 +130,7 @@ with_specific family moment source query s =
 -- the querier up to and including a query
 abbrev pub with_one : Family → (moment source : ℕ) → Query ℕ → Option (Sought ℕ) → Option (Sought ℕ)
 with_one family moment source query None =
-    if is_general query then Some (sought_by moment source query None) else None
+    if is_general query then Some (sought_by moment source query no_others) else None
 with_one family moment source query (Some s) =
     if is_general query
     then Some (with_general moment source query s)
@@ -168,7 +165,7 @@ found_in (Some s) = Some (record {
   query_seconds = s.query_seconds;
   response_interval = s.response_interval;
   last_member_interval = s.last_member_interval;
-  beside = s.beside;
+  beside = s.others;
 })
 
 -- the effect of a packet on what is known
@@ -211,7 +208,7 @@ abbrev pub by_fault : {X : Type 0} → (is_read : Bool) → Option X → PcapFau
 by_fault true found f = Err (answer.Pcap f)
 by_fault false found f = by_found found f
 
-abbrev pub concluded : {X : Type 0} → Option X → Result (Unit {0}) PcapFault → Result (Option X) CaptureFault
+abbrev pub concluded : {X Y : Type 0} → Option X → Result Y PcapFault → Result (Option X) CaptureFault
 concluded found (Ok done) = Ok found
 concluded found (Err f) = by_fault (is_read f) found f
 

@@ -14,7 +14,7 @@ use Rattle.mq_sched.specs.declared.roles.OtherQuerier.{OtherQuerier}
 use Rattle.mq_sched.specs.Election.{Role, Querier, Other}
 use Rattle.mq_link.specs.Configuration.{Configuration}
 use Rattle.mq_link.specs.Receive.{pseudo_of, read_of}
-use Rattle.mq_replay.specs.Report.{Datagram}
+use Rattle.mq_walk.specs.Datagrams.{Datagram}
 use Rattle.mq_check.specs.declared.basis.Basis.{Basis}
 use Rattle.mq_check.specs.declared.basis.CheckedVariables.{CheckedVariables}
 use Rattle.mq_check.specs.declared.querier_address.QuerierAddress.{QuerierAddress}
@@ -50,6 +50,7 @@ basis_at_start variables own = record {
   unread = 0;
   back = 0;
   refused = 0;
+  is_crowded = false;
   own = own;
   is_heard = false;
   has_higher = false;
@@ -90,9 +91,8 @@ with_read (Err UnknownType) b = b
 with_read (Err QueryLength) b = with_malformed b
 
 -- a query on which hosts act, from a router with a higher address than the checked one
-abbrev pub is_of_higher : Configuration → Datagram → Bool
-is_of_higher config datagram =
-    nat_lt config.own datagram.envelope.source && is_some (query_in config.family datagram)
+abbrev pub is_of_higher : Family → (own : ℕ) → Datagram → Bool
+is_of_higher family own datagram = nat_lt own datagram.envelope.source && is_some (query_in family datagram)
 
 -- The basis after the sender of a datagram of the family was noted. A router with a higher address is querier only if the
 -- checked one isn't there.
@@ -100,7 +100,7 @@ abbrev pub with_sender : Configuration → Datagram → Basis → Basis
 with_sender config datagram b =
     record b {
       is_heard = b.is_heard || (datagram.envelope.source == config.own);
-      has_higher = b.has_higher || is_of_higher config datagram;
+      has_higher = b.has_higher || is_of_higher config.family config.own datagram;
     }
 
 abbrev pub with_datagram : Configuration → Datagram → Basis → Basis
@@ -182,7 +182,7 @@ is_unseen b = not b.is_heard && b.has_higher
 
 -- The reason why a check judged nothing, if there is one. Too much of the capture is truncated or unread, or has stamps
 -- that go back, or it has no message of the family. Or it has no query of the checked router, and no finding or nothing at
--- all from this address. Or it has findings that the limits of the check's own link may cause.
+-- all from this address. Or it has no finding, and no group was judged from some moment on.
 abbrev pub unjudged_by : Totals → Option Unjudged
 unjudged_by totals =
     if is_hardly_understood totals.basis
@@ -193,6 +193,6 @@ unjudged_by totals =
     then Some NoMessage
     else if is_unseen totals.basis || totals.general + totals.specific + totals.findings == 0
     then Some NoQuery
-    else if nat_lt 0 totals.basis.refused && nat_lt 0 totals.findings
+    else if totals.basis.is_crowded && (totals.findings == 0)
     then Some LimitsExceeded
     else None

@@ -9,7 +9,7 @@ use Rattle.mq_wire.specs.Family.{Family}
 use Rattle.mq_link.specs.Family.{is_admitted}
 use Rattle.mq_link.specs.Receive.{Envelope, read_of, pseudo_of, envelope_tests}
 use Rattle.mq_link.specs.Tests.{first_named}
-use Rattle.mq_replay.specs.Report.{Datagram}
+use Rattle.mq_walk.specs.Datagrams.{Datagram}
 use Rattle.mq_check.specs.declared.asked.Asked.{Asked}
 use Rattle.mq_check.specs.declared.asked.Asked.TheVariants.{Group, Source}
 

@@ -14,10 +14,11 @@ use Rattle.mq_link.specs.Run.{answered}
 use Rattle.mq_link.specs.Sent.{outgoing_of}
 use Rattle.mq_link.specs.State.{LinkState, link_at}
 use Rattle.mq_link.specs.Tick.{Step, tick_of, next_of}
-use Rattle.mq_replay.specs.declared.capture_fault.CaptureFault.TheVariants.{Waiting}
-use Rattle.mq_replay.specs.Courses.{Report, Work}
-use Rattle.mq_replay.specs.Report.{Datagram, datagram_of, all_sent}
-use Rattle.mq_replay.specs.Ticks as ticks
+use Rattle.mq_walk.specs.declared.capture_fault.CaptureFault.TheVariants.{Waiting}
+use Rattle.mq_walk.specs.Courses.{Report, Work}
+use Rattle.mq_walk.specs.Datagrams.{Datagram, datagram_of}
+use Rattle.mq_walk.specs.Outlets.{all_sent}
+use Rattle.mq_walk.specs.Ticks as ticks
 use Rattle.mq_check.specs.declared.basis.Basis.{Basis}
 use Rattle.mq_check.specs.declared.check_terms.Additions.{Additions}
 use Rattle.mq_check.specs.declared.check_terms.CheckFlags.{CheckFlags}
@@ -30,12 +31,14 @@ use Rattle.mq_check.specs.declared.totals.Totals.{Totals}
 use Rattle.mq_check.specs.Basis.{basis_at_start, named, variables_in, with_frame, with_other_querier}
 use Rattle.mq_check.specs.Basis as basis
 use Rattle.mq_check.specs.Causes.{causes_in}
-use Rattle.mq_check.specs.Checking.{CheckingValue, checking_at_start, told, settled, faults_seen, with_all_excused, with_messages, role_changed, role_after_tick, query_came, all_changed, told_at_end}
+use Rattle.mq_check.specs.Checking.{CheckingValue, checking_at_start, told, purged, faults_seen, with_all_excused, with_messages, role_changed, role_after_tick, query_came, all_changed, told_at_end, with_s_judged, groups_refused}
 use Rattle.mq_check.specs.FindingLines.{certain_in, finding_lines, last_lines, of_kind, possible_in}
 use Rattle.mq_check.specs.General.{silence_up_to}
 use Rattle.mq_check.specs.Headers.{faults_if, faults_of, headers4_in, headers6_in, is_broken_query, is_own_query}
 use Rattle.mq_check.specs.Queries.{query_seen, specific_terms}
+use Rattle.mq_check.specs.Refused.{is_crowded, refused_by}
 use Rattle.mq_check.specs.Repeated.{all_reported}
+use Rattle.mq_check.specs.Standing.{is_set}
 
 -- A check in progress: the link, its treatment of queries, and the basis of the verdict.
 pub record Checked : Type 0 where
@@ -64,9 +67,13 @@ quiet r = record { checked = r; found = [] }
 abbrev pub behind : List (Finding ℕ) → Outcome → Outcome
 behind found o = record o { found = found ++ o.found }
 
+-- the check after S of the seen queries is judged that no Report of this moment can change, or of all
+abbrev pub judged_at : (within : ℕ) → (moment : Option ℕ) → Checked → Checked
+judged_at within moment r = record r { checking = with_s_judged within moment (is_set r.link.groups) r.checking }
+
 -- the check after its expired entries were removed
-abbrev pub settled_at : (moment : ℕ) → Checked → Checked
-settled_at moment r = record r { checking = settled moment r.checking }
+abbrev pub purged_at : (moment : ℕ) → Checked → Checked
+purged_at moment r = record r { checking = purged moment r.checking }
 
 -- The treatment of queries after those of one step of the link became wanted, by a tick or a datagram. The basis has the
 -- number of packets so far, which is the number of the last packet.
@@ -90,10 +97,12 @@ ticked config within moment r =
 
 -- the outcome of a tick at a moment, after the expired entries are reported
 abbrev pub ticked_at : Configuration → (within moment : ℕ) → Checked → Outcome
-ticked_at config within moment r = record {
-  checked = ticked config within moment (settled_at moment r);
-  found = told within moment r.checking;
-}
+ticked_at config within moment r =
+    let judged = judged_at within (Some moment) r in
+    record {
+      checked = ticked config within moment (purged_at moment judged);
+      found = told within moment judged.checking;
+    }
 
 -- the outcome of all ticks up to and including a moment, at the link's next moments
 abbrev pub ticked_through : Configuration → (within moment : ℕ) → Checked → Outcome
@@ -101,13 +110,14 @@ ticked_through config within moment r =
     ticks.ticked_before (λ (o : Outcome). next_of o.checked.link)
     (λ (o : Outcome). behind o.found (ticked_at config within (next_of o.checked.link) o.checked)) (moment + 1) (quiet r)
 
--- all ticks up to and including a moment, and the removal of the entries that have expired then
-abbrev pub settled_through : Configuration → (within moment : ℕ) → Checked → Outcome
-settled_through config within moment r =
+-- all ticks up to and including the end of a capture, and the removal of the entries that have expired then
+abbrev pub purged_through : Configuration → (within moment : ℕ) → Checked → Outcome
+purged_through config within moment r =
     let done = ticked_through config within moment r in
+    let judged = judged_at within None done.checked in
     record {
-      checked = settled_at moment done.checked;
-      found = done.found ++ told within moment done.checked.checking;
+      checked = purged_at moment judged;
+      found = done.found ++ told within moment judged.checking;
     }
 
 -- The ticks up to the tolerance after the end of a capture, at most to 2^53. A query that the link sends then may be the
@@ -167,6 +177,13 @@ received config within moment datagram r =
           (basis.role_changed moment (is_querier r.link.election.role) (is_querier step.state.election.role) r.basis);
     }
 
+-- the check after a datagram for the link; if the link refused one of its records, its groups aren't judged
+unfoldable pub taken : Configuration → (within moment : ℕ) → Datagram → Checked → Checked
+taken config within moment datagram r =
+    let after = received config within moment datagram r in
+    let answer = (receipt_of config datagram.envelope datagram.body moment r.link).answer in
+    record after { checking = groups_refused (refused_by config.family answer datagram) after.checking }
+
 -- the check after a query of the checked querier was seen
 unfoldable pub seen_at : Configuration → (within moment to : ℕ) → Query ℕ → Checked → Checked
 seen_at config within moment to query r =
@@ -175,7 +192,7 @@ seen_at config within moment to query r =
 -- the check after a datagram: a seen query of the checked querier, or a datagram for the link
 abbrev pub seen_or_received : Configuration → (within moment to : ℕ) → Datagram → Option (Query ℕ) → Checked → Checked
 seen_or_received config within moment to datagram (Some query) r = seen_at config within moment to query r
-seen_or_received config within moment to datagram None r = received config within moment datagram r
+seen_or_received config within moment to datagram None r = taken config within moment datagram r
 
 -- the check after these faults were seen in the headers of the packet with this number
 abbrev pub with_faults : (moment number : ℕ) → List HeaderFault → Checked → Checked
@@ -186,10 +203,11 @@ abbrev pub with_datagram : Configuration → LinkType → (within moment number 
 with_datagram config link within moment number frame None r = quiet r
 with_datagram config link within moment number frame (Some datagram) r =
     let to = destination_in config.family link frame datagram.envelope in
-    let before = with_faults moment number (faults_in config link frame datagram) (settled_at moment r) in
+    let judged = judged_at within (Some moment) r in
+    let before = with_faults moment number (faults_in config link frame datagram) (purged_at moment judged) in
     record {
       checked = seen_or_received config within moment to datagram (query_seen config datagram) before;
-      found = told within moment r.checking;
+      found = told within moment judged.checking;
     }
 
 -- the check after a packet was counted
@@ -243,15 +261,15 @@ concluded config additions c basis found =
       answer = Ok (totals_of c basis told);
     }
 
--- the basis at the end, with the number of records that the link refused for its limits
+-- the basis at the end: the number of records that the link refused for its limits, and whether no group is judged for them
 abbrev pub basis_at_end : Checked → Basis
-basis_at_end r = record r.basis { refused = r.link.counters.refused }
+basis_at_end r = record r.basis { refused = r.link.counters.refused; is_crowded = is_crowded r.checking.refused }
 
 -- The verdict after a check up to and including a moment, with the earlier findings first. The link is ticked further,
 -- so that each seen query can find its partner. The basis and the silence are those of the moment.
 unfoldable pub ended_at : Configuration → (within : ℕ) → (additions : Additions) → (moment number : ℕ) → (found : List (Finding ℕ)) → Checked → Report Totals
 ended_at config within additions moment number found r =
-    let done = settled_through config within moment r in
+    let done = purged_through config within moment r in
     let ahead = looked_ahead config within moment done.checked in
     let silence = silence_up_to within config.timing moment done.checked.checking.phase in
     if ahead.checked.checking.waiting.is_full

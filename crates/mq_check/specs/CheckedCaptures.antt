@@ -2,8 +2,8 @@
 use Rattle.std.specs.Prelude.{ℕ, List, Option, Result}
 use Rattle.mq_pcap.specs.Filling.{InputState}
 use Rattle.mq_link.specs.Configuration.{Configuration}
-use Rattle.mq_replay.specs.declared.capture_fault.CaptureFault.{CaptureFault}
-use Rattle.mq_replay.specs.Reports.{Reports}
+use Rattle.mq_walk.specs.declared.capture_fault.CaptureFault.{CaptureFault}
+use Rattle.mq_walk.specs.Reports.{Reports}
 use Rattle.mq_check.specs.declared.check_terms.CheckTerms.{CheckTerms}
 use Rattle.mq_check.specs.declared.totals.Totals.{Totals}
 use Rattle.mq_check.specs.Check.{check_of}

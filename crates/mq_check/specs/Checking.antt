@@ -27,21 +27,25 @@ use Rattle.mq_check.specs.declared.phase.Phase.TheVariants.{Starting, Heard, Ret
 use Rattle.mq_check.specs.declared.standing.Standing.{Standing}
 use Rattle.mq_check.specs.declared.terms.Terms.{Terms}
 use Rattle.mq_check.specs.declared.waiting.Side.TheVariants.{OfWanted, OfSeen}
-use Rattle.mq_check.specs.Entries.{moment_of, first_terms, may_be_left_out, excused_if, findings_of, is_possible}
-use Rattle.mq_check.specs.General.{phase_at_start, wrong_interval, phase_behind, silence_up_to, phase_again}
+use Rattle.mq_check.specs.declared.entry.SVerdict.{SVerdict}
+use Rattle.mq_check.specs.declared.entry.SVerdict.TheVariants.{Open, Right}
+use Rattle.mq_check.specs.declared.entry.SeenVerdict.{SeenVerdict}
+use Rattle.mq_check.specs.Entries.{as_wanted, is_suppressed, is_unlike, moment_of, first_terms, may_be_left_out, excused_if, is_possible}
+use Rattle.mq_check.specs.General.{phase_for, wrong_interval, phase_behind, silence_up_to, phase_again}
 use Rattle.mq_check.specs.Standing.{plain, standing_in}
 use Rattle.mq_check.specs.Schedules.{SchedulesValue, schedules_at_start, schedules_wanted, schedules_changed, recent, as_seen, before_in, is_next, terms_wanted}
-use Rattle.mq_check.specs.Schedules.{at_first, caused, cause_in, first_of, followed, is_near_cause, placed, unclear, without_next}
+use Rattle.mq_check.specs.Schedules.{unforeseen, caused, cause_in, first_of, followed, is_near_cause, placed, said, unclear, without_next}
 use Rattle.mq_link.specs.Configuration.{Configuration}
 use Rattle.mq_link.specs.Sent.{Outgoing}
 use Rattle.mq_link.specs.State.{LinkState}
 use Rattle.mq_check.specs.Queries.{asked_in, is_general, terms_of, general_terms}
+use Rattle.mq_check.specs.Refused.{judged, with_refused}
 use Rattle.mq_check.specs.Waiting.{WaitingValue, nothing, emptied, with_entry, with_partner, is_free, has_free}
 use Rattle.mq_check.specs.Waiting as waits
 
 -- The pending entries, the last change of the role, the phase of general queries, and the counts of seen queries.
 -- `unmuted` has the groups for whose sources the querier asked after a change that older hosts mute. So none was there
--- before the capture. `schedules` has the schedules that a querier may keep.
+-- before the capture. `schedules` has the schedules that a querier may keep, and `refused` the groups that aren't judged.
 pub record CheckingValue : Type 0 where
   pub waiting : WaitingValue
   pub changed : Option ℕ
@@ -51,32 +55,39 @@ pub record CheckingValue : Type 0 where
   pub specific : ℕ
   pub unmuted : WaitingValue
   pub schedules : SchedulesValue
+  pub refused : List ℕ
 
 abbrev pub checking_at_start : (within : ℕ) → Timing → CheckFlags → CheckingValue
 checking_at_start within timing flags = record {
   waiting = nothing;
   changed = None;
-  phase = phase_at_start timing;
+  phase = phase_for timing flags.above_7;
   last_general = None;
   general = 0;
   specific = 0;
   unmuted = nothing;
   schedules = schedules_at_start within timing flags;
+  refused = [];
 }
 
 -- The findings of the entries that have expired at a moment, and the check after their removal. The queries that were still
 -- to come in schedules from before the capture follow. If an entry had no room, nothing more is found.
 abbrev pub told : (within now : ℕ) → CheckingValue → List (Finding ℕ)
 told within now c =
-    waits.told c.schedules.repeats.keep within now c.changed c.waiting
-    ++ waits.told c.schedules.repeats.within within now c.changed c.schedules.next
+    waits.told c.schedules.repeats.keep within now c.changed c.refused c.waiting
+    ++ waits.told c.schedules.repeats.within within now c.changed c.refused c.schedules.next
 
-abbrev pub settled : (now : ℕ) → CheckingValue → CheckingValue
-settled now c =
+abbrev pub purged : (now : ℕ) → CheckingValue → CheckingValue
+purged now c =
     record c {
-      waiting = waits.settled c.schedules.repeats.keep now c.waiting;
-      schedules = record c.schedules { next = waits.settled c.schedules.repeats.within now c.schedules.next };
+      waiting = waits.purged c.schedules.repeats.keep now c.waiting;
+      schedules = record c.schedules { next = waits.purged c.schedules.repeats.within now c.schedules.next };
     }
+
+-- The check after the judgement of S. A Report changes S of a query up to a millisecond after it, but not after the tolerance.
+-- Without a moment, all are judged.
+abbrev pub with_s_judged : (within : ℕ) → (now : Option ℕ) → (is_set : (limit : ℕ) → Asked ℕ → Bool) → CheckingValue → CheckingValue
+with_s_judged within now is_set c = record c { waiting = waits.all_s_judged (min within 1) now is_set c.waiting }
 
 -- a count, which stays at the greatest number of 64 bits
 abbrev pub counted_up : ℕ → ℕ
@@ -144,15 +155,15 @@ alone_if true is_muted None = Extra (reason_of is_muted)
 abbrev pub possible_by : (moment : ℕ) → Terms ℕ → Asked ℕ → SchedulesValue → Option (Terms ℕ)
 possible_by moment terms asked s = first_of
     (as_seen terms (first_of (unclear asked s) (caused moment asked s)))
-    (at_first moment terms s)
+    (unforeseen moment terms asked s)
 
-abbrev pub alone_after : (moment : ℕ) → Terms ℕ → Standing → Asked ℕ → CheckingValue → Unpaired ℕ
-alone_after moment terms standing asked c =
-    alone_if (is_querier_in c.phase) standing.is_muted (possible_by moment terms asked c.schedules)
+abbrev pub alone_after : (moment : ℕ) → Terms ℕ → (is_muted : Bool) → Asked ℕ → CheckingValue → Unpaired ℕ
+alone_after moment terms is_muted asked c =
+    alone_if (is_querier_in c.phase) is_muted (possible_by moment terms asked c.schedules)
 
 abbrev pub alone_in : (moment : ℕ) → Terms ℕ → Standing → Asked ℕ → CheckingValue → Unpaired ℕ
 alone_in moment terms standing asked c =
-    alone_after moment terms standing asked (record c { schedules = recent moment c.schedules })
+    alone_after moment terms standing.is_muted asked (record c { schedules = recent moment c.schedules })
 
 -- The partner of a seen query is the first wanted query on the subject within the tolerance that has none. If there is
 -- none within the tolerance and the query goes on with a schedule, its partner is the first one before. Then S is as
@@ -193,6 +204,19 @@ with_unmuted moment terms (Group group) c = c.unmuted
 with_unmuted moment terms (Source group source) c =
     if shows_unmuted moment group source c then with_entry (Wanted moment (Group group) terms Optional false) c.unmuted else c.unmuted
 
+-- The verdict on a seen query. A querier may be late within the tolerance, and a Report may come meanwhile. So S is right if it is
+-- that of the timer when the query is seen. Another S is right only if a Report sets the timer within a millisecond.
+abbrev pub s_by : (is_above : Bool) → (set_from : ℕ) → Terms ℕ → SVerdict
+s_by is_above set_from terms = if is_unlike (is_suppressed terms.querier) is_above then Open set_from else Right
+
+-- S isn't judged if the Robustness Variable is above 7: the Last Member Query Time isn't known then.
+abbrev pub s_for : (above_7 is_above : Bool) → (set_from : ℕ) → Terms ℕ → SVerdict
+s_for true is_above set_from terms = Right
+s_for false is_above set_from terms = s_by is_above set_from terms
+
+abbrev pub verdict_in : (moment : ℕ) → Terms ℕ → Standing → Asked ℕ → CheckingValue → SeenVerdict ℕ
+verdict_in moment terms standing asked c = record { s = s_for c.schedules.repeats.above_7 standing.is_above standing.set_from terms; alone = alone_in moment terms standing asked c }
+
 -- The check after a query was seen. Its partner is a wanted query, or it is the next one of a schedule from before the
 -- capture.
 unfoldable pub with_seen : (moment : ℕ) → Terms ℕ → Standing → CheckingValue → Asked ℕ → CheckingValue
@@ -200,12 +224,12 @@ with_seen moment terms standing c asked =
     let before = recent moment c.schedules in
     let partner = partner_of moment terms asked c in
     let next = followed moment standing.is_above asked before in
-    let alone = alone_in moment terms standing asked c in
+    let verdict = verdict_in moment terms standing asked c in
     record c {
-      waiting = with_entry (Seen moment asked terms (first_of partner next) alone) (paired moment terms asked c);
+      waiting = with_entry (Seen moment asked terms (first_of partner next) verdict) (paired moment terms asked c);
       unmuted = with_unmuted moment terms asked (record c { schedules = before });
       schedules =
-          placed moment terms asked (is_some partner) (is_some next) (is_possible alone) (caused moment asked before) before;
+          placed moment terms asked (is_some partner) (is_some next) (is_possible verdict.alone) (caused moment asked before) before;
     }
 
 -- the entries with a wrong interval, or with a silence that is too long, if there is one
@@ -226,7 +250,7 @@ with_general within configured moment terms wanted c =
     let judged =
     with_interval configured moment terms.packet (wrong_interval within configured moment c.phase) c.waiting in
     record c {
-      waiting = with_entry (Seen moment AllGroups terms (Some wanted) (Extra NoChange)) (with_partner OfWanted AllGroups (near moment c) terms judged);
+      waiting = with_entry (Seen moment AllGroups terms (Some wanted) (as_wanted (Extra NoChange))) (with_partner OfWanted AllGroups (near moment c) terms judged);
       phase = phase_behind within configured moment c.phase;
     }
 
@@ -234,7 +258,7 @@ with_general within configured moment terms wanted c =
 abbrev pub general_compared : (within : ℕ) → (configured : Timing) → (moment : ℕ) → (terms wanted : Terms ℕ) → CheckingValue → CheckingValue
 general_compared within configured moment terms wanted c =
     if is_querier_in c.phase
-    then with_general within configured moment terms wanted c
+    then with_general within configured moment terms (said false c.schedules.repeats wanted) c
     else with_seen moment terms plain c AllGroups
 
 abbrev pub general_seen : (within : ℕ) → (configured : Timing) → (moment : ℕ) → (terms wanted : Terms ℕ) → CheckingValue → CheckingValue
@@ -331,11 +355,15 @@ with_all_excused within end c =
     let schedules = recent end c.schedules in
     record c { waiting = waits.all_excused within end schedules.sent c.waiting; schedules = without_all_next schedules }
 
+-- The check after the link refused a record of a message that names these groups.
+abbrev pub groups_refused : List ℕ → CheckingValue → CheckingValue
+groups_refused groups c = record c { refused = fold with_refused c.refused groups }
+
 -- The findings of an entry that is pending after the end of a capture, if the role changed last at `changed`. A query
 -- that is wanted at most the tolerance before the end, or later, isn't reported.
-abbrev pub found_of_last : (within end : ℕ) → (changed : Option ℕ) → Entry ℕ → List (Finding ℕ)
-found_of_last within end changed entry =
-    findings_of within changed (excused_if (nat_le end (moment_of entry + within)) entry)
+abbrev pub found_of_last : (within end : ℕ) → (changed : Option ℕ) → (refused : List ℕ) → Entry ℕ → List (Finding ℕ)
+found_of_last within end changed refused entry =
+    judged within changed refused (excused_if (nat_le end (moment_of entry + within)) entry)
 
 abbrev pub silence_found : (configured : Timing) → (moment : ℕ) → Option ℕ → List (Finding ℕ)
 silence_found configured moment None = []
@@ -345,4 +373,4 @@ silence_found configured moment (Some passed) =
 -- the last findings at the end: those of the pending entries, and a silence up to the end that is too long
 abbrev pub told_at_end : (within : ℕ) → (configured : Timing) → (moment : ℕ) → (silence : Option ℕ) → CheckingValue → List (Finding ℕ)
 told_at_end within configured moment silence c =
-    flat_map (found_of_last within moment c.changed) c.waiting.entries ++ silence_found configured moment silence
+    flat_map (found_of_last within moment c.changed c.refused) c.waiting.entries ++ silence_found configured moment silence

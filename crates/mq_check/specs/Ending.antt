@@ -2,14 +2,14 @@
 use Rattle.std.specs.Prelude.{ℕ, if◌then◌else◌, List, ◌++◌, Ok, Err}
 use Rattle.mq_wire.specs.Family.{Family}
 use Rattle.mq_link.specs.Configuration.{Configuration}
-use Rattle.mq_replay.specs.declared.capture_fault.CaptureFault.TheVariants as answer
-use Rattle.mq_replay.specs.Courses.{Report}
+use Rattle.mq_walk.specs.declared.capture_fault.CaptureFault.TheVariants as answer
+use Rattle.mq_walk.specs.Courses.{Report}
 use Rattle.mq_check.specs.declared.basis.Basis.{Basis}
 use Rattle.mq_check.specs.declared.check_terms.Additions.{Additions}
 use Rattle.mq_check.specs.declared.finding.Finding.{Finding}
 use Rattle.mq_check.specs.declared.totals.FindingCounts.{FindingCounts}
 use Rattle.mq_check.specs.declared.totals.Totals.{Totals}
-use Rattle.mq_check.specs.Check.{Checked, basis_at_end, looked_ahead, settled_through}
+use Rattle.mq_check.specs.Check.{Checked, basis_at_end, looked_ahead, purged_through}
 use Rattle.mq_check.specs.Checking.{CheckingValue, told_at_end}
 use Rattle.mq_check.specs.FindingLines.{finding_lines, last_lines}
 use Rattle.mq_check.specs.General.{silence_up_to}
@@ -43,7 +43,7 @@ end_behind family told number c basis found last =
 
 unfoldable pub ended_behind : Configuration → (within : ℕ) → FindingWriterState → (moment number : ℕ) → Checked → Report Totals
 ended_behind config within told moment number r =
-    let done = settled_through config within moment r in
+    let done = purged_through config within moment r in
     let ahead = looked_ahead config within moment done.checked in
     let silence = silence_up_to within config.timing moment done.checked.checking.phase in
     end_behind config.family told number ahead.checked.checking (basis_at_end done.checked) (done.found ++ ahead.found)

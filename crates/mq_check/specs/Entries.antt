@@ -11,6 +11,9 @@ use Rattle.mq_check.specs.declared.entry.Need.{Need}
 use Rattle.mq_check.specs.declared.entry.Need.TheVariants.{Required, Optional}
 use Rattle.mq_check.specs.declared.entry.Need.TheVariants as need
 use Rattle.mq_check.specs.declared.entry.Unpaired.TheVariants.{Extra, Possible, Scheduled, Next}
+use Rattle.mq_check.specs.declared.entry.SVerdict.{SVerdict}
+use Rattle.mq_check.specs.declared.entry.SVerdict.TheVariants.{Open, Right, AsWanted}
+use Rattle.mq_check.specs.declared.entry.SeenVerdict.{SeenVerdict}
 use Rattle.mq_check.specs.declared.finding.Difference.{Difference}
 use Rattle.mq_check.specs.declared.finding.Difference.TheVariants as field
 use Rattle.mq_check.specs.declared.finding.Finding.{Finding}
@@ -21,7 +24,7 @@ use Rattle.mq_check.specs.Queries.{is_same}
 
 abbrev pub moment_of : Entry ℕ → ℕ
 moment_of (Wanted moment asked terms need is_found) = moment
-moment_of (Seen moment asked terms partner alone) = moment
+moment_of (Seen moment asked terms partner verdict) = moment
 moment_of (Interval moment packet after wanted) = moment
 moment_of (Silence moment after wanted) = moment
 moment_of (Packet moment number fault) = moment
@@ -37,7 +40,7 @@ is_over within now entry = nat_lt (moment_of entry + within) now
 -- a wanted query that has no partner yet
 abbrev pub is_free_wanted : Asked ℕ → Entry ℕ → Bool
 is_free_wanted asked (Wanted moment asked' terms need is_found) = is_same asked asked' && not is_found
-is_free_wanted asked (Seen moment asked' terms partner alone) = false
+is_free_wanted asked (Seen moment asked' terms partner verdict) = false
 is_free_wanted asked (Interval moment packet after wanted) = false
 is_free_wanted asked (Silence moment after wanted) = false
 is_free_wanted asked (Packet moment number fault) = false
@@ -45,14 +48,14 @@ is_free_wanted asked (Packet moment number fault) = false
 -- a seen query that has no partner yet
 abbrev pub is_free_seen : Asked ℕ → Entry ℕ → Bool
 is_free_seen asked (Wanted moment asked' terms need is_found) = false
-is_free_seen asked (Seen moment asked' terms partner alone) = is_same asked asked' && not (is_some partner)
+is_free_seen asked (Seen moment asked' terms partner verdict) = is_same asked asked' && not (is_some partner)
 is_free_seen asked (Interval moment packet after wanted) = false
 is_free_seen asked (Silence moment after wanted) = false
 is_free_seen asked (Packet moment number fault) = false
 
 abbrev pub terms_in : Entry ℕ → Option (Terms ℕ)
 terms_in (Wanted moment asked terms need is_found) = Some terms
-terms_in (Seen moment asked terms partner alone) = Some terms
+terms_in (Seen moment asked terms partner verdict) = Some terms
 terms_in (Interval moment packet after wanted) = None
 terms_in (Silence moment after wanted) = None
 terms_in (Packet moment number fault) = None
@@ -60,7 +63,7 @@ terms_in (Packet moment number fault) = None
 -- the entry with a partner, whose terms a seen query keeps
 abbrev pub joined : Terms ℕ → Entry ℕ → Entry ℕ
 joined other (Wanted moment asked terms need is_found) = Wanted moment asked terms need true
-joined other (Seen moment asked terms partner alone) = Seen moment asked terms (Some other) alone
+joined other (Seen moment asked terms partner verdict) = Seen moment asked terms (Some other) verdict
 joined other (Interval moment packet after wanted) = Interval moment packet after wanted
 joined other (Silence moment after wanted) = Silence moment after wanted
 joined other (Packet moment number fault) = Packet moment number fault
@@ -88,7 +91,7 @@ left_of (Next left) = left
 
 abbrev pub left_in : Entry ℕ → ℕ
 left_in (Wanted moment asked terms need is_found) = 0
-left_in (Seen moment asked terms partner alone) = left_of alone
+left_in (Seen moment asked terms partner verdict) = left_of verdict.alone
 left_in (Interval moment packet after wanted) = 0
 left_in (Silence moment after wanted) = 0
 left_in (Packet moment number fault) = 0
@@ -96,7 +99,7 @@ left_in (Packet moment number fault) = 0
 -- a query for a group that is wanted at a moment
 abbrev pub is_group_wanted : (moment group : ℕ) → Entry ℕ → Bool
 is_group_wanted moment group (Wanted moment' asked terms need is_found) = is_same (Group group) asked && (moment == moment')
-is_group_wanted moment group (Seen moment' asked terms partner alone) = false
+is_group_wanted moment group (Seen moment' asked terms partner verdict) = false
 is_group_wanted moment group (Interval moment' packet after wanted) = false
 is_group_wanted moment group (Silence moment' after wanted) = false
 is_group_wanted moment group (Packet moment' number fault) = false
@@ -193,6 +196,48 @@ with_suppress suppress (Some wanted) = Some (record wanted { suppress = suppress
 abbrev pub with_s_of : (seen wanted : Terms ℕ) → Terms ℕ
 with_s_of seen wanted = record wanted { querier = with_suppress (is_suppressed seen.querier) wanted.querier }
 
+-- the verdict on a query whose S has to be that of its partner
+abbrev pub as_wanted : Unpaired ℕ → SeenVerdict ℕ
+as_wanted alone = record { s = AsWanted; alone = alone }
+
+-- S isn't judged yet.
+abbrev pub is_open_s : SVerdict → Bool
+is_open_s (Open limit) = true
+is_open_s Right = false
+is_open_s AsWanted = false
+
+abbrev pub is_s_open : Entry ℕ → Bool
+is_s_open (Wanted moment asked terms need is_found) = false
+is_s_open (Seen moment asked terms partner verdict) = is_open_s verdict.s
+is_s_open (Interval moment packet after wanted) = false
+is_s_open (Silence moment after wanted) = false
+is_s_open (Packet moment number fault) = false
+
+-- A judgement by the timer of the subject. A stamp may be a millisecond off. So either S is right if a Report set the timer at
+-- most a millisecond before or after the query. Then it runs up to a limit or longer, as `is_set` says.
+abbrev pub s_if : (is_set : Bool) → SVerdict
+s_if true = Right
+s_if false = AsWanted
+
+abbrev pub s_judged : (is_set : (limit : ℕ) → Asked ℕ → Bool) → Asked ℕ → SVerdict → SVerdict
+s_judged is_set asked (Open limit) = s_if (is_set limit asked)
+s_judged is_set asked Right = Right
+s_judged is_set asked AsWanted = AsWanted
+
+abbrev pub entry_judged : (is_set : (limit : ℕ) → Asked ℕ → Bool) → Entry ℕ → Entry ℕ
+entry_judged is_set (Wanted moment asked terms need is_found) = Wanted moment asked terms need is_found
+entry_judged is_set (Seen moment asked terms partner verdict) =
+    Seen moment asked terms partner (record verdict { s = s_judged is_set asked verdict.s })
+entry_judged is_set (Interval moment packet after wanted) = Interval moment packet after wanted
+entry_judged is_set (Silence moment after wanted) = Silence moment after wanted
+entry_judged is_set (Packet moment number fault) = Packet moment number fault
+
+-- the wanted query with which a seen one is compared
+abbrev pub with_s_judged : SVerdict → (seen wanted : Terms ℕ) → Terms ℕ
+with_s_judged (Open limit) seen wanted = wanted
+with_s_judged Right seen wanted = with_s_of seen wanted
+with_s_judged AsWanted seen wanted = wanted
+
 -- The findings of a seen query with a partner. If the query is possibly another one, another S makes it possibly extra.
 abbrev pub findings_of_pair : (moment : ℕ) → Asked ℕ → (seen wanted : Terms ℕ) → Unpaired ℕ → List (Finding ℕ)
 findings_of_pair moment asked seen wanted alone =
@@ -201,16 +246,17 @@ findings_of_pair moment asked seen wanted alone =
     else differences_found moment asked seen wanted
 
 -- The findings of a seen query. Without a partner it has none if the role changed within the tolerance of it.
-abbrev pub findings_of_seen : (within : ℕ) → (changed : Option ℕ) → (moment : ℕ) → Asked ℕ → Terms ℕ → Option (Terms ℕ) → Unpaired ℕ → List (Finding ℕ)
-findings_of_seen within changed moment asked terms None alone =
-    if is_near_change within moment changed then [] else findings_alone moment asked terms alone
-findings_of_seen within changed moment asked terms (Some wanted) alone = findings_of_pair moment asked terms wanted alone
+abbrev pub findings_of_seen : (within : ℕ) → (changed : Option ℕ) → (moment : ℕ) → Asked ℕ → Terms ℕ → Option (Terms ℕ) → SeenVerdict ℕ → List (Finding ℕ)
+findings_of_seen within changed moment asked terms None verdict =
+    if is_near_change within moment changed then [] else findings_alone moment asked terms verdict.alone
+findings_of_seen within changed moment asked terms (Some wanted) verdict =
+    findings_of_pair moment asked terms (with_s_judged verdict.s terms wanted) verdict.alone
 
 -- The entry at the end of a capture. The partner of a wanted query may come after the end, so the query may be left
 -- out.
 abbrev pub excused : Entry ℕ → Entry ℕ
 excused (Wanted moment asked terms need is_found) = Wanted moment asked terms Optional is_found
-excused (Seen moment asked terms partner alone) = Seen moment asked terms partner alone
+excused (Seen moment asked terms partner verdict) = Seen moment asked terms partner verdict
 excused (Interval moment packet after wanted) = Interval moment packet after wanted
 excused (Silence moment after wanted) = Silence moment after wanted
 excused (Packet moment number fault) = Packet moment number fault
@@ -223,8 +269,8 @@ excused_if false entry = entry
 abbrev pub findings_of : (within : ℕ) → (changed : Option ℕ) → Entry ℕ → List (Finding ℕ)
 findings_of within changed (Wanted moment asked terms need is_found) =
     if is_found then [] else missing_by need moment terms.packet asked
-findings_of within changed (Seen moment asked terms partner alone) =
-    findings_of_seen within changed moment asked terms partner alone
+findings_of within changed (Seen moment asked terms partner verdict) =
+    findings_of_seen within changed moment asked terms partner verdict
 findings_of within changed (Interval moment packet after wanted) = finding.Interval moment packet after wanted ∷ []
 findings_of within changed (Silence moment after wanted) = finding.Silence moment after wanted ∷ []
 findings_of within changed (Packet moment number fault) = finding.Packet moment number fault ∷ []

@@ -12,6 +12,14 @@ use Rattle.mq_check.specs.Entries.{is_within}
 abbrev pub phase_at_start : Timing → Phase
 phase_at_start timing = Starting (startup_count timing - 1)
 
+-- The greatest Robustness Variable that a check allows for, if it is above 7.
+abbrev pub greatest_variable : ℕ
+greatest_variable = 255
+
+abbrev pub phase_for : Timing → (above_7 : Bool) → Phase
+phase_for timing true = Starting (greatest_variable - 1)
+phase_for timing false = phase_at_start timing
+
 -- more than a query interval and the tolerance has passed
 abbrev pub is_late : (within : ℕ) → Timing → (passed : ℕ) → Bool
 is_late within timing passed = nat_lt (query_interval timing + within) passed

@@ -12,7 +12,7 @@ use Rattle.mq_wire.specs.declared.message.WireFault.TheVariants.{Truncated, Chec
 use Rattle.mq_wire.specs.Family.{Family, Igmp, Mld}
 use Rattle.mq_link.specs.Configuration.{Configuration}
 use Rattle.mq_link.specs.Receive.{Envelope, read_of, pseudo_of}
-use Rattle.mq_replay.specs.Report.{Datagram}
+use Rattle.mq_walk.specs.Datagrams.{Datagram}
 use Rattle.mq_check.specs.declared.headers.Headers.{Headers}
 use Rattle.mq_check.specs.declared.headers.HeaderFault.{HeaderFault}
 use Rattle.mq_check.specs.declared.headers.HeaderFault.TheVariants.{TimeToLive, NoRouterAlert, Precedence, HeaderChecksum, WrongChecksum, ReservedBits, AdditionalData}

@@ -11,8 +11,10 @@ pub mod FindingLines
 pub mod General
 pub mod Headers
 pub mod Numbered
+pub mod Others
 pub mod Places
 pub mod Queries
+pub mod Refused
 pub mod Repeated
 pub mod Schedules
 pub mod Sizes
@@ -20,5 +22,6 @@ pub mod Slots
 pub mod Standing
 pub mod Telling
 pub mod Trails
+pub mod Unseen
 pub mod Waiting
 pub mod Wanting

@@ -1,14 +1,17 @@
 -- Entries and findings with addresses as numbers.
 use Rattle.std.specs.Prelude.{ℕ, List, [], ◌∷◌, Option, None, Some, Result, Ok, Err}
+use Rattle.mq_walk.specs.declared.capture_fault.CaptureFault.{CaptureFault}
 use Rattle.mq_check.specs.declared.announced.Announced.{Announced}
+use Rattle.mq_check.specs.declared.others.Four.{Four}
+use Rattle.mq_check.specs.declared.others.Others.{Others}
 use Rattle.mq_check.specs.declared.sought.AskedLast.{AskedLast}
 use Rattle.mq_check.specs.declared.sought.Sought.{Sought}
 use Rattle.mq_check.specs.declared.asked.Asked.{Asked}
 use Rattle.mq_check.specs.declared.asked.Asked.TheVariants.{AllGroups, Group, Source}
-use Rattle.mq_replay.specs.declared.capture_fault.CaptureFault.{CaptureFault}
 use Rattle.mq_check.specs.declared.entry.Entry.{Entry}
 use Rattle.mq_check.specs.declared.entry.Entry.TheVariants.{Wanted, Seen, Interval, Silence, Packet}
 use Rattle.mq_check.specs.declared.entry.Unpaired.{Unpaired}
+use Rattle.mq_check.specs.declared.entry.SeenVerdict.{SeenVerdict}
 use Rattle.mq_check.specs.declared.entry.Unpaired.TheVariants.{Extra, Possible, Scheduled, Next}
 use Rattle.mq_check.specs.declared.finding.Difference.{Difference}
 use Rattle.mq_check.specs.declared.finding.Difference.TheVariants as difference
@@ -36,6 +39,17 @@ abbrev pub number_if : {K : Type 0} → (K → ℕ) → Option K → Option ℕ
 number_if number None = None
 number_if number (Some address) = Some (number address)
 
+abbrev pub numbered_four : {K : Type 0} → (K → ℕ) → Four K → Four ℕ
+numbered_four number f = record {
+  first = number_if number f.first;
+  second = number_if number f.second;
+  third = number_if number f.third;
+  fourth = number_if number f.fourth;
+}
+
+abbrev pub numbered_others : {K : Type 0} → (K → ℕ) → Others K → Others ℕ
+numbered_others number o = record { low = numbered_four number o.low; high = numbered_four number o.high; has_more = o.has_more }
+
 abbrev pub numbered_announced : {K : Type 0} → (K → ℕ) → Announced K → Announced ℕ
 numbered_announced number a = record {
   querier = number a.querier;
@@ -43,7 +57,7 @@ numbered_announced number a = record {
   query_seconds = a.query_seconds;
   response_interval = a.response_interval;
   last_member_interval = a.last_member_interval;
-  beside = number_if number a.beside;
+  beside = numbered_others number a.beside;
 }
 
 abbrev pub numbered_announced_if : {K : Type 0} → (K → ℕ) → Option (Announced K) → Option (Announced ℕ)
@@ -64,7 +78,7 @@ numbered_sought number s = record {
   query_seconds = s.query_seconds;
   response_interval = s.response_interval;
   last_member_interval = s.last_member_interval;
-  beside = number_if number s.beside;
+  others = numbered_others number s.others;
   general = s.general;
   asked = numbered_asked_last_if number s.asked;
 }
@@ -87,12 +101,15 @@ numbered_unpaired number (Possible terms) = Possible (numbered_terms number term
 numbered_unpaired number (Scheduled left) = Scheduled left
 numbered_unpaired number (Next left) = Next left
 
+abbrev pub numbered_verdict : {K : Type 0} → (K → ℕ) → SeenVerdict K → SeenVerdict ℕ
+numbered_verdict number verdict = record { s = verdict.s; alone = numbered_unpaired number verdict.alone }
+
 abbrev pub numbered_entry : {K : Type 0} → (K → ℕ) → Entry K → Entry ℕ
 numbered_entry number (Wanted moment asked terms need is_found) =
     Wanted moment (numbered_asked number asked) (numbered_terms number terms) need is_found
-numbered_entry number (Seen moment asked terms partner alone) =
+numbered_entry number (Seen moment asked terms partner verdict) =
     Seen moment (numbered_asked number asked) (numbered_terms number terms) (numbered_terms_if number partner)
-    (numbered_unpaired number alone)
+    (numbered_verdict number verdict)
 numbered_entry number (Interval moment packet after wanted) = Interval moment packet after wanted
 numbered_entry number (Silence moment after wanted) = Silence moment after wanted
 numbered_entry number (Packet moment packet fault) = Packet moment packet fault

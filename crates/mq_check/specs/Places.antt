@@ -5,8 +5,9 @@ use Rattle.mq_check.specs.declared.asked.Asked.{Asked}
 use Rattle.mq_check.specs.declared.entry.Entry.{Entry}
 use Rattle.mq_check.specs.declared.terms.Terms.{Terms}
 use Rattle.mq_check.specs.declared.waiting.Side.{Side}
-use Rattle.mq_check.specs.Entries.{moment_of, terms_in, joined, first_terms, first_joined, first_entry, findings_of}
-use Rattle.mq_check.specs.Waiting.{WaitingValue, is_free, told, settled}
+use Rattle.mq_check.specs.Entries.{moment_of, terms_in, joined, first_terms, first_joined, first_entry}
+use Rattle.mq_check.specs.Refused.{judged}
+use Rattle.mq_check.specs.Waiting.{WaitingValue, is_free, told, purged}
 
 -- no entry of the side has this subject, no partner, and a moment from `from` on
 pub record IsNoneFree (side : Side) (asked : Asked ℕ) (from : ℕ) (entries : List (Entry ℕ)) : Type 0 where
@@ -23,12 +24,13 @@ pub record IsFirstFree (side : Side) (asked : Asked ℕ) (from : ℕ) (entries :
 
 -- no entry has expired at `now`
 pub record IsNoneOver (keep now : ℕ) (w : WaitingValue) : Type 0 where
-  pub told : (within : ℕ) (changed : Option ℕ) → told keep within now changed w ≡ []
-  pub settled : settled keep now w ≡ w
+  pub told : (within : ℕ) (changed : Option ℕ) (refused : List ℕ) → told keep within now changed refused w ≡ []
+  pub purged : purged keep now w ≡ w
 
 -- the first entry, which has expired at `now`, was removed
 pub record IsFirstOver (keep now : ℕ) (old new : WaitingValue) (entry : Entry ℕ) : Type 0 where
   pub is_over : moment_of entry + keep < now
-  pub told : (within : ℕ) (changed : Option ℕ) → told keep within now changed old ≡ findings_of within changed entry ++ told keep within now changed new
-  pub settled : settled keep now old ≡ settled keep now new
+  pub told : (within : ℕ) (changed : Option ℕ) (refused : List ℕ)
+      → told keep within now changed refused old ≡ judged within changed refused entry ++ told keep within now changed refused new
+  pub purged : purged keep now old ≡ purged keep now new
   pub fewer : length new.entries + 1 ≡ length old.entries

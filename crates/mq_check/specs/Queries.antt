@@ -15,7 +15,7 @@ use Rattle.mq_link.specs.Receive.{Envelope, read_of, pseudo_of, envelope_tests}
 use Rattle.mq_link.specs.Configuration.{Configuration}
 use Rattle.mq_link.specs.Tests.{first_named}
 use Rattle.mq_lines.specs.Text.{current_version, has_response, query_sources, query_version}
-use Rattle.mq_replay.specs.Report.{Datagram}
+use Rattle.mq_walk.specs.Datagrams.{Datagram}
 use Rattle.mq_check.specs.declared.asked.Asked.{Asked}
 use Rattle.mq_check.specs.declared.asked.Asked.TheVariants.{AllGroups, Group, Source}
 use Rattle.mq_check.specs.declared.terms.Terms.{Terms}

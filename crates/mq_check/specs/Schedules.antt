@@ -16,9 +16,11 @@ use Rattle.mq_check.specs.declared.entry.Unpaired.TheVariants.{Extra, Scheduled,
 use Rattle.mq_check.specs.declared.finding.ExtraReason.TheVariants.{NoChange}
 use Rattle.mq_check.specs.declared.schedules.Repeats.{Repeats}
 use Rattle.mq_check.specs.declared.terms.Terms.{Terms}
+use Rattle.mq_check.specs.declared.terms.QuerierTerms.{QuerierTerms}
 use Rattle.mq_check.specs.declared.waiting.Side.TheVariants.{OfWanted, OfSeen}
-use Rattle.mq_check.specs.Entries.{moment_of, left_in, terms_in, first_entry, with_s_of, with_suppress}
-use Rattle.mq_check.specs.Waiting.{WaitingValue, nothing, has_free, is_free, with_entry, with_partner, settled}
+use Rattle.mq_check.specs.General.{greatest_variable}
+use Rattle.mq_check.specs.Entries.{as_wanted, moment_of, left_in, terms_in, first_entry, with_s_of, with_suppress}
+use Rattle.mq_check.specs.Waiting.{WaitingValue, nothing, has_free, is_free, with_entry, with_partner, purged}
 
 -- The retransmission of queries, and the queries of schedules. `sent` has the seen queries after which one more may come,
 -- and for each subject the last wanted one. The moment of each is an interval later: then the next query is due. `causes`
@@ -31,10 +33,18 @@ pub record SchedulesValue : Type 0 where
   pub causes : WaitingValue
   pub next : WaitingValue
 
+-- the most queries of a schedule
+abbrev pub most_queries : Timing → (above_7 : Bool) → ℕ
+most_queries timing above_7 = if above_7 then greatest_variable else last_member_count timing
+
 -- The number of queries after the first one of a schedule. A strict check accepts no other reading, so it has none.
 abbrev pub more_in : Timing → (strict : Bool) → ℕ
 more_in timing true = 0
 more_in timing false = last_member_count timing - 1
+
+-- The number isn't known if the Robustness Variable is above 7.
+abbrev pub more_for : Timing → CheckFlags → ℕ
+more_for timing flags = if flags.above_7 then greatest_variable - 1 else more_in timing flags.strict
 
 -- The time after which an entry expires: at most 2^32 - 1, but never shorter than the tolerance. A query that goes on with
 -- a schedule may be the partner of a query that was wanted up to an interval and the tolerance before.
@@ -44,8 +54,8 @@ keep_in within timing false = max within (min (within + timing.last_member_inter
 
 -- The time for which a change counts: the Last Member Query Time, for which the timers run that it lowers, and the tolerance. It
 -- is at most 2^32 - 1, but never shorter than the tolerance.
-abbrev pub span_in : (within : ℕ) → Timing → ℕ
-span_in within timing = max within (min (within + last_member_count timing * timing.last_member_interval) (2 ^ 32 - 1))
+abbrev pub span_in : (within : ℕ) → Timing → (above_7 : Bool) → ℕ
+span_in within timing above_7 = max within (min (within + most_queries timing above_7 * timing.last_member_interval) (2 ^ 32 - 1))
 
 -- The moment from which nothing lasts that the querier held before the capture. A group is held for at most a Group
 -- Membership Interval. A host of an older version is assumed to be there as long. The tolerance comes on top. A check from
@@ -54,21 +64,26 @@ abbrev pub held_until : (within : ℕ) → Timing → (began : Bool) → ℕ
 held_until within timing true = 0
 held_until within timing false = membership_interval timing + within + 1
 
+-- That moment, or one after all moments of a capture: above 7 the Group Membership Interval isn't known.
+abbrev pub held_for : (within : ℕ) → Timing → CheckFlags → ℕ
+held_for within timing flags = if flags.above_7 && not flags.began then 2 ^ 53 + 1 else held_until within timing flags.began
+
 -- the moment from which no query belongs to a schedule that a change before the capture started
-abbrev pub first_until : (within : ℕ) → Timing → (began : Bool) → ℕ
-first_until within timing true = 0
-first_until within timing false = (last_member_count timing - 1) * timing.last_member_interval + within + 1
+abbrev pub first_until : (within : ℕ) → Timing → (above_7 began : Bool) → ℕ
+first_until within timing above_7 true = 0
+first_until within timing above_7 false = (most_queries timing above_7 - 1) * timing.last_member_interval + within + 1
 
 abbrev pub repeats_in : (within : ℕ) → Timing → CheckFlags → Repeats
 repeats_in within timing flags = record {
   within = within;
   interval = timing.last_member_interval;
-  more = more_in timing flags.strict;
+  more = more_for timing flags;
   count = last_member_count timing - 1;
-  span = span_in within timing;
+  span = span_in within timing flags.above_7;
   keep = keep_in within timing flags.strict;
-  held_until = held_until within timing flags.began;
-  first_until = first_until within timing flags.began;
+  held_until = held_for within timing flags;
+  first_until = first_until within timing flags.above_7 flags.began;
+  above_7 = flags.above_7;
 }
 
 abbrev pub schedules_at_start : (within : ℕ) → Timing → CheckFlags → SchedulesValue
@@ -91,7 +106,7 @@ is_due repeats due moment = not (is_long_before repeats due moment) && not (is_l
 abbrev pub recent : (moment : ℕ) → SchedulesValue → SchedulesValue
 recent moment s =
     if nat_le moment (2 ^ 53)
-    then record s { sent = settled s.repeats.within moment s.sent; causes = settled s.repeats.span moment s.causes }
+    then record s { sent = purged s.repeats.within moment s.sent; causes = purged s.repeats.span moment s.causes }
     else s
 
 -- the query of a schedule on the subject that waits for its next one, and the last wanted query
@@ -128,7 +143,7 @@ without_before false terms asked w = w
 
 abbrev pub with_scheduled : (left due : ℕ) → (is_scheduled : Bool) → Terms ℕ → Asked ℕ → WaitingValue → WaitingValue
 with_scheduled left due is_scheduled terms asked w =
-    if is_scheduled && nat_lt 0 left then with_entry (Seen due asked terms None (Scheduled left)) w else w
+    if is_scheduled && nat_lt 0 left then with_entry (Seen due asked terms None (as_wanted (Scheduled left))) w else w
 
 unfoldable pub schedules_seen : (moment : ℕ) → Terms ℕ → Asked ℕ → (has_partner : Bool) → SchedulesValue → SchedulesValue
 schedules_seen moment terms asked has_partner s =
@@ -160,9 +175,19 @@ abbrev pub with_packet_of : Option (Terms ℕ) → Terms ℕ → Terms ℕ
 with_packet_of None terms = terms
 with_packet_of (Some last) terms = record terms { packet = last.packet }
 
+-- A query carries QRV 0 if the Robustness Variable is above 7. Then S may be set in a query for a group or a source: it depends on
+-- the Last Member Query Time.
+abbrev pub qrv_said : (above_7 may_have_s : Bool) → Option QuerierTerms → Option QuerierTerms
+qrv_said above_7 may_have_s None = None
+qrv_said false may_have_s (Some fields) = Some fields
+qrv_said true may_have_s (Some fields) = Some (record fields { suppress = may_have_s; robustness = 0 })
+
+abbrev pub said : (may_have_s : Bool) → Repeats → Terms ℕ → Terms ℕ
+said may_have_s repeats terms = record terms { querier = qrv_said repeats.above_7 may_have_s terms.querier }
+
 abbrev pub terms_wanted : (is_again : Bool) → Terms ℕ → Asked ℕ → SchedulesValue → Terms ℕ
-terms_wanted false terms asked s = terms
-terms_wanted true terms asked s = with_packet_of (terms_of (last_in asked s)) terms
+terms_wanted false terms asked s = said true s.repeats terms
+terms_wanted true terms asked s = with_packet_of (terms_of (last_in asked s)) (said true s.repeats terms)
 
 -- the query on the subject that is still to come in a schedule from before the capture
 abbrev pub next_in : Asked ℕ → SchedulesValue → Option (Entry ℕ)
@@ -175,7 +200,7 @@ is_close moment asked s =
 
 -- the schedules after a change that is close to an earlier one
 abbrev pub with_close : (is_close : Bool) → (moment : ℕ) → Terms ℕ → Asked ℕ → SchedulesValue → SchedulesValue
-with_close true moment terms asked s = record s { causes = with_entry (Seen moment asked terms None (Extra NoChange)) s.causes }
+with_close true moment terms asked s = record s { causes = with_entry (Seen moment asked terms None (as_wanted (Extra NoChange))) s.causes }
 with_close false moment terms asked s = s
 
 -- The schedules after a host made a change that may make a querier ask for a subject, with these terms.
@@ -188,7 +213,8 @@ with_cause moment terms asked s =
     }
 
 abbrev pub schedules_changed : (moment : ℕ) → Terms ℕ → Asked ℕ → SchedulesValue → SchedulesValue
-schedules_changed moment terms asked s = with_cause moment terms asked (with_close (is_close moment asked s) moment terms asked s)
+schedules_changed moment terms asked s =
+    with_cause moment (said true s.repeats terms) asked (with_close (is_close moment asked s) moment (said true s.repeats terms) asked s)
 
 -- The group, or all sources of the group, to which a subject belongs. The source zero stands for all sources.
 abbrev pub whole_of : Asked ℕ → Asked ℕ
@@ -225,11 +251,11 @@ is_unused repeats None cause = true
 is_unused repeats (Some last) cause = nat_lt (moment_of last) (due_after repeats (moment_of cause))
 
 -- The terms of a query that a change makes a querier send if it held the subject before the capture. The change comes while
--- that may be held.
+-- that may be held. If the Robustness Variable is above 7, a querier holds a subject for longer than the link.
 abbrev pub caused_by : Repeats → (moment : ℕ) → (last cause : Option (Entry ℕ)) → Option (Terms ℕ)
 caused_by repeats moment last None = None
 caused_by repeats moment last (Some cause) =
-    if nat_lt (moment_of cause) repeats.held_until && is_near_cause repeats moment (Some cause) && is_unused repeats last cause
+    if (repeats.above_7 || nat_lt (moment_of cause) repeats.held_until) && is_near_cause repeats moment (Some cause) && is_unused repeats last cause
     then terms_in cause
     else None
 
@@ -241,10 +267,11 @@ caused moment (Source group source) s = first_of
     (caused_by s.repeats moment (last_in (Source group source) s) (cause_in (Source group source) s))
     (caused_by s.repeats moment (last_in (Source group source) s) (cause_in (Group group) s))
 
--- The terms of a query at the start of a capture, which a change from before may ask for. They are those that are seen,
--- since that change isn't known.
-abbrev pub at_first : (moment : ℕ) → (seen : Terms ℕ) → SchedulesValue → Option (Terms ℕ)
-at_first moment seen s = if nat_lt moment s.repeats.first_until then Some seen else None
+-- The terms of a query at the start of a capture, which a change from before may ask for. Or it goes on with a schedule whose
+-- number of queries isn't known. They are those that are seen, since the change isn't known.
+abbrev pub unforeseen : (moment : ℕ) → (seen : Terms ℕ) → Asked ℕ → SchedulesValue → Option (Terms ℕ)
+unforeseen moment seen asked s =
+    if nat_lt moment s.repeats.first_until || s.repeats.above_7 && is_next s.repeats moment (before_in asked s) then Some seen else None
 
 -- The wanted terms of a query that is the next one. S depends on timers at that moment: `is_above` is set if the timer of the
 -- subject exceeds the Last Member Query Time.
@@ -268,7 +295,7 @@ without_next asked s = record s { next = dropped (terms_of (next_in asked s)) as
 
 abbrev pub with_next : (left due : ℕ) → Terms ℕ → Asked ℕ → SchedulesValue → SchedulesValue
 with_next left due terms asked s =
-    if nat_lt 0 left then record s { next = with_entry (Seen due asked terms None (Next left)) s.next } else s
+    if nat_lt 0 left then record s { next = with_entry (Seen due asked terms None (as_wanted (Next left))) s.next } else s
 
 -- the number of queries from it on
 abbrev pub left_in_next : (next : Option (Entry ℕ)) → ℕ
@@ -292,10 +319,11 @@ begun moment wanted asked s =
     with_next s.repeats.count (due_after s.repeats moment) wanted asked (without_next asked (schedules_wanted moment wanted asked s))
 
 -- The schedules after a query was seen. It has a partner among the wanted queries, or is the next one of a schedule from
--- before the capture. Or a change in the capture caused it: then it is the first one of such a schedule.
+-- before the capture. Or a change in the capture caused it: then it is the first one of such a schedule. If the number of queries
+-- isn't known, more may follow any possible query.
 abbrev pub placed_alone : (moment : ℕ) → Terms ℕ → Asked ℕ → (is_possible : Bool) → (caused : Option (Terms ℕ)) → SchedulesValue → SchedulesValue
 placed_alone moment terms asked false caused s = schedules_seen moment terms asked false s
-placed_alone moment terms asked true None s = schedules_seen moment terms asked false s
+placed_alone moment terms asked true None s = schedules_seen moment terms asked s.repeats.above_7 s
 placed_alone moment terms asked true (Some wanted) s = begun moment wanted asked (schedules_seen moment terms asked true s)
 
 abbrev pub placed : (moment : ℕ) → Terms ℕ → Asked ℕ → (has_partner follows is_possible : Bool) → (caused : Option (Terms ℕ)) → SchedulesValue → SchedulesValue

@@ -3,6 +3,7 @@ use Rattle.std.specs.Prelude.{ℕ, ◌+◌}
 use denote.RattleType.{RattleType}
 use Rattle.mq_arena.specs.Vectors.{bytes_for, item_bytes}
 use Rattle.mq_check.specs.contracts.entry.Entry as entry
+use Rattle.mq_check.specs.Refused.{room as most_refused}
 use Rattle.mq_check.specs.Waiting.{room}
 
 -- the number of slots
@@ -25,6 +26,11 @@ bytes_of_waiting K = bytes_of_entries (item_bytes (entry.the_row K))
 abbrev pub bytes_of_schedules : RattleType → ℕ
 bytes_of_schedules K = bytes_of_waiting K + bytes_of_waiting K + bytes_of_waiting K
 
--- the bytes of a check: its pending entries, the groups that no older host mutes, and the queries of schedules
+-- the bytes of the groups that aren't judged
+abbrev pub bytes_of_refused : RattleType → ℕ
+bytes_of_refused K = bytes_for (item_bytes K) most_refused
+
+-- the bytes of a check: its pending entries, the groups that no older host mutes, the queries of schedules, and the groups
+-- that aren't judged
 abbrev pub bytes_of_checking : RattleType → ℕ
-bytes_of_checking K = bytes_of_waiting K + bytes_of_waiting K + bytes_of_schedules K
+bytes_of_checking K = bytes_of_waiting K + bytes_of_waiting K + bytes_of_schedules K + bytes_of_refused K

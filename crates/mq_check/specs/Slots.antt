@@ -9,6 +9,7 @@ use Rattle.mq_check.specs.declared.entry.Entry.TheVariants.{Wanted, Seen, Interv
 use Rattle.mq_check.specs.declared.terms.Terms.{Terms}
 use Rattle.mq_check.specs.declared.waiting.Side.{Side}
 use Rattle.mq_check.specs.declared.waiting.Side.TheVariants.{OfWanted, OfSeen}
+use Rattle.mq_check.specs.Entries.{is_s_open}
 use Rattle.mq_check.specs.Trails.{TrailsValue, IsNear, Reaches}
 use Rattle.mq_check.specs.Waiting.{is_free, is_open}
 
@@ -44,7 +45,7 @@ slot_of_seen width asked None = slot_of width OfSeen asked
 
 abbrev pub slot_in : (width : ℕ) → Entry ℕ → ℕ
 slot_in width (Wanted moment asked terms need is_found) = slot_of_wanted width asked is_found
-slot_in width (Seen moment asked terms partner alone) = slot_of_seen width asked partner
+slot_in width (Seen moment asked terms partner verdict) = slot_of_seen width asked partner
 slot_in width (Interval moment packet after wanted) = unused
 slot_in width (Silence moment after wanted) = unused
 slot_in width (Packet moment number fault) = unused
@@ -68,17 +69,22 @@ pub record AreNoneOf (width slot from : ℕ) (entries : List (Entry ℕ)) (place
 -- the slot and the moment of a wanted query
 abbrev pub wanted_slot : (width : ℕ) → Entry ℕ → ℕ
 wanted_slot width (Wanted moment asked terms need is_found) = slot_of width OfWanted asked
-wanted_slot width (Seen moment asked terms partner alone) = unused
+wanted_slot width (Seen moment asked terms partner verdict) = unused
 wanted_slot width (Interval moment packet after wanted) = unused
 wanted_slot width (Silence moment after wanted) = unused
 wanted_slot width (Packet moment number fault) = unused
 
 abbrev pub wanted_moment : Entry ℕ → ℕ
 wanted_moment (Wanted moment asked terms need is_found) = moment
-wanted_moment (Seen moment asked terms partner alone) = 0
+wanted_moment (Seen moment asked terms partner verdict) = 0
 wanted_moment (Interval moment packet after wanted) = 0
 wanted_moment (Silence moment after wanted) = 0
 wanted_moment (Packet moment number fault) = 0
+
+-- S of each seen query before a place is judged.
+pub record IsJudgedTo (place : ℕ) (entries : List (Entry ℕ)) : Type 0 where
+  pub within : place ≤ length entries
+  pub none : (k : ℕ) → k < place → is_s_open (entry_at entries k) ≡ false
 
 -- no query of a slot is wanted later than the moment that is kept for the slot
 pub record AreBounded (width : ℕ) (entries : List (Entry ℕ)) (latest : List ℕ) : Type 0 where

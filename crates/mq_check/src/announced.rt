@@ -1,35 +1,34 @@
 //! The variables that the queries of a capture announce.
 
-ghost use Rattle.std.specs.Prelude.{◌≡◌, ◌≤◌, length, None, Some, Err, ⊤};
+ghost use Rattle.std.specs.Prelude.{◌≡◌, Err, ⊤};
 ghost use Rattle.mq_arena.specs.Vectors.{Takes, bytes_for};
 ghost use Rattle.mq_pcap.specs.Capture.{most_bytes};
 ghost use Rattle.mq_pcap.specs.Filling.{input_of};
-ghost use Rattle.mq_pcap.specs.Frame.{carried_in};
-ghost use Rattle.mq_replay.specs.Faults.{is_granted};
-ghost use Rattle.mq_replay.specs.Report.{datagram_of};
+ghost use Rattle.mq_walk.specs.Faults.{is_granted};
 ghost use Rattle.mq_check.specs.Announced as spec;
 ghost use Rattle.mq_check.specs.Numbered.{numbered_answer, numbered_query_if, numbered_sought_if};
 
 use crate::checked_family::CheckedFamily;
+use crate::others::Others;
 use crate::seen_queries::query_spelled;
 use crate::sought::{Sought, found_in, with_query};
 use crate::stamp::Stamp;
 use mq_arena::{OfAllocator, VectorSource, filled};
 use mq_count::Watched;
 use mq_lines::LineKey;
-use mq_pcap::{GREATEST_PACKET, LinkType, PcapFault, Ready, unwrap_frame};
-use mq_replay::{CaptureFault, CapturedDatagram, CapturedFamily, NumberedPacket, Step, walk};
+use mq_pcap::{GREATEST_PACKET, PcapFault, Ready, unwrap_frame};
+use mq_walk::{CaptureFault, CapturedDatagram, CapturedFamily, NumberedPacket, Step, Walked, walk};
 use mq_wire::{Query, WireKey};
 use std::alloc::{AllocError, Allocator};
 use std::io::Read;
 
-/// The variables that a querier announces in its queries. A variable is None if no query has it, or if it is 0: then
-/// its default holds (RFC 3376 sections 4.1.6 and 4.1.7, RFC 3810 sections 5.1.8 and 5.1.9). If the code of an interval
-/// stands for several, the times between queries show the interval.
+/// The variables that a querier announces in its queries. A variable is None if no query has it, or if it is 0: then its
+/// default holds. QRV may be 0. RFC 3376 sections 4.1.6 and 4.1.7, RFC 3810 sections 5.1.8 and 5.1.9. If the code of an
+/// interval stands for several, the times between queries show the interval.
 pub struct Announced<K: WireKey> {
     /// The querier's address: the lowest source of general queries, which is elected.
     pub querier: K,
-    /// QRV of its first general query.
+    /// QRV of its first general query. If it is 0, the Robustness Variable is above 7.
     pub robustness: Option<u32>,
     /// The interval in seconds, from QQIC of its first general query.
     pub query_seconds: Option<u32>,
@@ -37,8 +36,8 @@ pub struct Announced<K: WireKey> {
     pub response_interval: Option<u32>,
     /// The response in milliseconds of its first specific query after it that has one.
     pub last_member_interval: Option<u32>,
-    /// The lowest other source of general queries, if there is one.
-    pub beside: Option<K>,
+    /// The other sources of general queries.
+    pub beside: Others<K>,
 }
 
 impl<K: WireKey> Clone for Announced<K> {
@@ -86,7 +85,7 @@ where
         return Err(CaptureFault::Memory);
     };
     let mut looking = Looking::<F> { sought: None };
-    let read = look_in_file(&mut looking, packet.as_mut_slice(), reader);
+    let read = walk(&mut looking, packet.as_mut_slice(), &Ready, reader, &mut ());
     concluded(found_in(looking.sought), read)
 }
 
@@ -94,7 +93,7 @@ where
 /// general query.
 fn concluded<K: WireKey>(
     found: Option<Announced<K>>,
-    read: Result<(), PcapFault>,
+    read: Result<Walked, PcapFault>,
 ) -> Result<Option<Announced<K>>, CaptureFault>
     ensures { result ≡ spec.concluded found read }
 {
@@ -128,43 +127,11 @@ where
     ghost is_written = { λ _. Unit };
 
     fn packet(&mut self, packet: &NumberedPacket<'_>, _output: &mut ()) -> Result<(), PcapFault> {
-        self.sought = with_frame::<F>(packet.link, packet.moment, packet.frame, self.sought);
+        let inner = unwrap_frame(packet.link, packet.frame);
+        if let Some(datagram) = F::datagram(&inner) {
+            self.sought = with_datagram::<F>(packet.moment, datagram, self.sought);
+        }
         Ok(())
-    }
-}
-
-/// Looks for queries in a capture, from its header to its end.
-fn look_in_file<F: CheckedFamily, R: Read>(
-    looking: &mut Looking<F>,
-    packet: &mut [u8],
-    reader: &mut Watched<R>,
-) -> Result<(), PcapFault>
-where
-    F::Address: LineKey,
-    requires room { most_bytes ≤ length packet.old }
-    requires nothing { looking.old.sought ≡ None }
-    ensures { spec.LooksIn F.FAMILY (input_of R.remaining reader.old) (input_of R.remaining reader.new) (numbered_sought_if F.Address.number looking.new.sought) result }
-{
-    walk(looking, packet, &Ready, reader, &mut ())?;
-    Ok(())
-}
-
-/// Returns what is known of the querier up to and including a packet.
-fn with_frame<F: CheckedFamily>(
-    link: LinkType,
-    stamp: Stamp,
-    frame: &[u8],
-    sought: Option<Sought<F::Address>>,
-) -> Option<Sought<F::Address>>
-where
-    F::Address: LineKey,
-    ensures { numbered_sought_if F.Address.number result
-        ≡ spec.with_datagram F.FAMILY stamp (datagram_of F.FAMILY (carried_in link frame.now)) (numbered_sought_if F.Address.number sought) }
-{
-    let inner = unwrap_frame(link, frame);
-    match F::datagram(&inner) {
-        Some(datagram) => with_datagram::<F>(stamp, datagram, sought),
-        None => sought,
     }
 }
 

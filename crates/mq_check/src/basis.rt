@@ -10,7 +10,7 @@ use mq_count::{Key, Meter, Moment};
 use mq_lines::LineKey;
 use mq_link::Config;
 use mq_pcap::{Endian, Inner, LinkType};
-use mq_replay::{CapturedDatagram, CapturedFamily};
+use mq_walk::{CapturedDatagram, CapturedFamily};
 use mq_wire::WireFault;
 use std::cmp::Ordering;
 
@@ -64,6 +64,8 @@ pub struct Basis {
     pub back: u64,
     /// The number of records that the check's own link refused for its limits. It is set at the end.
     pub refused: u64,
+    /// True if more groups were refused than a check keeps apart, so that no group is judged. It is set at the end.
+    pub is_crowded: bool,
     /// The checked router.
     pub own: QuerierAddress,
     /// True if a datagram of the family came from the checked router.
@@ -115,18 +117,17 @@ fn is_wrapped(kind: u16) -> bool
 }
 
 /// Returns whether a datagram is a query on which hosts act, from a router with a higher address than the checked one.
-fn is_of_higher<F: CapturedFamily>(
-    config: &Config<F>,
+pub(crate) fn is_of_higher<F: CapturedFamily>(
+    own: F::Address,
     datagram: &CapturedDatagram<'_, F::Envelope>,
 ) -> bool
 where
     F::Address: LineKey,
     ensures { result
-        ≡ spec.is_of_higher config.now (record { envelope = F.envelope_of datagram.now.envelope; body = datagram.now.body.now }) }
+        ≡ spec.is_of_higher F.FAMILY (F.Address.number own) (record { envelope = F.envelope_of datagram.now.envelope; body = datagram.now.body.now }) }
 {
-    config.is_faultless();
     let source = F::source(&datagram.envelope);
-    config.own().order(source, &mut Meter::new()) == Ordering::Less
+    own.order(source, &mut Meter::new()) == Ordering::Less
         && query_in::<F>(&datagram.envelope, datagram.body).is_some()
 }
 
@@ -151,6 +152,7 @@ impl Basis {
             unread: 0,
             back: 0,
             refused: 0,
+            is_crowded: false,
             own,
             is_heard: false,
             has_higher: false,
@@ -162,11 +164,15 @@ impl Basis {
         }
     }
 
-    /// Returns the basis at the end, with the number of records that the link refused.
-    pub(crate) fn with_refused(&self, refused: u64) -> Basis
-        ensures { result ≡ record self.now { refused = refused } }
+    /// Returns the basis at the end, with the number of records that the link refused, and whether no group is judged.
+    pub(crate) fn with_refused(&self, refused: u64, is_crowded: bool) -> Basis
+        ensures { result ≡ record self.now { refused = refused; is_crowded = is_crowded } }
     {
-        Basis { refused, ..*self }
+        Basis {
+            refused,
+            is_crowded,
+            ..*self
+        }
     }
 
     /// Counts a packet, whose stamp goes back or doesn't.
@@ -213,7 +219,7 @@ impl Basis {
         config.is_faultless();
         let source = F::source(&datagram.envelope);
         self.is_heard = self.is_heard || F::is_same(source, config.own());
-        self.has_higher = self.has_higher || is_of_higher::<F>(config, datagram);
+        self.has_higher = self.has_higher || is_of_higher::<F>(config.own(), datagram);
     }
 
     /// Counts a frame without a datagram of the family.
@@ -270,7 +276,7 @@ impl Basis {
     }
 
     /// Returns whether nothing came from the checked router, though a router with a higher address sends queries.
-    pub(crate) fn is_unseen(&self) -> bool
+    pub fn is_unseen(&self) -> bool
         ensures { result ≡ spec.is_unseen self.now }
     {
         !self.is_heard && self.has_higher

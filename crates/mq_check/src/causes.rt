@@ -72,7 +72,8 @@ where
         ensures { self.new ≡ spec.one_changed at.now.moment (specific_terms at.now.config.now at.now.in_force at.now.packet) self.old (numbered_asked F.Address.number asked) }
     {
         let terms = specific_terms(at.config, at.in_force, at.packet, group);
-        self.note_change(at.moment, terms, asked);
+        self.forget(at.moment);
+        self.schedules.change(at.moment, terms, asked);
     }
 
     /// Handles the changes in records.

@@ -23,6 +23,9 @@ pub struct CheckFlags {
     pub began: bool,
     /// True if only this project's own readings of the standard are accepted.
     pub strict: bool,
+    /// True if the Robustness Variable of the querier is above 7, as QRV 0 says. The configuration has 7 then, and the number of
+    /// queries that follow a first one isn't known (RFC 3376 section 4.1.6, RFC 3810 section 5.1.8).
+    pub above_7: bool,
 }
 
 /// The terms of a check.

@@ -12,7 +12,7 @@ use mq_count::{Addr4, Addr6};
 use mq_lines::LineKey;
 use mq_link::{Igmp, IgmpEnvelope, Mld, MldEnvelope};
 use mq_pcap::{Endian, LinkType};
-use mq_replay::{CapturedDatagram, CapturedFamily};
+use mq_walk::{CapturedDatagram, CapturedFamily};
 use mq_wire::{WireKey, code8, code16, resp8, resp16};
 
 /// A family whose queriers are checked.

@@ -1,17 +1,17 @@
 //! A check's treatment of queries, in order.
 
-ghost use Rattle.std.specs.Prelude.{◌≡◌, ◌≤◌, ◌^◌, IfOk, is_ok, flat_map};
+ghost use Rattle.std.specs.Prelude.{◌≡◌, ◌≤◌, ◌^◌, IfOk, IfSome, is_ok, flat_map};
 ghost use Rattle.mq_arena.specs.Vectors.{Takes};
 ghost use Rattle.mq_text.specs.Printing.{output_of};
 ghost use Rattle.mq_check.specs.Checking as spec;
 ghost use Rattle.mq_check.specs.General.{phase_again, silence_up_to};
-ghost use Rattle.mq_check.specs.Numbered.{numbered_asked, numbered_terms};
 ghost use Rattle.mq_check.specs.Queries as queries;
-ghost use Rattle.mq_check.specs.Schedules.{recent, schedules_changed};
+ghost use Rattle.mq_check.specs.Refused.{is_crowded};
+ghost use Rattle.mq_check.specs.Schedules.{recent};
 ghost use Rattle.mq_check.specs.Sizes.{bytes_of_checking};
+ghost use Rattle.mq_check.specs.Standing.{is_set};
 ghost use Rattle.mq_check.specs.Telling.{Tells};
 
-use crate::asked::Asked;
 use crate::check_terms::CheckFlags;
 use crate::checked_family::CheckedFamily;
 use crate::earliest_partner::EarliestPartner;
@@ -19,15 +19,15 @@ use crate::entry::Entry;
 use crate::finding_writer::FindingWriter;
 use crate::general::query_interval;
 use crate::phase::Phase;
+use crate::purging::{Excuses, Expiry, purge, tell_rest};
+use crate::refused::Refused;
 use crate::schedules::Schedules;
-use crate::settling::{Expiry, settle, tell_rest};
 use crate::stamp::Stamp;
-use crate::terms::Terms;
 use crate::waiting::Waiting;
 use mq_arena::VectorSource;
 use mq_count::{Meter, Moment, Span, Watched};
 use mq_lines::LineKey;
-use mq_link::Family;
+use mq_link::{Family, Link};
 use mq_table::Timing;
 use mq_text::LineFault;
 use mq_wire::Query;
@@ -47,6 +47,7 @@ pub(crate) struct Checking<F: Family, A: Allocator> {
     // The groups for whose sources the querier asked after a change that older hosts mute.
     pub(crate) unmuted: Waiting<F, A>,
     pub(crate) schedules: Schedules<F, A>,
+    pub(crate) refused: Refused<F, A>,
 }
 
 impl<F: Family, A: Allocator> Model for Checking<F, A> {
@@ -55,7 +56,7 @@ impl<F: Family, A: Allocator> Model for Checking<F, A> {
 
     ghost Value = { CheckingValue };
 
-    ghost view = { λ c. record { waiting = c.waiting; changed = c.changed; phase = c.phase; last_general = c.last_general; general = c.general; specific = c.specific; unmuted = c.unmuted; schedules = c.schedules } };
+    ghost view = { λ c. record { waiting = c.waiting; changed = c.changed; phase = c.phase; last_general = c.last_general; general = c.general; specific = c.specific; unmuted = c.unmuted; schedules = c.schedules; refused = c.refused } };
 
     ghost invariant = { λ c. IfSome c.changed (λ moment. moment ≤ 2 ^ 53) };
 }
@@ -91,15 +92,17 @@ impl<F: Family, A: Allocator> Checking<F, A> {
         let waiting = Waiting::new(memory)?;
         let unmuted = Waiting::new(memory)?;
         let schedules = Schedules::new(memory, within, configured, last_member, flags)?;
+        let refused = Refused::new(memory)?;
         Ok(Checking {
             waiting,
             changed: None,
-            phase: Phase::at_start(configured),
+            phase: Phase::at_start(configured, flags.above_7),
             last_general: None,
             general: 0,
             specific: 0,
             unmuted,
             schedules,
+            refused,
         })
     }
 
@@ -108,6 +111,13 @@ impl<F: Family, A: Allocator> Checking<F, A> {
         ensures { result ≡ self.now.waiting.is_full }
     {
         self.waiting.is_full()
+    }
+
+    /// Returns whether no group is judged.
+    pub(crate) fn is_crowded(&self) -> bool
+        ensures { result ≡ is_crowded self.now.refused }
+    {
+        self.refused.is_crowded()
     }
 
     /// Returns the number of general queries seen.
@@ -129,7 +139,7 @@ impl<F: Family, A: Allocator> Checking<F, A> {
         requires in_range { moment ≤ 2 ^ 53 }
         ensures { result ≡ spec.near moment self.now }
     {
-        EarliestPartner::near(self.schedules.within(), moment)
+        EarliestPartner::near(self.schedules.repeats.within, moment)
     }
 
     /// Forgets the schedules in which no query may come any more.
@@ -139,21 +149,13 @@ impl<F: Family, A: Allocator> Checking<F, A> {
         self.schedules.forget(moment);
     }
 
-    /// Handles a change of a host that may make a querier ask for a subject, with these terms.
-    pub(crate) fn note_change(
-        &mut self,
-        moment: Moment,
-        terms: Terms<F::Address>,
-        asked: Asked<F::Address>,
-    )
-        ensures { self.new ≡ record self.old {
-          schedules =
-              schedules_changed moment (numbered_terms F.Address.number terms) (numbered_asked F.Address.number asked)
-              (recent moment self.old.schedules);
-        } }
+    /// Judges S of the seen queries that no Report of this moment can change. Without a moment, all are judged.
+    pub(crate) fn judge(&mut self, link: &Link<F, A>, within: u32, now: &Option<Moment>)
+        requires in_range { IfSome now.now (λ moment. moment ≤ 2 ^ 53) }
+        ensures { self.new
+            ≡ spec.with_s_judged within now.now (is_set link.now.state.groups) self.old }
     {
-        self.forget(moment);
-        self.schedules.change(moment, terms, asked);
+        self.waiting.judge(link, Span::from_ms(within.min(1)), now);
     }
 
     /// Returns the time without general queries up to a moment, if it is too long.
@@ -210,7 +212,7 @@ where
     {
         self.schedules.forget(end);
         self.waiting
-            .excuse(Span::from_ms(within), end, self.schedules.sent());
+            .excuse(Span::from_ms(within), end, &self.schedules.sent);
         self.schedules.drop_all_next();
     }
 
@@ -223,23 +225,21 @@ where
         writer: &mut Watched<W>,
     ) -> Result<(), LineFault>
         requires in_range { end ≤ 2 ^ 53 }
-        ensures { Tells F.Address.family (flat_map (spec.found_of_last within end self.old.changed) self.old.waiting.entries) told.old told.new
+        ensures { Tells F.Address.family (flat_map (spec.found_of_last within end self.old.changed self.old.refused) self.old.waiting.entries) told.old told.new
             (output_of W.contents writer.old) (output_of W.contents writer.new) result }
     {
-        tell_rest::<F, A, W>(
-            &mut self.waiting,
-            Span::from_ms(within),
-            end,
-            &self.changed,
-            told,
-            writer,
-        )
+        let excuses = Excuses {
+            within: Span::from_ms(within),
+            changed: self.changed,
+            refused: &self.refused,
+        };
+        tell_rest::<F, A, W>(&mut self.waiting, end, &excuses, told, writer)
     }
 
     /// Removes the entries that have expired at a moment, and reports their findings.
     ///
     /// The queries that were still to come in schedules from before the capture follow.
-    pub(crate) fn settle<W: Write>(
+    pub(crate) fn purge<W: Write>(
         &mut self,
         within: u32,
         now: Moment,
@@ -247,17 +247,20 @@ where
         writer: &mut Watched<W>,
     ) -> Result<(), LineFault>
         requires in_range { now ≤ 2 ^ 53 }
-        ensures settled { IfOk result (λ _. self.new ≡ spec.settled now self.old) }
+        ensures purged { IfOk result (λ _. self.new ≡ spec.purged now self.old) }
         ensures tells { Tells F.Address.family (spec.told within now self.old) told.old told.new
             (output_of W.contents writer.old) (output_of W.contents writer.new) result }
     {
         let expiry = Expiry {
             keep: self.schedules.keep(),
-            within: Span::from_ms(within),
             moment: now,
         };
-        settle::<F, A, W>(&mut self.waiting, &expiry, &self.changed, told, writer)?;
-        self.schedules
-            .settle_next(Span::from_ms(within), now, &self.changed, told, writer)
+        let excuses = Excuses {
+            within: Span::from_ms(within),
+            changed: self.changed,
+            refused: &self.refused,
+        };
+        purge::<F, A, W>(&mut self.waiting, &expiry, &excuses, told, writer)?;
+        self.schedules.purge_next(now, &excuses, told, writer)
     }
 }

@@ -2,9 +2,9 @@
 
 ghost use Rattle.std.specs.Prelude.{◌≡◌, ◌≤◌, ◌+◌, ◌^◌, ◌||◌, IfOk, IfSome, is_err};
 ghost use Rattle.mq_count.specs.Streams.{inner_of, has_failed};
-ghost use Rattle.mq_replay.specs.Faults as spec;
-ghost use Rattle.mq_replay.specs.PuttingReports.{IsRestPut, end_of, rest_at};
 ghost use Rattle.mq_text.specs.Printing.{Puts, output_of};
+ghost use Rattle.mq_walk.specs.Faults as spec;
+ghost use Rattle.mq_walk.specs.PuttingReports.{IsRestPut, end_of, rest_at};
 ghost use Rattle.mq_check.specs.Checking.{silence_found, told_at_end};
 ghost use Rattle.mq_check.specs.Coming.{checked_in};
 ghost use Rattle.mq_check.specs.Ending.{counted_behind, end_text, ended_behind};
@@ -22,9 +22,9 @@ use crate::totals::Totals;
 use mq_count::Watched;
 use mq_lines::LineKey;
 use mq_link::Family;
-use mq_replay::{CaptureFault, Walked};
 use mq_table::Timing;
 use mq_text::LineFault;
+use mq_walk::{CaptureFault, Walked};
 use std::alloc::Allocator;
 use std::io::Write;
 
@@ -66,13 +66,14 @@ where
     {
         self.link.config().is_faultless();
         let configured = self.link.config().timing();
-        self.settle_through(end, writer)?;
+        self.purge_through(end, writer)?;
         let passed = self
             .queries
             .checking()
             .silence(self.terms.within, configured, end);
         let refused = self.link.counts().refused();
-        let rests_on = self.queries.basis().with_refused(refused);
+        let is_crowded = self.queries.checking().is_crowded();
+        let rests_on = self.queries.basis().with_refused(refused, is_crowded);
         self.look_ahead(end, writer)?;
         if self.queries.checking().is_full() {
             return Err(CaptureFault::Waiting { number });

@@ -2,7 +2,7 @@
 
 ghost use Rattle.std.specs.Prelude.{◌≡◌, ⊤};
 ghost use Rattle.mq_check.specs.Entries as spec;
-ghost use Rattle.mq_check.specs.Numbered.{numbered_entry, numbered_terms, numbered_terms_if, numbered_unpaired};
+ghost use Rattle.mq_check.specs.Numbered.{numbered_entry, numbered_terms, numbered_terms_if, numbered_unpaired, numbered_verdict};
 
 use crate::asked::Asked;
 use crate::finding::ExtraReason;
@@ -16,8 +16,8 @@ use std::alloc::AllocError;
 pub enum Entry<K: WireKey> {
     /// A wanted query: its moment, subject, terms and need, and whether it has a partner.
     Wanted(Moment, Asked<K>, Terms<K>, Need, bool),
-    /// A seen query: its moment, subject and terms, its partner's terms if it has one, and its verdict without one.
-    Seen(Moment, Asked<K>, Terms<K>, Option<Terms<K>>, Unpaired<K>),
+    /// A seen query: its moment, subject and terms, its partner's terms if it has one, and its verdict.
+    Seen(Moment, Asked<K>, Terms<K>, Option<Terms<K>>, SeenVerdict<K>),
     /// A general query at a wrong interval: its moment, the number of its packet, the interval, and the wanted one.
     Interval(Moment, u64, u64, u64),
     /// A time without general queries: its end, its length, and the wanted interval.
@@ -73,7 +73,79 @@ impl<K: WireKey> Clone for Unpaired<K> {
 
 impl<K: WireKey> Copy for Unpaired<K> {}
 
+/// The verdict on S of a seen query.
+#[derive(Clone, Copy)]
+pub enum SVerdict {
+    /// An S that a Report may still explain, by a timer that runs up to this moment or longer.
+    Open(Moment),
+    /// An S that is right, also if the partner has another.
+    Right,
+    /// An S that has to be that of the partner.
+    AsWanted,
+}
+
+/// The verdict on a seen query: on its S, and on the query if it finds no partner.
+pub struct SeenVerdict<K: WireKey> {
+    pub s: SVerdict,
+    pub alone: Unpaired<K>,
+}
+
+impl<K: WireKey> Clone for SeenVerdict<K> {
+    ghost is_clone = { λ x y. y ≡ x };
+
+    ghost is_infallible = { λ _. ⊤ };
+
+    fn clone(&self) -> Result<Self, AllocError> {
+        Ok(*self)
+    }
+}
+
+impl<K: WireKey> Copy for SeenVerdict<K> {}
+
+impl<K: WireKey> SeenVerdict<K> {
+    /// Returns the verdict on a query whose S has to be that of its partner.
+    pub(crate) fn as_wanted(alone: Unpaired<K>) -> SeenVerdict<K>
+        ensures { numbered_verdict K.number result ≡ spec.as_wanted (numbered_unpaired K.number alone) }
+    {
+        SeenVerdict {
+            s: SVerdict::AsWanted,
+            alone,
+        }
+    }
+}
+
+/// Returns the verdict on an S that isn't judged yet.
+pub(crate) fn s_if(is_set: bool) -> SVerdict
+    ensures { result ≡ spec.s_if is_set }
+{
+    if is_set {
+        SVerdict::Right
+    } else {
+        SVerdict::AsWanted
+    }
+}
+
+/// Returns whether S isn't judged yet.
+fn is_open(s: SVerdict) -> bool
+    ensures { result ≡ spec.is_open_s s }
+{
+    match s {
+        SVerdict::Open(_) => true,
+        _ => false,
+    }
+}
+
 impl<K: WireKey> Unpaired<K> {
+    /// Returns how many queries may come after the query in its schedule.
+    fn left(&self) -> u32
+        ensures { result ≡ spec.left_of (numbered_unpaired K.number self.now) }
+    {
+        match self {
+            Unpaired::Scheduled(left) | Unpaired::Next(left) => *left,
+            _ => 0,
+        }
+    }
+
     /// Returns whether another reading, or a state from before the capture, may explain the query.
     pub(crate) fn is_possible(&self) -> bool
         ensures { result ≡ spec.is_possible (numbered_unpaired K.number self.now) }
@@ -114,8 +186,18 @@ impl<K: WireKey> Entry<K> {
         ensures { result ≡ spec.left_in (numbered_entry K.number self.now) }
     {
         match self {
-            Entry::Seen(_, _, _, _, Unpaired::Scheduled(left) | Unpaired::Next(left)) => *left,
+            Entry::Seen(_, _, _, _, verdict) => verdict.alone.left(),
             _ => 0,
+        }
+    }
+
+    /// Returns whether it is a seen query whose S isn't judged yet.
+    pub(crate) fn is_s_open(&self) -> bool
+        ensures { result ≡ spec.is_s_open (numbered_entry K.number self.now) }
+    {
+        match self {
+            Entry::Seen(_, _, _, _, verdict) => is_open(verdict.s),
+            _ => false,
         }
     }
 
@@ -147,8 +229,8 @@ impl<K: WireKey> Entry<K> {
             Entry::Wanted(moment, asked, terms, need, _) => {
                 Entry::Wanted(moment, asked, terms, need, true)
             }
-            Entry::Seen(moment, asked, terms, _, alone) => {
-                Entry::Seen(moment, asked, terms, Some(other), alone)
+            Entry::Seen(moment, asked, terms, _, verdict) => {
+                Entry::Seen(moment, asked, terms, Some(other), verdict)
             }
             other => other,
         }

@@ -386,19 +386,8 @@ fn put_count_if(text: &mut Text, name: &[u8], count: u64)
     }
 }
 
-/// Appends the number of unread packets. Then those of packets whose stamps go back, and of records that the link
-/// refused, if there are any.
-fn put_unread(text: &mut Text, basis: &Basis)
-    requires { array_vec_len text.old + 83 ≤ 4096 }
-    ensures text { text.new.items ≡ text.old.items ++ spec.unread_text basis.now }
-    ensures room { array_vec_len text.new ≤ array_vec_len text.old + 83 }
-{
-    put_count(text, b" unread ", basis.unread);
-    put_count_if(text, b" back ", basis.back);
-    put_count_if(text, b" refused ", basis.refused);
-}
-
-/// Appends the line of the packets.
+/// Appends the line of the packets. Packets whose stamps go back and records that the link refused stand there if there
+/// are any.
 pub(crate) fn put_packets(text: &mut Text, basis: &Basis)
     requires { array_vec_len text.old + 232 ≤ 4096 }
     ensures { text.new.items ≡ text.old.items ++ spec.packets_line basis.now }
@@ -407,7 +396,9 @@ pub(crate) fn put_packets(text: &mut Text, basis: &Basis)
     put_count(text, b" messages ", basis.messages);
     put_count(text, b" malformed ", basis.malformed);
     put_count(text, b" cut ", basis.cut);
-    put_unread(text, basis);
+    put_count(text, b" unread ", basis.unread);
+    put_count_if(text, b" back ", basis.back);
+    put_count_if(text, b" refused ", basis.refused);
     put(text, b"; groups held before 0 are unknown\n");
 }
 

@@ -22,7 +22,8 @@ use crate::totals::{FindingCounts, KindCounts, Totals};
 use mq_count::Watched;
 use mq_lines::LineKey;
 use mq_link::Family;
-use mq_text::{LineFault, Text, flush, make_room};
+use mq_text::{LineFault, Text, make_room};
+use mq_walk::write_before_wait;
 use mq_wire::WireKey;
 use std::io::Write;
 use std::marker::Model;
@@ -172,10 +173,7 @@ impl FindingWriter {
         ensures count { self.new.count ≡ self.old.count }
         ensures failed { has_failed writer.new ≡ has_failed writer.old || is_err result }
     {
-        if may_wait {
-            return flush(&mut self.buffer, writer);
-        }
-        Ok(())
+        write_before_wait(may_wait, &mut self.buffer, writer)
     }
 }
 

@@ -8,6 +8,13 @@ ghost use Rattle.mq_check.specs.General as spec;
 use crate::phase::Phase;
 use mq_table::Timing;
 
+/// Returns the greatest Robustness Variable that a check allows for, if it is above 7.
+pub(crate) fn greatest_variable() -> u32
+    ensures { result ≡ spec.greatest_variable }
+{
+    255
+}
+
 /// Returns the query interval in milliseconds.
 pub(crate) fn query_interval(timing: Timing) -> u64
     ensures { result ≡ span.query_interval timing }
@@ -57,12 +64,17 @@ fn startup_left(within: u32, timing: Timing, startup: u32, interval: u64) -> u32
 }
 
 impl Phase {
-    /// Returns the phase at the start of a capture.
-    pub(crate) fn at_start(timing: Timing) -> Phase
-        ensures { result ≡ spec.phase_at_start timing }
+    /// Returns the phase at the start of a capture. `above_7` is set if the Robustness Variable is above 7.
+    pub(crate) fn at_start(timing: Timing, above_7: bool) -> Phase
+        ensures { result ≡ spec.phase_for timing above_7 }
     {
         timing.is_in_range();
-        Phase::Starting(timing.startup_count() - 1)
+        let startup = if above_7 {
+            greatest_variable() - 1
+        } else {
+            timing.startup_count() - 1
+        };
+        Phase::Starting(startup)
     }
 
     /// Returns the interval before a general query at this moment, if it is wrong.

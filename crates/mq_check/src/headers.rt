@@ -46,7 +46,8 @@ pub enum HeaderFault {
 pub(crate) fn headers4(packet: &[u8], body: &[u8]) -> Headers
     ensures { result ≡ spec.headers4_in packet.now body.now }
 {
-    let header = header4(packet);
+    let end = usize::from(byte_at(packet, 0) % 16) * 4;
+    let header = &packet[..end.min(packet.len())];
     Headers {
         ttl: byte_at(header, 8),
         alert: has_router_alert_v4(&header[header.len().min(20)..]),
@@ -55,14 +56,6 @@ pub(crate) fn headers4(packet: &[u8], body: &[u8]) -> Headers
         has_reserved_bits: byte_at(body, 8) > 15,
         has_additional_data: has_more(12, 4, body),
     }
-}
-
-/// Returns the IPv4 header of a packet, as far as it is there.
-fn header4(packet: &[u8]) -> &[u8]
-    ensures { result.now ≡ spec.header4 packet.now }
-{
-    let end = usize::from(byte_at(packet, 0) % 16) * 4;
-    &packet[..end.min(packet.len())]
 }
 
 /// Returns whether the checksum of an IPv4 header is right, or 0 as before the hardware writes it.

@@ -8,7 +8,7 @@ ghost use Rattle.mq_check.specs.Numbered.{difference_list, numbered_asked, numbe
 ghost use Rattle.mq_check.specs.Telling.{Tells};
 
 use crate::asked::Asked;
-use crate::entry::{Entry, Need, Unpaired};
+use crate::entry::{Entry, Need, SVerdict, Unpaired};
 use crate::finding::{Difference, Finding};
 use crate::finding_writer::FindingWriter;
 use crate::terms::{QuerierTerms, Terms, with_s_of};
@@ -89,15 +89,24 @@ where
             }
             tell_missing::<F, W>(*need, *moment, terms.packet, *asked, told, writer)
         }
-        Entry::Seen(moment, asked, terms, partner, alone) => match partner {
+        Entry::Seen(moment, asked, terms, partner, verdict) => match partner {
             Some(wanted) => {
-                tell_pair::<F, W>(*moment, *asked, terms, wanted, alone, told, writer)
+                let expected = with_s_judged(verdict.s, terms, wanted);
+                tell_pair::<F, W>(
+                    *moment,
+                    *asked,
+                    terms,
+                    &expected,
+                    &verdict.alone,
+                    told,
+                    writer,
+                )
             }
             None => {
                 if is_near_change(within, *moment, changed) {
                     return Ok(());
                 }
-                tell_alone::<F, W>(*moment, *asked, terms, alone, told, writer)
+                tell_alone::<F, W>(*moment, *asked, terms, &verdict.alone, told, writer)
             }
         },
         Entry::Interval(moment, packet, passed, wanted) => {
@@ -196,6 +205,17 @@ where
         return tell_alone::<F, W>(moment, asked, seen, &possible, told, writer);
     }
     tell_differences::<F, W>(moment, asked, seen, wanted, told, writer)
+}
+
+/// Returns the terms with which a seen query is compared that has a partner. If S of the query is right, they have it too.
+fn with_s_judged<K: WireKey>(s: SVerdict, seen: &Terms<K>, wanted: &Terms<K>) -> Terms<K>
+    ensures { numbered_terms K.number result
+        ≡ spec.with_s_judged s (numbered_terms K.number seen.now) (numbered_terms K.number wanted.now) }
+{
+    match s {
+        SVerdict::Right => with_s_of(seen, wanted),
+        _ => *wanted,
+    }
 }
 
 /// Returns whether both queries have S, and it differs.

@@ -9,13 +9,14 @@ ghost use Rattle.mq_check.specs.Telling.{Tells};
 ghost use Rattle.mq_check.specs.Waiting as waits;
 
 use crate::asked::Asked;
-use crate::entry::{Entry, Need, Unpaired};
+use crate::check_terms::CheckFlags;
+use crate::entry::{Entry, Need, SeenVerdict, Unpaired};
 use crate::finding::ExtraReason;
 use crate::finding_writer::FindingWriter;
+use crate::purging::{Excuses, Expiry, purge};
 use crate::schedules::{
-    Repeats, Schedules, due_after, first_of, is_long_before, is_next, terms_of,
+    Repeats, Schedules, due_after, first_of, is_long_before, is_next, most_queries, terms_of,
 };
-use crate::settling::{Expiry, settle};
 use crate::stamp::Stamp;
 use crate::terms::{Terms, with_suppress};
 use crate::waiting::{Side, is_before};
@@ -29,7 +30,7 @@ use std::alloc::Allocator;
 use std::io::Write;
 
 /// Returns the moment from which nothing lasts that the querier held before the capture.
-pub(crate) fn held_until(within: u32, configured: Timing, began: bool) -> Moment
+fn held_until(within: u32, configured: Timing, began: bool) -> Moment
     ensures { result ≡ spec.held_until within configured began }
 {
     let start = Stamp::of(0).moment();
@@ -42,20 +43,35 @@ pub(crate) fn held_until(within: u32, configured: Timing, began: bool) -> Moment
         .after(Span::from_ms(1))
 }
 
+/// Returns that moment, or one after all others if it isn't known, since the Robustness Variable is above 7.
+pub(crate) fn held_for(within: u32, configured: Timing, flags: CheckFlags) -> Moment
+    ensures { result ≡ spec.held_for within configured flags }
+{
+    if flags.above_7 && !flags.began {
+        return Stamp::of(1 << 53).moment().after(Span::from_ms(1));
+    }
+    held_until(within, configured, flags.began)
+}
+
 /// Returns the moment from which no query belongs to a schedule that a change before the capture started. `last_member` is the
 /// Last Member Query Interval in milliseconds.
-pub(crate) fn first_until(within: u32, configured: Timing, last_member: u32, began: bool) -> Moment
+pub(crate) fn first_until(
+    within: u32,
+    configured: Timing,
+    last_member: u32,
+    flags: CheckFlags,
+) -> Moment
     requires interval { last_member ≡ configured.last_member_interval }
-    ensures { result ≡ spec.first_until within configured began }
+    ensures { result ≡ spec.first_until within configured flags.above_7 flags.began }
 {
     configured.is_in_range();
     let start = Stamp::of(0).moment();
-    let count = configured.last_member_count() - 1;
+    let count = most_queries(configured, flags.above_7) - 1;
     let last = start
         .after(Span::from_ms(count * last_member))
         .after(Span::from_ms(within))
         .after(Span::from_ms(1));
-    if began { start } else { last }
+    if flags.began { start } else { last }
 }
 
 /// Returns whether there are terms.
@@ -101,7 +117,7 @@ fn caused_by<K: WireKey>(
     let is_near = is_near_cause(repeats, moment, cause);
     match cause {
         Some(cause) => {
-            if is_before(cause.moment(), repeats.held_until)
+            if (repeats.above_7 || is_before(cause.moment(), repeats.held_until))
                 && is_near
                 && is_unused(repeats, last, cause)
             {
@@ -181,8 +197,9 @@ impl<F: Family, A: Allocator> Schedules<F, A> {
         ensures { self.new ≡ spec.schedules_changed moment (numbered_terms F.Address.number terms) (numbered_asked F.Address.number asked) self.old }
     {
         let is_close = self.is_close(moment, asked);
-        self.note_close(is_close, moment, terms, asked);
-        self.note_cause(moment, terms, asked);
+        let wanted = self.said(true, terms);
+        self.note_close(is_close, moment, wanted, asked);
+        self.note_cause(moment, wanted, asked);
     }
 
     /// Returns whether a change comes while the last one on the subject counts, or one of a change from before the capture.
@@ -205,9 +222,9 @@ impl<F: Family, A: Allocator> Schedules<F, A> {
         ensures { self.new ≡ spec.with_close is_close moment (numbered_terms F.Address.number terms) (numbered_asked F.Address.number asked) self.old }
     {
         if is_close {
-            let alone = Unpaired::Extra(ExtraReason::NoChange);
+            let verdict = SeenVerdict::as_wanted(Unpaired::Extra(ExtraReason::NoChange));
             self.causes
-                .put(Entry::Seen(moment, asked, terms, None, alone));
+                .put(Entry::Seen(moment, asked, terms, None, verdict));
         }
     }
 
@@ -275,16 +292,20 @@ impl<F: Family, A: Allocator> Schedules<F, A> {
         }
     }
 
-    /// Returns the terms of a query at the start of a capture, which a change from before may ask for.
-    pub(crate) fn at_first(
+    /// Returns the terms of a query at the start of a capture, which a change from before may ask for. A query that goes on with
+    /// a schedule has terms too if the number of its queries isn't known.
+    pub(crate) fn unforeseen(
         &self,
         moment: Moment,
         seen: Terms<F::Address>,
+        asked: Asked<F::Address>,
     ) -> Option<Terms<F::Address>>
         ensures { numbered_terms_if F.Address.number result
-            ≡ spec.at_first moment (numbered_terms F.Address.number seen) self.now }
+            ≡ spec.unforeseen moment (numbered_terms F.Address.number seen) (numbered_asked F.Address.number asked) self.now }
     {
-        if is_before(moment, self.repeats.first_until) {
+        let before = self.sent.first(Side::OfSeen, asked);
+        let goes_on = is_next(&self.repeats, moment, &before);
+        if is_before(moment, self.repeats.first_until) || self.repeats.above_7 && goes_on {
             Some(seen)
         } else {
             None
@@ -323,17 +344,9 @@ impl<F: Family, A: Allocator> Schedules<F, A> {
     fn drop_query(&mut self, asked: Asked<F::Address>, next: Option<Terms<F::Address>>)
         ensures { self.new ≡ record self.old { next = spec.dropped (numbered_terms_if F.Address.number next) (numbered_asked F.Address.number asked) self.old.next } }
     {
-        match next {
-            Some(terms) => self.drop_one(asked, terms),
-            None => {}
+        if let Some(terms) = next {
+            self.next.join_any(Side::OfSeen, asked, terms);
         }
-    }
-
-    /// Drops the first query on a subject that is still to come.
-    fn drop_one(&mut self, asked: Asked<F::Address>, terms: Terms<F::Address>)
-        ensures { self.new ≡ record self.old { next = spec.dropped (Some (numbered_terms F.Address.number terms)) (numbered_asked F.Address.number asked) self.old.next } }
-    {
-        self.next.join_any(Side::OfSeen, asked, terms);
     }
 
     /// Adds a query that is still to come in a schedule from before the capture, with how many it and those after it are.
@@ -347,8 +360,8 @@ impl<F: Family, A: Allocator> Schedules<F, A> {
         ensures { self.new ≡ spec.with_next left due (numbered_terms F.Address.number terms) (numbered_asked F.Address.number asked) self.old }
     {
         if 0 < left {
-            let alone = Unpaired::Next(left);
-            self.next.put(Entry::Seen(due, asked, terms, None, alone));
+            let verdict = SeenVerdict::as_wanted(Unpaired::Next(left));
+            self.next.put(Entry::Seen(due, asked, terms, None, verdict));
         }
     }
 
@@ -391,7 +404,8 @@ impl<F: Family, A: Allocator> Schedules<F, A> {
                 self.see(moment, terms, asked, true);
                 self.begin(moment, wanted, asked);
             }
-            _ => self.see(moment, terms, asked, false),
+            (true, None) => self.see(moment, terms, asked, self.repeats.above_7),
+            (false, _) => self.see(moment, terms, asked, false),
         }
     }
 
@@ -441,25 +455,23 @@ where
     F::Address: LineKey,
 {
     /// Removes expired queries that were still to come, and reports those that are missing.
-    pub(crate) fn settle_next<W: Write>(
+    pub(crate) fn purge_next<W: Write>(
         &mut self,
-        within: Span,
         now: Moment,
-        changed: &Option<Moment>,
+        excuses: &Excuses<'_, F, A>,
         told: &mut FindingWriter,
         writer: &mut Watched<W>,
     ) -> Result<(), LineFault>
         requires in_range { now ≤ 2 ^ 53 }
-        requires changed_in_range { IfSome changed.now (λ moment. moment ≤ 2 ^ 53) }
-        ensures settled { IfOk result (λ _. self.new ≡ record self.old { next = waits.settled self.old.repeats.within now self.old.next }) }
-        ensures tells { Tells F.Address.family (waits.told self.old.repeats.within within now changed.now self.old.next) told.old told.new
+        requires changed_in_range { IfSome excuses.now.changed (λ moment. moment ≤ 2 ^ 53) }
+        ensures purged { IfOk result (λ _. self.new ≡ record self.old { next = waits.purged self.old.repeats.within now self.old.next }) }
+        ensures tells { Tells F.Address.family (waits.told self.old.repeats.within excuses.now.within now excuses.now.changed excuses.now.refused.now self.old.next) told.old told.new
             (output_of W.contents writer.old) (output_of W.contents writer.new) result }
     {
         let expiry = Expiry {
             keep: self.repeats.within,
-            within,
             moment: now,
         };
-        settle::<F, A, W>(&mut self.next, &expiry, changed, told, writer)
+        purge::<F, A, W>(&mut self.next, &expiry, excuses, told, writer)
     }
 }

@@ -16,8 +16,8 @@ use crate::wanted_queries::WantedQueries;
 use mq_count::{Moment, Watched};
 use mq_lines::LineKey;
 use mq_link::Link;
-use mq_replay::{CaptureFault, GaplessStep, NumberedPacket, TickStep, first_moment};
 use mq_text::LineFault;
+use mq_walk::{CaptureFault, GaplessStep, NumberedPacket, TickStep, first_moment};
 use std::alloc::Allocator;
 use std::io::Write;
 
@@ -81,7 +81,9 @@ where
     fn tick_at(&mut self, moment: Moment, output: &mut Watched<W>) -> Result<(), LineFault> {
         self.link.config().is_faultless();
         self.queries
-            .settle(self.terms.within, moment, &mut self.told, output)?;
+            .judge(&self.link, self.terms.within, &Some(moment));
+        self.queries
+            .purge(self.terms.within, moment, &mut self.told, output)?;
         self.tick(moment);
         Ok(())
     }

@@ -10,9 +10,10 @@ ghost use Rattle.mq_check.specs.Waiting as waits;
 
 use crate::asked::Asked;
 use crate::check_terms::CheckFlags;
-use crate::entry::{Entry, Need, Unpaired};
-use crate::past::{first_until, held_until};
-use crate::terms::{Terms, with_s_of};
+use crate::entry::{Entry, Need, SeenVerdict, Unpaired};
+use crate::general::greatest_variable;
+use crate::past::{first_until, held_for};
+use crate::terms::{QuerierTerms, Terms, with_s_of};
 use crate::waiting::{Side, Waiting, is_before};
 use mq_arena::VectorSource;
 use mq_count::{Moment, Span};
@@ -29,7 +30,8 @@ pub struct Repeats {
     pub(crate) within: Span,
     // The Last Member Query Interval.
     pub(crate) interval: Span,
-    // The number of queries after the first one of a schedule. A strict check accepts no other reading, so it has none.
+    // The number of queries that may follow the first one of a schedule. A strict check accepts no other reading, so it has none, if
+    // the number is known.
     pub(crate) more: u32,
     // The number of queries after the first one of a schedule.
     pub(crate) count: u32,
@@ -41,6 +43,8 @@ pub struct Repeats {
     pub(crate) held_until: Moment,
     // The moment from which no query belongs to a schedule that a change before the capture started.
     pub(crate) first_until: Moment,
+    // True if the Robustness Variable is above 7.
+    pub(crate) above_7: bool,
 }
 
 /// The queries of schedules. `new` allocates all memory.
@@ -77,6 +81,17 @@ fn more_in(timing: Timing, strict: bool) -> u32
     }
 }
 
+/// Returns how many queries of a schedule may follow the first one.
+fn more_for(timing: Timing, flags: CheckFlags) -> u32
+    ensures { result ≡ spec.more_for timing flags }
+{
+    if flags.above_7 {
+        greatest_variable() - 1
+    } else {
+        more_in(timing, flags.strict)
+    }
+}
+
 /// Returns the time after which an entry expires.
 fn keep_in(within: u32, timing: Timing, last_member: u32, strict: bool) -> Span
     requires interval { last_member ≡ timing.last_member_interval }
@@ -90,14 +105,15 @@ fn keep_in(within: u32, timing: Timing, last_member: u32, strict: bool) -> Span
     Span::from_ms(keep)
 }
 
-/// Returns the time for which a change counts: the Last Member Query Time and the tolerance.
-fn span_in(within: u32, timing: Timing, last_member: u32) -> Span
-    requires interval { last_member ≡ timing.last_member_interval }
-    ensures { result ≡ spec.span_in within timing }
+/// Returns the most queries of a schedule.
+pub(crate) fn most_queries(timing: Timing, above_7: bool) -> u32
+    ensures { result ≡ spec.most_queries timing above_7 }
 {
-    timing.is_in_range();
-    let count = timing.last_member_count();
-    Span::from_ms(within.saturating_add(count * last_member))
+    if above_7 {
+        greatest_variable()
+    } else {
+        timing.last_member_count()
+    }
 }
 
 /// Returns the retransmission under this timing.
@@ -106,15 +122,17 @@ fn repeats_in(within: u32, timing: Timing, last_member: u32, flags: CheckFlags) 
     ensures { result ≡ spec.repeats_in within timing flags }
 {
     timing.is_in_range();
+    let last_member_time = most_queries(timing, flags.above_7) * last_member;
     Repeats {
         within: Span::from_ms(within),
         interval: timing.last_member_interval(),
-        more: more_in(timing, flags.strict),
+        more: more_for(timing, flags),
         count: timing.last_member_count() - 1,
-        span: span_in(within, timing, last_member),
+        span: Span::from_ms(within.saturating_add(last_member_time)),
         keep: keep_in(within, timing, last_member, flags.strict),
-        held_until: held_until(within, timing, flags.began),
-        first_until: first_until(within, timing, last_member, flags.began),
+        held_until: held_for(within, timing, flags),
+        first_until: first_until(within, timing, last_member, flags),
+        above_7: flags.above_7,
     }
 }
 
@@ -219,6 +237,20 @@ fn with_packet_of<K: WireKey>(last: Option<Terms<K>>, terms: Terms<K>) -> Terms<
     }
 }
 
+/// Returns the fields of a query with QRV 0 if the Robustness Variable is above 7. Then S depends on what isn't known.
+fn qrv_said(above_7: bool, may_have_s: bool, fields: Option<QuerierTerms>) -> Option<QuerierTerms>
+    ensures { result ≡ spec.qrv_said above_7 may_have_s fields }
+{
+    match (above_7, fields) {
+        (true, Some(fields)) => Some(QuerierTerms {
+            suppress: may_have_s,
+            robustness: 0,
+            interval: fields.interval,
+        }),
+        (_, fields) => fields,
+    }
+}
+
 /// Returns the first of two terms.
 pub(crate) fn first_of<K: WireKey>(a: Option<Terms<K>>, b: Option<Terms<K>>) -> Option<Terms<K>>
     ensures { numbered_terms_if K.number result ≡ spec.first_of (numbered_terms_if K.number a) (numbered_terms_if K.number b) }
@@ -261,18 +293,11 @@ impl<F: Family, A: Allocator> Schedules<F, A> {
         self.repeats.keep
     }
 
-    /// Returns the tolerance.
-    pub(crate) fn within(&self) -> Span
-        ensures { result ≡ self.now.repeats.within }
+    /// Returns whether the Robustness Variable is above 7.
+    pub(crate) fn is_above_7(&self) -> bool
+        ensures { result ≡ self.now.repeats.above_7 }
     {
-        self.repeats.within
-    }
-
-    /// Returns the queries of schedules.
-    pub(crate) fn sent(&self) -> &Waiting<F, A>
-        ensures { result.now ≡ self.now.sent }
-    {
-        &self.sent
+        self.repeats.above_7
     }
 
     /// Removes the queries after which none may come any more, and changes that no longer count.
@@ -334,8 +359,8 @@ impl<F: Family, A: Allocator> Schedules<F, A> {
         ensures { self.new ≡ record self.old { sent = spec.with_scheduled left due is_scheduled (numbered_terms F.Address.number terms) (numbered_asked F.Address.number asked) self.old.sent } }
     {
         if is_scheduled && 0 < left {
-            let alone = Unpaired::Scheduled(left);
-            self.sent.put(Entry::Seen(due, asked, terms, None, alone));
+            let verdict = SeenVerdict::as_wanted(Unpaired::Scheduled(left));
+            self.sent.put(Entry::Seen(due, asked, terms, None, verdict));
         }
     }
 
@@ -349,11 +374,25 @@ impl<F: Family, A: Allocator> Schedules<F, A> {
         ensures { numbered_terms F.Address.number result
             ≡ spec.terms_wanted is_again (numbered_terms F.Address.number terms) (numbered_asked F.Address.number asked) self.now }
     {
+        let wanted = self.said(true, terms);
         if !is_again {
-            return terms;
+            return wanted;
         }
         let last = self.sent.first(Side::OfWanted, asked);
-        with_packet_of(terms_of(&last), terms)
+        with_packet_of(terms_of(&last), wanted)
+    }
+
+    /// Returns the terms of a wanted query, in which QRV is 0 if the Robustness Variable is above 7. Then S is `may_have_s`.
+    pub(crate) fn said(&self, may_have_s: bool, terms: Terms<F::Address>) -> Terms<F::Address>
+        ensures { numbered_terms F.Address.number result ≡ spec.said may_have_s self.now.repeats (numbered_terms F.Address.number terms) }
+    {
+        Terms {
+            version: terms.version,
+            response: terms.response,
+            querier: qrv_said(self.repeats.above_7, may_have_s, terms.querier),
+            to: terms.to,
+            packet: terms.packet,
+        }
     }
 
     /// Handles a query that becomes wanted.

@@ -3,24 +3,26 @@
 ghost use Rattle.std.specs.Prelude.{◌≡◌, ◌≤◌, ◌^◌, fold, map as list_map, ⊤};
 ghost use Rattle.mq_wire.specs.Numbered.{numbered_query};
 ghost use Rattle.mq_check.specs.declared.asked.Asked.TheVariants.{Source};
+ghost use Rattle.mq_check.specs.declared.entry.Entry.TheVariants.{Seen};
 ghost use Rattle.mq_check.specs.Checking as spec;
 ghost use Rattle.mq_check.specs.Headers.{fault_if, faults_of};
 ghost use Rattle.mq_check.specs.Numbered.{numbered_asked, numbered_terms, numbered_terms_if, numbered_unpaired};
 ghost use Rattle.mq_check.specs.Queries as queries;
 ghost use Rattle.mq_check.specs.Standing.{standing_in};
+ghost use Rattle.mq_check.specs.Waiting as waits;
 
 use crate::asked::Asked;
 use crate::checked_family::CheckedFamily;
 use crate::checking::Checking;
 use crate::earliest_partner::EarliestPartner;
-use crate::entry::{Entry, Need, Unpaired};
+use crate::entry::{Entry, Need, SVerdict, SeenVerdict, Unpaired};
 use crate::finding::ExtraReason;
 use crate::general::query_interval;
 use crate::headers::{HeaderFault, Headers};
 use crate::schedules::{as_seen, first_of};
 use crate::stamp::Stamp;
 use crate::standing::{Standing, standing_in};
-use crate::terms::{Terms, general_terms, terms_of};
+use crate::terms::{Terms, general_terms, is_suppressed, terms_of};
 use crate::waiting::{Side, Waiting};
 use crate::wanting::{asked_without_sources, is_general, sources_of};
 use mq_count::Moment;
@@ -49,9 +51,9 @@ impl<K: WireKey> Clone for SeenPacket<K> {
 
 impl<K: WireKey> Copy for SeenPacket<K> {}
 
-/// A seen query: its moment and its terms.
+/// A seen query: its stamp and its terms.
 struct SeenQuery<K: WireKey> {
-    moment: Moment,
+    stamp: Stamp,
     terms: Terms<K>,
 }
 
@@ -76,6 +78,44 @@ fn reason_of(is_muted: bool) -> ExtraReason
     } else {
         ExtraReason::NoChange
     }
+}
+
+/// Returns the verdict on S of a seen query by the timer of its subject.
+fn s_by<K: WireKey>(is_above: bool, set_from: Moment, terms: &Terms<K>) -> SVerdict
+    ensures { result ≡ spec.s_by is_above set_from (numbered_terms K.number terms.now) }
+{
+    if is_suppressed(terms.querier) == is_above {
+        SVerdict::Right
+    } else {
+        SVerdict::Open(set_from)
+    }
+}
+
+/// Returns the verdict on S. If the Robustness Variable is above 7, it isn't judged.
+fn s_for<K: WireKey>(above_7: bool, is_above: bool, set_from: Moment, terms: &Terms<K>) -> SVerdict
+    ensures { result ≡ spec.s_for above_7 is_above set_from (numbered_terms K.number terms.now) }
+{
+    if above_7 {
+        SVerdict::Right
+    } else {
+        s_by(is_above, set_from, terms)
+    }
+}
+
+/// Appends a seen query with its partner's terms, if it has one, and its verdicts: on S, and without a partner.
+fn put_seen<F: Family, A: Allocator>(
+    waiting: &mut Waiting<F, A>,
+    moment: Moment,
+    asked: Asked<F::Address>,
+    terms: Terms<F::Address>,
+    partner: Option<Terms<F::Address>>,
+    s: SVerdict,
+    alone: Unpaired<F::Address>,
+)
+    ensures { waiting.new ≡ waits.with_entry (Seen moment (numbered_asked F.Address.number asked) (numbered_terms F.Address.number terms) (numbered_terms_if F.Address.number partner) (record { s = s; alone = numbered_unpaired F.Address.number alone })) waiting.old }
+{
+    let verdict = SeenVerdict { s, alone };
+    waiting.put(Entry::Seen(moment, asked, terms, partner, verdict));
 }
 
 /// Returns the verdict on a seen query without a partner. `possible` has the terms of a query that another reading, or a state
@@ -122,8 +162,9 @@ impl<F: Family, A: Allocator> Checking<F, A> {
         ensures { self.new ≡ spec.with_seen moment (numbered_terms F.Address.number terms) standing self.old (numbered_asked F.Address.number asked) }
     {
         let from = self.near(moment);
+        let above_7 = self.schedules.is_above_7();
         self.forget(moment);
-        let alone = self.alone(moment, terms, standing, asked);
+        let alone = self.alone(moment, terms, standing.is_muted, asked);
         let next = self.schedules.followed(moment, standing.is_above, asked);
         let caused = self.schedules.caused(moment, asked);
         self.note_unmuted(moment, terms, asked);
@@ -141,8 +182,8 @@ impl<F: Family, A: Allocator> Checking<F, A> {
             caused,
         );
         let either = first_of(partner, next);
-        self.waiting
-            .put(Entry::Seen(moment, asked, terms, either, alone));
+        let s = s_for(above_7, standing.is_above, standing.set_from, &terms);
+        put_seen(&mut self.waiting, moment, asked, terms, either, s, alone);
     }
 
     /// Returns whether a query for a source shows that no older host mutes the changes of its group, and that isn't known. No
@@ -213,18 +254,18 @@ impl<F: Family, A: Allocator> Checking<F, A> {
         &self,
         moment: Moment,
         terms: Terms<F::Address>,
-        standing: Standing,
+        is_muted: bool,
         asked: Asked<F::Address>,
     ) -> Unpaired<F::Address>
         ensures { numbered_unpaired F.Address.number result
-            ≡ spec.alone_after moment (numbered_terms F.Address.number terms) standing (numbered_asked F.Address.number asked) self.now }
+            ≡ spec.alone_after moment (numbered_terms F.Address.number terms) is_muted (numbered_asked F.Address.number asked) self.now }
     {
         let is_querier = self.phase.is_querier();
         let unclear = self.schedules.unclear(asked);
         let caused = self.schedules.caused(moment, asked);
-        let first = self.schedules.at_first(moment, terms);
-        let possible = first_of(as_seen(terms, first_of(unclear, caused)), first);
-        alone_if(is_querier, standing.is_muted, possible)
+        let unforeseen = self.schedules.unforeseen(moment, terms, asked);
+        let possible = first_of(as_seen(terms, first_of(unclear, caused)), unforeseen);
+        alone_if(is_querier, is_muted, possible)
     }
 
     /// Adds a seen query for each subject of a query.
@@ -234,15 +275,14 @@ impl<F: Family, A: Allocator> Checking<F, A> {
         link: &Link<F, A>,
         query: &Query<'_, F::Address>,
     )
-        requires in_range { seen.moment ≤ 2 ^ 53 }
-        ensures { self.new ≡ fold (spec.one_seen seen.moment (numbered_terms F.Address.number seen.terms) (standing_in F.FAMILY link.now.state.groups link.now.state.election.timing seen.moment))
+        ensures { self.new ≡ fold (spec.one_seen seen.stamp (numbered_terms F.Address.number seen.terms) (standing_in F.FAMILY link.now.state.groups link.now.state.election.timing seen.stamp))
             self.old (queries.asked_in (numbered_query F.Address.number query.now)) }
     {
         let sources = sources_of(&query.version);
         if sources.is_empty() {
             let asked = asked_without_sources::<F>(query.group);
-            let standing = standing_in(link, seen.moment, asked);
-            self.see(seen.moment, seen.terms, standing, asked);
+            let standing = standing_in(link, seen.stamp, asked);
+            self.see(seen.stamp.moment(), seen.terms, standing, asked);
             return;
         }
         self.see_sources(seen, link, query.group, sources);
@@ -256,14 +296,13 @@ impl<F: Family, A: Allocator> Checking<F, A> {
         group: F::Address,
         sources: Sources<'_, F::Address>,
     )
-        requires in_range { seen.moment ≤ 2 ^ 53 }
-        ensures { self.new ≡ fold (spec.one_seen seen.moment (numbered_terms F.Address.number seen.terms) (standing_in F.FAMILY link.now.state.groups link.now.state.election.timing seen.moment))
+        ensures { self.new ≡ fold (spec.one_seen seen.stamp (numbered_terms F.Address.number seen.terms) (standing_in F.FAMILY link.now.state.groups link.now.state.election.timing seen.stamp))
             self.old (list_map (Source (F.Address.number group)) sources.entry) }
     {
         for source in sources {
             let asked = Asked::Source(group, source);
-            let standing = standing_in(link, seen.moment, asked);
-            self.see(seen.moment, seen.terms, standing, asked);
+            let standing = standing_in(link, seen.stamp, asked);
+            self.see(seen.stamp.moment(), seen.terms, standing, asked);
         }
     }
 
@@ -289,7 +328,7 @@ impl<F: Family, A: Allocator> Checking<F, A> {
             Asked::AllGroups,
             terms,
             Some(wanted),
-            Unpaired::Extra(ExtraReason::NoChange),
+            SeenVerdict::as_wanted(Unpaired::Extra(ExtraReason::NoChange)),
         ));
     }
 
@@ -305,45 +344,16 @@ impl<F: Family, A: Allocator> Checking<F, A> {
         ensures { self.new ≡ spec.general_compared within configured stamp (numbered_terms F.Address.number terms) (numbered_terms F.Address.number wanted) self.old }
     {
         if self.phase.is_querier() {
+            let wanted = self.schedules.said(false, wanted);
             self.judge_general(within, configured, stamp, terms, wanted);
             return;
         }
         let standing = Standing {
             is_muted: false,
             is_above: false,
+            set_from: Stamp::of(0).moment(),
         };
         self.see(stamp.moment(), terms, standing, Asked::AllGroups);
-    }
-
-    /// Handles a general query that is seen, and counts it.
-    fn see_general(
-        &mut self,
-        within: u32,
-        configured: Timing,
-        stamp: Stamp,
-        terms: Terms<F::Address>,
-        wanted: Terms<F::Address>,
-    )
-        ensures { self.new ≡ spec.general_seen within configured stamp (numbered_terms F.Address.number terms) (numbered_terms F.Address.number wanted) self.old }
-    {
-        self.compare_general(within, configured, stamp, terms, wanted);
-        self.last_general = Some(stamp);
-        self.general = self.general.saturating_add(1);
-    }
-
-    /// Handles a query for a group or for sources that is seen, and counts it.
-    fn see_specific(
-        &mut self,
-        seen: SeenQuery<F::Address>,
-        link: &Link<F, A>,
-        query: &Query<'_, F::Address>,
-    )
-        requires in_range { seen.moment ≤ 2 ^ 53 }
-        ensures { self.new ≡ spec.specific_seen seen.moment (numbered_terms F.Address.number seen.terms) (standing_in F.FAMILY link.now.state.groups link.now.state.election.timing seen.moment)
-            (queries.asked_in (numbered_query F.Address.number query.now)) self.old }
-    {
-        self.see_all(seen, link, query);
-        self.specific = self.specific.saturating_add(1);
     }
 
     /// Handles the headers of a packet with a query of the checked router.
@@ -388,7 +398,7 @@ impl<F: CheckedFamily, A: Allocator> Checking<F, A>
 where
     F::Address: LineKey,
 {
-    /// Handles a query of the checked router that is seen in a packet.
+    /// Handles a query of the checked router that is seen in a packet, and counts it.
     pub(crate) fn query_seen(
         &mut self,
         within: u32,
@@ -405,13 +415,16 @@ where
         let in_force = link.timing();
         if is_general::<F>(query) {
             let wanted = general_terms(config, in_force);
-            self.see_general(within, configured, packet.stamp, terms, wanted);
+            self.compare_general(within, configured, packet.stamp, terms, wanted);
+            self.last_general = Some(packet.stamp);
+            self.general = self.general.saturating_add(1);
             return;
         }
         let seen = SeenQuery {
-            moment: packet.stamp.moment(),
+            stamp: packet.stamp,
             terms,
         };
-        self.see_specific(seen, link, query);
+        self.see_all(seen, link, query);
+        self.specific = self.specific.saturating_add(1);
     }
 }

@@ -8,7 +8,7 @@ ghost use Rattle.mq_check.specs.Numbered.{numbered_query_if};
 use crate::checked_family::CheckedFamily;
 use mq_lines::LineKey;
 use mq_link::{Config, Family};
-use mq_replay::{CapturedDatagram, CapturedFamily};
+use mq_walk::{CapturedDatagram, CapturedFamily};
 use mq_wire::{Message, Query, WireFault};
 
 /// Returns the query in a datagram, if it comes from the checked router and hosts act on it.

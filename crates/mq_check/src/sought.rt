@@ -3,10 +3,11 @@
 ghost use Rattle.std.specs.Prelude.{◌≡◌, nat_lt, ⊤};
 ghost use Rattle.mq_wire.specs.Numbered.{numbered_query};
 ghost use Rattle.mq_check.specs.Announced as spec;
-ghost use Rattle.mq_check.specs.Numbered.{number_if, numbered_announced_if, numbered_asked_last, numbered_asked_last_if, numbered_sought, numbered_sought_if};
+ghost use Rattle.mq_check.specs.Numbered.{numbered_announced_if, numbered_asked_last, numbered_asked_last_if, numbered_others, numbered_sought, numbered_sought_if};
 
 use crate::announced::Announced;
 use crate::checked_family::CheckedFamily;
+use crate::others::Others;
 use crate::stamp::Stamp;
 use crate::terms::interval_said;
 use crate::wanting::{is_general, sources_of};
@@ -28,8 +29,8 @@ pub struct Sought<K: WireKey> {
     pub response_interval: Option<u32>,
     /// The Last Member Query Interval in milliseconds.
     pub last_member_interval: Option<u32>,
-    /// The lowest other source of general queries.
-    pub beside: Option<K>,
+    /// The other sources of general queries.
+    pub others: Others<K>,
     /// The milliseconds of its last general query.
     pub general: u64,
     /// Its last query for a group or for sources.
@@ -81,7 +82,7 @@ pub(crate) fn found_in<K: WireKey>(sought: Option<Sought<K>>) -> Option<Announce
             query_seconds: sought.query_seconds,
             response_interval: sought.response_interval,
             last_member_interval: sought.last_member_interval,
-            beside: sought.beside,
+            beside: sought.others,
         }),
         None => None,
     }
@@ -101,26 +102,26 @@ where
 {
     let is_of_all = is_general::<F>(query);
     match sought {
-        None if is_of_all => Some(sought_by(stamp, source, query, None)),
+        None if is_of_all => Some(sought_by(stamp, source, query, Others::none())),
         None => None,
         Some(sought) if is_of_all => Some(with_general(stamp, source, query, sought)),
         Some(sought) => Some(with_specific::<F>(stamp, source, query, sought)),
     }
 }
 
-/// Returns what is known by the first general query of the lowest source. `beside` is the lowest other one so far.
+/// Returns what is known by the first general query of the lowest source. `others` are the other ones so far.
 fn sought_by<K: WireKey>(
     stamp: Stamp,
     source: K,
     query: &Query<'_, K>,
-    beside: Option<K>,
+    others: Others<K>,
 ) -> Sought<K>
-    ensures { numbered_sought K.number result ≡ spec.sought_by stamp (K.number source) (numbered_query K.number query.now) (number_if K.number beside) }
+    ensures { numbered_sought K.number result ≡ spec.sought_by stamp (K.number source) (numbered_query K.number query.now) (numbered_others K.number others) }
 {
     let (robustness, query_seconds) = match &query.version {
         QueryVersion::Older(_) => (None, None),
         QueryVersion::Current(fields) => (
-            if_any(u32::from(fields.robustness.get())),
+            Some(u32::from(fields.robustness.get())),
             if_any(fields.interval),
         ),
     };
@@ -130,7 +131,7 @@ fn sought_by<K: WireKey>(
         query_seconds,
         response_interval: if_any(query.response),
         last_member_interval: None,
-        beside,
+        others,
         general: stamp.ms(),
         asked: None,
     }
@@ -147,7 +148,7 @@ fn with_general<K: WireKey>(
         ≡ spec.with_general stamp (K.number source) (numbered_query K.number query.now) (numbered_sought K.number sought) }
 {
     match source.order(sought.querier, &mut Meter::new()) {
-        Ordering::Less => sought_by(stamp, source, query, Some(sought.querier)),
+        Ordering::Less => sought_by(stamp, source, query, sought.others.with(sought.querier)),
         Ordering::Equal => with_general_again(stamp, sought),
         Ordering::Greater => with_other(source, sought),
     }
@@ -174,18 +175,8 @@ fn with_other<K: WireKey>(source: K, sought: Sought<K>) -> Sought<K>
     ensures { numbered_sought K.number result ≡ spec.with_other (K.number source) (numbered_sought K.number sought) }
 {
     Sought {
-        beside: Some(lower_of(source, sought.beside)),
+        others: sought.others.with(source),
         ..sought
-    }
-}
-
-/// Returns the lower one of an address and another, if there is another.
-fn lower_of<K: WireKey>(source: K, other: Option<K>) -> K
-    ensures { K.number result ≡ spec.lower_of (K.number source) (number_if K.number other) }
-{
-    match other {
-        Some(other) if other.order(source, &mut Meter::new()) == Ordering::Less => other,
-        _ => source,
     }
 }
 

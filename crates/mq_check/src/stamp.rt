@@ -1,3 +1,3 @@
 //! Moments of packets.
 
-pub(crate) use mq_replay::Stamp;
+pub(crate) use mq_walk::Stamp;

@@ -2,13 +2,13 @@
 
 ghost use Rattle.std.specs.Prelude.{◌≡◌, ◌≤◌, ◌^◌};
 ghost use Rattle.mq_table.specs.Group.{deadline_of, group_deadline, timer_at};
-ghost use Rattle.mq_table.specs.Lowering as lowering;
 ghost use Rattle.mq_table.specs.OlderHosts.{hosts_of};
 ghost use Rattle.mq_link.specs.State.{group_at};
 ghost use Rattle.mq_check.specs.Numbered.{numbered_asked};
 ghost use Rattle.mq_check.specs.Standing as spec;
 
 use crate::asked::Asked;
+use crate::stamp::Stamp;
 use mq_count::{Meter, Moment};
 use mq_link::{Family, Link, SourceTimer};
 use mq_table::{Hosts, Timing, runs_on, timer_among};
@@ -21,6 +21,8 @@ pub struct Standing {
     pub is_muted: bool,
     /// True if its timer exceeds the Last Member Query Time.
     pub is_above: bool,
+    /// The moment up to which its timer runs at least, if a Report sets it at most a millisecond before or later.
+    pub set_from: Moment,
 }
 
 /// Returns the older versions that have hosts in a group, as far as the link knows.
@@ -92,14 +94,6 @@ fn source_timer<F: Family, A: Allocator>(
     }
 }
 
-/// Returns the moment the Last Member Query Time after another.
-fn lowered_to(in_force: Timing, now: Moment) -> Moment
-    requires in_range { now ≤ 2 ^ 53 }
-    ensures { result ≡ lowering.lowered_to in_force now }
-{
-    now.after(in_force.last_member_time())
-}
-
 /// Returns whether the timer of a subject exceeds the Last Member Query Time.
 fn is_above<F: Family, A: Allocator>(
     link: &Link<F, A>,
@@ -110,7 +104,7 @@ fn is_above<F: Family, A: Allocator>(
     requires in_range { now ≤ 2 ^ 53 }
     ensures { result ≡ spec.is_above link.now.state.groups in_force now (numbered_asked F.Address.number asked) }
 {
-    let limit = lowered_to(in_force, now);
+    let limit = now.after(in_force.last_member_time());
     match asked {
         Asked::AllGroups => false,
         Asked::Group(group) => runs_on(group_timer(link, group), limit, &mut Meter::new()),
@@ -120,19 +114,52 @@ fn is_above<F: Family, A: Allocator>(
     }
 }
 
+/// Returns the moment at which a timer ends that a Report set a millisecond before a moment.
+pub(crate) fn set_from(in_force: Timing, now: Stamp) -> Moment
+    ensures { result ≡ spec.set_from in_force now }
+{
+    let before = Stamp::of(now.ms().saturating_sub(1));
+    before.moment().after(in_force.membership_interval())
+}
+
+/// Returns whether a timer runs to a moment or longer.
+fn is_from(limit: Moment, deadline: Option<Moment>) -> bool
+    ensures { result ≡ spec.is_from limit deadline }
+{
+    match deadline {
+        Some(deadline) => Meter::new().reached(limit, deadline),
+        None => false,
+    }
+}
+
+/// Returns whether the timer of a subject runs to a moment or longer.
+pub(crate) fn is_set<F: Family, A: Allocator>(
+    link: &Link<F, A>,
+    limit: Moment,
+    asked: Asked<F::Address>,
+) -> bool
+    ensures { result ≡ spec.is_set link.now.state.groups limit (numbered_asked F.Address.number asked) }
+{
+    match asked {
+        Asked::AllGroups => false,
+        Asked::Group(group) => is_from(limit, group_timer(link, group)),
+        Asked::Source(group, source) => is_from(limit, source_timer(link, group, source)),
+    }
+}
+
 /// Returns the standing of a subject.
 pub(crate) fn standing_in<F: Family, A: Allocator>(
     link: &Link<F, A>,
-    now: Moment,
+    now: Stamp,
     asked: Asked<F::Address>,
 ) -> Standing
-    requires in_range { now ≤ 2 ^ 53 }
     ensures { result
         ≡ spec.standing_in F.FAMILY link.now.state.groups link.now.state.election.timing now (numbered_asked F.Address.number asked) }
 {
     let in_force = link.timing();
     Standing {
-        is_muted: is_muted(link, now, asked),
-        is_above: is_above(link, in_force, now, asked),
+        is_muted: is_muted(link, now.moment(), asked),
+        is_above: is_above(link, in_force, now.moment(), asked),
+        set_from: set_from(in_force, now),
     }
 }

@@ -1,6 +1,7 @@
 //! Steps of a check: ticks of the link, and its datagrams.
 
 ghost use Rattle.std.specs.Prelude.{◌≡◌, ◌+◌, ◌<◌, ◌≤◌, ◌^◌, Some, min};
+ghost use Rattle.mq_link.specs.Receive.{receipt_of};
 ghost use Rattle.mq_link.specs.Tick.{next_of};
 ghost use Rattle.mq_text.specs.Printing.{output_of};
 ghost use Rattle.mq_check.specs.Basis as basis;
@@ -16,11 +17,11 @@ use crate::stamp::Stamp;
 use crate::wanted_queries::WantedQueries;
 use mq_count::{Moment, Span, Watched};
 use mq_lines::LineKey;
-use mq_link::Config;
+use mq_link::{Config, Received};
 use mq_pcap::unwrap_frame;
-use mq_replay::{CapturedDatagram, NumberedPacket, tick_before};
 use mq_table::Timing;
 use mq_text::LineFault;
+use mq_walk::{CapturedDatagram, NumberedPacket, tick_before};
 use std::alloc::Allocator;
 use std::io::Write;
 
@@ -58,13 +59,27 @@ where
         self.queries.return_role(self.terms.within, now);
     }
 
-    /// Gives the link a datagram. The queries that it sends are wanted, and the role may change.
-    fn receive(&mut self, stamp: Stamp, datagram: &CapturedDatagram<'_, F::Envelope>)
+    /// Gives the link a datagram. If it refuses one of its records, the groups of the datagram aren't judged.
+    fn take(&mut self, stamp: Stamp, datagram: &CapturedDatagram<'_, F::Envelope>)
+        ensures config { self.new.link.config ≡ self.old.link.config }
+        ensures terms { self.new.terms ≡ self.old.terms }
+        ensures told { self.new.told ≡ self.old.told }
+        ensures takes { checked_in self.new.link self.new.queries ≡ spec.taken self.old.link.config self.old.terms.within stamp
+            (record { envelope = F.envelope_of datagram.now.envelope; body = datagram.now.body.now }) (checked_in self.old.link self.old.queries) }
+    {
+        self.link.config().is_faultless();
+        let received = self.receive(stamp, datagram);
+        self.queries.refuse(received, datagram);
+    }
+
+    /// Gives the link a datagram, and returns its answer. The queries that it sends are wanted, and the role may change.
+    fn receive(&mut self, stamp: Stamp, datagram: &CapturedDatagram<'_, F::Envelope>) -> Received
         ensures config { self.new.link.config ≡ self.old.link.config }
         ensures terms { self.new.terms ≡ self.old.terms }
         ensures told { self.new.told ≡ self.old.told }
         ensures receives { checked_in self.new.link self.new.queries ≡ spec.received self.old.link.config self.old.terms.within stamp
             (record { envelope = F.envelope_of datagram.now.envelope; body = datagram.now.body.now }) (checked_in self.old.link self.old.queries) }
+        ensures answer { result ≡ (receipt_of self.old.link.config (F.envelope_of datagram.now.envelope) datagram.now.body.now stamp self.old.link.state).answer }
     {
         self.link.config().is_faultless();
         let configured = self.link.config().timing();
@@ -74,7 +89,8 @@ where
         self.queries
             .change_all(now, self.link.config(), in_force, datagram);
         self.queries.begin(now, false, !was_querier);
-        self.link
+        let received = self
+            .link
             .receive(&datagram.envelope, datagram.body, now, &mut self.queries);
         let stays_querier = self.link.is_querier();
         change_role(
@@ -86,9 +102,10 @@ where
             stays_querier,
         );
         self.queries.name_other(self.link.other_querier());
+        received
     }
 
-    /// Ticks the link at its next moments up to and including this one. The entries that have expired are settled before
+    /// Ticks the link at its next moments up to and including this one. The entries that have expired are purged before
     /// each tick.
     pub(crate) fn tick_through<W: Write>(
         &mut self,
@@ -104,21 +121,22 @@ where
         tick_before(self, moment.after(Span::from_ms(1)), writer)
     }
 
-    /// Ticks the link up to and including a moment, and settles the entries that have expired then.
-    pub(crate) fn settle_through<W: Write>(
+    /// Ticks the link up to and including a moment, and purges the entries that have expired then.
+    pub(crate) fn purge_through<W: Write>(
         &mut self,
         end: Stamp,
         writer: &mut Watched<W>,
     ) -> Result<(), LineFault>
         ensures terms { self.new.terms ≡ self.old.terms }
-        ensures comes { Comes F.Address.family (spec.settled_through self.old.link.config self.old.terms.within end (checked_in self.old.link self.old.queries))
+        ensures comes { Comes F.Address.family (spec.purged_through self.old.link.config self.old.terms.within end (checked_in self.old.link self.old.queries))
             self.old.link self.new.link self.new.queries self.old.told self.new.told
             (output_of W.contents writer.old) (output_of W.contents writer.new) result }
     {
         let now = end.moment();
         self.tick_through(now, writer)?;
+        self.queries.judge(&self.link, self.terms.within, &None);
         self.queries
-            .settle(self.terms.within, now, &mut self.told, writer)
+            .purge(self.terms.within, now, &mut self.told, writer)
     }
 
     /// Ticks the link after the end of a capture, as long as a query that it sends may be the partner of a seen one.
@@ -164,7 +182,7 @@ where
         }
     }
 
-    /// Checks the datagram of a packet, after the entries that have expired at its moment are settled.
+    /// Checks the datagram of a packet, after the entries that have expired at its moment are purged.
     fn check_datagram<W: Write>(
         &mut self,
         packet: &NumberedPacket<'_>,
@@ -180,7 +198,9 @@ where
         self.link.config().is_faultless();
         let now = packet.moment.moment();
         self.queries
-            .settle(self.terms.within, now, &mut self.told, writer)?;
+            .judge(&self.link, self.terms.within, &Some(now));
+        self.queries
+            .purge(self.terms.within, now, &mut self.told, writer)?;
         see_headers(
             &mut self.queries,
             self.link.config(),
@@ -189,7 +209,7 @@ where
             &datagram,
         );
         let Some(query) = query_seen(self.link.config(), &datagram) else {
-            self.receive(packet.moment, &datagram);
+            self.take(packet.moment, &datagram);
             return Ok(());
         };
         let to = F::destination(packet.link, packet.frame, &datagram.envelope);

@@ -89,7 +89,7 @@ impl Totals {
         if self.basis.is_unseen() || has_nothing {
             return Some(Unjudged::NoQuery);
         }
-        if 0 < self.basis.refused && 0 < self.findings {
+        if self.basis.is_crowded && self.findings == 0 {
             return Some(Unjudged::LimitsExceeded);
         }
         None

@@ -11,6 +11,6 @@ pub enum Unjudged {
     NoMessage,
     /// A capture without a query of the checked router, and without a finding or without anything from this address.
     NoQuery,
-    /// Findings of a check whose own link refused records for its limits, so the limits may cause them.
+    /// A check without findings whose own link refused records about so many groups that it judged no group from then on.
     LimitsExceeded,
 }

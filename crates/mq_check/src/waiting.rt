@@ -8,19 +8,21 @@ ghost use Rattle.mq_check.specs.Entries as spec;
 ghost use Rattle.mq_check.specs.Numbered.{numbered_asked, numbered_entry, numbered_entry_if, numbered_terms, numbered_terms_if};
 ghost use Rattle.mq_check.specs.Places.{IsFirstFree, IsFirstOver, IsNoneFree, IsNoneOver};
 ghost use Rattle.mq_check.specs.Sizes.{bytes_of_waiting};
-ghost use Rattle.mq_check.specs.Slots.{AreNoneOf};
+ghost use Rattle.mq_check.specs.Slots.{AreNoneOf, IsJudgedTo};
+ghost use Rattle.mq_check.specs.Standing.{is_set as is_timer_set};
 ghost use Rattle.mq_check.specs.Waiting as waits;
 
 use crate::asked::{Asked, is_same};
 use crate::earliest_partner::{EarliestPartner, is_near};
-use crate::entry::Entry;
+use crate::entry::{Entry, SVerdict, SeenVerdict, s_if};
 use crate::slots::{SLOTS, last_group_by, slot_in, slot_of, wanted_moment, wanted_slot};
 use crate::stamp::Stamp;
+use crate::standing::is_set;
 use crate::terms::Terms;
 use crate::trails::Trails;
 use mq_arena::{VectorSource, filled};
 use mq_count::{Meter, Moment, Span};
-use mq_link::Family;
+use mq_link::{Family, Link};
 use std::alloc::{AllocError, Allocator};
 use std::collections::VecDeque;
 use std::marker::Model;
@@ -47,6 +49,8 @@ pub(crate) struct Waiting<F: Family, A: Allocator> {
     latest: Vec<Moment, A>,
     // The number of the last wanted query for a group.
     last_group: u64,
+    // S of each seen query before this place is judged.
+    judged: usize,
     is_full: bool,
 }
 
@@ -54,7 +58,7 @@ impl<F: Family, A: Allocator> Model for Waiting<F, A> {
     ghost use Rattle.std.specs.Prelude.{◌≡◌, ◌≤◌, length, map as list_map};
     ghost use Rattle.std.specs.VecDeque.{deque_capacity};
     ghost use Rattle.mq_check.specs.Numbered.{numbered_entry};
-    ghost use Rattle.mq_check.specs.Slots.{AreBounded, AreMarked};
+    ghost use Rattle.mq_check.specs.Slots.{AreBounded, AreMarked, IsJudgedTo};
     ghost use Rattle.mq_check.specs.Waiting.{WaitingValue, room};
 
     ghost Value = { WaitingValue };
@@ -64,7 +68,8 @@ impl<F: Family, A: Allocator> Model for Waiting<F, A> {
     ghost invariant = { λ w. (deque_capacity w.entries ≡ room)
         × AreMarked F.Address.WIDTH w.horizon (list_map (numbered_entry F.Address.number) w.entries.items) w.trails
         × AreBounded F.Address.WIDTH (list_map (numbered_entry F.Address.number) w.entries.items) w.latest.items
-        × (length w.latest.items ≡ 65522) };
+        × (length w.latest.items ≡ 65522)
+        × IsJudgedTo w.judged (list_map (numbered_entry F.Address.number) w.entries.items) };
 }
 
 /// Returns whether two moments are equal.
@@ -157,6 +162,84 @@ fn excuse_each<F: Family, A: Allocator>(
     }
 }
 
+/// Returns whether a Report may still come that changes S of a query at a moment. At the end of a capture none comes.
+fn is_recent(beside: Span, now: &Option<Moment>, moment: Moment) -> bool
+    requires in_range { IfSome now.now (λ now. now ≤ 2 ^ 53) }
+    ensures { result ≡ waits.is_recent beside now.now moment }
+{
+    match now {
+        Some(now) => is_near(beside, moment, *now),
+        None => false,
+    }
+}
+
+/// Returns whether an entry is a seen query whose S a Report may still change.
+fn may_change_s<F: Family>(beside: Span, now: &Option<Moment>, entry: &Entry<F::Address>) -> bool
+    requires in_range { IfSome now.now (λ now. now ≤ 2 ^ 53) }
+    ensures { result ≡ waits.may_change_s beside now.now (numbered_entry F.Address.number entry.now) }
+{
+    entry.is_s_open() && is_recent(beside, now, entry.moment())
+}
+
+/// Returns the verdict on S after it is judged by the timer of its subject.
+fn s_judged<F: Family, A: Allocator>(
+    link: &Link<F, A>,
+    asked: Asked<F::Address>,
+    s: SVerdict,
+) -> SVerdict
+    ensures { result ≡ spec.s_judged (is_timer_set link.now.state.groups) (numbered_asked F.Address.number asked) s }
+{
+    match s {
+        SVerdict::Open(limit) => s_if(is_set(link, limit, asked)),
+        other => other,
+    }
+}
+
+/// Returns an entry after S is judged by the timer of its subject.
+fn judged_by<F: Family, A: Allocator>(
+    link: &Link<F, A>,
+    entry: Entry<F::Address>,
+) -> Entry<F::Address>
+    ensures { numbered_entry F.Address.number result
+        ≡ spec.entry_judged (is_timer_set link.now.state.groups) (numbered_entry F.Address.number entry) }
+{
+    match entry {
+        Entry::Seen(moment, asked, terms, partner, verdict) => {
+            let s = s_judged(link, asked, verdict.s);
+            let alone = verdict.alone;
+            Entry::Seen(moment, asked, terms, partner, SeenVerdict { s, alone })
+        }
+        other => other,
+    }
+}
+
+/// Judges S of the entries from a place on, and returns the place of the first entry that a Report may still change.
+fn judge_from<F: Family, A: Allocator>(
+    entries: &mut VecDeque<Entry<F::Address>, A>,
+    judged: usize,
+    link: &Link<F, A>,
+    beside: Span,
+    now: &Option<Moment>,
+) -> usize
+    requires in_range { IfSome now.now (λ moment. moment ≤ 2 ^ 53) }
+    requires judged { IsJudgedTo judged (list_map (numbered_entry F.Address.number) entries.old.items) }
+    ensures entries { list_map (numbered_entry F.Address.number) entries.new.items
+        ≡ waits.all_judged beside now.now (is_timer_set link.now.state.groups) (list_map (numbered_entry F.Address.number) entries.old.items) }
+    ensures judged { IsJudgedTo result (list_map (numbered_entry F.Address.number) entries.new.items) }
+    ensures capacity { deque_capacity entries.new ≡ deque_capacity entries.old }
+{
+    let mut place = judged;
+    while place < entries.len() {
+        let entry = entries[place];
+        if may_change_s::<F>(beside, now, &entry) {
+            return place;
+        }
+        entries[place] = judged_by(link, entry);
+        place += 1;
+    }
+    place
+}
+
 impl<F: Family, A: Allocator> Waiting<F, A> {
     /// Returns an empty list, with all memory allocated from `memory`.
     #[tactic(auto, unfolding(crate::specs::Sizes::bytes_of_entries))]
@@ -170,6 +253,7 @@ impl<F: Family, A: Allocator> Waiting<F, A> {
             horizon: EarliestPartner::start(),
             latest: filled(memory, Stamp::of(0).moment(), SLOTS)?,
             last_group: 0,
+            judged: 0,
             is_full: false,
         })
     }
@@ -344,13 +428,14 @@ impl<F: Family, A: Allocator> Waiting<F, A> {
             return None;
         }
         self.trails.pop();
+        self.judged = self.judged.saturating_sub(1);
         self.entries.pop_front()
     }
 
     /// Removes the entries that have expired at a moment, unless an entry had no room.
     pub(crate) fn forget(&mut self, within: Span, now: Moment)
         requires in_range { now ≤ 2 ^ 53 }
-        ensures { self.new ≡ waits.settled within now self.old }
+        ensures { self.new ≡ waits.purged within now self.old }
     {
         while let Some(_entry) = self.pop_over(within, now) {}
     }
@@ -378,6 +463,16 @@ impl<F: Family, A: Allocator> Waiting<F, A> {
         excuse_each::<F, A>(&mut self.entries, within, end, sent);
     }
 
+    /// Judges S of seen queries in order, up to the first query that a Report may still change.
+    ///
+    /// The search begins where it ended before, so it passes each entry once.
+    pub(crate) fn judge(&mut self, link: &Link<F, A>, beside: Span, now: &Option<Moment>)
+        requires in_range { IfSome now.now (λ moment. moment ≤ 2 ^ 53) }
+        ensures { self.new ≡ waits.all_s_judged beside now.now (is_timer_set link.now.state.groups) self.old }
+    {
+        self.judged = judge_from(&mut self.entries, self.judged, link, beside, now);
+    }
+
     /// Removes the first entry.
     pub(crate) fn pop(&mut self) -> Option<Entry<F::Address>>
         ensures none { IfNone result (self.old.entries ≡ []) }
@@ -389,6 +484,7 @@ impl<F: Family, A: Allocator> Waiting<F, A> {
             return None;
         }
         self.trails.pop();
+        self.judged = self.judged.saturating_sub(1);
         self.entries.pop_front()
     }
 

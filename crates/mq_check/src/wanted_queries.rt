@@ -1,6 +1,6 @@
 //! The outlet through which a link's queries become wanted.
 
-ghost use Rattle.std.specs.Prelude.{◌≡◌, ◌≤◌, ◌^◌, IfOk, flat_map, false};
+ghost use Rattle.std.specs.Prelude.{◌≡◌, ◌≤◌, ◌^◌, IfOk, IfSome, flat_map, false};
 ghost use Rattle.mq_pcap.specs.Frame.{carried_of};
 ghost use Rattle.mq_wire.specs.Numbered.{numbered_query};
 ghost use Rattle.mq_text.specs.Printing.{output_of};
@@ -9,6 +9,8 @@ ghost use Rattle.mq_check.specs.Causes.{causes_in};
 ghost use Rattle.mq_check.specs.Checking as spec;
 ghost use Rattle.mq_check.specs.Headers.{faults_of};
 ghost use Rattle.mq_check.specs.Queries.{specific_terms};
+ghost use Rattle.mq_check.specs.Standing.{is_set};
+ghost use Rattle.mq_check.specs.Refused.{refused_by};
 ghost use Rattle.mq_check.specs.Telling.{Tells};
 
 use crate::basis::{Basis, CheckedVariables};
@@ -21,12 +23,12 @@ use crate::seeing::SeenPacket;
 use crate::stamp::Stamp;
 use mq_count::{Moment, Watched};
 use mq_lines::LineKey;
-use mq_link::{Config, Link, QueryOutlet};
+use mq_link::{Config, Link, QueryOutlet, Received};
 use mq_pcap::{Inner, LinkType};
-use mq_replay::CapturedDatagram;
 use mq_sched::OtherQuerier;
 use mq_table::Timing;
 use mq_text::LineFault;
+use mq_walk::CapturedDatagram;
 use mq_wire::Query;
 use std::alloc::Allocator;
 use std::io::Write;
@@ -147,8 +149,20 @@ where
         }
     }
 
+    /// Judges S of the seen queries that no Report of this moment can change. Without a moment, all are judged.
+    pub(crate) fn judge(&mut self, link: &Link<F, A>, within: u32, now: &Option<Moment>)
+        requires in_range { IfSome now.now (λ moment. moment ≤ 2 ^ 53) }
+        ensures { self.new ≡ record self.old {
+          checking =
+              spec.with_s_judged within now.now (is_set link.now.state.groups)
+              self.old.checking;
+        } }
+    {
+        self.checking.judge(link, within, now);
+    }
+
     /// Removes the entries that have expired at a moment, and reports their findings.
-    pub(crate) fn settle<W: Write>(
+    pub(crate) fn purge<W: Write>(
         &mut self,
         within: u32,
         now: Moment,
@@ -157,11 +171,11 @@ where
     ) -> Result<(), LineFault>
         requires in_range { now ≤ 2 ^ 53 }
         ensures basis { self.new.basis ≡ self.old.basis }
-        ensures settled { IfOk result (λ _. self.new.checking ≡ spec.settled now self.old.checking) }
+        ensures purged { IfOk result (λ _. self.new.checking ≡ spec.purged now self.old.checking) }
         ensures tells { Tells F.Address.family (spec.told within now self.old.checking) told.old told.new
             (output_of W.contents writer.old) (output_of W.contents writer.new) result }
     {
-        self.checking.settle(within, now, told, writer)
+        self.checking.purge(within, now, told, writer)
     }
 
     /// Handles the end of the capture, after which the partners of wanted queries may come.
@@ -197,6 +211,23 @@ where
             .change_all(&at, &datagram.envelope, datagram.body);
     }
 
+    /// Handles the answer of the link to a datagram. If it refused a record, no group of the datagram is judged.
+    pub(crate) fn refuse(
+        &mut self,
+        received: Received,
+        datagram: &CapturedDatagram<'_, F::Envelope>,
+    )
+        ensures { self.new ≡ record self.old {
+          checking =
+              spec.groups_refused
+              (refused_by F.FAMILY received (record { envelope = F.envelope_of datagram.now.envelope; body = datagram.now.body.now }))
+              self.old.checking;
+        } }
+    {
+        self.checking
+            .refuse(received, &datagram.envelope, datagram.body);
+    }
+
     /// Removes all pending entries at the end of a capture, and reports their findings.
     pub(crate) fn tell_rest<W: Write>(
         &mut self,
@@ -206,7 +237,7 @@ where
         writer: &mut Watched<W>,
     ) -> Result<(), LineFault>
         requires in_range { end ≤ 2 ^ 53 }
-        ensures tells { Tells F.Address.family (flat_map (spec.found_of_last within end self.old.checking.changed) self.old.checking.waiting.entries) told.old told.new
+        ensures tells { Tells F.Address.family (flat_map (spec.found_of_last within end self.old.checking.changed self.old.checking.refused) self.old.checking.waiting.entries) told.old told.new
             (output_of W.contents writer.old) (output_of W.contents writer.new) result }
     {
         self.checking.tell_rest(within, end, told, writer)

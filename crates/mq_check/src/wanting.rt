@@ -8,7 +8,6 @@ ghost use Rattle.mq_check.specs.Checking as spec;
 ghost use Rattle.mq_check.specs.Entries.{may_be_left_out};
 ghost use Rattle.mq_check.specs.Numbered.{numbered_asked, numbered_terms};
 ghost use Rattle.mq_check.specs.Queries as queries;
-ghost use Rattle.mq_check.specs.Schedules.{schedules_wanted, without_next};
 
 use crate::asked::Asked;
 use crate::checked_family::CheckedFamily;
@@ -52,6 +51,7 @@ pub(crate) fn asked_without_sources<F: Family>(group: F::Address) -> Asked<F::Ad
 
 impl<F: Family, A: Allocator> Checking<F, A> {
     /// Adds a wanted query, and pairs it with the first seen query on the subject within the tolerance that has no partner.
+    /// It starts a schedule or goes on with one, and replaces a schedule from before the capture.
     fn want(
         &mut self,
         moment: Moment,
@@ -65,7 +65,8 @@ impl<F: Family, A: Allocator> Checking<F, A> {
         let from = self.near(moment);
         self.forget(moment);
         let need = self.need(moment, is_again, asked, &terms);
-        self.schedule(moment, terms, asked);
+        self.schedules.want(moment, terms, asked);
+        self.schedules.drop_next(asked);
         let is_found = self
             .waiting
             .join(Side::OfSeen, asked, &from, terms)
@@ -114,14 +115,6 @@ impl<F: Family, A: Allocator> Checking<F, A> {
             }
             _ => false,
         }
-    }
-
-    /// Notes a wanted query, which starts a schedule or goes on with one. It replaces a schedule from before the capture.
-    fn schedule(&mut self, moment: Moment, terms: Terms<F::Address>, asked: Asked<F::Address>)
-        ensures { self.new ≡ record self.old { schedules = without_next (numbered_asked F.Address.number asked) (schedules_wanted moment (numbered_terms F.Address.number terms) (numbered_asked F.Address.number asked) self.old.schedules) } }
-    {
-        self.schedules.want(moment, terms, asked);
-        self.schedules.drop_next(asked);
     }
 
     /// Returns whether a wanted query may be left out.

@@ -6,6 +6,7 @@ use Rattle.clap.specs.declared.parser.matches.ArgMatches.{ArgMatches}
 use Rattle.clap.specs.Matches.{found_of, first_value}
 use Rattle.mq_command.specs.declared.Interface.{Interface}
 use Rattle.mq_command.specs.declared.Interface.TheVariants.{Number, Name}
+use Rattle.mq_command.specs.declared.Packets.{Packets}
 use Rattle.mq_command.specs.declared.Protocol.{Protocol}
 use Rattle.mq_command.specs.declared.Protocol.TheVariants.{Igmp, Mld}
 use Rattle.mq_command.specs.declared.Request.{Request}
@@ -61,8 +62,15 @@ IsFlagsOf words flags =
     IsFlag words (codes "began") flags.began × IsFlag words (codes "cite") flags.cite × IsFlag words (codes "packets") flags.packets
     × IsFlag words (codes "possible") flags.possible × IsFlag words (codes "strict") flags.strict × IsFlag words (codes "json") flags.json
 
+-- the chosen packets
+abbrev pub IsPacketsOf : ArgMatches → Packets → Type 0
+IsPacketsOf words packets =
+    IsInterface (first_value (found_of words) (codes "interface")) packets.interface × IsNumber words (codes "vlan") 64 packets.vlan
+    × IsFlag words (codes "once") packets.once
+
 abbrev pub IsCheckOf : ArgMatches → Request → Type 0
-IsCheckOf words (Check protocol querier settings within flags until file) =
+IsCheckOf words (Check protocol querier settings within flags until packets file) =
     IsFamily words protocol × IsText words (codes "querier") (Some querier) × IsSettingsOf words settings
-    × IsNumber words (codes "within") 32 within × IsFlagsOf words flags × IsNumber words (codes "until") 64 until × IsText words (codes "FILE") file
+    × IsNumber words (codes "within") 32 within × IsFlagsOf words flags × IsNumber words (codes "until") 64 until
+    × IsPacketsOf words packets × IsText words (codes "FILE") file
 IsCheckOf words _ = ⊥

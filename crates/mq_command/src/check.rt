@@ -4,8 +4,9 @@ ghost use Rattle.std.specs.Prelude.{IfSome};
 ghost use Rattle.mq_command.specs.Requests.{IsCheckOf};
 
 use crate::arguments::{Argument, FILE, Form, JSON, Kind};
+use crate::convert::interface_in;
 use crate::replay::{SPAN, VARIABLES, settings_in};
-use crate::{Request, protocol_in};
+use crate::{Packets, Request, protocol_in};
 use clap::ArgMatches;
 
 /// The flags of a check.
@@ -43,11 +44,21 @@ pub(crate) fn request_in<'a>(words: &ArgMatches<'a>) -> Option<Request<'a>>
             json: words.get_flag("json"),
         },
         until: words.get_one::<u64>("until"),
+        packets: Packets {
+            interface: interface_in(words),
+            vlan: words.get_one::<u64>("vlan"),
+            once: words.get_flag("once"),
+        },
         file: words.get_str("FILE"),
     })
 }
 
-pub(crate) static FORM: Form = Form {
+/// Returns the form of the command. A proof over it and over other forms takes far longer.
+pub(crate) fn form() -> &'static Form {
+    &FORM
+}
+
+static FORM: Form = Form {
     name: "check",
     about: "Compares the queries of a querier in a capture with those that the standards want",
     after_help: AFTER_HELP,
@@ -58,6 +69,9 @@ const ARGUMENTS: &[Argument] = &[
     ("FAMILY", Kind::Family, "The querier's protocol"),
     FILE,
     ("querier", Kind::NeededText("ADDR|auto"), QUERIER_HELP),
+    ("interface", Kind::Text("WHICH"), INTERFACE_HELP),
+    ("vlan", Kind::Long("ID"), VLAN_HELP),
+    ("once", Kind::Flag, ONCE_HELP),
     ("within", Kind::Number("MS"), WITHIN_HELP),
     ("began", Kind::Flag, BEGAN_HELP),
     ("possible", Kind::Flag, POSSIBLE_HELP),
@@ -95,6 +109,17 @@ The address of the querier; for mld a link-local one, in fe80::/10. auto takes
 it and the variables that aren't given from the capture. Of standard input the
 first 64 MiB are kept for that";
 
+const INTERFACE_HELP: &str = "\
+Check only the packets of this interface, by its number or its name, as
+convert --help explains them [default: all]";
+
+const VLAN_HELP: &str =
+    "Check only packets whose outermost tag names this network, 0 to 4095 [default: all]";
+
+const ONCE_HELP: &str = "\
+Leave out packets that come again, as convert --help explains it, and take all
+interfaces and tags for one network";
+
 const WITHIN_HELP: &str = "How many milliseconds earlier or later a query may be [default: 100]";
 
 const BEGAN_HELP: &str =
@@ -123,7 +148,7 @@ Examples:
           checked general 1 specific 2: 3 findings
           packets 9 messages 9 malformed 0 cut 0 unread 0; groups held before 0 are unknown
           querier 10.0.0.1 from 0
-  mquerier convert --once any.pcap | mquerier check igmp --querier 10.0.0.1
+  mquerier check igmp --querier 10.0.0.1 --once any.pcap
       checks a capture that has packets twice, as tcpdump -i any and mirror ports make them
 
 A querier with this address and these variables starts with the first packet and hears all other messages. A
@@ -152,13 +177,15 @@ S a source of it:
                                       if there are P possible findings, printed or not
   packets N messages M malformed F cut C unread U; groups held before 0 are unknown
                                       unread are fragments, second tags, PPPoE and the like; back B and refused R
-                                      follow if stamps go back and if the limits refuse records
+                                      follow if stamps go back and if the limits refuse records; the groups of a
+                                      message with such a record aren't judged from then on
   querier A from 0, lost N, last at T, other B, again at R
                                       how often A lost the role, to B at last, and since when it has it again;
                                       unseen: nothing came from A, though a router with a higher address queries
-  taken from the capture: querier A rv N qi S qri MS lmqi MS, beside B
-                                      with --querier auto, without the variables that are given or that are 0; B is
-                                      the next lower address from which general queries come, if there is one
+  taken from the capture: querier A rv N qi S qri MS lmqi MS, beside B, C and more
+                                      with --querier auto, without the variables that are given or that are 0; rv above 7 if
+                                      QRV is 0, and then what depends on it is not judged; B and
+                                      C are the others that send general queries, at most 8
 
 Status:
   0 something was judged, and nothing certain found
@@ -166,8 +193,8 @@ Status:
   2 the command line is faulty, or help was asked for
   3 something was judged and something certain found
   4 nothing was judged: half of the packets or more are cut or unread, or there is no message of the family, or no
-    query from this address was seen and none is missing or the address is wrong, or the limits may cause what is
-    found, or with --querier auto there is no general query; standard error has a line with the reason
+    query from this address was seen and none is missing or the address is wrong, or the limits refuse records about
+    too many groups, or with --querier auto there is no general query; standard error has a line with the reason
 
 Faults of the options are \"mquerier: configuration fault K\", with status 2. The first that holds is reported,
 with a second line that names the option:
@@ -182,17 +209,27 @@ with a second line that names the option:
   6 --own or --querier has to be an address of a router: for igmp not 0.0.0.0 and below 224.0.0.0, for mld in fe80::/10
 
 A fault of the capture is a line on standard error, \"mquerier: capture fault K\", for K of 5 to 7 with
-\"at record N\". The next line has its words below. A third names pcapng, gzip and zstd. The findings before it
+\"at record N\". The next line has its words below. A third names gzip and zstd. The findings before it
 are printed, without totals. The status is 1:
   1 a read of the capture failed
   2 it is no classic capture file; mquerier convert makes one of a pcapng file
   3 the version of the file is not 2.4
-  4 the link type is neither Ethernet nor raw IP; mquerier convert makes a file of Ethernet
   5 the file ends within a header
   6 the file ends within a packet
   7 the packet has more than 262144 bytes
   8 the file has more than 4294967295 packets
 So it is with \"mquerier: gap before record N\": this packet, or the end, comes more than a day after the packet
 before it. And with \"mquerier: too many wait at record N\": more than 65536 queries wait for their partners.
+
+A pcapng file, a file of another link type than Ethernet and raw IP (101), and chosen packets are converted in
+memory first. A fault of that is a line \"mquerier: conversion fault K\", with those of convert --help, and
+nothing is judged.
+
+The messages of the family have to be of one network. If they are of several interfaces or tags, two lines name
+these, and the status is 1:
+  mquerier: more than one network: interface 0 untagged, interface 0 vlan 20
+    choose one by --interface or --vlan, or take all for one by --once
+Of standard input the first 16 MiB are looked through for that. If it need not be kept for anything else, the
+findings come before these lines.
 
 docs/FORMATS.md of the sources, \"Checks\", explains every line. docs/READINGS.md has what the standards leave open.";

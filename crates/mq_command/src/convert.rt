@@ -1,28 +1,34 @@
 //! The command `convert`: its options and its request.
 
-ghost use Rattle.mq_command.specs.Requests.{IsConvertOf};
+ghost use Rattle.std.specs.Prelude.{codes};
+ghost use Rattle.clap.specs.Matches.{found_of, first_value};
+ghost use Rattle.mq_command.specs.Requests.{IsConvertOf, IsInterface};
 
 use crate::arguments::{FILE, Form, Kind};
 use crate::{Interface, Request};
 use clap::ArgMatches;
 
-/// Returns the request of the command's words. A text for the interface that is a number is never read as a name.
+/// Returns the request of the command's words.
 pub(crate) fn request_in<'a>(words: &ArgMatches<'a>) -> Request<'a>
     ensures { IsConvertOf words.now result }
 {
-    let interface = match words.get_str("interface") {
-        None => None,
-        Some(text) => match text.parse::<u64>() {
-            Ok(number) => Some(Interface::Number(number)),
-            Err(_) => Some(Interface::Name(text)),
-        },
-    };
     Request::Convert {
-        interface,
+        interface: interface_in(words),
         vlan: words.get_one::<u64>("vlan"),
         once: words.get_flag("once"),
         json: words.get_flag("json"),
         file: words.get_str("FILE"),
+    }
+}
+
+/// Returns the chosen interface. A text that is a number is never read as a name.
+pub(crate) fn interface_in<'a>(words: &ArgMatches<'a>) -> Option<Interface<'a>>
+    ensures { IsInterface (first_value (found_of words.now) (codes "interface")) result }
+{
+    let text = words.get_str("interface")?;
+    match text.parse::<u64>() {
+        Ok(number) => Some(Interface::Number(number)),
+        Err(_) => Some(Interface::Name(text)),
     }
 }
 

@@ -18,7 +18,7 @@ use std::alloc::{AllocError, Global};
 use std::convert::AsStr;
 
 /// The version, as `MQ_VERSION_TEXT` of include/mquerier.h has it.
-pub const VERSION: &str = "2.1.0";
+pub const VERSION: &str = "3.0.0";
 
 /// A command of the command line, with its arguments.
 #[derive(Clone, Copy)]
@@ -87,9 +87,22 @@ pub enum Request<'a> {
         flags: CheckFlags,
         /// The time until which the capture lasts at least, in milliseconds after the first packet, if given.
         until: Option<u64>,
+        /// The packets of the capture that are checked.
+        packets: Packets<'a>,
         /// The file that the capture is in.
         file: Option<&'a str>,
     },
+}
+
+/// The packets of a capture that are read. The rest is left out.
+#[derive(Clone, Copy)]
+pub struct Packets<'a> {
+    /// The interface of the packets. None stands for all interfaces.
+    pub interface: Option<Interface<'a>>,
+    /// The network that the outermost tag of each packet names, if given.
+    pub vlan: Option<u64>,
+    /// Leaves out a packet whose frame was already read, at nearly the same time.
+    pub once: bool,
 }
 
 impl<'a> Request<'a> {
@@ -127,7 +140,7 @@ pub enum Protocol {
 
 /// Parses a command line, whose first word is the program's name. Its errors are those of `clap`.
 pub fn request_of<'a, S: AsStr>(alloc: Global, words: &'a [S]) -> Result<Request<'a>, Error> {
-    let mut command = command(alloc, [&replay::FORM, &check::FORM])?;
+    let mut command = command(alloc, [&replay::FORM, check::form()])?;
     asked(&mut command, words)
 }
 

@@ -4,6 +4,7 @@ mod Common
 pub mod Converted
 pub mod Filled
 pub mod Named
+pub mod Networked
 pub mod NextBlocks
 pub mod Options
 pub mod Passed

@@ -12,7 +12,7 @@ use Rattle.mq_convert.proofs.NextBlocks.{some_head}
 use Rattle.mq_convert.proofs.Sifted.{going_out-more}
 
 -- one block more
-AreBlocks-more : (start mid after : ContextState) (bytes first : List ℕ) (blocks : List (Option Captured)) (held : Option Captured)
+pub AreBlocks-more : (start mid after : ContextState) (bytes first : List ℕ) (blocks : List (Option Captured)) (held : Option Captured)
     → AreBlocks start bytes blocks mid → IsWhole mid.kind first → block_in mid first ≡ Ok (after, held)
     → AreBlocks start (bytes ++ first) (blocks ++ (held ∷ [])) after
 AreBlocks-more start mid after bytes first [] held are whole is =
@@ -28,7 +28,7 @@ AreBlocks-more start mid after bytes first (block ∷ blocks) held are whole is 
   AreBlocks-more are.2 mid after are.1 first blocks held are.6 whole is,
 )
 
-packets_of-more : (blocks : List (Option Captured)) (held : Option Captured) → packets_of (blocks ++ (held ∷ [])) ≡ packets_of blocks ++ option_to_list held
+pub packets_of-more : (blocks : List (Option Captured)) (held : Option Captured) → packets_of (blocks ++ (held ∷ [])) ≡ packets_of blocks ++ option_to_list held
 packets_of-more blocks held =
     flat_map-append option_to_list blocks (held ∷ []) ∙ ap (λ (xs : List Captured). packets_of blocks ++ xs) (append-nil (option_to_list held))
 
@@ -81,7 +81,7 @@ nothing_read choice s context sieve is sieved = record {
 }
 
 -- the result of a block is that of its size and its seen bytes
-is_seen : (context : ContextState) (number size count : ℕ) (mid new : InputState) (buffer : List ℕ) →
+pub is_seen : (context : ContextState) (number size count : ℕ) (mid new : InputState) (buffer : List ℕ) →
     (next : NextBlock context.kind number mid new buffer (Ok (Some size))) → count ≡ min size most_seen
     → block_in context next.bytes ≡ seen_in context size (take count buffer)
 is_seen context number size count mid new buffer next is =

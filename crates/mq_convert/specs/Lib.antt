@@ -9,6 +9,8 @@ pub mod Filling
 pub mod Frames
 pub mod Interfaces
 pub mod Moments
+pub mod Needed
+pub mod Networks
 pub mod Putting
 pub mod Reading
 pub mod Records

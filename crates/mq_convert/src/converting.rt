@@ -147,7 +147,7 @@ fn put_capture<A: Allocator, S: Supply, R: Read, W: Write>(
 
 /// Reads a block with this number and this size by its seen part.
 #[inline(always)]
-fn read_block(
+pub(crate) fn read_block(
     context: &mut Context,
     number: u64,
     size: usize,

@@ -8,6 +8,7 @@
 //! ```
 //!
 //! - `convert` converts a file. `Choice` chooses its packets, and `ConvertFault` says why a conversion ended early.
+//! - `find_networks` finds the networks of a file's messages, so that one can be chosen.
 //! - A file is one block after another. `Context` is the context of a block, and `BlockFault` a fault of one.
 #![tactic(auto)]
 
@@ -24,6 +25,9 @@ mod frames;
 mod interfaces;
 mod kept;
 mod moments;
+mod needed;
+mod network;
+mod networks;
 mod next_block;
 mod packet;
 mod packets;
@@ -42,4 +46,7 @@ pub use context::{Context, Interface, Kind, MOST_INTERFACES, MOST_SEEN};
 pub use converting::{convert, convert_in};
 pub use counts::ConvertCounts;
 pub use fault::{BlockFault, ConvertFault};
+pub use needed::{FIRST_BYTES, is_converted};
+pub use network::{Messages, Network};
+pub use networks::{MOST_NETWORKS, find_networks};
 pub use unread::{LinkCount, MOST_LINKS, Unread};

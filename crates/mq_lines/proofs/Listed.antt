@@ -1,6 +1,5 @@
 -- Items of lists that are put one after the other.
-use Rattle.std.proofs.Common.{◌≡◌, ℕ, Bool, false, List, ◌∷◌, ◌++◌, ap, sym, ◌∙◌, append_assoc}
-use Rattle.mq_lines.specs.Objects.{items_from}
+use Rattle.mq_lines.proofs.Common.{◌≡◌, ℕ, Bool, false, List, ◌∷◌, ◌++◌, ap, sym, ◌∙◌, append_assoc, items_from}
 
 -- one item more was put after the items before it
 pub next_of_list : {A : Type 0} (item : Bool → A → List ℕ) (total done : List ℕ) (is_first : Bool) (items left : List A) (x : A)

@@ -1,18 +1,12 @@
 -- The bytes of addresses. None has an escape in a string of JSON.
-use Rattle.std.proofs.Common.{◌≡◌, ℕ, zero, suc, ◌+◌, ◌*◌, ◌/◌, ◌%◌, ◌<◌, ◌≤◌, nat_le, Bool, true, false, inl, inr, arith}
-use Rattle.std.proofs.Common.{List, [], ◌∷◌, ◌++◌, take, drop, codes, if◌then◌else◌}
-use Rattle.std.specs.List.{All}
-use Rattle.std.specs.Fmt.{decimal, digit_glyph}
-use Rattle.std.specs.Int.{w32, w128, to_be_bytes}
-use Rattle.std.proofs.lemmas.Bool.{cases_lt, le-ltb, lt-ltb}
-use Rattle.std.proofs.lemmas.Fmt.{decimal_digit}
-use Rattle.mq_text.specs.AddressV4.{dotted}
-use Rattle.mq_text.specs.AddressV6.{groups_in, groups_of, hexadecimal, longest_zeros, shortened, with_colons}
+use Rattle.mq_lines.proofs.Common.{ℕ, Bool, false, arith, List, [], ◌∷◌, ◌++◌, codes, Family, Igmp, Mld}
+use Rattle.std.proofs.Common.{zero, suc, ◌+◌, ◌*◌, ◌/◌, ◌%◌, ◌<◌, ◌≤◌, nat_le, true, inl, inr, take, drop, if◌then◌else◌}
+use Rattle.std.specs.{List.All, Fmt.decimal, Fmt.digit_glyph, Int.w32, Int.to_be_bytes}
+use Rattle.std.proofs.lemmas.{Bool.cases_lt, Bool.le-ltb, Bool.lt-ltb, Fmt.decimal_digit}
+use Rattle.mq_text.specs.{AddressV4.dotted, AddressV6.groups_of, AddressV6.hexadecimal, AddressV6.longest_zeros, AddressV6.shortened, AddressV6.with_colons}
+use Rattle.mq_lines.specs.{Objects.IsPlain, Text.address_text}
 use Rattle.mq_text.proofs.Digits as digits
 use Rattle.mq_text.proofs.Hexadecimal as hex
-use Rattle.mq_wire.specs.Family.{Family, Igmp, Mld}
-use Rattle.mq_lines.specs.Objects.{IsPlain}
-use Rattle.mq_lines.specs.Text.{address_text}
 
 -- a fact about each item of a list
 module _ {X : Type 0} (P : X → Type 0) where

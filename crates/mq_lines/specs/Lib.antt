@@ -1,4 +1,5 @@
 pub mod Line
+pub mod Messages
 pub mod Numbered
 pub mod Objects
 pub mod Text

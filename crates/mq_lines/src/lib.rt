@@ -8,21 +8,19 @@
 //! ```
 //!
 //! - Whole lines, to an output: `igmp_line`, `mld_line`.
-//! - Lines through a buffer, which other texts use too: `put_igmp`, `put_mld`; `put_end` ends any line.
-//! - Objects of JSON through a buffer: `put_igmp_object`, `put_mld_object`, `put_message_object`; `put_object_end`
-//!   ends any object.
-//! - The address in a line: `LineKey`; `put_address` appends one to a text. In an object: `put_address_object`, `put_truth`,
-//!   and `put_comma` before an item of a list.
+//! - Texts of messages through a buffer, which other texts use too: `put_igmp`, `put_mld`, `put_message`; `put_end` ends
+//!   any text.
+//! - The address in a text: `LineKey`; `put_address` appends one, `put_address_object` one in quotation marks. In any
+//!   object: `put_truth`, and `put_comma` before an item of a list. In both forms: `either`, `put_either`.
 #![tactic(auto)]
 
 mod line_key;
 mod lines;
 mod object_pieces;
-mod objects;
 mod pieces;
 
 pub use line_key::LineKey;
-pub use lines::{igmp_line, mld_line, put_end, put_igmp, put_mld};
-pub use object_pieces::{put_address_object, put_comma, put_truth};
-pub use objects::{put_igmp_object, put_message_object, put_mld_object, put_object_end};
-pub use pieces::put_address;
+pub use lines::{igmp_line, mld_line, put_end, put_igmp, put_message, put_mld};
+pub use object_pieces::{
+    either, put_address, put_address_object, put_comma, put_either, put_truth,
+};

@@ -1,19 +1,20 @@
-//! Lines of messages.
+//! Lines of messages, as text or as objects of JSON.
 
-ghost use Rattle.std.specs.Prelude.{◌≡◌, ◌++◌, ◌||◌, [], codes, is_err, is_ok, length};
+ghost use Rattle.std.specs.Prelude.{◌≡◌, ◌≤◌, ◌||◌, [], IfOk, codes, is_err, is_ok, length};
 ghost use Rattle.mq_wire.specs.Family.{Igmp, Mld};
 ghost use Rattle.mq_wire.specs.Numbered.{numbered_message, numbered_record, numbered_version};
 ghost use Rattle.mq_wire.specs.PseudoHeader.{pseudo_header};
 ghost use Rattle.mq_text.specs.Printing.{Puts};
-ghost use Rattle.mq_lines.specs.Line.{AnswersBy, IsLineIn, PrintsLine, PrintsLineIn, PutsAs, PutsLine};
+ghost use Rattle.mq_lines.specs.Line.{AnswersBy, PrintsLineIn, PutsText};
+ghost use Rattle.mq_lines.specs.Messages.{answer_in, message_in, record_item, record_items, source_items};
 ghost use Rattle.mq_lines.specs.Numbered.{numbered_answer};
-ghost use Rattle.mq_lines.specs.Text.{answer_text, line_of, message_text, query_sources, record_text, records_text, sources_text};
+ghost use Rattle.mq_lines.specs.Text.{query_sources};
 
 use crate::line_key::LineKey;
-use crate::objects::{put_igmp_object, put_mld_object};
+use crate::object_pieces::either;
 use crate::pieces::{
-    put_fault, put_leave, put_older_report, put_query_head, put_record_head, put_report_head,
-    put_source,
+    put_fault, put_leave, put_older_report, put_query_start, put_record_start, put_report_start,
+    put_source, query_end,
 };
 use mq_count::Addr6;
 use mq_text::{LineFault, Output, Text, flush, make_room, put};
@@ -32,8 +33,8 @@ pub fn igmp_line<O: Output>(json: bool, body: &[u8], writer: &mut O) -> Result<b
     ensures same_loan { O.loan writer.new ≡ O.loan writer.old }
 {
     let mut buffer = Text::new();
-    let is_message = put_igmp_in(json, body, &mut buffer, writer)?;
-    flush(&mut buffer, writer)?;
+    let is_message = put_igmp(json, body, &mut buffer, writer)?;
+    end_line(&mut buffer, writer)?;
     Ok(is_message)
 }
 
@@ -53,232 +54,214 @@ pub fn mld_line<O: Output>(
     ensures same_loan { O.loan writer.new ≡ O.loan writer.old }
 {
     let mut buffer = Text::new();
-    let is_message = put_mld_in(json, source, destination, body, &mut buffer, writer)?;
-    flush(&mut buffer, writer)?;
+    let is_message = put_mld(json, source, destination, body, &mut buffer, writer)?;
+    end_line(&mut buffer, writer)?;
     Ok(is_message)
 }
 
-/// Puts the line of an IGMP datagram, as text or as an object.
-fn put_igmp_in<O: Output>(
-    json: bool,
-    body: &[u8],
-    buffer: &mut Text,
-    writer: &mut O,
-) -> Result<bool, LineFault>
-    ensures line { PutsAs
+/// Puts the end of a line, and writes all that the buffer holds.
+fn end_line<O: Output>(buffer: &mut Text, writer: &mut O) -> Result<(), LineFault>
+    ensures text { Puts
         (O.held writer.old) (O.held writer.new)
-        buffer.old.items buffer.new.items (IsLineIn json Igmp [] body.now) result }
+        buffer.old.items buffer.new.items (codes "\n") result }
+    ensures empty { IfOk result (λ done. buffer.new.items ≡ []) }
     ensures failed { O.failed writer.new ≡ O.failed writer.old || is_err result }
     ensures same_loan { O.loan writer.new ≡ O.loan writer.old }
 {
-    if !json {
-        return put_igmp(body, buffer, writer);
-    }
-    let is_message = put_igmp_object(body, buffer, writer)?;
-    put_end(buffer, writer)?;
-    Ok(is_message)
+    put_end(b"\n", buffer, writer)?;
+    flush(buffer, writer)
 }
 
-/// Puts the line of an MLD datagram, as text or as an object.
-fn put_mld_in<O: Output>(
-    json: bool,
-    source: Addr6,
-    destination: Addr6,
-    body: &[u8],
-    buffer: &mut Text,
-    writer: &mut O,
-) -> Result<bool, LineFault>
-    ensures line { PutsAs
-        (O.held writer.old) (O.held writer.new)
-        buffer.old.items buffer.new.items
-        (IsLineIn json Mld (pseudo_header source destination (length body.now)) body.now) result }
-    ensures failed { O.failed writer.new ≡ O.failed writer.old || is_err result }
-    ensures same_loan { O.loan writer.new ≡ O.loan writer.old }
-{
-    if !json {
-        return put_mld(source, destination, body, buffer, writer);
-    }
-    let is_message = put_mld_object(source, destination, body, buffer, writer)?;
-    put_end(buffer, writer)?;
-    Ok(is_message)
-}
-
-/// Puts the line of an IGMP datagram.
+/// Puts the text of an IGMP datagram, in words or as an object, without a line feed. Returns true for the text of a
+/// message, and false for that of its fault.
 pub fn put_igmp<O: Output>(
+    json: bool,
     body: &[u8],
     buffer: &mut Text,
     writer: &mut O,
 ) -> Result<bool, LineFault>
-    ensures line { PutsLine
+    ensures text { PutsText json
         (O.held writer.old) (O.held writer.new)
         buffer.old.items buffer.new.items Igmp [] body.now result }
     ensures failed { O.failed writer.new ≡ O.failed writer.old || is_err result }
     ensures same_loan { O.loan writer.new ≡ O.loan writer.old }
 {
-    put_answer(read_igmp(body), buffer, writer)
+    put_answer(json, read_igmp(body), buffer, writer)
 }
 
-/// Puts the line of an MLD datagram.
+/// Puts the text of an MLD datagram, as `put_igmp` does.
 pub fn put_mld<O: Output>(
+    json: bool,
     source: Addr6,
     destination: Addr6,
     body: &[u8],
     buffer: &mut Text,
     writer: &mut O,
 ) -> Result<bool, LineFault>
-    ensures line { PutsLine
+    ensures text { PutsText json
         (O.held writer.old) (O.held writer.new)
         buffer.old.items buffer.new.items Mld (pseudo_header source destination (length body.now)) body.now result }
     ensures failed { O.failed writer.new ≡ O.failed writer.old || is_err result }
     ensures same_loan { O.loan writer.new ≡ O.loan writer.old }
 {
-    put_answer(read_mld(source, destination, body), buffer, writer)
+    put_answer(json, read_mld(source, destination, body), buffer, writer)
 }
 
-/// Puts the line of a parsed message or its fault, and returns whether it is a message.
+/// Puts the text of a parsed message or its fault, and returns whether it is a message.
 fn put_answer<K: LineKey, O: Output>(
+    json: bool,
     answer: Result<Message<'_, K>, WireFault>,
     buffer: &mut Text,
     writer: &mut O,
 ) -> Result<bool, LineFault>
-    ensures line { AnswersBy
+    ensures text { AnswersBy
         (O.held writer.old) (O.held writer.new)
-        buffer.old.items buffer.new.items (is_ok answer.entry) (line_of (answer_text K.family (numbered_answer K.number answer.entry))) result }
+        buffer.old.items buffer.new.items (is_ok answer.entry) (answer_in json K.family (numbered_answer K.number answer.entry)) result }
     ensures failed { O.failed writer.new ≡ O.failed writer.old || is_err result }
     ensures same_loan { O.loan writer.new ≡ O.loan writer.old }
 {
     match answer {
         Ok(message) => {
-            put_message(message, buffer, writer)?;
-            put_end(buffer, writer)?;
+            put_message(json, message, buffer, writer)?;
             Ok(true)
         }
         Err(fault) => {
             make_room(buffer, writer)?;
-            put_fault(buffer, fault);
-            put_end(buffer, writer)?;
+            put_fault(json, buffer, fault);
             Ok(false)
         }
     }
 }
 
-/// Puts the end of a line.
-pub fn put_end<O: Output>(buffer: &mut Text, writer: &mut O) -> Result<(), LineFault>
-    ensures text { Puts
-        (O.held writer.old) (O.held writer.new)
-        buffer.old.items buffer.new.items (codes "\n") result }
-    ensures failed { O.failed writer.new ≡ O.failed writer.old || is_err result }
-    ensures same_loan { O.loan writer.new ≡ O.loan writer.old }
-{
-    make_room(buffer, writer)?;
-    put(buffer, b"\n");
-    Ok(())
-}
-
 /// Puts the text of a message.
-fn put_message<K: LineKey, O: Output>(
+pub fn put_message<K: LineKey, O: Output>(
+    json: bool,
     message: Message<'_, K>,
     buffer: &mut Text,
     writer: &mut O,
 ) -> Result<(), LineFault>
     ensures text { Puts
         (O.held writer.old) (O.held writer.new)
-        buffer.old.items buffer.new.items (message_text K.family (numbered_message K.number message.entry)) result }
+        buffer.old.items buffer.new.items (message_in json K.family (numbered_message K.number message.entry)) result }
     ensures failed { O.failed writer.new ≡ O.failed writer.old || is_err result }
     ensures same_loan { O.loan writer.new ≡ O.loan writer.old }
 {
     make_room(buffer, writer)?;
     match message {
         Message::Query(query) => {
-            put_query_head(buffer, &query);
-            put_query_sources(query.version, buffer, writer)
+            put_query_start(json, buffer, &query);
+            let end = query_end(json, &query.version);
+            put_query_sources(json, query.version, buffer, writer)?;
+            put_end(end, buffer, writer)
         }
         Message::OldReport(version, group) => {
-            put_older_report(buffer, version, group);
+            put_older_report(json, buffer, version, group);
             Ok(())
         }
         Message::Leave(group) => {
-            put_leave(buffer, group);
+            put_leave(json, buffer, group);
             Ok(())
         }
         Message::Report(records) => {
-            put_report_head::<K>(buffer, records.len());
-            put_records(records, buffer, writer)
+            put_report_start::<K>(json, buffer, records.len());
+            put_records(json, records, buffer, writer)?;
+            put_end(either(json, b"]}", b""), buffer, writer)
         }
     }
 }
 
+/// Puts the end of a text, of at most two bytes.
+pub fn put_end<O: Output>(end: &[u8], buffer: &mut Text, writer: &mut O) -> Result<(), LineFault>
+    requires { length end.now ≤ 2 }
+    ensures text { Puts
+        (O.held writer.old) (O.held writer.new)
+        buffer.old.items buffer.new.items end.now result }
+    ensures failed { O.failed writer.new ≡ O.failed writer.old || is_err result }
+    ensures same_loan { O.loan writer.new ≡ O.loan writer.old }
+{
+    make_room(buffer, writer)?;
+    put(buffer, end);
+    Ok(())
+}
+
 /// Puts the sources of a query, if its version has any.
 fn put_query_sources<K: LineKey, O: Output>(
+    json: bool,
     version: QueryVersion<'_, K>,
     buffer: &mut Text,
     writer: &mut O,
 ) -> Result<(), LineFault>
     ensures text { Puts
         (O.held writer.old) (O.held writer.new)
-        buffer.old.items buffer.new.items (sources_text K.family (query_sources (numbered_version version.entry))) result }
+        buffer.old.items buffer.new.items (source_items json K.family (query_sources (numbered_version version.entry))) result }
     ensures failed { O.failed writer.new ≡ O.failed writer.old || is_err result }
     ensures same_loan { O.loan writer.new ≡ O.loan writer.old }
 {
     match version {
         QueryVersion::Older(_) => Ok(()),
-        QueryVersion::Current(fields) => put_sources(fields.sources, buffer, writer),
+        QueryVersion::Current(fields) => put_sources(json, fields.sources, buffer, writer),
     }
 }
 
-/// Puts each record after a space, in brackets.
+/// Puts the records of a Report.
 fn put_records<K: LineKey, O: Output>(
+    json: bool,
     records: Records<'_, K>,
     buffer: &mut Text,
     writer: &mut O,
 ) -> Result<(), LineFault>
     ensures text { Puts
         (O.held writer.old) (O.held writer.new)
-        buffer.old.items buffer.new.items (records_text K.family records.entry) result }
+        buffer.old.items buffer.new.items (record_items json K.family records.entry) result }
     ensures failed { O.failed writer.new ≡ O.failed writer.old || is_err result }
     ensures same_loan { O.loan writer.new ≡ O.loan writer.old }
 {
+    let mut is_first = true;
     for view in records {
-        put_record(view, buffer, writer)?;
+        put_record(json, is_first, view, buffer, writer)?;
+        is_first = false;
     }
     Ok(())
 }
 
-/// Puts a record after a space, in brackets.
+/// Puts a record of a Report.
 fn put_record<K: LineKey, O: Output>(
+    json: bool,
+    is_first: bool,
     view: RecordView<'_, K>,
     buffer: &mut Text,
     writer: &mut O,
 ) -> Result<(), LineFault>
     ensures text { Puts
         (O.held writer.old) (O.held writer.new)
-        buffer.old.items buffer.new.items (record_text K.family (numbered_record K.number view.entry)) result }
+        buffer.old.items buffer.new.items (record_item json K.family is_first (numbered_record K.number view.entry)) result }
     ensures failed { O.failed writer.new ≡ O.failed writer.old || is_err result }
     ensures same_loan { O.loan writer.new ≡ O.loan writer.old }
 {
     make_room(buffer, writer)?;
-    put_record_head(buffer, view.kind, view.group);
-    put_sources(view.sources, buffer, writer)?;
-    make_room(buffer, writer)?;
-    put(buffer, b"]");
-    Ok(())
+    put_record_start(json, buffer, is_first, view.kind, view.group);
+    put_sources(json, view.sources, buffer, writer)?;
+    put_end(either(json, b"]}", b"]"), buffer, writer)
 }
 
-/// Puts each source after a space.
+/// Puts the sources of a query or a record.
 fn put_sources<K: LineKey, O: Output>(
+    json: bool,
     sources: Sources<'_, K>,
     buffer: &mut Text,
     writer: &mut O,
 ) -> Result<(), LineFault>
     ensures text { Puts
         (O.held writer.old) (O.held writer.new)
-        buffer.old.items buffer.new.items (sources_text K.family sources.entry) result }
+        buffer.old.items buffer.new.items (source_items json K.family sources.entry) result }
     ensures failed { O.failed writer.new ≡ O.failed writer.old || is_err result }
     ensures same_loan { O.loan writer.new ≡ O.loan writer.old }
 {
+    let mut is_first = true;
     for source in sources {
         make_room(buffer, writer)?;
-        put_source(buffer, source);
+        put_source(json, buffer, is_first, source);
+        is_first = false;
     }
     Ok(())
 }

@@ -35,7 +35,7 @@ check_asked s = record {
   within = s.within;
   until = until_asked s;
   additions = record { packets = false; cite = not (s.cite == 0); once = false; possible = true; json = not (s.json == 0) };
-  flags = record { began = false; strict = false };
+  flags = record { began = false; strict = false; above_7 = false };
 }
 
 -- the interface of the packets to convert, by its number or by its name; 0 stands for all of them

@@ -1,12 +1,13 @@
 -- The faults of the calls below, as the page receives them.
-use Rattle.std.specs.Prelude.{ℕ, Option, None, Some, Result, Ok, Err}
+use Rattle.std.specs.Prelude.{ℕ, if◌then◌else◌, List, [], Option, None, Some, Result, Ok, Err}
+use Rattle.mq_walk.specs.declared.capture_fault.CaptureFault.{CaptureFault}
+use Rattle.mq_walk.specs.declared.capture_fault.CaptureFault.TheVariants as capture
 use Rattle.mq_check.specs.declared.totals.Totals.{Totals}
 use Rattle.mq_check.specs.declared.unjudged.Unjudged.{Unjudged}
-use Rattle.mq_check.specs.Basis.{unjudged_by}
-use Rattle.mq_replay.specs.declared.capture_fault.CaptureFault.{CaptureFault}
+use Rattle.mq_check.specs.declared.unjudged.Unjudged.TheVariants.{NoQuery}
+use Rattle.mq_check.specs.Basis.{is_unseen, unjudged_by}
 use Rattle.mq_convert.specs.declared.fault.ConvertFault.{ConvertFault}
 use Rattle.mq_convert.specs.declared.fault.ConvertFault.TheVariants as conversion
-use Rattle.mq_replay.specs.declared.capture_fault.CaptureFault.TheVariants as capture
 use Rattle.mq_page.specs.declared.page_fault.PageFault.{PageFault}
 use Rattle.mq_page.specs.declared.page_fault.PageFault.TheVariants.{Full, Memory, Capture, Gap, Waiting, ConversionRead, Conversion, NothingJudged}
 
@@ -30,7 +31,13 @@ judged findings None = Ok findings
 judged findings (Some why) = Err (NothingJudged why)
 
 abbrev pub concluded : Totals → Result ℕ PageFault
-concluded totals = judged totals.findings (unjudged_by totals)
+concluded totals =
+    if is_unseen totals.basis then Err (NothingJudged NoQuery) else judged totals.findings (unjudged_by totals)
+
+-- the shown text of a check: nothing if the querier is unseen
+abbrev pub shown : Result Totals CaptureFault → (text : List ℕ) → List ℕ
+shown (Ok totals) text = if is_unseen totals.basis then [] else text
+shown (Err f) text = text
 
 -- the outcome of a call: that of its result, or a fault
 abbrev pub outcome_of : {X E : Type 0} → (done : X → Result ℕ PageFault) → (fault : E → PageFault) → Result X E → Result ℕ PageFault

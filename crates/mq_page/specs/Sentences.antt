@@ -55,6 +55,7 @@ configuration_sentence config.ResponseInterval = codes "the response interval is
 configuration_sentence config.LastMember = codes "the last member query interval is out of range"
 configuration_sentence (config.Limit which) = limit_sentence which
 configuration_sentence config.OwnAddress = codes "no router may send queries from the own address"
+configuration_sentence config.LastMemberCount = codes "the last member query count is not within 0 to 7"
 
 -- the reason why a check judged nothing
 abbrev pub unjudged_sentence : Unjudged → List ℕ
@@ -62,7 +63,7 @@ unjudged_sentence NotUnderstood = codes "every second packet or more is cut or i
 unjudged_sentence OutOfOrder = codes "every second packet or more has a stamp that goes back"
 unjudged_sentence NoMessage = codes "there is no message of this family"
 unjudged_sentence NoQuery = codes "no query from this address was seen"
-unjudged_sentence LimitsExceeded = codes "the limits refuse records, and may cause what is found"
+unjudged_sentence LimitsExceeded = codes "the limits refuse records about too many groups"
 
 abbrev pub sentence : PageFault → List ℕ
 sentence Full = codes "the text is longer than the memory for it"

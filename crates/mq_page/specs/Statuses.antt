@@ -50,6 +50,7 @@ configuration_status config.ResponseInterval = 53
 configuration_status config.LastMember = 54
 configuration_status (config.Limit which) = limit_status which
 configuration_status config.OwnAddress = 56
+configuration_status config.LastMemberCount = 57
 
 -- the status of a check that judged nothing
 abbrev pub unjudged_status : Unjudged → ℕ

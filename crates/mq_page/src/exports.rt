@@ -1,7 +1,9 @@
 //! The calls, as the page makes them. Each writes what follows the first `skip` bytes of its text, as far as there is room.
 
-ghost use Rattle.std.specs.Prelude.{◌≡◌, ◌≤◌, ◌==◌, not, None, false, length, min};
+ghost use Rattle.std.specs.Prelude.{◌≡◌, ◌*◌, ◌≤◌, ◌==◌, not, None, false, length, min};
 ghost use Rattle.std.specs.Int.{w32, w128, from_be_bytes};
+ghost use Rattle.mq_count.specs.contracts.address_v4.Addr4 as addr4;
+ghost use Rattle.mq_count.specs.contracts.address_v6.Addr6 as addr6;
 ghost use Rattle.mq_wire.specs.Family.{Igmp as FamilyIgmp, Mld as FamilyMld};
 ghost use Rattle.mq_page.specs.declared.page_fault.PageFault.{PageFault as ThePageFault};
 ghost use Rattle.mq_page.specs.Asked.{check_asked, choice_asked, configuration_asked, replay_asked};
@@ -34,7 +36,7 @@ pub extern "C" fn page_show(
     memory: LentMemory,
     text: &mut [u8],
 ) -> Answer
-    ensures { ListsInto (not (json == 0)) skip capture.now text.old text.new result }
+    ensures { ListsInto (not (json == 0)) skip capture.now (16 * memory.units) text.old text.new result }
 {
     list(json != 0, skip, capture, memory.into_units(), text)
 }
@@ -47,7 +49,7 @@ pub extern "C" fn page_convert(
     memory: LentMemory,
     text: &mut [u8],
 ) -> Answer
-    ensures { ConvertsInto (record { interface = None; vlan = None; once = false }) skip capture.now text.old text.new result }
+    ensures { ConvertsInto (record { interface = None; vlan = None; once = false }) skip capture.now (16 * memory.units) text.old text.new result }
 {
     let choice = Choice {
         interface: None,
@@ -66,7 +68,7 @@ pub extern "C" fn page_convert_chosen(
     memory: LentMemory,
     text: &mut [u8],
 ) -> Answer
-    ensures { ConvertsInto (choice_asked chosen.now) skip capture.now text.old text.new result }
+    ensures { ConvertsInto (choice_asked chosen.now) skip capture.now (16 * memory.units) text.old text.new result }
 {
     convert_chosen(chosen.choice(), skip, capture, memory.into_units(), text)
 }
@@ -81,7 +83,7 @@ pub extern "C" fn page_replay_igmp(
     memory: LentMemory,
     text: &mut [u8],
 ) -> Answer
-    ensures { ReplaysInto (configuration_asked FamilyIgmp (from_be_bytes w32 own.now) settings.now) (replay_asked settings.now) skip capture.now text.old text.new result }
+    ensures { ReplaysInto addr4.the_row (configuration_asked FamilyIgmp (from_be_bytes w32 own.now) settings.now) (replay_asked settings.now) skip capture.now (16 * memory.units) text.old text.new result }
 {
     replay_to::<Igmp>(
         Addr4::from_octets(*own),
@@ -103,7 +105,7 @@ pub extern "C" fn page_replay_mld(
     memory: LentMemory,
     text: &mut [u8],
 ) -> Answer
-    ensures { ReplaysInto (configuration_asked FamilyMld (from_be_bytes w128 own.now) settings.now) (replay_asked settings.now) skip capture.now text.old text.new result }
+    ensures { ReplaysInto addr6.the_row (configuration_asked FamilyMld (from_be_bytes w128 own.now) settings.now) (replay_asked settings.now) skip capture.now (16 * memory.units) text.old text.new result }
 {
     replay_to::<Mld>(
         Addr6::from_octets(*own),
@@ -125,7 +127,7 @@ pub extern "C" fn page_check_igmp(
     memory: LentMemory,
     text: &mut [u8],
 ) -> Answer
-    ensures { ChecksInto (configuration_asked FamilyIgmp (from_be_bytes w32 own.now) settings.now) (check_asked settings.now) skip capture.now text.old text.new result }
+    ensures { ChecksInto addr4.the_row (configuration_asked FamilyIgmp (from_be_bytes w32 own.now) settings.now) (check_asked settings.now) skip capture.now (16 * memory.units) text.old text.new result }
 {
     check_at::<Igmp>(
         Addr4::from_octets(*own),
@@ -147,7 +149,7 @@ pub extern "C" fn page_check_mld(
     memory: LentMemory,
     text: &mut [u8],
 ) -> Answer
-    ensures { ChecksInto (configuration_asked FamilyMld (from_be_bytes w128 own.now) settings.now) (check_asked settings.now) skip capture.now text.old text.new result }
+    ensures { ChecksInto addr6.the_row (configuration_asked FamilyMld (from_be_bytes w128 own.now) settings.now) (check_asked settings.now) skip capture.now (16 * memory.units) text.old text.new result }
 {
     check_at::<Mld>(
         Addr6::from_octets(*own),

@@ -1,5 +1,6 @@
 //! The listing of a capture.
 
+ghost use Rattle.std.specs.Prelude.{◌*◌, length};
 ghost use Rattle.mq_page.specs.Calls.{ListsInto};
 
 use crate::answer::Answer;
@@ -18,24 +19,21 @@ pub(crate) fn list(
     memory: &'static mut [u128],
     text: &mut [u8],
 ) -> Answer
-    ensures { ListsInto json skip capture.now text.old text.new result }
+    ensures { ListsInto json skip capture.now (16 * length memory.old) text.old text.new result }
 {
     let Some(room) = WorkRoom::of(memory, skip, text.len()) else {
         return told(Err(PageFault::Memory), &[], text);
     };
     let WorkRoom {
         text: written,
-        rest,
+        mut rest,
     } = room;
     let mut reader = Watched::new(capture);
     let mut writer = Watched::new(written);
-    let outcome = match show(&rest, json, &Ready, &mut reader, &mut writer) {
+    let outcome = match show(&mut rest, json, &Ready, &mut reader, &mut writer) {
         Ok(count) => Ok(count),
         Err(fault) => Err(of_capture(fault)),
     };
     let room = writer.into_inner();
-    let Some(part) = room.part(skip) else {
-        return told(Err(PageFault::Memory), &[], text);
-    };
-    told(outcome, part, text)
+    told(outcome, room.part(), text)
 }

@@ -7,7 +7,7 @@ use mq_check::{Totals, Unjudged};
 use mq_convert::{BlockFault, ConvertFault};
 use mq_link::ConfigFault;
 use mq_pcap::PcapFault;
-use mq_replay::CaptureFault;
+use mq_walk::CaptureFault;
 
 /// The reason why a call did not do all of its request.
 #[derive(Clone, Copy, PartialEq, Eq)]
@@ -74,6 +74,9 @@ pub(crate) fn of_conversion(fault: ConvertFault) -> PageFault
 pub(crate) fn concluded(totals: &Totals) -> Result<u64, PageFault>
     ensures { result ≡ spec.concluded totals.now }
 {
+    if totals.basis.is_unseen() {
+        return Err(PageFault::NothingJudged(Unjudged::NoQuery));
+    }
     match totals.unjudged() {
         Some(why) => Err(PageFault::NothingJudged(why)),
         None => Ok(totals.findings),

@@ -1,5 +1,6 @@
 //! The replay of a capture.
 
+ghost use Rattle.std.specs.Prelude.{◌*◌, length};
 ghost use Rattle.mq_page.specs.Asked.{configuration_asked, replay_asked};
 ghost use Rattle.mq_page.specs.Calls.{ReplaysInto};
 
@@ -11,7 +12,8 @@ use crate::work_room::WorkRoom;
 use mq_count::Watched;
 use mq_lines::LineKey;
 use mq_pcap::Ready;
-use mq_replay::{Asked, CapturedFamily, replay};
+use mq_replay::{Asked, replay};
+use mq_walk::CapturedFamily;
 
 /// Replays a capture to a querier with the address `own`. It writes what follows the first `skip` bytes of the text.
 pub(crate) fn replay_to<F: CapturedFamily>(
@@ -24,7 +26,7 @@ pub(crate) fn replay_to<F: CapturedFamily>(
 ) -> Answer
 where
     F::Address: LineKey,
-    ensures { ReplaysInto (configuration_asked F.FAMILY (F.Address.number own) settings.now) (replay_asked settings.now) skip capture.now text.old text.new result }
+    ensures { ReplaysInto F.Address.row (configuration_asked F.FAMILY (F.Address.number own) settings.now) (replay_asked settings.now) skip capture.now (16 * length memory.old) text.old text.new result }
 {
     let querier = match querier_of::<F>(own, settings) {
         Ok(querier) => querier,
@@ -35,7 +37,7 @@ where
     };
     let WorkRoom {
         text: written,
-        rest,
+        mut rest,
     } = room;
     let asked = Asked {
         until: querier.until,
@@ -45,7 +47,7 @@ where
     let mut reader = Watched::new(capture);
     let mut writer = Watched::new(written);
     let outcome = match replay(
-        &rest,
+        &mut rest,
         querier.config,
         asked,
         &Ready,
@@ -56,8 +58,5 @@ where
         Err(fault) => Err(of_capture(fault)),
     };
     let room = writer.into_inner();
-    let Some(part) = room.part(skip) else {
-        return told(Err(PageFault::Memory), &[], text);
-    };
-    told(outcome, part, text)
+    told(outcome, room.part(), text)
 }

@@ -134,6 +134,10 @@ fn put_configuration(text: &mut Text, fault: ConfigFault)
         ConfigFault::LastMember => put(text, b"the last member query interval is out of range"),
         ConfigFault::Limit { which } => put_limit(text, which),
         ConfigFault::OwnAddress => put(text, b"no router may send queries from the own address"),
+        ConfigFault::LastMemberCount => put(
+            text,
+            b"the last member query count is not within 0 to 7",
+        ),
     }
 }
 
@@ -165,10 +169,7 @@ fn put_unjudged(text: &mut Text, why: Unjudged)
         Unjudged::NoMessage => put(text, b"there is no message of this family"),
         Unjudged::NoQuery => put(text, b"no query from this address was seen"),
         Unjudged::LimitsExceeded => {
-            put(
-                text,
-                b"the limits refuse records, and may cause what is found",
-            )
+            put(text, b"the limits refuse records about too many groups")
         }
     }
 }

@@ -77,6 +77,7 @@ fn configuration_fault(status: u64) -> Option<ConfigFault>
         53 => Some(ConfigFault::ResponseInterval),
         54 => Some(ConfigFault::LastMember),
         56 => Some(ConfigFault::OwnAddress),
+        57 => Some(ConfigFault::LastMemberCount),
         61 => Some(limit(LimitName::Groups)),
         62 => Some(limit(LimitName::GroupSources)),
         63 => Some(limit(LimitName::Sources)),

@@ -71,6 +71,7 @@ fn configuration_status(fault: ConfigFault) -> u64
         ConfigFault::LastMember => 54,
         ConfigFault::Limit { which } => limit_status(which),
         ConfigFault::OwnAddress => 56,
+        ConfigFault::LastMemberCount => 57,
     }
 }
 

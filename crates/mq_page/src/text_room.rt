@@ -1,6 +1,6 @@
 //! Memory for a part of a text, which takes as much of it as there is room for.
 
-ghost use Rattle.std.specs.Prelude.{◌≡◌, ◌+◌, ◌<◌, ◌≤◌, ◌++◌, [], Some, IfSome, drop, length, take};
+ghost use Rattle.std.specs.Prelude.{◌≡◌, ◌+◌, ◌<◌, ◌≤◌, ◌∷◌, ◌++◌, [], Some, drop, length, take};
 ghost use Rattle.mq_page.specs.TextRooms.{passed_in};
 
 use http_server::Log;
@@ -9,8 +9,8 @@ use mq_text::{Text, put};
 use std::io;
 use std::io::Write;
 
-/// Memory for the part of a text after its first bytes, and as much of the part as was written. The bytes before the part
-/// are counted; only proofs read them in the log.
+/// Memory for the part of a text after its first `skip` bytes, and as much of the part as was written. The bytes before
+/// the part are counted; only proofs read them in the log, and `skip`.
 #[derive(Drop)]
 pub(crate) struct TextRoom {
     bytes: Vec<u8, Lodged>,
@@ -37,14 +37,11 @@ impl TextRoom {
         }
     }
 
-    /// Returns the written part of the text after its first `skip` bytes, or None if the memory is for another part.
-    pub(crate) fn part(&self, skip: usize) -> Option<&[u8]>
-        ensures { IfSome result (λ part. part.now ≡ drop skip (passed_in self.now.passed.items ++ self.now.bytes.items)) }
+    /// Returns the written part of the text.
+    pub(crate) fn part(&self) -> &[u8]
+        ensures { result.now ≡ drop self.now.skip (passed_in self.now.passed.items ++ self.now.bytes.items) }
     {
-        if self.skip != skip {
-            return None;
-        }
-        Some(self.bytes.as_slice())
+        self.bytes.as_slice()
     }
 
     /// Passes over bytes before the part, and returns how many.
@@ -52,6 +49,7 @@ impl TextRoom {
         requires { 0 < self.old.left }
         ensures passed { passed_in self.new.passed.items ≡ passed_in self.old.passed.items ++ take result more.now }
         ensures bytes { self.new.bytes ≡ self.old.bytes }
+        ensures skip { self.new.skip ≡ self.old.skip }
         ensures within { result ≤ length more.now }
     {
         let count = self.left.min(more.len()).min(4096);
@@ -64,8 +62,10 @@ impl TextRoom {
 }
 
 /// Writing passes over the bytes before the part, then takes as many bytes as there is room for, and none without room.
+/// For a proof `skip` stands before the text, so that the room is still for the same part after calls that write on any
+/// writer.
 impl Write for TextRoom {
-    ghost contents = { λ room. Some (passed_in room.passed.items ++ room.bytes.items) };
+    ghost contents = { λ room. Some (room.skip ∷ passed_in room.passed.items ++ room.bytes.items) };
 
     fn write(&mut self, more: &[u8]) -> io::Result<usize> {
         if self.left > 0 {

@@ -1,17 +1,16 @@
 //! The memory of the page for the work of a call.
 
 ghost use Rattle.std.specs.Prelude.{◌≡◌, ◌+◌, ◌*◌, ◌≤◌, ◌↔◌, [], IfSome, IsSome, length, vec_capacity};
-ghost use Rattle.mq_arena.specs.Arenas.{memory_of};
 ghost use Rattle.mq_arena.specs.Blocks.{size_of_block};
 
 use crate::text_room::TextRoom;
-use mq_arena::{Arena, Unused};
+use mq_arena::Unused;
 
-/// The memory of a call: room for as much text as the page has room for, and an allocator over the rest.
+/// The memory of a call: room for as much text as the page has room for, and the rest for the work.
 #[derive(Drop)]
 pub(crate) struct WorkRoom {
     pub(crate) text: TextRoom,
-    pub(crate) rest: Arena,
+    pub(crate) rest: Unused,
 }
 
 impl WorkRoom {
@@ -21,19 +20,15 @@ impl WorkRoom {
         ensures granted { IsSome result ↔ (size ≤ 16 * length memory.old) }
         ensures text { IfSome result (λ room. (room.text.bytes.items ≡ []) × (room.text.passed.items ≡ []) × (vec_capacity room.text.bytes ≡ size)) }
         ensures skip { IfSome result (λ room. room.text.skip ≡ skip) }
-        ensures rest { IfSome result (λ room. memory_of room.rest + size_of_block size ≡ 16 * length memory.old) }
+        ensures rest { IfSome result (λ room. room.rest + size_of_block size ≡ 16 * length memory.old) }
     {
-        let mut unused = Unused::of(memory);
-        let Ok(bytes) = unused.vec_with_capacity(size) else {
-            return None;
-        };
-        let left = unused.size();
-        let Ok(rest) = unused.take(left, 1) else {
+        let mut rest = Unused::of(memory);
+        let Ok(bytes) = rest.vec_with_capacity(size) else {
             return None;
         };
         Some(WorkRoom {
             text: TextRoom::of(bytes, skip),
-            rest: Arena::new(rest),
+            rest,
         })
     }
 }

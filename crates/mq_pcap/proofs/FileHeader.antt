@@ -1,10 +1,9 @@
 -- The content of a file's header, whatever bytes follow it.
 use Rattle.std.proofs.Common.{◌≡◌, ◌≤◌, ◌+◌, ℕ, List, ◌++◌, length, drop, refl, arith, ◌∙◌, ap, length-append, length-drop}
 use Rattle.std.proofs.{lemmas.Bool.le-ltb, Math.Seq.drop-append-le}
-use Rattle.mq_pcap.specs.{declared.form.Endian.Endian, declared.form.Endian.TheVariants.Big, declared.form.Endian.TheVariants.Little}
-use Rattle.mq_pcap.specs.{declared.form.Fraction.Fraction, declared.form.Fraction.TheVariants.Microseconds, declared.form.Fraction.TheVariants.Nanoseconds}
-use Rattle.mq_pcap.specs.{Capture.field, Capture.number_in, Capture.header_in, Capture.header_of}
-use Rattle.mq_pcap.proofs.Records.{number_in-append}
+use Rattle.mq_pcap.specs.declared.form.Endian.{Endian, TheVariants.Big, TheVariants.Little}
+use Rattle.mq_pcap.specs.declared.form.Fraction.{Fraction, TheVariants.Microseconds, TheVariants.Nanoseconds}
+use Rattle.mq_pcap.{specs.Capture.field, specs.Capture.number_in, specs.Capture.header_in, specs.Capture.header_of, proofs.Records.number_in-append}
 
 pub field-append : (order : Endian) (place n : ℕ) (bytes more : List ℕ) → place + n ≤ length bytes → field order place n (bytes ++ more)
     ≡ field order place n bytes

@@ -1,9 +1,7 @@
 -- The bytes after a hop-by-hop header, as the code reads them.
 use Rattle.std.proofs.Common.{◌≡◌, ◌≤◌, ◌+◌, ◌-◌, ◌*◌, ℕ, List, length, take, drop, Bool, refl, arith}
-use Rattle.std.specs.Prelude.{slice_index}
-use Rattle.std.proofs.lemmas.Bool.{le-ltb}
-use Rattle.mq_pcap.specs.{Frame.mld_in, Frame.behind_options, Options.has_router_alert}
-use Rattle.mq_pcap.proofs.Walk.{from_place}
+use Rattle.std.{specs.Prelude.slice_index, proofs.lemmas.Bool.le-ltb}
+use Rattle.mq_pcap.{specs.Frame.mld_in, specs.Frame.behind_options, specs.Options.has_router_alert, proofs.Walk.from_place}
 
 pub mld_behind_options : (packet payload : List ℕ) (n : ℕ) (alert : Bool) → 8 ≤ length payload → n ≡ slice_index payload 1 →
     n * 8 + 8 ≤ length payload → slice_index payload 0 ≡ 58 →

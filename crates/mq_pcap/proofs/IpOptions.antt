@@ -1,7 +1,6 @@
 -- Walking over the options of an IPv4 header: one step of the walk is one option of the list.
 use Rattle.std.proofs.Common.{◌≡◌, ◌≤◌, ◌+◌, ◌-◌, ℕ, zero, suc, List, [], ◌∷◌, length, take, drop, false, refl, ap, arith, length-drop}
-use Rattle.std.specs.Prelude.{◌==◌, slice_index}
-use Rattle.std.proofs.{lemmas.Bool.le-ltb, lemmas.Bool.ne_eqb, lemmas.List.take_all}
+use Rattle.std.{specs.Prelude.◌==◌, specs.Prelude.slice_index, proofs.lemmas.Bool.le-ltb, proofs.lemmas.Bool.ne_eqb, proofs.lemmas.List.take_all}
 use Rattle.mq_pcap.specs.IpOptions.{types_within, types_of}
 
 -- as many options as there are bytes are all of them

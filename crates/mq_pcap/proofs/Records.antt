@@ -1,15 +1,12 @@
 -- A record whose header and body were taken one after the other.
 use Rattle.std.proofs.Common.{◌≡◌, ◌≤◌, ◌<◌, ◌+◌, ◌^◌, ◌||◌, ℕ, List, ◌++◌, length, take, drop, Some, Result, Ok, Err, refl, arith, ◌∙◌, ap, inr, subst}
-use Rattle.std.proofs.Common.{length-append, length-drop}
-use Rattle.std.proofs.{lemmas.Bool.le-ltb, lemmas.Bool.lt-ltb, lemmas.List.take_all, lemmas.List.take_at, lemmas.List.length-take-le, Math.Bool.or-false}
-use Rattle.std.proofs.{Math.Seq.drop-append-le}
-use Rattle.std.specs.Prelude.{is_err}
+use Rattle.std.{proofs.Common.length-append, proofs.Common.length-drop, proofs.Math.Bool.or-false, proofs.Math.Seq.drop-append-le, specs.Prelude.is_err}
+use Rattle.std.proofs.lemmas.{Bool.le-ltb, Bool.lt-ltb, List.take_all, List.take_at, List.length-take-le}
 use Rattle.byteorder.specs.Numbers.{big_from-append, little_from-append}
-use Rattle.mq_pcap.specs.{declared.form.Endian.Endian, declared.form.Endian.TheVariants.Big, declared.form.Endian.TheVariants.Little, declared.form.Form.Form}
-use Rattle.mq_pcap.specs.{Capture.number_in, Capture.stamp_of, Capture.captured_length, Capture.most_bytes, Capture.endless, Filling.InputState, Filling.Takes}
-use Rattle.mq_pcap.specs.{Filling.Fills, Reading.Reads}
+use Rattle.mq_pcap.specs.declared.form.{Endian.Endian, Endian.TheVariants.Big, Endian.TheVariants.Little, Form.Form}
+use Rattle.mq_pcap.specs.{Capture.number_in, Capture.stamp_of, Capture.captured_length, Capture.most_bytes, Capture.endless, Reading.Reads}
+use Rattle.mq_pcap.{specs.Filling.InputState, specs.Filling.Takes, specs.Filling.Fills, proofs.Filled.Takes-trans}
 use Rattle.mq_pcap.specs.declared.fault.PcapFault.TheVariants as fault
-use Rattle.mq_pcap.proofs.Filled.{Takes-trans}
 
 -- a number is in the bytes that it has
 pub number_in-append : (order : Endian) (n : ℕ) (xs ys : List ℕ) → n ≤ length xs → number_in order n (xs ++ ys) ≡ number_in order n xs

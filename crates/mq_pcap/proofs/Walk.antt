@@ -1,7 +1,7 @@
 -- Walking over options: one step of the walk is one option of the list.
 use Rattle.std.proofs.Common.{◌≡◌, ◌≤◌, ◌<◌, ◌+◌, ◌-◌, ℕ, zero, suc, List, [], ◌∷◌, length, take, drop, false, refl, ap, arith, length-drop}
 use Rattle.std.specs.Prelude.{◌==◌, slice_index, slice_range}
-use Rattle.std.proofs.{lemmas.Bool.lt-ltb, lemmas.Bool.ne_eqb, lemmas.List.take_all}
+use Rattle.std.proofs.lemmas.{Bool.lt-ltb, Bool.ne_eqb, List.take_all}
 use Rattle.mq_pcap.specs.Options.{options_within, options_of}
 
 -- as many options as there are bytes are all of them

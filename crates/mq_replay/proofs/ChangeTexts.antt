@@ -1,41 +1,23 @@
 -- The line of a group that was changed, by the row of its sources.
-use Rattle.std.proofs.Common.{◌≡◌, ℕ, ◌<◌, Bool, true, false, cond, ◌||◌, List, [], ◌∷◌, ◌++◌, Option, None, codes, length, take, drop, get_or}
-use Rattle.std.proofs.Common.{append_assoc, append-nil, arith, refl, sym, ap, subst, ◌∙◌, ◌+◌, ◌≤◌}
-use Rattle.std.specs.Prelude.{filter, map as list_map}
-use Rattle.std.specs.List.{flat_map, list_any}
+use Rattle.mq_replay.proofs.Common.{◌≡◌, ℕ, ◌<◌, Bool, true, false, cond, ◌||◌, List, [], ◌∷◌, ◌++◌, Option, None, codes, length, take, drop, get_or}
+use Rattle.mq_replay.proofs.Common.{append_assoc, append-nil, arith, refl, sym, ap, subst, ◌∙◌, ◌+◌, ◌≤◌, filter, list_map, flat_map, list_any, flat_map-append}
+use Rattle.mq_replay.proofs.Common.{take_more, take-append-drop, take_all, IsAscending, Family, Source, Include, GroupState, is_include, number_in, timers_in}
+use Rattle.mq_replay.proofs.Common.{ScheduledGroup, Groups, group_at, absent_unheld, GrowsByBeginning, Passes, broken_behind, broken_within, line_of}
+use Rattle.mq_replay.proofs.Common.{change_start, Changes, change_events, event_in, is_named, name_by, named_by}
+use Rattle.mq_table.{specs.declared.timers.FilterMode.FilterMode, specs.Filter.names, specs.Group.vacant, proofs.Rows.filter_in_row}
+use Rattle.mq_replay.specs.{ChangeLines.change_line, ChangeLines.filter_name, ChangeLines.named_sources, ChangeLines.named_text, NamedSources.if_named}
 use Rattle.std.specs.FinMap as map
-use Rattle.std.proofs.lemmas.Grind.{flat_map-append}
-use Rattle.std.proofs.lemmas.List.{take_more, take-append-drop, take_all}
-use Rattle.mq_sets.specs.Ascending.{IsAscending}
-use Rattle.mq_wire.specs.Family.{Family}
-use Rattle.mq_table.specs.declared.sources.Source.{Source}
-use Rattle.mq_table.specs.declared.timers.FilterMode.{FilterMode}
-use Rattle.mq_table.specs.declared.timers.FilterMode.TheVariants.{Include}
-use Rattle.mq_table.specs.Filter.{names}
-use Rattle.mq_table.specs.Group.{GroupState, is_include, vacant}
-use Rattle.mq_table.specs.Stored.{number_in, timers_in}
-use Rattle.mq_table.proofs.Rows.{filter_in_row}
-use Rattle.mq_sched.specs.Schedule.{ScheduledGroup}
-use Rattle.mq_held.specs.Groups.{Groups, group_at}
-use Rattle.mq_link.proofs.KeptGroups.{absent_unheld}
-use Rattle.mq_text.specs.Printing.{GrowsByBeginning, Passes}
-use Rattle.mq_text.proofs.Passing.{broken_behind, broken_within}
-use Rattle.mq_lines.specs.Text.{line_of}
-use Rattle.mq_replay.specs.ChangeLines.{change_line, change_start, filter_name, named_sources, named_text}
-use Rattle.mq_replay.specs.Events.{Changes, change_events, event_in}
-use Rattle.mq_replay.specs.NamedSources.{if_named, is_named, name_by, named_by}
 
 -- those of some items that are named
 module _ {X : Type 0} (number : X → ℕ) (named : X → Bool) where
   name_of : (is_include : Bool) (xs : List X) → filter_name is_include (list_map number (filter named xs)) ≡ name_by is_include (list_any named xs)
-  name_of false xs = refl
-  name_of true [] = refl
   name_of true (x ∷ xs) = by_name (named x) (name_of true xs)
     where
       by_name : (b : Bool) → filter_name true (list_map number (filter named xs)) ≡ name_by true (list_any named xs)
           → filter_name true (list_map number (cond b (x ∷ filter named xs) (filter named xs))) ≡ name_by true (b || list_any named xs)
       by_name true rest = refl
       by_name false rest = rest
+  name_of _ _ = refl
 
   texts_of : (text_of : ℕ → List ℕ) (xs : List X) → flat_map text_of (list_map number (filter named xs))
       ≡ flat_map (λ x. if_named (named x) (text_of (number x))) xs
@@ -61,15 +43,13 @@ module _ {K : Type 0} (number : K → ℕ) (family : Family) (mode : FilterMode)
 
   pub line-row : (moment group : ℕ)
       → (change_start family moment group ++ name_by (is_include mode) (list_any named row)) ++
-      (flat_map (λ (x : Source K). named_by family mode (number x.address) x.timer) row ++ codes "\n")
-      ≡ change_line family moment group stored
+      (flat_map (λ (x : Source K). named_by family mode (number x.address) x.timer) row ++ codes "\n") ≡ change_line family moment group stored
   line-row moment group =
       let start = change_start family moment group in
       let name = name_by (is_include mode) (list_any named row) in
       let texts = flat_map (λ (x : Source K). named_by family mode (number x.address) x.timer) row in
       let sources = list_map (number_in number) (filter named row) in
-      append_assoc start name (texts ++ codes "\n")
-      ∙ ap (λ (t : List ℕ). start ++ t) (sym (append_assoc name texts (codes "\n")))
+      append_assoc start name (texts ++ codes "\n") ∙ ap (λ (t : List ℕ). start ++ t) (sym (append_assoc name texts (codes "\n")))
       ∙ (λ i. start ++ line_of (sym (name_of (number_in number) named (is_include mode) row) i ++
       sym (texts_of (number_in number) named (named_text family (is_include mode)) row) i))
       ∙ ap (λ (ss : List ℕ). start ++ line_of (filter_name (is_include mode) ss ++ flat_map (named_text family (is_include mode)) ss)) (sym named_in_row)
@@ -111,7 +91,6 @@ item_broken text_of a b c held mid items i item default text within is same befo
 
 -- all were put
 pub all_passed : {X : Type 0} (text_of : X → List ℕ) (a b : Option (List ℕ)) (held left : List ℕ) (items : List X) (i : ℕ) (text : List ℕ) →
-    length items ≤ i → flat_map text_of items ≡ text
-    → Passes a b held left (flat_map text_of (take i items)) → Passes a b held left text
+    length items ≤ i → flat_map text_of items ≡ text → Passes a b held left (flat_map text_of (take i items)) → Passes a b held left text
 all_passed text_of a b held left items i text all same passed =
     subst (λ (t : List ℕ). Passes a b held left t) same (subst (λ (xs : List _). Passes a b held left (flat_map text_of xs)) (take_all i items all) passed)

@@ -1,49 +1,26 @@
 -- The groups that an event changes: only those held before it, and those that its datagram names. So those of these that
 -- the link lists are all that it lists.
-use Rattle.std.proofs.Common.{◌≡◌, ℕ, ◌<◌, Bool, true, false, cond, ◌&&◌, ◌||◌, ◌==◌, List, [], ◌∷◌, ◌++◌, Option, None, Some, Result, Ok, Err}
-use Rattle.std.proofs.Common.{is_some, refl, sym, ap, ◌∙◌, arith}
-use Rattle.std.specs.Prelude.{filter, map as list_map}
-use Rattle.std.specs.List.{list_any}
-use Rattle.std.specs.Option.{option_and_then, unwrap_or}
-use Rattle.std.specs.Ordering.{nat_cmp, eq_by_cmp}
-use Rattle.std.specs.Cmp.{nat_cmp_total}
+use Rattle.mq_replay.proofs.Common.{◌≡◌, ℕ, ◌<◌, Bool, true, false, cond, ◌||◌, List, [], ◌∷◌, ◌++◌, Option, None, Some, Result, Ok, Err, refl, sym, ap, ◌∙◌}
+use Rattle.mq_replay.proofs.Common.{arith, filter, list_map, list_any, unwrap_or, nat_tests, IsAscending, IsAscending-map, ScheduledGroup, Groups, group_at}
+use Rattle.mq_replay.proofs.Common.{unheld, key_of, AQuery, WireFault, Configuration, AreThose, changed_by_datagram, changed_by_tick, Envelope, LinkState}
+use Rattle.mq_replay.proofs.Common.{tick_of, absent_unheld, Datagram, changed_at, those_among}
+use Rattle.std.proofs.{Common.◌&&◌, Common.◌==◌, Common.is_some, lemmas.Bool.true≢false, lemmas.List.Folds.list_any-append, lemmas.List.Kept.AllPairs-filter}
+use Rattle.std.specs.{Option.option_and_then, Ordering.nat_cmp, Ordering.eq_by_cmp, Cmp.nat_cmp_total}
+use Rattle.mq_sets.{specs.Ascending.set_of, proofs.KnownBySet.known_by_set}
+use Rattle.mq_table.specs.{declared.kind.Kind.Kind, declared.timing.Timing.Timing, Filter.changes_filter, Table.GroupChange}
+use Rattle.mq_table.proofs.Maps.{get-kept}
+use Rattle.mq_held.{specs.Groups.with_group, proofs.Sorted.ascending-sorted}
+use Rattle.mq_wire.specs.declared.records.RecordView.{RecordView}
+use Rattle.mq_wire.specs.declared.message.Message.{Message, TheVariants.OldReport, TheVariants.Leave, TheVariants.Report as AReport}
+use Rattle.mq_link.specs.declared.answers.{DropReason.DropReason, Refusal.Refusal, Refusal.TheVariants.Repeated}
+use Rattle.mq_link.specs.{Counters.Refused, Forwarding.changed_by_all, Forwarding.changed_by_read, Forwarding.changes, Record.unless_passed}
+use Rattle.mq_link.specs.{Receive.drop_reason, Receive.pseudo_of, Receive.read_of, Receive.setting_of, Tick.groups_after_round, Tick.groups_expired}
+use Rattle.mq_link.specs.Record.{Entrance, Stops, GoesOn, Seen, Setting, Statement, RecordOf, after_sending, change_in, changed_by, changed_or_refused}
+use Rattle.mq_link.specs.Record.{entrance, is_repeated, judged, judged_from, leaving, limit_passed, seen_after, sent_at_once, stated, stated_alone}
+use Rattle.mq_link.proofs.{ChangedRecords.other_then, KeptFilters.unchanged, KeptGroups.group_absent, StatedAlone.alone_by}
+use Rattle.mq_replay.specs.Report.{in_order, spoken_of}
 use Rattle.std.specs.FinMap as map
 use Rattle.std.specs.FinSet as set
-use Rattle.std.proofs.lemmas.Bool.{true≢false}
-use Rattle.std.proofs.lemmas.Bool.Decides.{nat_tests}
-use Rattle.std.proofs.lemmas.List.Folds.{list_any-append}
-use Rattle.std.proofs.lemmas.List.Kept.{AllPairs-filter}
-use Rattle.mq_sets.specs.Ascending.{IsAscending, set_of}
-use Rattle.mq_sets.proofs.Ascents.{IsAscending-map}
-use Rattle.mq_sets.proofs.KnownBySet.{known_by_set}
-use Rattle.mq_table.specs.declared.kind.Kind.{Kind}
-use Rattle.mq_table.specs.declared.timing.Timing.{Timing}
-use Rattle.mq_table.specs.Filter.{changes_filter}
-use Rattle.mq_table.specs.Table.{GroupChange}
-use Rattle.mq_table.proofs.Maps.{get-kept}
-use Rattle.mq_sched.specs.Schedule.{ScheduledGroup}
-use Rattle.mq_held.specs.Groups.{Groups, group_at, unheld, with_group}
-use Rattle.mq_held.proofs.Sorted.{ascending-sorted, key_of}
-use Rattle.mq_wire.specs.declared.records.RecordView.{RecordView}
-use Rattle.mq_wire.specs.declared.message.Message.{Message}
-use Rattle.mq_wire.specs.declared.message.Message.TheVariants.{Query as AQuery, OldReport, Leave, Report as AReport}
-use Rattle.mq_wire.specs.declared.message.WireFault.{WireFault}
-use Rattle.mq_link.specs.declared.answers.DropReason.{DropReason}
-use Rattle.mq_link.specs.declared.answers.Refusal.{Refusal}
-use Rattle.mq_link.specs.declared.answers.Refusal.TheVariants.{Repeated}
-use Rattle.mq_link.specs.Configuration.{Configuration}
-use Rattle.mq_link.specs.Counters.{Refused}
-use Rattle.mq_link.specs.Forwarding.{AreThose, changed_by_all, changed_by_datagram, changed_by_read, changed_by_tick, changes}
-use Rattle.mq_link.specs.Receive.{Envelope, drop_reason, pseudo_of, read_of, setting_of}
-use Rattle.mq_link.specs.Record.{Entrance, Stops, GoesOn, Seen, Setting, Statement, RecordOf, after_sending, change_in, changed_by}
-use Rattle.mq_link.specs.Record.{changed_or_refused, entrance, is_repeated, judged, judged_from, leaving, limit_passed, seen_after, sent_at_once}
-use Rattle.mq_link.specs.Record.{stated, unless_passed}
-use Rattle.mq_link.specs.State.{LinkState}
-use Rattle.mq_link.specs.Tick.{groups_after_round, groups_expired, tick_of}
-use Rattle.mq_link.proofs.ChangedRecords.{other_then}
-use Rattle.mq_link.proofs.KeptFilters.{unchanged}
-use Rattle.mq_link.proofs.KeptGroups.{absent_unheld, group_absent}
-use Rattle.mq_replay.specs.Report.{Datagram, changed_at, in_order, spoken_of, those_among}
 
 -- the test of a number for a list
 abbrev pub is_among : List ℕ → ℕ → Bool
@@ -108,8 +85,7 @@ pub are_those : (test : ℕ → Bool) (addresses listed : List ℕ) → ((n : �
     those_among test addresses ≡ listed
 are_those test addresses listed given those =
     known_by_set (λ a. a) (λ a b same. same) _ listed (AllPairs-filter (λ (x y : ℕ). x < y) test (in_order addresses) (ascending-in_order addresses))
-    those.ascending
-    (λ n. has-filter test n (in_order addresses) ∙ ap (λ b. test n && b) (set_of-in_order addresses n) ∙
+    those.ascending (λ n. has-filter test n (in_order addresses) ∙ ap (λ b. test n && b) (set_of-in_order addresses n) ∙
     passed (test n) (is_among addresses n) (given n) ∙ sym (those.each n))
 
 -- A tick changes only groups that are held.
@@ -185,13 +161,14 @@ module _ (at : Setting) (address : ℕ) where
       by_group false differs rest =
           rest (ap (λ b. b || changed_by_all at (seen_after at.config r groups seen) rs left address) (sym (judged_others seen r groups differs)) ∙ changed)
 
-  alone_spoken_of : (group : ℕ) (statement : Statement) (groups : Groups) → changes groups (stated at group statement groups).groups address ≡ true →
+  alone_spoken_of : (group : ℕ) (statement : Statement) (groups : Groups) → changes groups (stated_alone at group statement groups).groups address ≡ true →
       is_among (group ∷ []) address ≡ true
   alone_spoken_of group statement groups changed = by_group (eq_by_cmp nat_cmp address group) refl
     where
       by_group : (b : Bool) → eq_by_cmp nat_cmp address group ≡ b → (b || false) ≡ true
       by_group true same = refl
-      by_group false differs = absurd (true≢false (sym changed ∙ stated_others group statement groups differs))
+      by_group false differs = absurd (true≢false (sym changed
+          ∙ alone_by (λ o. changes groups o.groups address ≡ false) at group statement groups (stated_others group statement groups differs) (left_as groups)))
 
   read_spoken_of : (read : Result (Message ℕ) WireFault) (reason : Option DropReason) (groups : Groups) →
       changed_by_read at read reason groups address ≡ true → is_among (spoken_of read) address ≡ true
@@ -218,8 +195,7 @@ pub held_or_spoken_of : (config : Configuration) (envelope : Envelope) (bytes : 
 held_or_spoken_of config envelope bytes now state address changed =
     let read = read_of config.family (pseudo_of config.family envelope bytes) bytes in
     let left = (tick_of config now state).state in
-    list_any-append (eq_by_cmp nat_cmp address) (map.keys state.groups) (spoken_of read)
-    ∙ either (changed_by_tick config now state address)
+    list_any-append (eq_by_cmp nat_cmp address) (map.keys state.groups) (spoken_of read) ∙ either (changed_by_tick config now state address)
     (changed_by_read (setting_of config left) read (drop_reason config envelope read) left.groups address) _ _
     (held_before config now state address) (read_spoken_of (setting_of config left) address read (drop_reason config envelope read) left.groups) changed
 
@@ -229,8 +205,7 @@ pub ticked_those : (config : Configuration) (now : ℕ) (state : LinkState) (lis
 ticked_those config now state listed those = are_those (changed_by_tick config now state) (map.keys state.groups) listed (held_before config now state) those
 
 pub received_those : (config : Configuration) (now : ℕ) (datagram : Datagram) (state : LinkState) (listed : List ℕ) →
-    AreThose (changed_by_datagram config datagram.envelope datagram.body now state) listed
-    → changed_at config now datagram state ≡ listed
+    AreThose (changed_by_datagram config datagram.envelope datagram.body now state) listed → changed_at config now datagram state ≡ listed
 received_those config now datagram state listed those =
     are_those (changed_by_datagram config datagram.envelope datagram.body now state) _ listed
     (held_or_spoken_of config datagram.envelope datagram.body now state) those

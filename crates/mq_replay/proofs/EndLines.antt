@@ -1,29 +1,13 @@
 -- The lines at the end of a replay.
-use Rattle.std.proofs.Common.{◌≡◌, ℕ, ◌+◌, ◌<◌, ◌≤◌, Bool, refl, List, [], ◌∷◌, ◌++◌, take, drop, get_or, Option, Result, Ok, Err, IfOk, unwrap_or}
-use Rattle.std.proofs.Common.{append-nil, sym, ap, subst, ◌∙◌, arith}
-use Rattle.std.specs.List.{flat_map}
-use Rattle.std.proofs.lemmas.Grind.{flat_map-append}
-use Rattle.std.proofs.lemmas.List.{take_more, take-append-drop, take_all}
+use Rattle.mq_replay.proofs.Common.{◌≡◌, ℕ, ◌+◌, ◌<◌, ◌≤◌, Bool, refl, List, [], ◌∷◌, ◌++◌, take, drop, get_or, Option, Result, Ok, Err, IfOk, unwrap_or}
+use Rattle.mq_replay.proofs.Common.{append-nil, sym, ap, subst, ◌∙◌, arith, flat_map, flat_map-append, take_more, take-append-drop, take_all, Family}
+use Rattle.mq_replay.proofs.Common.{GroupState, is_querier, ScheduledGroup, Groups, group_at, unheld, Configuration, Counters, LinkValue, LinkState, LineFault}
+use Rattle.mq_replay.proofs.Common.{GrowsByBeginning, Passes, Puts, broken_behind, broken_within, item_passed, then_put, Asked, end_events, event_in}
+use Rattle.mq_replay.proofs.Common.{ticked_before, ended_at, PutsReplayed, begun_with}
+use Rattle.mq_sched.specs.Schedule.{ScheduleState}
+use Rattle.mq_held.{specs.Places.HasPlace, proofs.Entries.key_at, proofs.Entries.get-place}
+use Rattle.mq_replay.{specs.Events.Counts, specs.Events.Ends, specs.Events.Holds, specs.Events.group_events, proofs.Growing.before_asked}
 use Rattle.std.specs.FinMap as map
-use Rattle.mq_wire.specs.Family.{Family}
-use Rattle.mq_table.specs.Group.{GroupState}
-use Rattle.mq_sched.specs.Election.{is_querier}
-use Rattle.mq_sched.specs.Schedule.{ScheduledGroup, ScheduleState}
-use Rattle.mq_held.specs.Groups.{Groups, group_at, unheld}
-use Rattle.mq_held.specs.Places.{HasPlace}
-use Rattle.mq_held.proofs.Entries.{key_at, get-place}
-use Rattle.mq_link.specs.Configuration.{Configuration}
-use Rattle.mq_link.specs.Counters.{Counters}
-use Rattle.mq_link.specs.Link.{LinkValue}
-use Rattle.mq_link.specs.State.{LinkState}
-use Rattle.mq_text.specs.declared.printing.LineFault.{LineFault}
-use Rattle.mq_text.specs.Printing.{GrowsByBeginning, Passes, Puts}
-use Rattle.mq_text.proofs.Passing.{broken_behind, broken_within, item_passed, then_put}
-use Rattle.mq_replay.specs.declared.asked.Asked.{Asked}
-use Rattle.mq_replay.specs.Events.{Counts, Ends, Holds, end_events, event_in, group_events}
-use Rattle.mq_replay.specs.Report.{ticked_before, ended_at}
-use Rattle.mq_replay.specs.Steps.{PutsReplayed, begun_with}
-use Rattle.mq_replay.proofs.Growing.{before_asked}
 
 abbrev pub Entry : Type 0
 Entry = ℕ × ScheduledGroup
@@ -44,8 +28,7 @@ event_at json family moment groups address place g schedule has is =
 
 -- one group more
 pub group_passed : (json : Bool) (moment : ℕ) (family other : Family) (groups : Groups) (address place : ℕ) (g : GroupState) (schedule : ScheduleState)
-    (a b c : Option (List ℕ))
-    (held mid left : List ℕ)
+    (a b c : Option (List ℕ)) (held mid left : List ℕ)
     → family ≡ other → place < map.len groups → HasPlace groups address place → record { group = g; schedule = schedule } ≡ group_at groups address
     → Passes a b held mid (flat_map (entry_event json other moment) (take place (map.entries groups)))
     → Passes b c mid left (event_in json family moment (Holds address g))
@@ -53,18 +36,15 @@ pub group_passed : (json : Bool) (moment : ℕ) (family other : Family) (groups 
 group_passed json moment family other groups address place g schedule a b c held mid left same within has is before passed =
     let entry = get_or (map.entries groups) place (address, unheld) in
     item_passed (entry_event json other moment) a b c held mid left (map.entries groups) place entry (address, unheld)
-    (omega (arith, within, map.len-entries groups)) refl before
-    (subst (λ (t : List ℕ). Passes b c mid left t)
+    (omega (arith, within, map.len-entries groups)) refl before (subst (λ (t : List ℕ). Passes b c mid left t)
     (event_at json family moment groups address place g schedule has is ∙ ap (λ (f : Family). entry_event json f moment entry) same) passed)
 
 -- the line of a group was not put whole
 pub group_broken : (json : Bool) (moment : ℕ) (family other : Family) (groups : Groups) (address place : ℕ) (g : GroupState) (schedule : ScheduleState)
-    (a b c : Option (List ℕ))
-    (held mid : List ℕ)
+    (a b c : Option (List ℕ)) (held mid : List ℕ)
     → family ≡ other → place < map.len groups → HasPlace groups address place → record { group = g; schedule = schedule } ≡ group_at groups address
     → Passes a b held mid (flat_map (entry_event json other moment) (take place (map.entries groups)))
-    → GrowsByBeginning b c (mid ++ event_in json family moment (Holds address g))
-    → GrowsByBeginning a c (held ++ group_events json other moment groups)
+    → GrowsByBeginning b c (mid ++ event_in json family moment (Holds address g)) → GrowsByBeginning a c (held ++ group_events json other moment groups)
 group_broken json moment family other groups address place g schedule a b c held mid same within has is before begun =
     let entries = map.entries groups in
     let entry = get_or entries place (address, unheld) in
@@ -73,13 +53,10 @@ group_broken json moment family other groups address place g schedule a b c held
     let rest = flat_map (entry_event json other moment) (drop (place + 1) entries) in
     let more : flat_map (entry_event json other moment) (take (place + 1) entries) ≡ first ++ line =
     ap (flat_map (entry_event json other moment)) (take_more entries place (address, unheld) (omega (arith, within, map.len-entries groups))) ∙
-    flat_map-append (entry_event json other moment) (take place entries) (entry ∷ [])
-    ∙ ap (λ (t : List ℕ). first ++ t) (append-nil line) in
+    flat_map-append (entry_event json other moment) (take place entries) (entry ∷ []) ∙ ap (λ (t : List ℕ). first ++ t) (append-nil line) in
     let all : group_events json other moment groups ≡ (first ++ line) ++ rest =
     sym (ap (flat_map (entry_event json other moment)) (take-append-drop (place + 1) entries))
-    ∙ flat_map-append (entry_event json other moment) (take (place + 1) entries)
-    (drop (place + 1) entries)
-    ∙ ap (λ (t : List ℕ). t ++ rest) more in
+    ∙ flat_map-append (entry_event json other moment) (take (place + 1) entries) (drop (place + 1) entries) ∙ ap (λ (t : List ℕ). t ++ rest) more in
     let so = subst (λ (t : List ℕ). GrowsByBeginning b c (mid ++ t))
     (event_at json family moment groups address place g schedule has is ∙ ap (λ (f : Family). entry_event json f moment entry) same) begun in
     subst (λ (t : List ℕ). GrowsByBeginning a c (held ++ t)) (sym all)
@@ -87,8 +64,7 @@ group_broken json moment family other groups address place g schedule a b c held
 
 -- all groups
 pub groups_passed : (json : Bool) (moment : ℕ) (family : Family) (groups : Groups) (place : ℕ) (a b : Option (List ℕ)) (held left : List ℕ)
-    → map.len groups ≤ place
-    → Passes a b held left (flat_map (entry_event json family moment) (take place (map.entries groups)))
+    → map.len groups ≤ place → Passes a b held left (flat_map (entry_event json family moment) (take place (map.entries groups)))
     → Passes a b held left (group_events json family moment groups)
 groups_passed json moment family groups place a b held left all passed =
     subst (λ (es : List Entry). Passes a b held left (flat_map (entry_event json family moment) es))
@@ -96,8 +72,7 @@ groups_passed json moment family groups place a b held left all passed =
 
 -- the lines at the end are those of the link after the ticks
 pub end_text : (asked : Asked) (config : Configuration) (family : Family) (moment : ℕ) (before mid : LinkValue) → config ≡ before.config →
-    config.family ≡ family
-    → mid.state ≡ (ticked_before before.config (moment + 1) (begun_with asked before.state)).link
+    config.family ≡ family → mid.state ≡ (ticked_before before.config (moment + 1) (begun_with asked before.state)).link
     → (ended_at before.config moment (begun_with asked before.state)).text
     ≡ (ticked_before before.config (moment + 1) (begun_with asked before.state)).text
     ++ end_events asked.json family moment (is_querier mid.state.election.role) mid.state.groups mid.state.counters
@@ -135,8 +110,7 @@ end_put a b c d e held mid more rest left ticks role groups counts r first secon
 
 -- the ticks go up to and including the end
 ticked_to : {T E : Type 0} (asked : Asked) (before mid : LinkValue) (limit moment : ℕ) (a b : Option (List ℕ)) (held left : List ℕ) (r : Result T E)
-    → limit ≡ moment + 1
-    → PutsReplayed before mid (ticked_before before.config limit (begun_with asked before.state)) a b held left r
+    → limit ≡ moment + 1 → PutsReplayed before mid (ticked_before before.config limit (begun_with asked before.state)) a b held left r
     → PutsReplayed before mid (ticked_before before.config (moment + 1) (begun_with asked before.state)) a b held left r
 ticked_to asked before mid limit moment a b held left r is put =
     subst (λ (m : ℕ). PutsReplayed before mid (ticked_before before.config m (begun_with asked before.state)) a b held left r) is put

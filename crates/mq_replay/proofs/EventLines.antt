@@ -1,24 +1,11 @@
 -- The events of a replay: the lines of what a link sends, and then those of the groups that it changed.
-use Rattle.std.proofs.Common.{◌≡◌, ℕ, Bool, true, List, Option, Result, Ok, Err, IfOk, sym, ap, subst, ◌∙◌}
-use Rattle.std.specs.Prelude.{map as list_map}
-use Rattle.mq_wire.specs.Family.{Family}
-use Rattle.mq_link.specs.declared.answers.Received.{Received}
-use Rattle.mq_link.specs.Configuration.{Configuration}
-use Rattle.mq_link.specs.Forwarding.{AreThose, changed_by_tick}
-use Rattle.mq_link.specs.Link.{LinkValue}
-use Rattle.mq_link.specs.Receive.{Envelope, receipt_of}
-use Rattle.mq_link.specs.Run.{answered, HandsOut}
-use Rattle.mq_link.specs.Sent.{Outgoing}
-use Rattle.mq_link.specs.Tick.{Step, tick_of}
-use Rattle.mq_text.specs.declared.printing.LineFault.{LineFault}
-use Rattle.mq_text.specs.Printing.{Puts}
-use Rattle.mq_text.proofs.Passing.{broken_within, put_as, then_put}
-use Rattle.mq_replay.specs.declared.asked.Asked.{Asked}
-use Rattle.mq_replay.specs.Events.{change_events, if_asked, query_events}
-use Rattle.mq_replay.specs.QueryLines.{TicksPrinting, ReceivesPrinting}
-use Rattle.mq_replay.specs.Report.{Replayed, after_step, all_sent, ticked_at, with_changes}
-use Rattle.mq_replay.specs.Steps.{PutsReplayed, begun_with}
-use Rattle.mq_replay.proofs.ChangedGroups.{ticked_those}
+use Rattle.mq_replay.proofs.Common.{◌≡◌, ℕ, Bool, true, List, Option, Result, Ok, Err, IfOk, sym, ap, subst, ◌∙◌, list_map, Family, Received, Configuration}
+use Rattle.mq_replay.proofs.Common.{AreThose, changed_by_tick, LinkValue, Envelope, receipt_of, Outgoing, tick_of, LineFault, Puts, broken_within, put_as}
+use Rattle.mq_replay.proofs.Common.{then_put, Asked, change_events, if_asked, query_events, ReceivesPrinting, Replayed, after_step, ticked_at, with_changes}
+use Rattle.mq_replay.proofs.Common.{PutsReplayed, begun_with}
+use Rattle.mq_link.specs.{Run.answered, Run.HandsOut, Tick.Step}
+use Rattle.mq_walk.specs.Outlets.{all_sent}
+use Rattle.mq_replay.{specs.QueryLines.TicksPrinting, proofs.ChangedGroups.ticked_those}
 
 -- a step whose messages were passed on and put is a step of a replay
 step_put : {T E : Type 0} (asked : Asked) (family : Family) (now : ℕ) (before after : LinkValue) (step : Step) (old new : Option (List ℕ))
@@ -57,8 +44,7 @@ receipt_put asked family envelope bytes now before after old new held left r is_
 
 -- the lines of an event were put, and then those of the groups that it changed
 pub changes_put : {T E : Type 0} (config : Configuration) (family : Family) (now : ℕ) (changed : List ℕ) (before after : LinkValue) (r : Replayed)
-    (old mid new : Option (List ℕ)) (held more left : List ℕ) (x : T) (it : Result Unit E)
-    → family ≡ config.family → changed ≡ after.changed
+    (old mid new : Option (List ℕ)) (held more left : List ℕ) (x : T) (it : Result Unit E) → family ≡ config.family → changed ≡ after.changed
     → PutsReplayed {E = E} before after r old mid held more (Ok x)
     → Puts mid new more left (if_asked r.asked.changes (change_events r.asked.json family now after.state.groups after.changed)) it
     → PutsReplayed before after (with_changes config.family now changed r) old new held left it

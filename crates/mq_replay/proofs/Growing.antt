@@ -1,18 +1,11 @@
 -- The result of a replay, which doesn't depend on the text before: that stays in front.
-use Rattle.std.proofs.Common.{◌≡◌, ℕ, refl, List, ◌++◌, Option, None, Some, append_assoc, append-nil, sym, ap, ◌∙◌}
-use Rattle.std.specs.FinMap as map
-use Rattle.mq_pcap.specs.Frame.{Carried}
-use Rattle.mq_link.specs.Configuration.{Configuration}
-use Rattle.mq_link.specs.Forwarding.{changed_by_tick}
-use Rattle.mq_link.specs.Receive.{receipt_of}
+use Rattle.mq_replay.proofs.Common.{◌≡◌, ℕ, refl, List, ◌++◌, Option, None, Some, append_assoc, append-nil, sym, ap, ◌∙◌, Carried, Configuration}
+use Rattle.mq_replay.proofs.Common.{changed_by_tick, receipt_of, tick_of, next_of, Datagram, datagram_of, ticked_within, Receives, Skips, change_events}
+use Rattle.mq_replay.proofs.Common.{event_in, if_asked, query_events, Replayed, after_step, changed_at, ticked_at, those_among, ticked_before, received_at}
+use Rattle.mq_replay.proofs.Common.{taken_or_skipped, with_changes, with_packet, begun_with}
 use Rattle.mq_link.specs.Sent.{outgoing_of}
-use Rattle.mq_link.specs.Tick.{tick_of, next_of}
-use Rattle.mq_replay.specs.Events.{Receives, Skips, change_events, event_in, if_asked, query_events}
-use Rattle.mq_replay.specs.Report.{Replayed, after_step, changed_at, ticked_at, those_among, ticked_before, Datagram, datagram_of}
-use Rattle.mq_replay.specs.Report.{received_at, taken_or_skipped, with_changes, with_packet}
-use Rattle.mq_replay.specs.Steps.{begun_with}
-use Rattle.mq_replay.specs.Ticks.{ticked_within}
-use Rattle.mq_replay.proofs.Ticking.{kept_within, through_within}
+use Rattle.mq_walk.proofs.Ticking.{kept_within, through_within}
+use Rattle.std.specs.FinMap as map
 
 -- a replay behind a text
 abbrev pub behind : List ℕ → Replayed → Replayed
@@ -74,11 +67,7 @@ packet_behind config moment number carried text r =
     ap (taken_or_skipped config moment number carried (datagram_of config.family carried)) (before_behind config moment text r)
     ∙ taken_behind config moment number carried (datagram_of config.family carried) text (ticked_before config moment r)
 
--- a tick and a packet behind what was replayed
-pub next_tick : (config : Configuration) (moment : ℕ) (r : Replayed) → ticked_at config moment r
-    ≡ behind r.text (ticked_at config moment (begun_with r.asked r.link))
-next_tick config moment r = ap (ticked_at config moment) (sym (as_behind r)) ∙ ticked_behind config moment r.text (begun_with r.asked r.link)
-
+-- a packet behind what was replayed
 pub next_packet : (config : Configuration) (moment number : ℕ) (carried : Carried) (r : Replayed) → with_packet config moment number carried r
     ≡ behind r.text (with_packet config moment number carried (begun_with r.asked r.link))
 next_packet config moment number carried r = ap (with_packet config moment number carried) (sym (as_behind r)) ∙

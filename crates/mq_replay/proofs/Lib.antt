@@ -1,23 +1,16 @@
+mod Common
 pub mod ChangeTexts
 pub mod ChangedGroups
 pub mod EndLines
 pub mod EventLines
-pub mod Finished
 pub mod Growing
-pub mod Headers
 pub mod ListedOver
 pub mod OnePacket
 pub mod Packets
 pub mod PrintedQueries
-pub mod ReadSoFar
 pub mod ReplayTexts
 pub mod ReplayedOver
-pub mod ReportedOver
-pub mod Rooms
 pub mod Shown
 pub mod TickedReplays
-pub mod Ticking
-pub mod WalkedOver
 pub mod WalkedPackets
 pub mod WrittenEarly
-pub mod WrittenReports

@@ -1,37 +1,21 @@
 -- A walk that lists a capture, and the lines that it put.
-use Rattle.std.proofs.Common.{◌≡◌, ◌⊎◌, ℕ, ◌+◌, ◌||◌, Bool, true, false, List, [], ◌∷◌, ◌++◌, length, Result, Ok, Err, refl, ap}
-use Rattle.std.proofs.Common.{sym, subst, ◌∙◌, append_assoc, append-nil, inl, inr, arith}
-use Rattle.std.proofs.Math.Bool.{or-false}
-use Rattle.mq_pcap.specs.declared.fault.PcapFault.{PcapFault}
+use Rattle.mq_replay.proofs.Common.{◌≡◌, ℕ, ◌+◌, ◌||◌, Bool, true, false, List, [], ◌∷◌, ◌++◌, length, Result, Ok, Err, refl, ap, sym, subst, ◌∙◌, append_assoc}
+use Rattle.mq_replay.proofs.Common.{append-nil, inl, inr, arith, or-false, InputState, carried_in, Passes, both_passed, broken_behind, nothing_passed}
+use Rattle.mq_replay.proofs.Common.{CaptureFault, Walked, is_failed_write, PlacedPacket, IsEndedBy, place_in, PutsListing, PutsPacket}
+use Rattle.std.proofs.Common.{◌⊎◌}
+use Rattle.mq_pcap.specs.{declared.fault.PcapFault.PcapFault, declared.form.Form.Form, declared.link_type.LinkType.LinkType, Capture.Captured, Capture.is_read}
+use Rattle.mq_walk.specs.PlacedPackets.{Place, at_first, place_behind, placed}
+use Rattle.mq_walk.specs.Walking.{IsBrokenOff, IsEndedByFault, IsStopped, ReadCapture, StepsOver, StepsOverAll, Walks}
+use Rattle.mq_walk.proofs.WalkedOver.{steps_counted}
+use Rattle.mq_replay.specs.{Listing.AreLines, Listing.IsListing, Putting.ListingState, Putting.TakesListed}
 use Rattle.mq_pcap.specs.declared.fault.PcapFault.TheVariants as fault
-use Rattle.mq_pcap.specs.declared.form.Form.{Form}
-use Rattle.mq_pcap.specs.declared.link_type.LinkType.{LinkType}
-use Rattle.mq_pcap.specs.Capture.{Captured, is_read}
-use Rattle.mq_pcap.specs.Filling.{InputState}
-use Rattle.mq_pcap.specs.Frame.{carried_in}
-use Rattle.mq_text.specs.Printing.{Passes}
-use Rattle.mq_text.proofs.Passing.{both_passed, broken_behind, nothing_passed}
-use Rattle.mq_replay.specs.declared.capture_fault.CaptureFault.{CaptureFault}
-use Rattle.mq_replay.specs.declared.capture_fault.CaptureFault.TheVariants as answer
-use Rattle.mq_replay.specs.declared.walked.Walked.{Walked}
-use Rattle.mq_replay.specs.Faults.{is_failed_write}
-use Rattle.mq_replay.specs.Listing.{AreLines, IsEndedBy, IsListing, place_in}
-use Rattle.mq_replay.specs.PlacedPackets.{Place, PlacedPacket, at_first, place_behind, placed}
-use Rattle.mq_replay.specs.Putting.{ListingState, PutsListing, PutsPacket, TakesListed}
-use Rattle.mq_replay.specs.Walking.{IsBrokenOff, IsEndedByFault, IsStopped, ReadCapture, StepsOver, StepsOverAll, Walks}
-use Rattle.mq_replay.proofs.WalkedOver.{steps_counted}
+use Rattle.mq_walk.specs.declared.capture_fault.CaptureFault.TheVariants as answer
 
 -- a failed read and a fault of the capture, in the terms of a listing
 ended_by : (c : ReadCapture) (old new : InputState) (f : PcapFault) → IsEndedByFault (is_read f) c f old new →
     IsEndedBy c.header c.packets c.end c.bytes old new (Err (answer.Pcap f))
 ended_by c old new fault.Read ended = ended
-ended_by c old new fault.Magic ended = ended
-ended_by c old new fault.Version ended = ended
-ended_by c old new fault.LinkType ended = ended
-ended_by c old new (fault.CutHeader at) ended = ended
-ended_by c old new (fault.CutData at) ended = ended
-ended_by c old new (fault.TooLong at) ended = ended
-ended_by c old new fault.Endless ended = ended
+ended_by c old new _ ended = ended
 
 module _ {X : Type 0} (state : X → ListingState) where
   abbrev takes : PlacedPacket → X → X → Result Unit CaptureFault → Type 0
@@ -85,14 +69,12 @@ module _ {X : Type 0} (state : X → ListingState) where
       ((state x').output.failed ≡ (state x).output.failed || is_failed_write {T = Walked} (Err e)) × (e ≡ answer.Memory → ⊥)
 
   by_fault : (c : ReadCapture) (old new : InputState) (x x' : X) (f : PcapFault) (header : Result Form PcapFault) → c.header ≡ header →
-      StepsOverAll takes header c.packets x x'
-      → (text : List ℕ) × IsListing (state x).json header c.packets text
+      StepsOverAll takes header c.packets x x' → (text : List ℕ) × IsListing (state x).json header c.packets text
       × Passes (state x).output.held (state x').output.held (state x).held (state x').held text × ((state x').output.failed ≡ (state x).output.failed)
   by_fault c old new x x' f (Err g) is_header same = (
     [],
     refl,
-    subst (λ (y : X). Passes (state x).output.held (state y).output.held (state x).held (state y).held []) (sym same)
-        (nothing_passed _ _),
+    subst (λ (y : X). Passes (state x).output.held (state y).output.held (state x).held (state y).held []) (sym same) (nothing_passed _ _),
     ap (λ (y : X). (state y).output.failed) same,
   )
   by_fault c old new x x' f (Ok form) is_header (to, steps) =
@@ -133,10 +115,7 @@ module _ {X : Type 0} (state : X → ListingState) where
             stops.failed ∙ ap (λ (b : Bool). b || true) over.failed,
             λ is. absurd (cc is),
           )
-      stopped it (answer.Pcap f) stops = absurd stops
-      stopped it (answer.Gap number) stops = absurd stops
-      stopped it (answer.Waiting number) stops = absurd stops
-      stopped it answer.Memory stops = absurd stops
+      stopped it _ stops = absurd stops
 
       by_end : IsBrokenOff takes (λ f it. it ≡ answer.Pcap f) c old new x x' e ⊎ IsStopped takes c old new x x' e → Listed old new x x' e
       by_end (inl it) =

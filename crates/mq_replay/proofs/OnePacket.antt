@@ -1,23 +1,9 @@
 -- The work of a replay on one packet.
-use Rattle.std.proofs.Common.{◌≡◌, ℕ, Bool, refl, List, ◌++◌, Option, None, Some, Result, Ok, Err, IfOk, sym, ap, subst, ◌∙◌}
-use Rattle.mq_pcap.specs.Frame.{Carried}
-use Rattle.mq_wire.specs.Family.{Family}
-use Rattle.mq_link.specs.declared.answers.Received.{Received}
-use Rattle.mq_link.specs.Configuration.{Configuration}
-use Rattle.mq_link.specs.Forwarding.{AreThose, changed_by_datagram}
-use Rattle.mq_link.specs.Link.{LinkValue}
-use Rattle.mq_link.specs.Receive.{receipt_of}
-use Rattle.mq_link.specs.State.{LinkState}
-use Rattle.mq_text.specs.declared.printing.LineFault.{LineFault}
-use Rattle.mq_text.specs.Printing.{Puts, GrowsByBeginning}
-use Rattle.mq_text.proofs.Passing.{broken_within, then_put}
-use Rattle.mq_replay.specs.declared.asked.Asked.{Asked}
-use Rattle.mq_replay.specs.Events.{Receives, Skips, change_events, event_in, if_asked}
-use Rattle.mq_replay.specs.QueryLines.{ReceivesPrinting}
-use Rattle.mq_replay.specs.Report.{Replayed, after_step, ticked_before, Datagram, datagram_of, received_at, taken_or_skipped, with_packet}
-use Rattle.mq_replay.specs.Steps.{PutsReplayed, begun_with}
-use Rattle.mq_replay.proofs.Growing.{behind, as_behind, before_asked, taken_behind}
-use Rattle.mq_replay.proofs.ChangedGroups.{received_those}
+use Rattle.mq_replay.proofs.Common.{◌≡◌, ℕ, refl, List, ◌++◌, Option, None, Some, Result, Ok, Err, IfOk, sym, ap, subst, ◌∙◌, Carried, Family, Received}
+use Rattle.mq_replay.proofs.Common.{Configuration, AreThose, changed_by_datagram, LinkValue, receipt_of, LinkState, LineFault, Puts, GrowsByBeginning}
+use Rattle.mq_replay.proofs.Common.{broken_within, then_put, Datagram, datagram_of, Asked, Receives, Skips, change_events, event_in, if_asked, ReceivesPrinting}
+use Rattle.mq_replay.proofs.Common.{Replayed, after_step, ticked_before, received_at, taken_or_skipped, with_packet, PutsReplayed, begun_with}
+use Rattle.mq_replay.proofs.{Growing.behind, Growing.as_behind, Growing.before_asked, Growing.taken_behind, ChangedGroups.received_those}
 use Rattle.mq_replay.proofs.EventLines.{changes_broken, changes_put, receipt_put}
 
 packet_is : (asked : Asked) (config : Configuration) (moment number : ℕ) (carried : Carried) (link : LinkState) (datagram : Option Datagram) →
@@ -61,8 +47,7 @@ linked (Err e) same = tt
 
 -- the packet was skipped
 pub packet_skipped : {T E : Type 0} (asked : Asked) (before mid : LinkValue) (moment number : ℕ) (carried : Carried) (old now new : Option (List ℕ))
-    (held more left : List ℕ) (x : T) (r : Result Unit E)
-    → datagram_of before.config.family carried ≡ None
+    (held more left : List ℕ) (x : T) (r : Result Unit E) → datagram_of before.config.family carried ≡ None
     → PutsReplayed {E = E} before mid (ticked_before before.config moment (begun_with asked before.state)) old now held more (Ok x)
     → Puts now new more left (event_in asked.json before.config.family moment (Skips number carried)) r
     → PutsReplayed before mid (with_packet before.config moment number carried (begun_with asked before.state)) old new held left r
@@ -79,8 +64,7 @@ packet_skipped {E = E} asked before mid moment number carried old now new held m
 
 -- the lines of the queries that the link sends by a datagram were not put whole
 pub receipt_broken : {T : Type 0} (asked : Asked) (before after : LinkValue) (moment number : ℕ) (datagram : Datagram) (old new : Option (List ℕ))
-    (held left : List ℕ) (e f : LineFault) (family : Family)
-    → family ≡ before.config.family → after.config ≡ before.config
+    (held left : List ℕ) (e f : LineFault) (family : Family) → family ≡ before.config.family → after.config ≡ before.config
     → ReceivesPrinting asked.json family datagram.envelope datagram.body moment before after old new held left (Err e)
     → PutsReplayed {T = T} before after (received_at before.config moment number datagram (begun_with asked before.state)) old new held left (Err f)
 unfolding received_at
@@ -118,8 +102,7 @@ receipt_lined asked before after moment number datagram answer old now new held 
     record {
       same_config = same;
       link = linked r received.link;
-      text = then_put old now new held more left step.text _ r received.text
-          (subst (λ (t : List ℕ). Puts now new more left t r)
+      text = then_put old now new held more left step.text _ r received.text (subst (λ (t : List ℕ). Puts now new more left t r)
           (λ i. event_in asked.json (is_family i) moment (Receives number (is_source i) (answered i))) put);
     }
 
@@ -138,19 +121,16 @@ pub receipt_whole : (asked : Asked) (before after : LinkValue) (moment number : 
     (held more left : List ℕ) (r : Result Unit LineFault) (family : Family)
     → family ≡ before.config.family → AreThose (changed_by_datagram before.config datagram.envelope datagram.body moment before.state) after.changed
     → PutsReplayed {T = Unit {0}} {E = LineFault} before after (lined before.config moment number datagram (begun_with asked before.state)) old now
-    held more (Ok tt)
-    → Puts now new more left (if_asked asked.changes (change_events asked.json family moment after.state.groups after.changed)) r
+    held more (Ok tt) → Puts now new more left (if_asked asked.changes (change_events asked.json family moment after.state.groups after.changed)) r
     → PutsReplayed before after (received_at before.config moment number datagram (begun_with asked before.state)) old new held left r
 unfolding received_at
 receipt_whole asked before after moment number datagram old now new held more left r family is_family those put lines =
     changes_put before.config family moment _ before after (lined before.config moment number datagram (begun_with asked before.state)) old now new
-    held more left tt r is_family
-    (received_those before.config moment datagram before.state after.changed those) put lines
+    held more left tt r is_family (received_those before.config moment datagram before.state after.changed those) put lines
 
 -- a datagram was received, from the state that the ticks left
 received_from : {T E : Type 0} (asked : Asked) (config : Configuration) (link : LinkState) (mid after : LinkValue) (moment number : ℕ)
-    (datagram : Datagram) (now new : Option (List ℕ)) (more left : List ℕ) (r : Result T E)
-    → mid.config ≡ config → mid.state ≡ link
+    (datagram : Datagram) (now new : Option (List ℕ)) (more left : List ℕ) (r : Result T E) → mid.config ≡ config → mid.state ≡ link
     → PutsReplayed mid after (received_at mid.config moment number datagram (begun_with asked mid.state)) now new more left r
     → PutsReplayed mid after (received_at config moment number datagram (begun_with asked link)) now new more left r
 received_from asked config link mid after moment number datagram now new more left r is_config is_link put =
@@ -159,8 +139,7 @@ received_from asked config link mid after moment number datagram now new more le
     is_config put)
 
 pub packet_received : {T E : Type 0} (asked : Asked) (before mid after : LinkValue) (moment number : ℕ) (carried : Carried) (datagram : Datagram)
-    (old now new : Option (List ℕ)) (held more left : List ℕ) (x : T) (r : Result Unit E)
-    → datagram_of before.config.family carried ≡ Some datagram
+    (old now new : Option (List ℕ)) (held more left : List ℕ) (x : T) (r : Result Unit E) → datagram_of before.config.family carried ≡ Some datagram
     → PutsReplayed {E = E} before mid (ticked_before before.config moment (begun_with asked before.state)) old now held more (Ok x)
     → PutsReplayed mid after (received_at mid.config moment number datagram (begun_with asked mid.state)) now new more left r
     → PutsReplayed before after (with_packet before.config moment number carried (begun_with asked before.state)) old new held left r

@@ -1,84 +1,50 @@
 -- The line of a packet, behind what stands in a buffer.
-use Rattle.std.proofs.Common.{◌≡◌, ℕ, Bool, true, false, List, [], ◌++◌, length, Option, None, Some, Result, codes, refl, subst}
-use Rattle.mq_pcap.specs.Frame.{Carried, Igmp, Mld, Other, Cut, Fragment}
-use Rattle.mq_wire.specs.declared.message.Message.{Message}
-use Rattle.mq_wire.specs.declared.message.WireFault.{WireFault}
-use Rattle.mq_wire.specs.Family.{Family}
+use Rattle.mq_replay.proofs.Common.{◌≡◌, ℕ, Bool, true, false, List, [], ◌++◌, length, Option, None, Some, Result, refl, subst, Carried, WireFault, Family}
+use Rattle.mq_replay.proofs.Common.{GrowsByBeginning, Passes, Puts, nothing_passed, held_more, broken_behind, broken_within, then_put, message_in, place_in}
+use Rattle.mq_replay.proofs.Common.{PutsPacket}
+use Rattle.mq_pcap.specs.Frame.{Igmp, Mld}
+use Rattle.mq_wire.{specs.PseudoHeader.pseudo_header, specs.Spelling.fault_of, proofs.Spelled.spelled}
+use Rattle.mq_lines.specs.{Line.IsTextOf, Messages.fault_in}
+use Rattle.mq_replay.specs.{Listing.IsMessageSaid, Listing.IsSaidIn, Putting.PutsSaid}
 use Rattle.mq_wire.specs.Family as family
-use Rattle.mq_wire.specs.PseudoHeader.{pseudo_header}
-use Rattle.mq_wire.specs.Spelling.{fault_of}
-use Rattle.mq_wire.proofs.Spelled.{spelled}
-use Rattle.mq_text.specs.Printing.{GrowsByBeginning, Passes, Puts}
-use Rattle.mq_text.proofs.Passing.{nothing_passed, held_more, both_passed, broken_behind, broken_within, then_put}
-use Rattle.mq_lines.specs.Line.{IsLineOf, IsObjectOf, IsTextOf}
-use Rattle.mq_lines.specs.Objects.{fault_object, message_object}
-use Rattle.mq_lines.specs.Text.{address_text, fault_text, line_of, message_text}
-use Rattle.mq_replay.specs.Listing.{IsSaidIn, packet_fields, place_in}
-use Rattle.mq_replay.specs.Putting.{PutsSaid, PutsPacket}
 
--- a piece was put behind what is held, and then a line
-pub message_put : (old new : Option (List ℕ)) (held more left piece line : List ℕ) → more ≡ held ++ piece → Passes old new more left line →
-    Passes old new held left (piece ++ line)
-message_put old new held more left piece line behind passed =
-    both_passed old old new held more left piece line (held_more old old held held more [] piece (nothing_passed old held) behind) passed
-
-pub message_broken : (old new : Option (List ℕ)) (held more piece line : List ℕ) → more ≡ held ++ piece → GrowsByBeginning old new (more ++ line) →
-    GrowsByBeginning old new (held ++ (piece ++ line))
-message_broken old new held more piece line behind begun =
-    broken_behind old old new held more piece line (held_more old old held held more [] piece (nothing_passed old held) behind) begun
-
--- each packet has a line, and an object
-some_text : (of_message : Message ℕ → List ℕ) (of_fault : WireFault → List ℕ) (family : Family) (pseudo bytes : List ℕ) →
-    (flag : Bool) × (text : List ℕ) × IsTextOf of_message of_fault family pseudo bytes flag text
-some_text of_message of_fault family pseudo bytes = by_fault (fault_of family pseudo bytes) refl
+-- each packet has a text
+some_text : (json : Bool) (family : Family) (pseudo bytes : List ℕ) → (flag : Bool) × (text : List ℕ) × IsTextOf json family pseudo bytes flag text
+some_text json family pseudo bytes = by_fault (fault_of family pseudo bytes) refl
   where
     by_fault : (fault : Option WireFault) → fault_of family pseudo bytes ≡ fault →
-        (flag : Bool) × (text : List ℕ) × IsTextOf of_message of_fault family pseudo bytes flag text
-    by_fault None none = let spelled = spelled family pseudo bytes none in (true, of_message spelled.0, (spelled.0, spelled.1, refl))
-    by_fault (Some fault) is = (false, of_fault fault, (fault, is, refl))
+        (flag : Bool) × (text : List ℕ) × IsTextOf json family pseudo bytes flag text
+    by_fault None none = let spelled = spelled family pseudo bytes none in (true, message_in json family spelled.0, (spelled.0, spelled.1, refl))
+    by_fault (Some fault) is = (false, fault_in json fault, (fault, is, refl))
 
-some_line : (family : Family) (pseudo bytes : List ℕ) → (flag : Bool) × (line : List ℕ) × IsLineOf family pseudo bytes flag line
-some_line family = some_text (λ m. line_of (message_text family m)) (λ f. line_of (fault_text f)) family
-
-some_object : (family : Family) (pseudo bytes : List ℕ) → (flag : Bool) × (object : List ℕ) × IsObjectOf family pseudo bytes flag object
-some_object family = some_text (message_object family) fault_object family
+some_message : (json : Bool) (family : Family) (pseudo : List ℕ) (source destination ttl : ℕ) (alert : Bool) (body : List ℕ) →
+    (said : List ℕ) × IsMessageSaid json family pseudo source destination ttl alert body said
+some_message json family pseudo source destination ttl alert body =
+    let it = some_text json family pseudo body in
+    (_, (it.0, it.1, it.2, refl))
 
 pub some_said : (json : Bool) (carried : Carried) → (said : List ℕ) × IsSaidIn json carried said
-some_said false (Igmp source destination ttl alert body) =
-    let it = some_line family.Igmp [] body in
-    ((address_text family.Igmp source ++ codes " igmp ") ++ it.1, (it.0, it.1, it.2, refl))
-some_said false (Mld source destination hop_limit alert body) =
-    let it = some_line family.Mld (pseudo_header source destination (length body)) body in
-    ((address_text family.Mld source ++ codes " mld ") ++ it.1, (it.0, it.1, it.2, refl))
-some_said false Other = (codes "other\n", refl)
-some_said false Cut = (codes "cut\n", refl)
-some_said false Fragment = (codes "fragment\n", refl)
-some_said true (Igmp source destination ttl alert body) =
-    let it = some_object family.Igmp [] body in
-    (packet_fields family.Igmp source destination ttl alert ++ (it.1 ++ codes "}\n"), (it.0, it.1, it.2, refl))
-some_said true (Mld source destination hop_limit alert body) =
-    let it = some_object family.Mld (pseudo_header source destination (length body)) body in
-    (packet_fields family.Mld source destination hop_limit alert ++ (it.1 ++ codes "}\n"), (it.0, it.1, it.2, refl))
-some_said true Other = (codes ",\"skipped\":\"other\"}\n", refl)
-some_said true Cut = (codes ",\"skipped\":\"cut\"}\n", refl)
-some_said true Fragment = (codes ",\"skipped\":\"fragment\"}\n", refl)
+some_said json (Igmp source destination ttl alert body) = some_message json family.Igmp [] source destination ttl alert body
+some_said json (Mld source destination hop_limit alert body) =
+    some_message json family.Mld (pseudo_header source destination (length body)) source destination hop_limit alert body
+some_said json _ = (_, refl)
 
--- an object was put after a piece and before the end of its line
-pub object_put : {T E : Type 0} (old mid new : Option (List ℕ)) (held more between left piece object : List ℕ) (r : Result T E) → more ≡ held ++ piece
-    → Passes old mid more between object → Puts mid new between left (codes "}\n") r → Puts old new held left (piece ++ (object ++ codes "}\n")) r
-object_put old mid new held more between left piece object r behind passed put =
-    then_put old old new held more left piece (object ++ codes "}\n") r (held_more old old held held more [] piece (nothing_passed old held) behind)
-    (then_put old mid new more between left object (codes "}\n") r passed put)
+-- a text was put after a piece and before the end of its line
+pub text_put : {T E : Type 0} (old mid new : Option (List ℕ)) (held more between left piece text end : List ℕ) (r : Result T E) → more ≡ held ++ piece
+    → Passes old mid more between text → Puts mid new between left end r → Puts old new held left (piece ++ (text ++ end)) r
+text_put old mid new held more between left piece text end r behind passed put =
+    then_put old old new held more left piece (text ++ end) r (held_more old old held held more [] piece (nothing_passed old held) behind)
+    (then_put old mid new more between left text end r passed put)
 
-pub object_broken : (old new : Option (List ℕ)) (held more piece object : List ℕ) → more ≡ held ++ piece → GrowsByBeginning old new (more ++ object) →
-    GrowsByBeginning old new (held ++ (piece ++ (object ++ codes "}\n")))
-object_broken old new held more piece object behind begun =
-    message_broken old new held more piece (object ++ codes "}\n") behind (broken_within old new more object (codes "}\n") begun)
+pub text_broken : (old new : Option (List ℕ)) (held more piece text end : List ℕ) → more ≡ held ++ piece → GrowsByBeginning old new (more ++ text) →
+    GrowsByBeginning old new (held ++ (piece ++ (text ++ end)))
+text_broken old new held more piece text end behind begun =
+    broken_behind old old new held more piece (text ++ end) (held_more old old held held more [] piece (nothing_passed old held) behind)
+    (broken_within old new more text end begun)
 
 -- the text of a packet was put after its number and its moment
 pub put_as_packet : {T E : Type 0} (json : Bool) (old mid new : Option (List ℕ)) (held more left : List ℕ) (number moment : ℕ) (found carried : Carried)
-    (r : Result T E) → found ≡ carried
-    → Passes old mid held more (place_in json number moment) → PutsSaid json mid new more left found r
+    (r : Result T E) → found ≡ carried → Passes old mid held more (place_in json number moment) → PutsSaid json mid new more left found r
     → PutsPacket json old new held left number moment carried r
 put_as_packet json old mid new held more left number moment found carried r same placed put =
     record {

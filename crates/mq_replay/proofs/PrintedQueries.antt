@@ -1,17 +1,10 @@
 -- The text that an outlet has put after some queries.
-use Rattle.std.proofs.Common.{◌≡◌, ℕ, Bool, true, ◌||◌, List, [], ◌∷◌, Option, Result, Ok, Err, is_ok, is_err, refl, ap, sym, subst, ◌∙◌}
-use Rattle.std.specs.Prelude.{IfOk, map as list_map}
-use Rattle.std.proofs.Math.Bool.{or-false}
-use Rattle.mq_count.specs.Streams.{inner_of, has_failed}
-use Rattle.mq_wire.specs.Family.{Family}
+use Rattle.mq_replay.proofs.Common.{◌≡◌, ℕ, Bool, true, ◌||◌, List, [], ◌∷◌, Option, Result, Ok, Err, is_err, refl, ap, sym, subst, ◌∙◌, IfOk, list_map}
+use Rattle.mq_replay.proofs.Common.{or-false, inner_of, has_failed, Family, Outgoing, LineFault, Puts, nothing_passed, then_put, broken_within, event_in}
+use Rattle.mq_replay.proofs.Common.{query_events}
+use Rattle.std.proofs.Common.{is_ok}
 use Rattle.mq_link.specs.Handing.{HandsOver}
-use Rattle.mq_link.specs.Sent.{Outgoing}
-use Rattle.mq_text.specs.declared.printing.LineFault.{LineFault}
-use Rattle.mq_text.specs.Printing.{Puts}
-use Rattle.mq_text.proofs.Passing.{nothing_passed, then_put, broken_within}
-use Rattle.mq_replay.specs.declared.query_outlet.QueryLines.{QueryLines}
-use Rattle.mq_replay.specs.QueryLines.{TakesQuery, PutsQuery}
-use Rattle.mq_replay.specs.Events.{Sends, event_in, query_events}
+use Rattle.mq_replay.specs.{declared.query_outlet.QueryLines.QueryLines, QueryLines.TakesQuery, QueryLines.PutsQuery, Events.Sends}
 
 module _ {W : Type 0} (contents : W → Option (List ℕ)) (family : Family) where
   abbrev takes : QueryLines W → Outgoing → Bool → QueryLines W → Type 0
@@ -21,26 +14,23 @@ module _ {W : Type 0} (contents : W → Option (List ℕ)) (family : Family) whe
   pub same_buffer : (old : QueryLines W) (messages : List Outgoing) (answers : List Bool) (new : QueryLines W)
       → HandsOver takes old messages answers new → new.buffer.ghost_name ≡ old.buffer.ghost_name
   same_buffer old [] [] new same = ap (λ (q : QueryLines W). q.buffer.ghost_name) (sym same)
-  same_buffer old [] (answer ∷ answers) new handed = absurd handed
-  same_buffer old (message ∷ messages) [] new handed = absurd handed
   same_buffer old (message ∷ messages) (answer ∷ answers) new handed = same_buffer handed.0 messages answers new handed.2 ∙ handed.1.same_buffer
+  same_buffer old _ _ new handed = absurd handed
 
   pub same_writer : (old : QueryLines W) (messages : List Outgoing) (answers : List Bool) (new : QueryLines W)
       → HandsOver takes old messages answers new → new.writer.ghost_name ≡ old.writer.ghost_name
   same_writer old [] [] new same = ap (λ (q : QueryLines W). q.writer.ghost_name) (sym same)
-  same_writer old [] (answer ∷ answers) new handed = absurd handed
-  same_writer old (message ∷ messages) [] new handed = absurd handed
   same_writer old (message ∷ messages) (answer ∷ answers) new handed = same_writer handed.0 messages answers new handed.2 ∙ handed.1.same_writer
+  same_writer old _ _ new handed = absurd handed
 
   -- after a write that failed nothing changes
   stays_broken : (old : QueryLines W) (messages : List Outgoing) (answers : List Bool) (new : QueryLines W) (fault : LineFault)
       → old.answer ≡ Err fault → HandsOver takes old messages answers new → new ≡ old
   stays_broken old [] [] new fault broken same = sym same
-  stays_broken old [] (answer ∷ answers) new fault broken handed = absurd handed
-  stays_broken old (message ∷ messages) [] new fault broken handed = absurd handed
   stays_broken old (message ∷ messages) (answer ∷ answers) new fault broken handed =
       let first : handed.0 ≡ old = subst (λ (r : Result Unit LineFault). PutsQuery contents family old message handed.0 r) broken handed.1.puts in
       stays_broken handed.0 messages answers new fault (ap (λ (q : QueryLines W). q.answer) first ∙ broken) handed.2 ∙ first
+  stays_broken old _ _ new fault broken handed = absurd handed
 
   -- If no write had failed, the lines of all messages were put, or a prefix of them until a write failed.
   pub record PrintedBy (json : Bool) (moment : ℕ) (old : QueryLines W) (messages : List Outgoing) (answers : List Bool) (new : QueryLines W)
@@ -76,20 +66,16 @@ module _ {W : Type 0} (contents : W → Option (List ℕ)) (family : Family) whe
       Printed json moment old messages answers new
   printed json moment old [] [] new form at u fine same =
       subst (λ (q : QueryLines W). Printed json moment old [] [] q) same (none_printed json moment old u fine)
-  printed json moment old [] (answer ∷ answers) new form at u fine handed = absurd handed
-  printed json moment old (message ∷ messages) [] new form at u fine handed = absurd handed
   printed json moment old (message ∷ messages) (answer ∷ answers) new form at u fine handed =
       by_first handed.0.answer refl
       (λ v is. printed json moment handed.0 messages answers new (handed.1.same_json ∙ form) (handed.1.same_moment ∙ at) v is handed.2)
     where
       first : (r : Result Unit LineFault) → handed.0.answer ≡ r
           → Puts (contents (inner_of old.writer.now)) (contents (inner_of handed.0.writer.now)) old.buffer.now.items handed.0.buffer.now.items
-          (event_in json family moment (Sends message)) r
-          × (has_failed handed.0.writer.now ≡ has_failed old.writer.now || is_err r)
+          (event_in json family moment (Sends message)) r × (has_failed handed.0.writer.now ≡ has_failed old.writer.now || is_err r)
       first r is =
           let put = subst (λ (r : Result Unit LineFault). PutsQuery contents family old message handed.0 r) fine handed.1.puts in
-          let at_moment = subst
-          (λ (t : List ℕ). Puts (contents (inner_of old.writer.now))
+          let at_moment = subst (λ (t : List ℕ). Puts (contents (inner_of old.writer.now))
           (contents (inner_of handed.0.writer.now)) old.buffer.now.items handed.0.buffer.now.items t handed.0.answer)
           (λ i. event_in (form i) family (at i) (Sends message)) put.0 in (
             subst (λ (r : Result Unit LineFault). Puts (contents (inner_of old.writer.now))
@@ -123,6 +109,7 @@ module _ {W : Type 0} (contents : W → Option (List ℕ)) (family : Family) whe
             failed = subst (λ (r : Result Unit LineFault). has_failed handed.0.writer.now ≡ has_failed old.writer.now || is_err r) (sym is) one.1;
             all_sent = subst (λ (r : Result Unit LineFault). IfOk r (λ u. answer ∷ answers ≡ list_map (λ message. true) (message ∷ messages))) (sym is) tt;
           })
+  printed json moment old _ _ new form at u fine handed = absurd handed
 
   -- the same by the answer that the outlet gives at the end
   pub printed_by : (json : Bool) (moment : ℕ) (old : QueryLines W) (messages : List Outgoing) (answers : List Bool) (new : QueryLines W)

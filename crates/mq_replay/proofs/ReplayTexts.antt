@@ -1,21 +1,10 @@
 -- The texts of a replay, in parts.
-use Rattle.std.proofs.Common.{◌≡◌, ℕ, ◌+◌, ◌<◌, List, [], ◌∷◌, ◌++◌, take, drop, get_or, length, refl, sym, ap, ◌∙◌}
-use Rattle.std.specs.Prelude.{map as list_map}
-use Rattle.std.specs.List.{flat_map}
-use Rattle.std.proofs.lemmas.List.Concat.{flat_map-append}
-use Rattle.std.proofs.lemmas.List.{drop_more}
-use Rattle.std.proofs.Math.Seq.{take-add}
-use Rattle.hex.specs.Hex.{encode_with, encode_lower}
-use Rattle.mq_wire.specs.Family.{Family}
-use Rattle.mq_sets.specs.Ascending.{IsAscending}
-use Rattle.mq_sets.proofs.Ascents.{IsAscending-map}
-use Rattle.mq_table.specs.declared.sources.Source.{Source}
-use Rattle.mq_table.specs.declared.timers.SourceTimer.{SourceTimer}
-use Rattle.mq_table.specs.Stored.{number_in, timers_in}
+use Rattle.mq_replay.proofs.Common.{◌≡◌, ℕ, ◌+◌, ◌<◌, List, [], ◌∷◌, ◌++◌, take, drop, get_or, length, refl, sym, ap, ◌∙◌, list_map, flat_map, flat_map-append}
+use Rattle.mq_replay.proofs.Common.{encode_lower, Family, IsAscending, IsAscending-map, Source, SourceTimer, number_in, timers_in, key_of, timer_text}
+use Rattle.std.proofs.{lemmas.List.drop_more, Math.Seq.take-add}
+use Rattle.hex.specs.Hex.{encode_with}
+use Rattle.mq_held.proofs.{HeldMoments.entries-from_entries, Sorted.sorted-ascending}
 use Rattle.std.specs.FinMap as map
-use Rattle.mq_held.proofs.HeldMoments.{entries-from_entries}
-use Rattle.mq_held.proofs.Sorted.{key_of, sorted-ascending}
-use Rattle.mq_replay.specs.ReplayLines.{timer_text}
 
 -- the text of one byte
 abbrev pub byte_text : ℕ → List ℕ
@@ -47,8 +36,7 @@ module _ {K : Type 0} (number : K → ℕ) where
   pair x = (number x.address, x.timer)
 
   pub timers-entries : (row : List (Source K)) → IsAscending (number_in number) row → map.entries (timers_in number row) ≡ list_map pair row
-  timers-entries row up =
-      entries-from_entries (list_map pair row) (sorted-ascending (list_map pair row) (IsAscending-map key_of pair row up))
+  timers-entries row up = entries-from_entries (list_map pair row) (sorted-ascending (list_map pair row) (IsAscending-map key_of pair row up))
 
 module _ {K : Type 0} (number : K → ℕ) (family : Family) where
   pub timers-row : (row : List (Source K)) → IsAscending (number_in number) row
@@ -57,8 +45,7 @@ module _ {K : Type 0} (number : K → ℕ) (family : Family) where
   timers-row row up =
       ap (λ (es : List (ℕ × SourceTimer)). flat_map (λ (e : ℕ × SourceTimer). timer_text family e.0 e.1) es) (timers-entries number row up) ∙ each row
     where
-      each : (row : List (Source K))
-          → flat_map (λ (e : ℕ × SourceTimer). timer_text family e.0 e.1)
+      each : (row : List (Source K)) → flat_map (λ (e : ℕ × SourceTimer). timer_text family e.0 e.1)
           (list_map (λ (x : Source K). let e : ℕ × SourceTimer = (number x.address, x.timer) in e) row)
           ≡ flat_map (λ (x : Source K). timer_text family (number x.address) x.timer) row
       each [] = refl

@@ -1,27 +1,13 @@
 -- A replay in the code, and what its report comes to.
-use Rattle.std.proofs.Common.{◌≡◌, ℕ, ◌+◌, Bool, true, ◌||◌, List, ◌++◌, Option, Result, Ok, Err, refl, ap, sym, subst, ◌∙◌, append_assoc}
-use Rattle.std.proofs.Math.Bool.{or-false}
-use Rattle.mq_pcap.specs.Filling.{InputState}
-use Rattle.mq_pcap.specs.Frame.{Carried, carried_in}
-use Rattle.mq_link.specs.Configuration.{Configuration}
-use Rattle.mq_link.specs.Counters.{Counters}
-use Rattle.mq_link.specs.Link.{LinkValue}
-use Rattle.mq_link.specs.State.{link_at}
-use Rattle.mq_sched.specs.Election.{is_querier}
-use Rattle.mq_text.specs.Printing.{GrowsByBeginning, OutputState, Passes}
-use Rattle.mq_text.proofs.Passing.{both_passed, broken_behind, nothing_passed}
-use Rattle.mq_replay.specs.declared.asked.Asked.{Asked}
-use Rattle.mq_replay.specs.declared.capture_fault.CaptureFault.{CaptureFault}
-use Rattle.mq_replay.specs.declared.capture_fault.CaptureFault.TheVariants as answer
-use Rattle.mq_replay.specs.declared.walked.Walked.{Walked}
-use Rattle.mq_replay.specs.Courses.{Report}
-use Rattle.mq_replay.specs.Events.{end_events}
-use Rattle.mq_replay.specs.PlacedPackets.{PlacedPacket}
-use Rattle.mq_replay.specs.PuttingReports.{IsRestPut, PutsReport, end_of, rest_at}
-use Rattle.mq_replay.specs.Report.{Replayed, at_the_start, ended_at, replay_of, ticked_before, with_packet}
-use Rattle.mq_replay.specs.Steps.{PutsReplayed, ReplayState, TakesReplayed, begun_with}
+use Rattle.mq_replay.proofs.Common.{◌≡◌, ℕ, ◌+◌, Bool, true, ◌||◌, List, ◌++◌, Option, Result, Ok, Err, refl, ap, sym, subst, ◌∙◌, append_assoc, or-false}
+use Rattle.mq_replay.proofs.Common.{InputState, Carried, carried_in, Configuration, Counters, LinkValue, link_at, is_querier, GrowsByBeginning, OutputState}
+use Rattle.mq_replay.proofs.Common.{Passes, both_passed, broken_behind, nothing_passed, CaptureFault, Walked, PlacedPacket, Asked, end_events, Replayed}
+use Rattle.mq_replay.proofs.Common.{ended_at, ticked_before, with_packet, PutsReplayed, ReplayState, begun_with}
+use Rattle.mq_walk.specs.{Courses.Report, PuttingReports.IsRestPut, PuttingReports.PutsReport, PuttingReports.end_of, PuttingReports.rest_at}
+use Rattle.mq_walk.proofs.ReportedOver.{IsPassed, IsStepped, Puts, WalksUpToGap, come_to_the_end, report_behind, reported_early, reported_well, rest_joined}
+use Rattle.mq_replay.specs.{Report.at_the_start, Report.replay_of, Steps.TakesReplayed}
 use Rattle.mq_replay.proofs.Growing.{behind, as_behind, before_behind, next_packet, packet_asked}
-use Rattle.mq_replay.proofs.ReportedOver.{IsPassed, IsStepped, Puts, WalksUpToGap, come_to_the_end, report_behind, reported_early, reported_well, rest_joined}
+use Rattle.mq_walk.specs.declared.capture_fault.CaptureFault.TheVariants as answer
 
 -- the end of a replay behind a text
 abbrev with_end : Configuration → (moment : ℕ) → Replayed → Report Counters
@@ -122,10 +108,7 @@ module _ {X : Type 0} (state : X → ReplayState) where
               before.held (out x).held (out x').held first (held x) (held x') tt r at.same_config at.link_is is_asked at.passed step.puts,
           step.failed ∙ ap (λ (b : Bool). b || true) at.failed,
         )
-    stepped_at packet r x x' (Err (answer.Gap number)) at step = absurd step
-    stepped_at packet r x x' (Err (answer.Waiting number)) at step = absurd step
-    stepped_at packet r x x' (Err (answer.Pcap f)) at step = absurd step
-    stepped_at packet r x x' (Err answer.Memory) at step = absurd step
+    stepped_at packet r x x' _ at step = absurd step
 
   -- a replay from the start of its link
   module _ {Y : Type 0} (inner : Y → X) (old new : InputState) (y y' : Y)
@@ -182,5 +165,4 @@ module _ {X : Type 0} (state : X → ReplayState) where
           (λ r at. rest_joined (replay_of config asked) w.last (w.packets + 1) r
           (λ end. ended_at config end (begun_with r.asked r.link)) (λ moment. end_behind config moment r)
           ∙ (λ i. report_behind r.text (rest_at (λ end. ended_at (sym at.same_config i) end
-          (begun_with ((at.asked_is ∙ sym at.same_asked) i) (at.link_is i)))
-          (end_of (sym at.same_asked i).until w.last (w.packets + 1))))) put
+          (begun_with ((at.asked_is ∙ sym at.same_asked) i) (at.link_is i))) (end_of (sym at.same_asked i).until w.last (w.packets + 1))))) put

@@ -1,39 +1,24 @@
 -- A capture whose header was read, and what `show` comes to.
-use Rattle.std.proofs.Common.{◌≡◌, ℕ, Bool, true, false, List, [], Option, Some, Result, Ok, Err, refl, sym, subst, inl, inr, arith}
-use Rattle.std.proofs.KnownBytes.{Appends-nil}
-use Rattle.mq_pcap.specs.declared.fault.PcapFault.TheVariants as fault
-use Rattle.mq_pcap.specs.Filling.{InputState}
+use Rattle.mq_replay.proofs.Common.{◌≡◌, ℕ, Bool, true, false, List, [], Option, Some, Result, Err, refl, sym, subst, inl, inr, arith, InputState}
+use Rattle.mq_replay.proofs.Common.{OutputState, Passes, CaptureFault, is_failed_write, IsEndedBy, PutsListing}
+use Rattle.std.{proofs.KnownBytes.Appends-nil, specs.Io.KnownBytes.Appends}
 use Rattle.mq_pcap.proofs.Filled.{Takes-nil}
-use Rattle.std.specs.Io.KnownBytes.{Appends}
-use Rattle.mq_text.specs.Printing.{OutputState, Passes}
-use Rattle.mq_replay.specs.declared.capture_fault.CaptureFault.{CaptureFault}
-use Rattle.mq_replay.specs.declared.capture_fault.CaptureFault.TheVariants as answer
-use Rattle.mq_replay.specs.Faults.{is_failed_write}
-use Rattle.mq_replay.specs.Finishing.{Finishes, FinishesBy}
-use Rattle.mq_replay.specs.Listing.{IsEndedBy, IsWritten, Shows}
-use Rattle.mq_replay.specs.Putting.{IsPut, PutsListing}
-use Rattle.mq_replay.proofs.Finished.{all_written, begun_text}
-use Rattle.mq_replay.proofs.Headers.{cut_header}
+use Rattle.mq_walk.{specs.Finishing.Finishes, specs.Finishing.FinishesBy, proofs.Finished.all_written, proofs.Finished.begun_text, proofs.Headers.cut_header}
+use Rattle.mq_replay.specs.{Listing.IsWritten, Listing.Shows, Putting.IsPut}
+use Rattle.mq_pcap.specs.declared.fault.PcapFault.TheVariants as fault
+use Rattle.mq_walk.specs.declared.capture_fault.CaptureFault.TheVariants as answer
 
 -- without a failed write, what was put passed, and what is written whole is written
 without_failure : (r : Result ℕ CaptureFault) (before mid after : Option (List ℕ)) (held left text : List ℕ) → is_failed_write r ≡ false
     → IsPut before mid held left text r → Passes before mid held left text × (Appends before after text → IsWritten before after text r)
-without_failure (Ok count) before mid after held left text unlike put = (put, λ all. all)
-without_failure (Err (answer.Pcap f)) before mid after held left text unlike put = (put, λ all. all)
 without_failure (Err answer.Write) before mid after held left text unlike put = absurd (cc)
-without_failure (Err (answer.Gap number)) before mid after held left text unlike put = (put, λ all. all)
-without_failure (Err (answer.Waiting number)) before mid after held left text unlike put = (put, λ all. all)
-without_failure (Err answer.Memory) before mid after held left text unlike put = (put, λ all. all)
+without_failure _ before mid after held left text unlike put = (put, λ all. all)
 
 -- a prefix was written where a write failed
 by_failure : (r : Result ℕ CaptureFault) (before after : Option (List ℕ)) (left text : List ℕ) → is_failed_write r ≡ true
     → IsPut before after [] left text r → IsWritten before after text r
-by_failure (Ok count) before after left text is put = absurd (cc)
-by_failure (Err (answer.Pcap f)) before after left text is put = absurd (cc)
 by_failure (Err answer.Write) before after left text is put = put
-by_failure (Err (answer.Gap number)) before after left text is put = absurd (cc)
-by_failure (Err (answer.Waiting number)) before after left text is put = absurd (cc)
-by_failure (Err answer.Memory) before after left text is put = absurd (cc)
+by_failure _ before after left text is put = absurd (cc)
 
 -- the listing was put, and then the rest of it was written unless a write failed
 pub shown : (json : Bool) (old new : InputState) (before : Option (List ℕ)) (mid after : OutputState) (held left rest : List ℕ)

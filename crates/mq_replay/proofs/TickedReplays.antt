@@ -1,16 +1,11 @@
 -- A replay in the code, and the ticks between packets.
-use Rattle.std.proofs.Common.{◌≡◌, ℕ, zero, suc, ◌+◌, ◌<◌, ◌≤◌, Bool, ◌||◌, Result, Ok, Err, IfOk, is_err, refl, ap, sym, subst, ◌∙◌, arith}
-use Rattle.std.proofs.Math.Bool.{or-false}
-use Rattle.mq_link.specs.Configuration.{Configuration}
-use Rattle.mq_link.specs.State.{LinkState}
-use Rattle.mq_link.specs.Tick.{tick_of, next_of}
-use Rattle.mq_text.proofs.Passing.{broken_within, nothing_passed, then_put}
-use Rattle.mq_replay.specs.declared.asked.Asked.{Asked}
-use Rattle.mq_replay.specs.Report.{Replayed, ticked_at}
-use Rattle.mq_replay.specs.Steps.{ReplayState, ReplaysTick, ReplaysTo, begun_with}
-use Rattle.mq_replay.specs.Ticks.{TicksInTurn, ticked_within}
+use Rattle.mq_replay.proofs.Common.{◌≡◌, ℕ, ◌+◌, ◌<◌, ◌≤◌, Bool, ◌||◌, Result, Ok, Err, IfOk, is_err, refl, ap, sym, subst, ◌∙◌, arith, or-false, Configuration}
+use Rattle.mq_replay.proofs.Common.{LinkState, tick_of, next_of, broken_within, nothing_passed, then_put, ticked_within, Asked, Replayed, ticked_at}
+use Rattle.mq_replay.proofs.Common.{ReplayState, ReplaysTo, begun_with}
+use Rattle.std.proofs.Common.{zero, suc}
+use Rattle.mq_walk.{specs.Ticks.TicksInTurn, proofs.Ticking.none_within, proofs.Ticking.one_within}
+use Rattle.mq_replay.specs.Steps.{ReplaysTick}
 use Rattle.mq_replay.proofs.Growing.{as_behind, behind, next_in, tick_in, ticked_asked, within_behind}
-use Rattle.mq_replay.proofs.Ticking.{none_within, one_within}
 
 -- after a tick the next moment is later
 pub comes_later : {T E : Type 0} (asked : Asked) (config : Configuration) (before after : LinkState) (moment : ℕ) (r : Result T E) →
@@ -49,8 +44,7 @@ module _ {X : Type 0} (state : X → ReplayState) where
   ticks_put {E} limit zero most x x' (Ok u) enough (same, reached) =
       subst (λ (y : X). ReplaysTo {E = E} (all most limit x) (state x) (state y) (Ok u)) (sym same)
       (subst (λ (p : Replayed). ReplaysTo {E = E} p (state x) (state x) (Ok u))
-      (sym (none_within next_in (tick_in (state x).link.config) most limit (start x) reached))
-      (record {
+      (sym (none_within next_in (tick_in (state x).link.config) most limit (start x) reached)) (record {
         same_asked = refl;
         puts = record { same_config = refl; link = refl; text = nothing_passed _ _ };
         failed = sym (or-false _);
@@ -77,8 +71,7 @@ module _ {X : Type 0} (state : X → ReplayState) where
       let same : rest_of most config limit next ≡ all most limit mid =
       λ i. ticked_within next_in (tick_in (sym step.puts.same_config i)) most limit (begun_with (asked i) (sym step.puts.link i)) in
       subst (λ (p : Replayed). ReplaysTo {E = E} p (state x) (state x') r)
-      (sym (one_ticked most config limit (start x) due ∙ ap (behind next.text) same))
-      (record {
+      (sym (one_ticked most config limit (start x) due ∙ ap (behind next.text) same)) (record {
         same_asked = there.same_asked ∙ step.same_asked;
         puts = record {
           same_config = there.puts.same_config ∙ step.puts.same_config;

@@ -1,8 +1,6 @@
 -- A packet of a replay, in the terms of a walk.
-use Rattle.std.proofs.Common.{◌≡◌, ℕ, ◌||◌, true, false, Result, Ok, Err, subst}
-use Rattle.mq_pcap.specs.Frame.{Carried}
-use Rattle.mq_replay.specs.Report.{Replayed, with_packet}
-use Rattle.mq_replay.specs.Steps.{PutsReplayed, ReplayState, ReplaysTo, begun_with}
+use Rattle.mq_replay.proofs.Common.{◌≡◌, ℕ, ◌||◌, true, false, Result, Ok, Err, subst, Carried, Replayed, with_packet, PutsReplayed, ReplayState, ReplaysTo}
+use Rattle.mq_replay.proofs.Common.{begun_with}
 
 abbrev packet_of : (number moment : ℕ) → Carried → ReplayState → Replayed
 packet_of number moment frame old = with_packet old.link.config moment number frame (begun_with old.asked old.link.state)

@@ -1,15 +1,6 @@
 -- Lines that are written before a read that may wait.
-use Rattle.std.proofs.Common.{◌≡◌, ℕ, List, [], ◌++◌, Bool, false, ◌||◌, Option, Result, Ok, Err, append-nil, ◌∙◌}
-use Rattle.std.specs.Prelude.{IfOk}
-use Rattle.std.proofs.Math.Bool.{or-false}
-use Rattle.mq_link.specs.Link.{LinkValue}
-use Rattle.mq_pcap.specs.Frame.{Carried}
-use Rattle.mq_text.specs.Printing.{Passes, Puts}
-use Rattle.mq_text.proofs.Passing.{put_as, then_put}
-use Rattle.mq_replay.specs.Listing.{place_in}
-use Rattle.mq_replay.specs.Putting.{PutsPacket}
-use Rattle.mq_replay.specs.Report.{Replayed}
-use Rattle.mq_replay.specs.Steps.{PutsReplayed}
+use Rattle.mq_replay.proofs.Common.{◌≡◌, ℕ, List, [], ◌++◌, Bool, false, ◌||◌, Option, Result, Ok, Err, append-nil, ◌∙◌, IfOk, or-false, LinkValue, Carried}
+use Rattle.mq_replay.proofs.Common.{Passes, Puts, put_as, then_put, place_in, PutsPacket, Replayed, PutsReplayed}
 
 -- a text passed, and then nothing more was put
 pub then_nothing : (T E : Type 0) (a b c : Option (List ℕ)) (held mid left text : List ℕ) (r : Result T E) → Passes a b held mid text →

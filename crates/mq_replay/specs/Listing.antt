@@ -1,5 +1,5 @@
 -- The listing of a capture: a line for each of its packets, as text or as an object of JSON.
-use Rattle.std.specs.Prelude.{◌≡◌, ◌⊎◌, ℕ, ◌+◌, ◌-◌, max, nat_lt, Bool, true, false, List, [], ◌∷◌, ◌++◌, length, Option, None, Some, Result, Ok, Err, unwrap_or, codes}
+use Rattle.std.specs.Prelude.{◌≡◌, ℕ, ◌+◌, Bool, true, false, List, [], ◌∷◌, ◌++◌, length, Option, None, Some, Result, Ok, Err, unwrap_or, codes}
 use Rattle.std.specs.Fmt.{decimal}
 use Rattle.std.specs.Io.KnownBytes.{Appends, IsAtEnd}
 use Rattle.mq_pcap.specs.declared.fault.PcapFault.{PcapFault}
@@ -9,29 +9,18 @@ use Rattle.mq_pcap.specs.declared.link_type.LinkType.{LinkType}
 use Rattle.mq_pcap.specs.Capture.{Captured, Captures}
 use Rattle.mq_pcap.specs.Filling.{InputState, Takes}
 use Rattle.mq_pcap.specs.Frame.{Carried, Igmp, Mld, Other, Cut, Fragment, carried_in}
-use Rattle.mq_pcap.specs.Reading.{IsKnownThere}
 use Rattle.mq_wire.specs.Family.{Family}
 use Rattle.mq_wire.specs.Family as family
 use Rattle.mq_wire.specs.PseudoHeader.{pseudo_header}
 use Rattle.mq_text.specs.Printing.{GrowsByBeginning}
-use Rattle.mq_lines.specs.Line.{IsLineOf, IsObjectOf}
+use Rattle.mq_lines.specs.Line.{IsTextOf}
+use Rattle.mq_lines.specs.Messages.{either}
 use Rattle.mq_lines.specs.Objects.{address_object, protocol_text, truth_object}
 use Rattle.mq_lines.specs.Text.{address_text}
-use Rattle.mq_replay.specs.declared.capture_fault.CaptureFault.{CaptureFault}
-use Rattle.mq_replay.specs.declared.capture_fault.CaptureFault.TheVariants as answer
-
--- the text of the message of a packet, or of the reason why there is none; it ends the line
-abbrev pub IsSaid : Carried → List ℕ → Type 0
-IsSaid (Igmp source destination ttl alert body) text =
-    (flag : Bool) × (line : List ℕ) × IsLineOf family.Igmp [] body flag line
-    × (text ≡ address_text family.Igmp source ++ codes " igmp " ++ line)
-IsSaid (Mld source destination hop_limit alert body) text =
-    (flag : Bool) × (line : List ℕ)
-    × IsLineOf family.Mld (pseudo_header source destination (length body)) body flag line
-    × (text ≡ address_text family.Mld source ++ codes " mld " ++ line)
-IsSaid Other text = text ≡ codes "other\n"
-IsSaid Cut text = text ≡ codes "cut\n"
-IsSaid Fragment text = text ≡ codes "fragment\n"
+use Rattle.mq_walk.specs.declared.capture_fault.CaptureFault.{CaptureFault}
+use Rattle.mq_walk.specs.declared.capture_fault.CaptureFault.TheVariants as answer
+use Rattle.mq_walk.specs.PlacedPackets.{moment_of}
+use Rattle.mq_walk.specs.Walking.{IsOfTheFile}
 
 -- the fields of a packet's headers, up to its message
 abbrev pub address_fields : Family → (source destination : ℕ) → List ℕ
@@ -46,49 +35,38 @@ header_fields ttl alert =
 abbrev pub packet_fields : Family → (source destination ttl : ℕ) → (alert : Bool) → List ℕ
 packet_fields family source destination ttl alert = address_fields family source destination ++ header_fields ttl alert
 
--- the fields of a packet with the object of its message, or with the reason why there is none; they end the line
-abbrev pub IsObjectSaid : Carried → List ℕ → Type 0
-IsObjectSaid (Igmp source destination ttl alert body) text =
-    (flag : Bool) × (object : List ℕ) × IsObjectOf family.Igmp [] body flag object
-    × (text ≡ packet_fields family.Igmp source destination ttl alert ++ (object ++ codes "}\n"))
-IsObjectSaid (Mld source destination hop_limit alert body) text =
-    (flag : Bool) × (object : List ℕ)
-    × IsObjectOf family.Mld (pseudo_header source destination (length body)) body flag object
-    × (text ≡ packet_fields family.Mld source destination hop_limit alert ++ (object ++ codes "}\n"))
-IsObjectSaid Other text = text ≡ codes ",\"skipped\":\"other\"}\n"
-IsObjectSaid Cut text = text ≡ codes ",\"skipped\":\"cut\"}\n"
-IsObjectSaid Fragment text = text ≡ codes ",\"skipped\":\"fragment\"}\n"
+-- the headers of a packet in words: its source and its protocol
+abbrev pub headers_in : (json : Bool) → Family → (source destination ttl : ℕ) → (alert : Bool) → List ℕ
+headers_in true family source destination ttl alert = packet_fields family source destination ttl alert
+headers_in false family source destination ttl alert =
+    address_text family source ++ codes " " ++ protocol_text family ++ codes " "
+
+-- the text of a packet with a message, to the end of its line
+abbrev pub IsMessageSaid : (json : Bool) → Family → (pseudo : List ℕ) → (source destination ttl : ℕ) → (alert : Bool) → (body said : List ℕ) → Type 0
+IsMessageSaid json family pseudo source destination ttl alert body said =
+    (flag : Bool) × (text : List ℕ) × IsTextOf json family pseudo body flag text
+    × (said ≡ headers_in json family source destination ttl alert ++ (text ++ either json (codes "}\n") (codes "\n")))
+
+-- the text of the message of a packet, or of the reason why there is none; it ends the line
+abbrev pub IsSaidIn : (json : Bool) → Carried → List ℕ → Type 0
+IsSaidIn json (Igmp source destination ttl alert body) said =
+    IsMessageSaid json family.Igmp [] source destination ttl alert body said
+IsSaidIn json (Mld source destination hop_limit alert body) said =
+    IsMessageSaid json family.Mld (pseudo_header source destination (length body)) source destination hop_limit alert body said
+IsSaidIn json Other said = said ≡ either json (codes ",\"skipped\":\"other\"}\n") (codes "other\n")
+IsSaidIn json Cut said = said ≡ either json (codes ",\"skipped\":\"cut\"}\n") (codes "cut\n")
+IsSaidIn json Fragment said = said ≡ either json (codes ",\"skipped\":\"fragment\"}\n") (codes "fragment\n")
 
 -- the number and the moment of a packet: each before a space, or in the first fields of its object
-abbrev pub place_text : (number moment : ℕ) → List ℕ
-place_text number moment = decimal number ++ codes " " ++ decimal moment ++ codes " "
-
-abbrev pub place_fields : (number moment : ℕ) → List ℕ
-place_fields number moment = codes "{\"packet\":" ++ decimal number ++ codes ",\"time\":" ++ decimal moment
-
--- the same in both forms of lines
 abbrev pub place_in : (json : Bool) → (number moment : ℕ) → List ℕ
-place_in true = place_fields
-place_in false = place_text
-
-abbrev pub IsSaidIn : (json : Bool) → Carried → List ℕ → Type 0
-IsSaidIn true = IsObjectSaid
-IsSaidIn false = IsSaid
+place_in json number moment =
+    either json (codes "{\"packet\":") [] ++ decimal number ++ either json (codes ",\"time\":") (codes " ") ++ decimal moment
+    ++ either json [] (codes " ")
 
 -- the line of a packet
 abbrev pub IsPacketLine : (json : Bool) → LinkType → (number moment : ℕ) → (frame line : List ℕ) → Type 0
 IsPacketLine json link number moment frame line =
     (said : List ℕ) × IsSaidIn json (carried_in link frame) said × (line ≡ place_in json number moment ++ said)
-
--- The moment of a packet: its stamp less that of the capture's first packet. If the moment of the packet before is
--- greater, it is that moment. The moment of the first packet is 0.
-abbrev pub moment_of : (first : Option ℕ) (before stamp : ℕ) → ℕ
-moment_of first before stamp = max (stamp - unwrap_or first stamp) before
-
--- A stamp goes back if it is less than that of the first packet and the moment of the packet before together. The moment
--- of its packet is then that of the packet before.
-abbrev pub goes_back : (first : Option ℕ) (before stamp : ℕ) → Bool
-goes_back first before stamp = nat_lt stamp (unwrap_or first stamp + before)
 
 -- The lines of packets, one after the other. `number` is that of the next packet, and its moment is counted from
 -- `first` and `before`.
@@ -103,12 +81,6 @@ AreLines json link first before number (packet ∷ packets) text =
 abbrev pub IsListing : (json : Bool) → Result Form PcapFault → List Captured → List ℕ → Type 0
 IsListing json (Ok form) packets text = AreLines json form.link None 0 1 packets text
 IsListing json (Err f) packets text = text ≡ []
-
--- A fault of the bytes that were read is a fault of the whole file. They end the file, or the fault doesn't depend on
--- what follows.
-abbrev pub IsOfTheFile : Result Form PcapFault → PcapFault → (bytes : List ℕ) → InputState → Type 0
-IsOfTheFile (Ok form) f bytes new = IsKnownThere f new
-IsOfTheFile (Err f') f bytes new = (length bytes ≡ 24) ⊎ IsAtEnd new.ahead
 
 -- the end of the input, by the result
 abbrev pub IsEndedBy : Result Form PcapFault → (packets : List Captured) → (end : Option PcapFault) → (bytes : List ℕ) → (old new : InputState) → Result ℕ CaptureFault → Type 0

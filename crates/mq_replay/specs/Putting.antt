@@ -6,10 +6,10 @@ use Rattle.mq_pcap.specs.Capture.{Captured, Captures}
 use Rattle.mq_pcap.specs.Filling.{InputState, Takes}
 use Rattle.mq_pcap.specs.Frame.{Carried, carried_in}
 use Rattle.mq_text.specs.Printing.{GrowsByBeginning, OutputState, Passes, Puts}
-use Rattle.mq_replay.specs.declared.capture_fault.CaptureFault.{CaptureFault}
-use Rattle.mq_replay.specs.declared.capture_fault.CaptureFault.TheVariants as answer
+use Rattle.mq_walk.specs.declared.capture_fault.CaptureFault.{CaptureFault}
+use Rattle.mq_walk.specs.declared.capture_fault.CaptureFault.TheVariants as answer
+use Rattle.mq_walk.specs.PlacedPackets.{PlacedPacket}
 use Rattle.mq_replay.specs.Listing.{IsSaidIn, place_in, IsListing, IsEndedBy}
-use Rattle.mq_replay.specs.PlacedPackets.{PlacedPacket}
 
 -- the text of a packet was put
 pub record PutsSaid {T E : Type 0} (json : Bool) (old new : Option (List ℕ)) (held left : List ℕ) (carried : Carried) (r : Result T E) : Type 0 where

@@ -66,7 +66,7 @@ mode_text (Exclude deadline) = codes "exclude " ++ decimal deadline
 -- a source after a space: with the deadline of its timer, or after an exclamation mark if the timer is stopped
 abbrev pub timer_text : Family → (source : ℕ) → SourceTimer → List ℕ
 timer_text family source Stopped = codes " !" ++ address_text family source
-timer_text family source (Running deadline sendings) = codes " " ++ address_text family source ++ codes "=" ++ decimal deadline
+timer_text family source (Running deadline retransmissions) = codes " " ++ address_text family source ++ codes "=" ++ decimal deadline
 
 -- the sources of a group, in the order of their addresses
 abbrev pub timers_text : Family → GroupState → List ℕ

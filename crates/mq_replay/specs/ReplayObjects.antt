@@ -21,7 +21,8 @@ use Rattle.mq_link.specs.declared.answers.Received.{Received}
 use Rattle.mq_link.specs.declared.answers.Received.TheVariants.{Taken, Dropped}
 use Rattle.mq_link.specs.Counters.{Counters, reason_number}
 use Rattle.mq_link.specs.Sent.{Outgoing}
-use Rattle.mq_lines.specs.Objects.{address_object, comma_before, items_from, message_object, truth_object}
+use Rattle.mq_lines.specs.Objects.{address_object, comma_before, items_from, truth_object}
+use Rattle.mq_lines.specs.Messages.{message_in}
 use Rattle.mq_replay.specs.ReplayLines.{skipped_text}
 
 -- the start of an object, with the moment and the name of its event
@@ -58,7 +59,7 @@ send_start family moment to =
     event_start moment (codes "send") ++ codes ",\"destination\":" ++ address_object family to ++ codes ",\"hex\":\""
 
 abbrev pub said_field : Family → Query ℕ → List ℕ
-said_field family query = codes "\",\"message\":" ++ message_object family (AQuery (query_said family query))
+said_field family query = codes "\",\"message\":" ++ message_in true family (AQuery (query_said family query))
 
 abbrev pub send_object : Family → (moment : ℕ) → Outgoing → List ℕ
 send_object family moment query =
@@ -103,7 +104,7 @@ deadline_object (Some deadline) = decimal deadline
 
 abbrev pub timer_object : SourceTimer → List ℕ
 timer_object Stopped = codes "null"
-timer_object (Running deadline sendings) = decimal deadline
+timer_object (Running deadline retransmissions) = decimal deadline
 
 -- the filter mode with the deadline of the group timer, which only EXCLUDE has
 unfoldable pub mode_fields : FilterMode → List ℕ

@@ -1,28 +1,29 @@
 -- The text of a replay: an event for each query that the link sends and for each packet. If they are requested, there are
 -- events for the groups that each of these changes. At the end are events for the state of the link. Each is a line of text
 -- or an object of JSON.
-use Rattle.std.specs.Prelude.{ℕ, ◌+◌, Bool, true, false, List, [], ◌∷◌, ◌++◌, filter, map as list_map, Option, None, Some, Result, Ok, Err}
+use Rattle.std.specs.Prelude.{ℕ, ◌+◌, Bool, false, List, [], ◌∷◌, ◌++◌, filter, map as list_map, Option, None, Some, Result, Ok, Err}
 use Rattle.std.specs.Ordering.{nat_cmp}
 use Rattle.std.specs.FinMap as map
-use Rattle.mq_pcap.specs.Frame.{Carried, Igmp, Mld, carried_in}
+use Rattle.mq_pcap.specs.Frame.{Carried, carried_in}
 use Rattle.mq_wire.specs.declared.message.Message.{Message}
 use Rattle.mq_wire.specs.declared.message.Message.TheVariants.{Query as AQuery, OldReport, Leave, Report as AReport}
 use Rattle.mq_wire.specs.declared.message.WireFault.{WireFault}
 use Rattle.mq_wire.specs.Family.{Family}
-use Rattle.mq_wire.specs.Family as family
 use Rattle.mq_sched.specs.Election.{is_querier}
 use Rattle.mq_link.specs.Configuration.{Configuration}
 use Rattle.mq_link.specs.Counters.{Counters}
 use Rattle.mq_link.specs.Forwarding.{changed_by_datagram, changed_by_tick}
-use Rattle.mq_link.specs.Receive.{Envelope, pseudo_of, read_of, receipt_of}
+use Rattle.mq_link.specs.Receive.{pseudo_of, read_of, receipt_of}
 use Rattle.mq_link.specs.Run.{answered}
-use Rattle.mq_link.specs.Sent.{Outgoing, outgoing_of}
+use Rattle.mq_link.specs.Sent.{outgoing_of}
 use Rattle.mq_link.specs.State.{LinkState, link_at}
 use Rattle.mq_link.specs.Tick.{Step, tick_of, next_of}
+use Rattle.mq_walk.specs.Courses.{Report, Work}
+use Rattle.mq_walk.specs.Datagrams.{Datagram, datagram_of}
+use Rattle.mq_walk.specs.Outlets.{all_sent}
+use Rattle.mq_walk.specs.Ticks as ticks
 use Rattle.mq_replay.specs.declared.asked.Asked.{Asked}
-use Rattle.mq_replay.specs.Courses.{Report, Work}
 use Rattle.mq_replay.specs.Events.{Receives, Skips, change_events, end_events, event_in, if_asked, query_events}
-use Rattle.mq_replay.specs.Ticks as ticks
 
 -- A replay under way: the link, the text so far, and what is requested of it.
 pub record Replayed : Type 0 where
@@ -33,10 +34,6 @@ pub record Replayed : Type 0 where
 -- the replay at the start: the link starts at 0, and nothing is written
 abbrev pub at_the_start : Configuration → Asked → Replayed
 at_the_start config asked = record { link = link_at config 0; text = []; asked = asked }
-
--- the answers of a replay's outlet: each message is sent
-abbrev pub all_sent : List Outgoing → List Bool
-all_sent messages = list_map (λ message. true) messages
 
 -- the replay after a step of the link at a moment, with an event for each message
 abbrev pub after_step : Configuration → (moment : ℕ) → Step → Replayed → Replayed
@@ -66,22 +63,6 @@ ticked_at config moment r =
 -- the replay after all ticks before a limit, at the link's next moments
 abbrev pub ticked_before : Configuration → (limit : ℕ) → Replayed → Replayed
 ticked_before config limit r = ticks.ticked_before (λ (s : Replayed). next_of s.link) (λ (s : Replayed). ticked_at config (next_of s.link) s) limit r
-
--- A datagram for the link: its envelope, and its bytes.
-pub record Datagram : Type 0 where
-  pub envelope : Envelope
-  pub body : List ℕ
-
--- the datagram of a packet that carries a message of the family; for IGMP only the source is looked at
-abbrev pub datagram_of : Family → Carried → Option Datagram
-datagram_of family.Igmp (Igmp source destination ttl alert body) =
-    Some (record { envelope = record { source = source; destination = 0; hop_limit = 0; alert = false }; body = body })
-datagram_of family.Igmp carried = None
-datagram_of family.Mld (Mld source destination hop_limit alert body) = Some (record {
-  envelope = record { source = source; destination = destination; hop_limit = hop_limit; alert = alert };
-  body = body;
-})
-datagram_of family.Mld carried = None
 
 -- the groups that a datagram names, by what was read of it; a query changes none
 abbrev pub spoken_of : Result (Message ℕ) WireFault → List ℕ

@@ -4,10 +4,10 @@ use Rattle.mq_pcap.specs.Frame.{carried_in}
 use Rattle.mq_link.specs.Link.{LinkValue}
 use Rattle.mq_link.specs.State.{LinkState}
 use Rattle.mq_text.specs.Printing.{OutputState, Puts}
+use Rattle.mq_walk.specs.declared.capture_fault.CaptureFault.{CaptureFault}
+use Rattle.mq_walk.specs.declared.capture_fault.CaptureFault.TheVariants as answer
+use Rattle.mq_walk.specs.PlacedPackets.{PlacedPacket}
 use Rattle.mq_replay.specs.declared.asked.Asked.{Asked}
-use Rattle.mq_replay.specs.declared.capture_fault.CaptureFault.{CaptureFault}
-use Rattle.mq_replay.specs.declared.capture_fault.CaptureFault.TheVariants as answer
-use Rattle.mq_replay.specs.PlacedPackets.{PlacedPacket}
 use Rattle.mq_replay.specs.Report.{Replayed, ticked_at, with_packet}
 
 -- a replay of a link in this state, with nothing written

@@ -160,7 +160,7 @@ fn put_change_line<K: LineKey, W: Write>(
     make_room(buffer, writer)?;
     put_change_start(buffer, moment, address, mode, sources);
     put_all_named(mode, sources, buffer, writer)?;
-    put_end(buffer, writer)
+    put_end(b"\n", buffer, writer)
 }
 
 /// Puts each source that the filter names.

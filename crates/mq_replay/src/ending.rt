@@ -1,48 +1,22 @@
 //! The end of a replay.
 
-ghost use Rattle.std.specs.Prelude.{◌≡◌, ◌≤◌, ◌^◌, ◌||◌, Ok, IfOk, IfSome, is_err};
+ghost use Rattle.std.specs.Prelude.{◌≡◌, ◌≤◌, ◌^◌, ◌||◌, Ok, IfOk, is_err};
 ghost use Rattle.mq_count.specs.Streams.{inner_of, has_failed};
 ghost use Rattle.mq_text.specs.Printing.{Puts};
-ghost use Rattle.mq_replay.specs.Courses.{last_moment};
-ghost use Rattle.mq_replay.specs.PlacedPackets.{is_gap};
 ghost use Rattle.mq_replay.specs.Events.{group_events};
 ghost use Rattle.mq_replay.specs.Report.{ended_at};
 ghost use Rattle.mq_replay.specs.Steps.{begun_with};
 
-use crate::captured_family::CapturedFamily;
 use crate::group_line::put_group;
 use crate::replay_lines::{put_counts, put_role};
 use crate::running_replay::Replay;
-use crate::stamp::Stamp;
-use mq_count::{Meter, Moment, Span, Watched};
+use mq_count::{Moment, Span, Watched};
 use mq_lines::LineKey;
 use mq_link::Link;
 use mq_text::{LineFault, Text};
+use mq_walk::CapturedFamily;
 use std::alloc::Allocator;
 use std::io::Write;
-
-/// The greatest distance between two moments of a replay or a check, in milliseconds.
-const A_DAY: u32 = 86_400_000;
-
-/// Returns whether a moment is more than a day after the one before it.
-pub(crate) fn is_gap(before: Moment, moment: Moment) -> bool
-    requires { before ≤ 2 ^ 53 }
-    ensures { result ≡ is_gap before moment }
-{
-    let latest = before.after(Span::from_ms(A_DAY));
-    !Meter::new().reached(moment, latest)
-}
-
-/// Returns the moment of the end: that of the last packet, or the requested one if it is later.
-pub(crate) fn last_moment(until: Option<u64>, last: Stamp) -> Stamp
-    requires { IfSome until (λ ms. ms ≤ 2 ^ 53) }
-    ensures { result ≡ last_moment until last }
-{
-    match until {
-        Some(until) if last.ms() < until => Stamp::of(until),
-        _ => last,
-    }
-}
 
 /// Ticks up to and including the end of a replay, and puts the state of the link then.
 pub(crate) fn put_ending<F: CapturedFamily, A: Allocator, W: Write>(

@@ -7,7 +7,6 @@ ghost use Rattle.mq_replay.specs.Report.{received_at, with_packet};
 ghost use Rattle.mq_replay.specs.Steps.{PutsReplayed, begun_with};
 
 use crate::asked::Asked;
-use crate::captured_family::{CapturedDatagram, CapturedFamily};
 use crate::change_lines::put_changes;
 use crate::replay_lines::{put_receipt, put_skip};
 use crate::running_replay::Replay;
@@ -17,6 +16,7 @@ use mq_lines::LineKey;
 use mq_link::Link;
 use mq_pcap::Inner;
 use mq_text::{LineFault, Text};
+use mq_walk::{CapturedDatagram, CapturedFamily};
 use std::alloc::Allocator;
 use std::io::Write;
 

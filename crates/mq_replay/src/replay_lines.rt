@@ -62,7 +62,7 @@ fn put_query_line<K: LineKey, W: Write>(
     make_room(buffer, writer)?;
     put_query_start(buffer, moment, to);
     put_hexadecimal(bytes, buffer, writer)?;
-    put_end(buffer, writer)
+    put_end(b"\n", buffer, writer)
 }
 
 /// Puts a datagram that the link received at a moment: its number, its source, and the link's answer.

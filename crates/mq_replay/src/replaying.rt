@@ -1,6 +1,6 @@
 //! The replay of a capture.
 
-ghost use Rattle.std.specs.Prelude.{◌≡◌, ◌≤◌, ◌+◌, ◌^◌, ◌||◌, [], length, IfSome};
+ghost use Rattle.std.specs.Prelude.{◌≡◌, ◌≤◌, ◌+◌, ◌^◌, ◌||◌, length, IfSome};
 ghost use Rattle.std.specs.contracts.vec.Vec as page;
 ghost use denote.Builtin.{u16};
 ghost use Rattle.mq_arena.specs.Vectors.{Takes, bytes_for};
@@ -9,26 +9,21 @@ ghost use Rattle.mq_link.specs.Sizes.{bytes_of_link, bytes_of_workspace};
 ghost use Rattle.mq_link.specs.State.{link_at};
 ghost use Rattle.mq_pcap.specs.Capture.{most_bytes};
 ghost use Rattle.mq_pcap.specs.Filling.{input_of};
-ghost use Rattle.mq_replay.specs.Faults as spec;
-ghost use Rattle.mq_replay.specs.PuttingReports.{IsRestPut, PutsReport, counted, end_of, rest_at};
+ghost use Rattle.mq_walk.specs.Faults as spec;
+ghost use Rattle.mq_walk.specs.PuttingReports.{IsRestPut, PutsReport, counted, end_of, rest_at};
 ghost use Rattle.mq_replay.specs.Replaying.{Replays};
 ghost use Rattle.mq_replay.specs.Report.{ended_at, replay_of};
 ghost use Rattle.mq_replay.specs.Steps.{begun_with};
 
 use crate::asked::Asked;
-use crate::capture_fault::CaptureFault;
-use crate::captured_family::CapturedFamily;
 use crate::ending::put_ending;
-use crate::finishing::finish;
 use crate::running_replay::Replay;
-use crate::stamps::first_moment;
-use crate::walked::Walked;
-use crate::walking::{UpToGap, walk};
-use mq_arena::{OfAllocator, VectorSource, filled};
+use mq_arena::{VectorSource, filled};
 use mq_count::Watched;
 use mq_lines::LineKey;
 use mq_link::{Config, Counts, Link};
 use mq_pcap::{GREATEST_PACKET, Supply};
+use mq_walk::{CaptureFault, CapturedFamily, UpToGap, Walked, finish, first_moment, walk};
 use std::alloc::{AllocError, Allocator};
 use std::io::{Read, Write};
 
@@ -39,40 +34,10 @@ use std::io::{Read, Write};
 /// they are requested, it writes the groups that each event changes. At the end it writes the state of the link. The end is
 /// the moment of the last packet, or the requested one if it is later.
 ///
-/// All memory is allocated before anything is read or written. If the capture has a fault or a gap, the lines of all
-/// that comes before it are written first. Before a read that may wait by the stream's `supply`, the lines so far are
-/// written.
-pub fn replay<F: CapturedFamily, A: Allocator + Copy, S: Supply, R: Read, W: Write>(
-    alloc: A,
-    config: Config<F>,
-    asked: Asked,
-    supply: &S,
-    reader: &mut Watched<R>,
-    writer: &mut Watched<W>,
-) -> Result<Counts, CaptureFault>
-where
-    F::Address: LineKey,
-    requires { IfSome asked.until (λ moment. moment ≤ 2 ^ 53) }
-    ensures replays { Replays config asked
-        (input_of R.remaining reader.old) (input_of R.remaining reader.new)
-        (W.contents (inner_of writer.old)) (W.contents (inner_of writer.new))
-        result }
-    ensures failed { has_failed writer.new ≡ has_failed writer.old || spec.is_failed_write result }
-    ensures memory { result ≡ Err CaptureFault.Memory → (reader.new ≡ reader.old) × (writer.new ≡ writer.old) }
-{
-    replay_in(
-        &mut OfAllocator(alloc),
-        config,
-        asked,
-        supply,
-        reader,
-        writer,
-    )
-}
-
-/// Acts like `replay`, with the memory for one packet and then that of the link from `memory`. Fails with `Memory` only
-/// if one of them is refused.
-pub fn replay_in<F: CapturedFamily, A: Allocator, M: VectorSource<A>, S: Supply, R: Read, W: Write>(
+/// The memory for one packet and then that of the link are allocated from `memory` before anything is read or written. It fails with `Memory` only
+/// if one of them is refused. If the capture has a fault or a gap, the lines of all that comes before it are written first. Before a read that may
+/// wait by the stream's `supply`, the lines so far are written.
+pub fn replay<F: CapturedFamily, A: Allocator, M: VectorSource<A>, S: Supply, R: Read, W: Write>(
     memory: &mut M,
     config: Config<F>,
     asked: Asked,
@@ -103,7 +68,8 @@ where
     let mut replay = UpToGap {
         steps: Replay::new(link, asked),
     };
-    let answer = replay_on(&mut replay, packet.as_mut_slice(), supply, reader, writer);
+    let put = put_replay(&mut replay, packet.as_mut_slice(), supply, reader, writer);
+    let answer = finish(put, &mut replay.steps.buffer, writer);
     counters_of(replay.steps.link, answer)
 }
 
@@ -118,31 +84,6 @@ where
 {
     answer?;
     Ok(link.into_counts())
-}
-
-/// Replays a capture on a link at its start, with memory of the caller for a packet.
-fn replay_on<F: CapturedFamily, A: Allocator, S: Supply, R: Read, W: Write>(
-    replay: &mut UpToGap<Replay<F, A>>,
-    packet: &mut [u8],
-    supply: &S,
-    reader: &mut Watched<R>,
-    writer: &mut Watched<W>,
-) -> Result<(), CaptureFault>
-where
-    F::Address: LineKey,
-    requires room { most_bytes ≤ length packet.old }
-    requires in_range { IfSome replay.old.steps.asked.until (λ moment. moment ≤ 2 ^ 53) }
-    requires starts { replay.old.steps.link.state ≡ link_at replay.old.steps.link.config 0 }
-    requires empty { replay.old.steps.buffer.items ≡ [] }
-    ensures replays { Replays replay.old.steps.link.config replay.old.steps.asked
-        (input_of R.remaining reader.old) (input_of R.remaining reader.new)
-        (W.contents (inner_of writer.old)) (W.contents (inner_of writer.new))
-        (counted replay.new.steps.link.state.counters result) }
-    ensures failed { has_failed writer.new ≡ has_failed writer.old || spec.is_failed_write result }
-    ensures no_memory { result ≡ Err CaptureFault.Memory → ⊥ }
-{
-    let answer = put_replay(replay, packet, supply, reader, writer);
-    finish(answer, &mut replay.steps.buffer, writer)
 }
 
 /// Puts the lines of a capture.

@@ -6,20 +6,18 @@ ghost use Rattle.mq_replay.specs.Report.{ticked_before};
 ghost use Rattle.mq_replay.specs.Steps.{PutsReplayed, begun_with};
 
 use crate::asked::Asked;
-use crate::capture_fault::CaptureFault;
-use crate::captured_family::CapturedFamily;
 use crate::change_lines::put_changes;
-use crate::numbered_packet::NumberedPacket;
 use crate::one_packet::replay_packet;
 use crate::sent_queries::tick;
-use crate::ticks::{TickStep, tick_before};
-use crate::waiting::write_before_wait;
-use crate::walking::GaplessStep;
 use mq_count::{Moment, Watched};
 use mq_lines::LineKey;
 use mq_link::Link;
 use mq_pcap::unwrap_frame;
 use mq_text::{LineFault, Text};
+use mq_walk::{
+    CaptureFault, CapturedFamily, GaplessStep, NumberedPacket, TickStep, tick_before,
+    write_before_wait,
+};
 use std::alloc::Allocator;
 use std::io::Write;
 

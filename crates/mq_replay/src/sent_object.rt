@@ -11,7 +11,7 @@ ghost use Rattle.mq_replay.specs.ReplayObjects as spec;
 use crate::hexadecimal::put_hexadecimal;
 use crate::replay_objects::put_event;
 use mq_count::{Moment, Watched};
-use mq_lines::{LineKey, put_address_object, put_message_object, put_object_end};
+use mq_lines::{LineKey, put_address_object, put_end, put_message};
 use mq_text::{LineFault, Text, make_room, put};
 use mq_wire::{Message, QuerierFields, Query, QueryVersion, code8, code16, resp8, resp16};
 use std::io::Write;
@@ -34,7 +34,7 @@ pub(crate) fn put_send_object<K: LineKey, W: Write>(
     put_send_start(buffer, moment, to);
     put_hexadecimal(bytes, buffer, writer)?;
     put_said(query, buffer, writer)?;
-    put_object_end(b"}\n", buffer, writer)
+    put_end(b"}\n", buffer, writer)
 }
 
 /// Puts the object of a query up to its bytes at the end.
@@ -62,7 +62,7 @@ fn put_said<K: LineKey, W: Write>(
 {
     make_room(buffer, writer)?;
     put(buffer, b"\",\"message\":");
-    put_message_object(Message::Query(query_said(query)), buffer, writer)
+    put_message(true, Message::Query(query_said(query)), buffer, writer)
 }
 
 /// Returns a query with the times that its codes say.

@@ -1,7 +1,6 @@
 -- The decimal digits of a number.
 use Rattle.std.proofs.Common.{◌≡◌, ℕ, ◌+◌, ◌/◌, ◌%◌, ◌^◌, ◌<◌, ◌≤◌, List, [], ◌∷◌, ◌++◌, length, get_or, length-append, append_assoc, ap, sym, ◌∙◌, arith}
-use Rattle.std.proofs.lemmas.Fmt.{decimal_digit, decimal_step}
-use Rattle.std.specs.Fmt.{decimal}
+use Rattle.std.{proofs.lemmas.Fmt.decimal_digit, proofs.lemmas.Fmt.decimal_step, specs.Fmt.decimal}
 use Rattle.mq_text.specs.Digits.{four_digits_of}
 
 -- numbers of two, three and four digits

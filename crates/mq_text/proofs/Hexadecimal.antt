@@ -1,7 +1,6 @@
 -- Numbers of 16 bits in hexadecimal.
 use Rattle.std.proofs.Common.{◌≡◌, ◌==◌, ℕ, zero, suc, ◌/◌, ◌%◌, ◌<◌, ◌≤◌, false, List, [], ◌∷◌, ◌++◌, map, refl, ap, ◌∙◌, arith}
-use Rattle.std.specs.{Fmt.digit_glyph, Int.Digits.digits_of}
-use Rattle.std.proofs.lemmas.Int.Digits.{digits_of_step}
+use Rattle.std.{specs.Fmt.digit_glyph, specs.Int.Digits.digits_of, proofs.lemmas.Int.Digits.digits_of_step}
 use Rattle.mq_text.specs.AddressV6.{hexadecimal}
 
 -- the digits of numbers that have one, two, three and four

@@ -1,7 +1,7 @@
 -- The longest run of zero groups.
 use Rattle.std.proofs.Common.{◌≡◌, ℕ, zero, suc, ◌+◌, ◌-◌, ◌*◌, ◌<◌, ◌≤◌, ◌==◌, nat_lt, Bool, true, false, List, [], ◌∷◌, length, drop, inl, inr, refl, ap, sym}
 use Rattle.std.proofs.Common.{◌∙◌, arith, add-one, length-drop, if◌then◌else◌}
-use Rattle.std.proofs.{lemmas.Bool.cases_lt, lemmas.Bool.Decides.nat_tests, lemmas.List.drop-drop}
+use Rattle.std.proofs.lemmas.{Bool.cases_lt, Bool.Decides.nat_tests, List.drop-drop}
 use Rattle.mq_text.specs.{declared.address_v6.ZeroGroups.ZeroGroups, AddressV6.zeros_ahead, AddressV6.longest_zeros, AddressV6.IsFirstLongest}
 
 none_in_nothing : (place : ℕ) → zeros_ahead (drop place []) ≤ 0

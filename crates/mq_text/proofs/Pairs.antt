@@ -1,7 +1,6 @@
 -- The table of the two digits of each number below 100.
-use Rattle.std.proofs.Common.{◌≡◌, ℕ, zero, suc, ◌+◌, ◌*◌, ◌/◌, ◌%◌, ◌<◌, ◌==◌, Bool, true, false, List, [], ◌∷◌, get_or, codes, inl, inr, refl}
-use Rattle.std.proofs.Common.{arith, if◌then◌else◌}
-use Rattle.std.proofs.lemmas.Bool.{cases_lt, eqb-true}
+use Rattle.std.proofs.Common.{◌≡◌, ℕ, zero, suc, ◌+◌, ◌*◌, ◌/◌, ◌%◌, ◌<◌, ◌==◌, Bool, true, false, List, [], ◌∷◌, get_or, codes, inl, inr, refl, arith}
+use Rattle.std.proofs.{Common.if◌then◌else◌, lemmas.Bool.cases_lt, lemmas.Bool.eqb-true}
 
 -- the table
 abbrev pub pairs : List ℕ

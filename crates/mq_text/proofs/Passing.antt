@@ -1,8 +1,7 @@
 -- Texts that go to a writer by way of a buffer, one after the other.
 use Rattle.std.proofs.Common.{◌≡◌, ℕ, ◌+◌, ◌<◌, List, [], ◌∷◌, ◌++◌, length, take, drop, get_or, Option, Result, Ok, Err, append_assoc, append-nil}
-use Rattle.std.proofs.Common.{length-append, ap, sym, subst, ◌∙◌, arith}
-use Rattle.std.specs.List.{flat_map}
-use Rattle.std.proofs.{lemmas.Grind.flat_map-append, lemmas.List.take_more, lemmas.List.take-append-drop, KnownBytes.Appends-trans, KnownBytes.Appends-nil}
+use Rattle.std.proofs.{Common.length-append, Common.ap, Common.sym, Common.subst, Common.◌∙◌, Common.arith, KnownBytes.Appends-trans, KnownBytes.Appends-nil}
+use Rattle.std.{specs.List.flat_map, proofs.lemmas.Grind.flat_map-append, proofs.lemmas.List.take_more, proofs.lemmas.List.take-append-drop}
 use Rattle.mq_text.specs.Printing.{GrowsByBeginning, Passes, Puts}
 
 pub nothing_passed : (a : Option (List ℕ)) (held : List ℕ) → Passes a a held held []

@@ -1,6 +1,6 @@
 -- Groups that were put one part after another.
 use Rattle.std.proofs.Common.{◌≡◌, ℕ, ◌+◌, ◌-◌, ◌≤◌, nat_le, true, List, [], ◌∷◌, ◌++◌, length, take, drop, append_assoc, ap, ◌∙◌, arith}
-use Rattle.std.proofs.{lemmas.Bool.Decides.nat_tests, lemmas.List.take_all, lemmas.List.length-drop}
+use Rattle.std.proofs.lemmas.{Bool.Decides.nat_tests, List.take_all, List.length-drop}
 use Rattle.mq_text.specs.{declared.address_v6.ZeroGroups.ZeroGroups, AddressV6.with_colons, AddressV6.shortened}
 
 -- the groups before a run, two colons, and the later groups

@@ -1,9 +1,8 @@
 -- The texts of IPv6 addresses, and those that std reads.
 use Rattle.std.proofs.Common.{◌≡◌, ℕ, ◌==◌, ◌<◌, ◌||◌, Bool, true, false, List, [], ◌∷◌, ◌++◌, codes, inl, inr, refl, sym, subst, ◌∙◌, arith, append_assoc}
-use Rattle.std.proofs.{lemmas.Bool.eqb-true, lemmas.List.Folds.list_any-append}
-use Rattle.std.specs.{Char.digit_value, Str.Parse.AllDigits, Fmt.decimal, Net.Grammar.IsDotted, Net.Grammar.IsGroupsAfter, Net.Grammar.IsColonHex}
-use Rattle.std.specs.{Net.Grammar.IsIpv4Text, Net.Grammar.IsIpv6Text, Int.w32, Int.to_be_bytes, Int.byte_at, declared.net.ipv4_addr.Ipv4Addr.Ipv4Addr}
-use Rattle.std.specs.{declared.net.ipv6_addr.Ipv6Addr.Ipv6Addr}
+use Rattle.std.{proofs.lemmas.Bool.eqb-true, proofs.lemmas.List.Folds.list_any-append, specs.Str.Parse.AllDigits}
+use Rattle.std.specs.{Char.digit_value, Net.Grammar.IsDotted, Net.Grammar.IsGroupsAfter, Net.Grammar.IsColonHex, Net.Grammar.IsIpv4Text, Net.Grammar.IsIpv6Text}
+use Rattle.std.specs.{Fmt.decimal, Int.w32, Int.to_be_bytes, Int.byte_at, declared.net.ipv4_addr.Ipv4Addr.Ipv4Addr, declared.net.ipv6_addr.Ipv6Addr.Ipv6Addr}
 use Rattle.mq_text.specs.Reading.{AreGroupsBehind, HasGroups, SpellsV4, SpellsV6, has_dot}
 
 -- two joined texts have no dot if neither has one

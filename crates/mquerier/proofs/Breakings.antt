@@ -1,25 +1,14 @@
 -- Work on a capture behind a flush of the output.
-use Rattle.std.proofs.Common.{◌≡◌, ◌⊎◌, ◌||◌, ◌∙◌, ap, sym, subst, refl, arith, Bool, true, false, List, ℕ, Option, Result, Ok, Err, inl, inr}
+use Rattle.mquerier.proofs.Common.{◌≡◌, ◌⊎◌, ◌||◌, ◌∙◌, ap, sym, subst, refl, arith, Bool, true, false, List, ℕ, Option, Result, Ok, Err, inl, inr, or-false}
+use Rattle.mquerier.proofs.Common.{or-true, Keeps, Appends-kept, InputState, OutputState, output_of, CaptureFault, Failure, Gap, Waiting, Memory, Write, Input}
+use Rattle.mquerier.proofs.Common.{Output, input_by, status_of, IsUnwritten}
 use Rattle.std.specs.Prelude.{IfErr, IsErrAnd}
-use Rattle.std.proofs.Math.Bool.{or-false, or-true}
-use Rattle.std.specs.Io.KnownBytes.{Keeps}
-use Rattle.std.proofs.KnownBytes.{Appends-kept}
-use Rattle.mq_count.specs.declared.streams.Watched.{Watched}
-use Rattle.mq_count.specs.Streams.{inner_of, has_failed}
-use Rattle.mq_pcap.specs.Filling.{InputState, input_of}
-use Rattle.mq_text.specs.Printing.{OutputState, output_of}
-use Rattle.mq_replay.specs.declared.capture_fault.CaptureFault.{CaptureFault}
-use Rattle.mq_replay.specs.declared.capture_fault.CaptureFault.TheVariants as answer
-use Rattle.mq_replay.specs.Courses.{Work}
-use Rattle.mq_replay.specs.Faults.{is_failed_write}
+use Rattle.mq_count.specs.{declared.streams.Watched.Watched, Streams.inner_of, Streams.has_failed}
+use Rattle.mq_pcap.specs.Filling.{input_of}
+use Rattle.mq_walk.specs.{Courses.Work, Faults.is_failed_write, Reports.IsWrittenBy, Reports.Reports, Reports.text_by}
 use Rattle.mq_replay.specs.Listing.{IsWritten, Shows}
-use Rattle.mq_replay.specs.Reports.{IsWrittenBy, Reports, text_by}
-use Rattle.mquerier.specs.declared.failure.Failure.{Failure}
-use Rattle.mquerier.specs.declared.failure.Failure.TheVariants.{Capture, Gap, Waiting, Memory, Write}
 use Rattle.mquerier.specs.Breaking.{IsBrokenBy, IsBrokenOff, IsEndedBy, IsUnflushed, failure_of}
-use Rattle.mquerier.specs.Changes.{Input, Output, input_by}
-use Rattle.mquerier.specs.Failures.{status_of}
-use Rattle.mquerier.specs.Working.{IsUnwritten}
+use Rattle.mq_walk.specs.declared.capture_fault.CaptureFault.TheVariants as answer
 
 -- a reported and shown state stays
 pub reports_kept : {S T : Type 0} (work : Work S T) (old new : InputState) (before mid after : Option (List ℕ)) (r : Result T CaptureFault)

@@ -1,33 +1,15 @@
 -- The result of a check once it is flushed, and as a performed request.
-use Rattle.std.proofs.Common.{◌≡◌, ◌≤◌, ◌^◌, ◌⊎◌, ◌∙◌, subst, sym, refl, arith, false, true, ℕ, Bool, Bor, List, Option, None, Some, Result, Ok, Err, inl}
-use Rattle.std.proofs.Common.{inr, ⊎_elim}
-use Rattle.std.proofs.lemmas.Bool.{ltb-false}
-use Rattle.std.specs.Prelude.{IfSome}
-use Rattle.mq_replay.specs.declared.capture_fault.CaptureFault.{CaptureFault}
-use Rattle.mq_check.specs.declared.check_terms.CheckTerms.{CheckTerms}
-use Rattle.mq_check.specs.declared.totals.Totals.{Totals}
-use Rattle.mq_check.specs.Check.{check_of}
-use Rattle.mq_check.specs.CheckedCaptures.{Checks}
-use Rattle.mq_command.specs.declared.Protocol.{Protocol}
-use Rattle.mq_command.specs.declared.Request.{Request}
-use Rattle.mq_command.specs.declared.Request.TheVariants.{Message, Convert, Show, Replay, Check}
-use Rattle.mq_command.specs.declared.check.CheckFlags.{CheckFlags}
-use Rattle.mq_command.specs.declared.replay.Settings.{Settings}
-use Rattle.mq_link.specs.Configuration.{Configuration}
-use Rattle.mq_text.specs.Printing.{OutputState}
-use Rattle.mq_wire.specs.Family.{Family}
-use Rattle.mquerier.specs.declared.checking.CheckOptions.{CheckOptions}
-use Rattle.mquerier.specs.declared.failure.Failure.{Failure}
-use Rattle.mquerier.specs.declared.failure.Failure.TheVariants.{NoAddresses, NotAnAddress, NotHex, UntilTooLarge, Configuration as Unconfigured}
-use Rattle.mquerier.specs.declared.failure.Failure.TheVariants.{Capture, Gap, Waiting, Conversion, ConversionRead, Memory, Write}
-use Rattle.mquerier.specs.Changes.{Input, Output}
-use Rattle.mquerier.specs.CheckRuns.{IsCheckedAt, WritesVerdict, asked_options}
-use Rattle.mquerier.specs.Replays.{SpellsAddress, asked_configuration, family_of, is_too_large}
-use Rattle.mquerier.specs.Failures.{check_line, failure_line, status_of}
-use Rattle.mquerier.specs.Status.{Concludes, IsCheck, IsConversion, IsOfMessage, IsTold, Performs, PerformsCheck, Told, request_line}
-use Rattle.mquerier.specs.Working.{ChecksAt, IsConfigured, IsRefusal, IsUnwritten, Works, WorksOnCheck}
-use Rattle.mquerier.proofs.Breakings.{Ends, IsEndOf, reports_ended}
-use Rattle.mquerier.proofs.Replayed.{refused_for}
+use Rattle.mquerier.proofs.Common.{◌≡◌, ◌≤◌, ◌⊎◌, ◌∙◌, subst, sym, refl, arith, false, true, ℕ, Bool, Bor, List, Option, None, Some, Result, Ok, Err, inl, inr}
+use Rattle.mquerier.proofs.Common.{⊎_elim, CaptureFault, CheckTerms, Totals, Protocol, Request, Message, Convert, Show, Replay, Check, Settings, Configuration}
+use Rattle.mquerier.proofs.Common.{OutputState, Family, CheckOptions, Failure, NoAddresses, NotAnAddress, NotHex, UntilTooLarge, Unconfigured, Capture, Gap}
+use Rattle.mquerier.proofs.Common.{Waiting, Conversion, ConversionRead, Memory, Write, Input, Output, SpellsAddress, asked_configuration, family_of, check_line}
+use Rattle.mquerier.proofs.Common.{status_of, Concludes, IsTold, Performs, PerformsCheck, Told, request_line, ChecksAt, IsConfigured, IsUnwritten, Works}
+use Rattle.std.{proofs.Common.◌^◌, proofs.lemmas.Bool.ltb-false, specs.Prelude.IfSome}
+use Rattle.mq_check.specs.{Check.check_of, CheckedCaptures.Checks}
+use Rattle.mq_command.specs.declared.{Packets.Packets, check.CheckFlags.CheckFlags}
+use Rattle.mquerier.specs.{CheckRuns.IsCheckedAt, CheckRuns.WritesVerdict, CheckRuns.asked_options, Status.IsCheck, Status.IsConversion, Status.IsOfMessage}
+use Rattle.mquerier.specs.{Replays.is_too_large, Failures.failure_line, Working.IsRefusal, Working.WorksOnCheck}
+use Rattle.mquerier.proofs.{Breakings.Ends, Breakings.IsEndOf, Breakings.reports_ended, Replayed.refused_for}
 
 -- the moment of the end, where it isn't too large
 pub until_in_range : (until : Option ℕ) → is_too_large until ≡ false → IfSome until (λ ms. ms ≤ 2 ^ 53)
@@ -57,10 +39,10 @@ checked_for protocol querier address settings terms input output (Err failure) s
     (λ two. refused_for protocol querier address settings terms.until failure spelled (works.0 two), λ one. (address, spelled, works.1 one))
 
 pub check_performed : (protocol : Protocol) (querier : Bor (List ℕ)) (settings : Settings) (within : Option ℕ) (flags : CheckFlags)
-    (until : Option ℕ) (file : Option (Bor (List ℕ))) (in_words : Bool) (input : Input) (output errors : Output) (status : ℕ)
+    (until : Option ℕ) (packets : Packets) (file : Option (Bor (List ℕ))) (in_words : Bool) (input : Input) (output errors : Output) (status : ℕ)
     → PerformsCheck (asked_options protocol settings within until flags false) querier.now input output errors status →
-    Performs (Check protocol querier settings within flags until file) in_words input output errors status
-check_performed protocol querier settings within flags until file in_words input output errors status performs =
+    Performs (Check protocol querier settings within flags until packets file) in_words input output errors status
+check_performed protocol querier settings within flags until packets file in_words input output errors status performs =
     record {
       at_most_four = performs.at_most_four;
       done = performs.done;
@@ -161,7 +143,7 @@ plain_line in_words (Message protocol hex from to json) failure converts checks 
 plain_line in_words (Convert interface vlan once json file) failure converts checks = absurd (converts tt)
 plain_line in_words (Show json file) failure converts checks = refl
 plain_line in_words (Replay protocol own settings until changes json file) failure converts checks = refl
-plain_line in_words (Check protocol querier settings within flags until file) failure converts checks = absurd (checks tt)
+plain_line in_words (Check protocol querier settings within flags until packets file) failure converts checks = absurd (checks tt)
 
 -- work that fails, and is reported
 pub work_failed : (request : Request) (in_words : Bool) (input : Input) (output errors : Output) (failure : Failure) (status : ℕ)

@@ -1,19 +1,11 @@
 -- The result of a conversion, as a performed request.
-use Rattle.std.proofs.Common.{◌≡◌, ℕ, [], Bool, Bor, List, Option, Result, Ok, Err, arith, inr, refl}
-use Rattle.std.specs.Io.KnownBytes.{Keeps}
-use Rattle.std.proofs.KnownBytes.{Appends-kept}
+use Rattle.mquerier.proofs.Common.{◌≡◌, ℕ, [], Bool, Bor, List, Option, Result, Ok, Err, arith, inr, refl, Keeps, Appends-kept, Convert, Choice, InputState}
+use Rattle.mquerier.proofs.Common.{Input, Output, Performs, PerformsConversion}
 use Rattle.mq_command.specs.declared.Interface.{Interface}
-use Rattle.mq_command.specs.declared.Request.TheVariants.{Convert}
-use Rattle.mq_convert.specs.declared.choice.Choice.{Choice}
-use Rattle.mq_convert.specs.declared.counts.ConvertCounts.{ConvertCounts}
-use Rattle.mq_convert.specs.declared.fault.ConvertFault.{ConvertFault}
-use Rattle.mq_convert.specs.declared.fault.ConvertFault.TheVariants as answer
-use Rattle.mq_convert.specs.Converting.{Converts, IsWritten}
+use Rattle.mq_convert.specs.{declared.counts.ConvertCounts.ConvertCounts, declared.fault.ConvertFault.ConvertFault, Converting.Converts, Converting.IsWritten}
 use Rattle.mq_convert.specs.Records.{written_of}
-use Rattle.mq_pcap.specs.Filling.{InputState}
-use Rattle.mquerier.specs.Changes.{Input, Output}
 use Rattle.mquerier.specs.Choosing.{choice_of}
-use Rattle.mquerier.specs.Status.{Performs, PerformsConversion}
+use Rattle.mq_convert.specs.declared.fault.ConvertFault.TheVariants as answer
 
 pub conversion_performed : (interface : Option Interface) (vlan : Option ℕ) (once json : Bool) (file : Option (Bor (List ℕ))) (in_words : Bool)
     (input : Input) (output errors : Output) (status : ℕ)

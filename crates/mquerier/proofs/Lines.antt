@@ -1,6 +1,6 @@
 -- Lines that are put in parts.
-use Rattle.std.proofs.Common.{◌≡◌, ◌<◌, ◌++◌, codes, ℕ, zero, suc, List, refl, append_assoc, arith}
-use Rattle.std.specs.Fmt.{decimal}
+use Rattle.mquerier.proofs.Common.{◌≡◌, ◌++◌, codes, ℕ, List, refl, append_assoc, arith, decimal}
+use Rattle.std.proofs.Common.{◌<◌, zero, suc}
 use Rattle.mquerier.specs.Failures.{dropped_line, repeated_line}
 
 pub in_three : (x a b c : List ℕ) → ((x ++ a) ++ b) ++ c ≡ x ++ ((a ++ b) ++ c)

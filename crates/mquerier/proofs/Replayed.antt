@@ -1,22 +1,10 @@
 -- The result of a replay once it is flushed.
-use Rattle.std.proofs.Common.{subst, ℕ, List, Bool, Option, Result, Ok, Err}
-use Rattle.mq_command.specs.declared.Protocol.{Protocol}
-use Rattle.mq_command.specs.declared.replay.Settings.{Settings}
-use Rattle.mq_link.specs.Configuration.{Configuration}
+use Rattle.mquerier.proofs.Common.{subst, ℕ, List, Bool, Option, Result, Ok, Err, Protocol, Settings, Configuration, OutputState, CaptureFault, Family, Failure}
+use Rattle.mquerier.proofs.Common.{NoAddresses, NotAnAddress, NotHex, UntilTooLarge, Unconfigured, Capture, Gap, Waiting, Conversion, ConversionRead, Memory}
+use Rattle.mquerier.proofs.Common.{Write, Input, Output, SpellsAddress, asked_configuration, family_of, IsConfigured}
 use Rattle.mq_link.specs.Counters.{Counters}
-use Rattle.mq_text.specs.Printing.{OutputState}
-use Rattle.mq_replay.specs.declared.asked.Asked.{Asked}
-use Rattle.mq_replay.specs.declared.capture_fault.CaptureFault.{CaptureFault}
-use Rattle.mq_replay.specs.Replaying.{Replays}
-use Rattle.mq_replay.specs.Report.{replay_of}
-use Rattle.mq_wire.specs.Family.{Family}
-use Rattle.mquerier.specs.declared.failure.Failure.{Failure}
-use Rattle.mquerier.specs.declared.failure.Failure.TheVariants.{NoAddresses, NotAnAddress, NotHex, UntilTooLarge, Configuration as Unconfigured}
-use Rattle.mquerier.specs.declared.failure.Failure.TheVariants.{Capture, Gap, Waiting, Conversion, ConversionRead, Memory, Write}
-use Rattle.mquerier.specs.Changes.{Input, Output}
-use Rattle.mquerier.specs.Replays.{IsRefusedAt, IsReplayedAt, SpellsAddress, asked_configuration, family_of}
-use Rattle.mquerier.specs.Status.{IsRefusedReplay}
-use Rattle.mquerier.specs.Working.{IsConfigured, WorksAt, WorksOnReplay}
+use Rattle.mq_replay.specs.{declared.asked.Asked.Asked, Replaying.Replays, Report.replay_of}
+use Rattle.mquerier.specs.{Replays.IsRefusedAt, Replays.IsReplayedAt, Status.IsRefusedReplay, Working.WorksAt, Working.WorksOnReplay}
 use Rattle.mquerier.proofs.Breakings.{Ends, IsEndOf, reports_ended}
 
 -- the requested replay, after a flush

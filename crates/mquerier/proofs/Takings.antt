@@ -1,48 +1,37 @@
 -- The result of a check of the querier that the capture names.
-use Rattle.std.proofs.Common.{◌≡◌, ◌⊎◌, ◌∙◌, ap, subst, sym, refl, arith, ℕ, Bool, true, List, Option, None, Some, Result, Ok, Err, inl, inr, ⊎_elim}
-use Rattle.mq_check.specs.declared.announced.Announced.{Announced}
-use Rattle.mq_replay.specs.declared.capture_fault.CaptureFault.{CaptureFault}
-use Rattle.mq_replay.specs.declared.capture_fault.CaptureFault.TheVariants as answer
-use Rattle.mq_check.specs.declared.totals.Totals.{Totals}
-use Rattle.mq_check.specs.Announced.{Announces}
-use Rattle.mq_check.specs.Numbered.{numbered_announced_if}
-use Rattle.mq_command.specs.declared.replay.Settings.{Settings}
-use Rattle.mq_pcap.specs.Filling.{InputState}
-use Rattle.mq_text.specs.Printing.{OutputState}
-use Rattle.mq_wire.specs.Family.{Family}
-use Rattle.mquerier.specs.declared.checking.CheckOptions.{CheckOptions}
-use Rattle.mquerier.specs.declared.failure.Failure.{Failure}
-use Rattle.mquerier.specs.declared.failure.Failure.TheVariants.{Memory, Write}
-use Rattle.mquerier.specs.Changes.{BreaksOff, Input, Output, Writes}
-use Rattle.mquerier.specs.CheckRuns.{IsCheckDoneAt}
-use Rattle.mquerier.specs.Failures.{no_querier_line, status_of}
-use Rattle.mquerier.specs.Replays.{family_of}
-use Rattle.mquerier.specs.Status.{Concludes, IsTold, Told}
-use Rattle.mquerier.specs.Taking.{ChecksBy, ChecksFound, ChecksTaking, IsFoundDone, PerformsBy, PerformsFound, PerformsTaking, first_failure}
-use Rattle.mquerier.specs.Taking.{taken_line, with_variables}
-use Rattle.mquerier.specs.Working.{ChecksAt}
+use Rattle.mquerier.proofs.Common.{◌≡◌, ◌⊎◌, ◌∙◌, ap, subst, sym, refl, arith, ℕ, true, List, Option, None, Some, Result, Ok, Err, inl, inr, ⊎_elim}
+use Rattle.mquerier.proofs.Common.{CaptureFault, CheckTerms, Totals, Settings, InputState, OutputState, Family, CheckOptions, Failure, Memory, Write, BreaksOff}
+use Rattle.mquerier.proofs.Common.{Input, Output, status_of, family_of, Concludes, IsTold, Told, taken_line, ChecksAt}
+use Rattle.mq_check.specs.{declared.announced.Announced.Announced, Announced.Announces, Numbered.numbered_announced_if}
+use Rattle.mquerier.specs.{Changes.Writes, CheckRuns.IsCheckDoneAt, Failures.no_querier_line, Taking.with_variables}
+use Rattle.mquerier.specs.Taking.{ChecksBy, ChecksFound, ChecksTaking, IsFoundDone, PerformsBy, PerformsFound, PerformsTaking, first_failure, terms_found}
 use Rattle.mquerier.proofs.Checkings.{status_is}
+use Rattle.mq_walk.specs.declared.capture_fault.CaptureFault.TheVariants as answer
 
 -- the check was done, and the line was not written
-pub found_unwritten : (family : Family) (options : CheckOptions) (found : Announced ℕ) (settings : Settings) (input : Input) (output : Output)
-    (mid : OutputState) (text : List ℕ) (totals : Totals) (failure : Failure) → settings ≡ with_variables options.settings found
-    → text ≡ taken_line options.terms.additions.json family options.settings found →
-    ChecksAt family found.querier settings options.terms input (record { old = output.old; new = mid }) (Ok totals)
+pub found_unwritten : (family : Family) (options : CheckOptions) (found : Announced ℕ) (settings : Settings) (terms : CheckTerms) (input : Input)
+    (output : Output) (mid : OutputState) (text : List ℕ) (totals : Totals) (failure : Failure) → settings ≡ with_variables options.settings found
+    → terms ≡ terms_found options found → text ≡ taken_line options.terms.additions.json family options.settings found →
+    ChecksAt family found.querier settings terms input (record { old = output.old; new = mid }) (Ok totals)
     → (failure ≡ Write) × BreaksOff (record { old = mid; new = output.new }) text → ChecksFound family options found input output (Err failure)
-found_unwritten family options found settings input output mid text totals failure is is_line works why =
-    let done = subst (λ (s : Settings). IsCheckDoneAt family found.querier s options.terms input (record { old = output.old; new = mid }) totals) is works in
+found_unwritten family options found settings terms input output mid text totals failure is is_terms is_line works why =
+    let there = subst (λ (s : Settings). IsCheckDoneAt family found.querier s terms input (record { old = output.old; new = mid }) totals) is works in
+    let done = subst (λ (t : CheckTerms). IsCheckDoneAt family found.querier (with_variables options.settings found) t input
+    (record { old = output.old; new = mid }) totals) is_terms there in
     let broke = subst (λ (t : List ℕ). BreaksOff (record { old = mid; new = output.new }) t) is_line why.1 in
     let one = ap status_of why.0 in
     (λ two. absurd (omega (arith, one, two)), λ _. inr (why.0, mid, totals, done, broke))
 
 -- both were done
-pub found_done : (family : Family) (options : CheckOptions) (found : Announced ℕ) (settings : Settings) (input : Input) (output : Output)
-    (mid : OutputState) (text : List ℕ) (totals : Totals) → settings ≡ with_variables options.settings found
-    → text ≡ taken_line options.terms.additions.json family options.settings found →
-    ChecksAt family found.querier settings options.terms input (record { old = output.old; new = mid }) (Ok totals)
+pub found_done : (family : Family) (options : CheckOptions) (found : Announced ℕ) (settings : Settings) (terms : CheckTerms) (input : Input)
+    (output : Output) (mid : OutputState) (text : List ℕ) (totals : Totals) → settings ≡ with_variables options.settings found
+    → terms ≡ terms_found options found → text ≡ taken_line options.terms.additions.json family options.settings found →
+    ChecksAt family found.querier settings terms input (record { old = output.old; new = mid }) (Ok totals)
     → Writes (record { old = mid; new = output.new }) text → ChecksFound family options found input output (Ok totals)
-found_done family options found settings input output mid text totals is is_line works wrote =
-    let done = subst (λ (s : Settings). IsCheckDoneAt family found.querier s options.terms input (record { old = output.old; new = mid }) totals) is works in
+found_done family options found settings terms input output mid text totals is is_terms is_line works wrote =
+    let there = subst (λ (s : Settings). IsCheckDoneAt family found.querier s terms input (record { old = output.old; new = mid }) totals) is works in
+    let done = subst (λ (t : CheckTerms). IsCheckDoneAt family found.querier (with_variables options.settings found) t input
+    (record { old = output.old; new = mid }) totals) is_terms there in
     (mid, done, subst (λ (t : List ℕ). Writes (record { old = mid; new = output.new }) t) is_line wrote)
 
 -- the status of a failure is neither 0, 3 nor 4

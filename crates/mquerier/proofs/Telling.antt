@@ -1,15 +1,11 @@
 -- The result of printing on standard error.
-use Rattle.std.proofs.Common.{◌≡◌, ◌||◌, ◌++◌, codes, take, Bool, true, List, ℕ, Option, Result, Ok, Err, is_err, inl, inr, ap, subst, ◌∙◌}
-use Rattle.std.proofs.Math.Bool.{or-false, or-true}
+use Rattle.mquerier.proofs.Common.{◌≡◌, ◌||◌, ◌++◌, codes, take, Bool, true, List, ℕ, Option, Result, Ok, Err, inl, inr, ap, subst, ◌∙◌, or-false, or-true}
+use Rattle.mquerier.proofs.Common.{Failure, Request, Message, Convert, Show, Replay, Check, NoAddresses, NotAnAddress, NotHex, UntilTooLarge, Capture, Gap}
+use Rattle.mquerier.proofs.Common.{Waiting, Conversion, ConversionRead, Memory, Write, BreaksOff, Output, check_line, status_of, IsTold, Told, request_line}
+use Rattle.std.proofs.Common.{is_err}
 use Rattle.mq_text.specs.Printing.{Prints}
-use Rattle.mquerier.specs.declared.failure.Failure.{Failure}
-use Rattle.mq_command.specs.declared.Request.{Request}
-use Rattle.mq_command.specs.declared.Request.TheVariants.{Message, Convert, Show, Replay, Check}
-use Rattle.mquerier.specs.declared.failure.Failure.TheVariants.{NoAddresses, NotAnAddress, NotHex, UntilTooLarge, Configuration}
-use Rattle.mquerier.specs.declared.failure.Failure.TheVariants.{Capture, Gap, Waiting, Conversion, ConversionRead, Memory, Write}
-use Rattle.mquerier.specs.Changes.{BreaksOff, Output}
-use Rattle.mquerier.specs.Failures.{check_line, failure_text, status_of, version_line, wanted_words}
-use Rattle.mquerier.specs.Status.{IsTold, PrintsVersion, Told, TellsLines, request_line}
+use Rattle.mquerier.specs.{declared.failure.Failure.TheVariants.Configuration, Failures.failure_text, Failures.version_line, Failures.wanted_words}
+use Rattle.mquerier.specs.Status.{PrintsVersion, TellsLines}
 
 pub told_by_printing : {T E : Type 0} (old new : Option (List ℕ)) (text line : List ℕ) (before after : Bool) (r : Result T E) →
     Prints old new text r → after ≡ (before || is_err r) → text ≡ line
@@ -46,7 +42,7 @@ request_told in_words (Message protocol hex from to json) errors failure told = 
 request_told in_words (Convert interface vlan once json file) errors failure told = failure_told true errors failure told
 request_told in_words (Show json file) errors failure told = failure_told in_words errors failure told
 request_told in_words (Replay protocol own settings until changes json file) errors failure told = failure_told in_words errors failure told
-request_told in_words (Check protocol querier settings within flags until file) errors failure told = check_told querier.now errors failure told
+request_told in_words (Check protocol querier settings within flags until packets file) errors failure told = check_told querier.now errors failure told
 
 -- the version's line was printed in part or not passed on, and this was reported
 pub version_failed : (version : List ℕ) (in_words : Bool) (output errors : Output) (text : List ℕ) (failure : Failure) (status : ℕ)

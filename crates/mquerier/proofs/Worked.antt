@@ -1,22 +1,12 @@
 -- The result of the work on a message.
-use Rattle.std.proofs.Common.{◌≡◌, ℕ, Bool, List, Bor, Option, Some, Result, Ok, Err, inl, inr, arith, length}
-use Rattle.std.specs.Option.{option_copied}
-use Rattle.std.specs.Io.KnownBytes.{Appends, Keeps}
-use Rattle.std.proofs.KnownBytes.{Appends-kept}
+use Rattle.mquerier.proofs.Common.{◌≡◌, ℕ, Bool, List, Bor, Option, Some, Result, Ok, Err, inl, inr, arith, option_copied, Keeps, Appends-kept, Protocol, Mld}
+use Rattle.mquerier.proofs.Common.{Message, Family, Failure, NoAddresses, NotAnAddress, NotHex, UntilTooLarge, Capture, Gap, Waiting, Conversion}
+use Rattle.mquerier.proofs.Common.{ConversionRead, Memory, Write, Input, Output, Works}
+use Rattle.std.{proofs.Common.length, specs.Io.KnownBytes.Appends}
 use Rattle.hex.specs.Hex.{decode_of}
-use Rattle.mq_command.specs.declared.Protocol.{Protocol}
-use Rattle.mq_command.specs.declared.Protocol.TheVariants.{Mld}
-use Rattle.mq_command.specs.declared.Request.TheVariants.{Message}
-use Rattle.mq_text.specs.Printing.{GrowsByBeginning}
-use Rattle.mq_text.specs.Reading.{SpellsV6}
+use Rattle.mq_text.specs.{Printing.GrowsByBeginning, Reading.SpellsV6}
 use Rattle.mq_lines.specs.Line.{PrintsLineIn}
-use Rattle.mq_wire.specs.Family.{Family}
-use Rattle.mquerier.specs.declared.failure.Failure.{Failure}
-use Rattle.mquerier.specs.declared.failure.Failure.TheVariants.{NoAddresses, NotAnAddress, NotHex, UntilTooLarge, Configuration, Capture, Gap}
-use Rattle.mquerier.specs.declared.failure.Failure.TheVariants.{Waiting, Conversion, ConversionRead, Memory, Write}
-use Rattle.mquerier.specs.Changes.{Input, Output}
-use Rattle.mquerier.specs.HexLine.{IsHexLine}
-use Rattle.mquerier.specs.Working.{IsUndecoded, Works, WorksOnMessage}
+use Rattle.mquerier.specs.{declared.failure.Failure.TheVariants.Configuration, HexLine.IsHexLine, Working.IsUndecoded, Working.WorksOnMessage}
 
 pub worked : (json : Bool) (protocol : Protocol) (hex : Bor (List ℕ)) (from to : Option (Bor (List ℕ))) (input : Input) (output : Output)
     (r : Result Bool Failure)

@@ -1,7 +1,7 @@
 -- The requested check, and the program's runs of it.
-use Rattle.std.specs.Prelude.{◌≡◌, ℕ, Bool, List, Option, Some, Result, Ok, unwrap_or}
+use Rattle.std.specs.Prelude.{◌≡◌, ℕ, Bool, false, List, Option, Some, Result, Ok, unwrap_or}
 use Rattle.std.specs.Option.{option_or}
-use Rattle.mq_replay.specs.declared.capture_fault.CaptureFault.{CaptureFault}
+use Rattle.mq_walk.specs.declared.capture_fault.CaptureFault.{CaptureFault}
 use Rattle.mq_check.specs.declared.check_terms.CheckTerms.{CheckTerms}
 use Rattle.mq_check.specs.declared.totals.Totals.{Totals}
 use Rattle.mq_check.specs.CheckedCaptures.{Checks}
@@ -22,7 +22,7 @@ asked_terms within until flags once = record {
   within = unwrap_or within 100;
   until = until;
   additions = record { packets = flags.packets; cite = flags.cite; once = once; possible = flags.possible; json = flags.json };
-  flags = record { began = flags.began; strict = flags.strict };
+  flags = record { began = flags.began; strict = flags.strict; above_7 = false };
 }
 
 -- The settings of a check. A limit that isn't given is the greatest: the link stands for a querier whose limits are not

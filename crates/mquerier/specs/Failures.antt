@@ -1,5 +1,5 @@
 -- Failures of the program: their statuses, and the lines on standard error.
-use Rattle.std.specs.Prelude.{ℕ, zero, suc, ◌-◌, ◌==◌, Bool, true, false, if◌then◌else◌, List, [], ◌∷◌, ◌++◌, codes, take}
+use Rattle.std.specs.Prelude.{ℕ, zero, suc, ◌-◌, ◌==◌, Bool, true, false, if◌then◌else◌, List, [], ◌∷◌, ◌++◌, codes, take, Option, None, Some}
 use Rattle.std.specs.List.{flat_map}
 use Rattle.std.specs.Fmt.{decimal}
 use Rattle.mq_check.specs.declared.unjudged.Unjudged.{Unjudged}
@@ -7,6 +7,7 @@ use Rattle.mq_check.specs.declared.unjudged.Unjudged.TheVariants.{NotUnderstood,
 use Rattle.mq_convert.specs.declared.counts.ConvertCounts.{ConvertCounts}
 use Rattle.mq_convert.specs.declared.fault.BlockFault.{BlockFault}
 use Rattle.mq_convert.specs.declared.fault.BlockFault.TheVariants as block
+use Rattle.mq_convert.specs.declared.network.Network.{Network}
 use Rattle.mq_convert.specs.declared.unread.LinkCount.{LinkCount}
 use Rattle.mq_convert.specs.declared.unread.Unread.{Unread}
 use Rattle.mq_lines.specs.Objects.{comma_before, items_from}
@@ -34,7 +35,7 @@ status_of ConversionRead = 1
 status_of Memory = 1
 status_of Write = 1
 
--- a fault of a configuration, by its number
+-- a fault of a configuration, by its number; no option sets the Last Member Query Count
 abbrev pub configuration_text : ConfigFault → List ℕ
 configuration_text config.Robustness = codes "configuration fault 1"
 configuration_text config.QueryInterval = codes "configuration fault 2"
@@ -42,6 +43,7 @@ configuration_text config.ResponseInterval = codes "configuration fault 3"
 configuration_text config.LastMember = codes "configuration fault 4"
 configuration_text (config.Limit which) = codes "configuration fault 5"
 configuration_text config.OwnAddress = codes "configuration fault 6"
+configuration_text config.LastMemberCount = codes "configuration fault 7"
 
 -- a fault of a capture, by its number
 abbrev pub capture_text : PcapFault → List ℕ
@@ -126,7 +128,7 @@ unjudged_line OutOfOrder =
 unjudged_line NoMessage = codes "mquerier: nothing judged: there is no message of this family\n"
 unjudged_line NoQuery = codes "mquerier: nothing judged: no query from this address was seen\n"
 unjudged_line LimitsExceeded =
-    codes "mquerier: nothing judged: the limits refuse records, and may cause what is found\n"
+    codes "mquerier: nothing judged: the limits refuse records about too many groups\n"
 
 -- the line of a check that found no querier in the capture
 abbrev pub no_querier_line : List ℕ
@@ -172,6 +174,8 @@ configuration_words config.LastMember query_seconds response_interval =
 configuration_words (config.Limit which) query_seconds response_interval = limit_words which
 configuration_words config.OwnAddress query_seconds response_interval =
     codes "\n  --own or --querier has to be an address of a router: for igmp not 0.0.0.0 and below 224.0.0.0, for mld in fe80::/10"
+configuration_words config.LastMemberCount query_seconds response_interval =
+    codes "\n  the query count has to be 0 to 7"
 
 -- the explanation of a capture fault's number
 abbrev pub capture_words : PcapFault → List ℕ
@@ -183,6 +187,20 @@ capture_words (fault.CutHeader number) = codes "\n  the file ends within a heade
 capture_words (fault.CutData number) = codes "\n  the file ends within a packet"
 capture_words (fault.TooLong number) = codes "\n  the packet has more than 262144 bytes"
 capture_words fault.Endless = codes "\n  the file has more than 4294967295 packets"
+
+-- the lines of a check whose capture has messages of several networks, with each of them
+abbrev pub vlan_text : (vlan : Option ℕ) → List ℕ
+vlan_text None = codes " untagged"
+vlan_text (Some vlan) = codes " vlan " ++ decimal vlan
+
+abbrev pub network_item : (is_first : Bool) → Network → List ℕ
+network_item is_first network =
+    comma_before is_first ++ codes " interface " ++ decimal network.interface ++ vlan_text network.vlan
+
+abbrev pub networks_lines : List Network → List ℕ
+networks_lines networks =
+    codes "mquerier: more than one network:" ++ items_from network_item true networks
+    ++ codes "\n  choose one by --interface or --vlan, or take all for one by --once\n"
 
 -- the explanation of a conversion fault's number
 abbrev pub conversion_words : BlockFault → List ℕ

@@ -2,9 +2,11 @@ pub mod Breaking
 pub mod Changes
 pub mod CheckRuns
 pub mod Choosing
+pub mod Converted
 pub mod Failures
 pub mod HexLine
 pub mod Replays
 pub mod Status
 pub mod Taking
+pub mod Unseen
 pub mod Working

@@ -10,8 +10,8 @@ use Rattle.mq_link.specs.Configured.{variables, configured}
 use Rattle.mq_link.specs.Counters.{Counters}
 use Rattle.mq_link.specs.Defaults.{defaults_of}
 use Rattle.mq_text.specs.Reading.{SpellsV4, SpellsV6}
+use Rattle.mq_walk.specs.declared.capture_fault.CaptureFault.{CaptureFault}
 use Rattle.mq_replay.specs.declared.asked.Asked.{Asked}
-use Rattle.mq_replay.specs.declared.capture_fault.CaptureFault.{CaptureFault}
 use Rattle.mq_replay.specs.Replaying.{Replays}
 use Rattle.mq_wire.specs.Family.{Family}
 use Rattle.mq_wire.specs.Family as family

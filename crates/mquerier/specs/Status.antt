@@ -6,6 +6,7 @@ use Rattle.clap.specs.declared.error.Error.{Error}
 use Rattle.clap.specs.declared.error.kind.ErrorKind.{ErrorKind}
 use Rattle.clap.specs.declared.error.kind.ErrorKind.TheVariants.{DisplayVersion, OutOfMemory}
 use Rattle.hex.specs.Hex.{decode_of}
+use Rattle.mq_walk.specs.declared.capture_fault.CaptureFault.{CaptureFault}
 use Rattle.mq_check.specs.declared.totals.Totals.{Totals}
 use Rattle.mq_check.specs.declared.unjudged.Unjudged.{Unjudged}
 use Rattle.mq_check.specs.Basis.{unjudged_by}
@@ -20,7 +21,6 @@ use Rattle.mq_convert.specs.declared.fault.ConvertFault.{ConvertFault}
 use Rattle.mq_convert.specs.Converting.{Converts}
 use Rattle.mq_text.specs.Reading.{SpellsV6}
 use Rattle.mq_replay.specs.declared.asked.Asked.{Asked}
-use Rattle.mq_replay.specs.declared.capture_fault.CaptureFault.{CaptureFault}
 use Rattle.mq_replay.specs.Listing.{Shows}
 use Rattle.mq_wire.specs.Family as family
 use Rattle.mq_wire.specs.PseudoHeader.{pseudo_header}
@@ -49,7 +49,7 @@ request_line in_words (Message protocol hex from to json) failure = failure_line
 request_line in_words (Convert interface vlan once json file) failure = failure_line true failure
 request_line in_words (Show json file) failure = failure_line in_words failure
 request_line in_words (Replay protocol own settings until changes json file) failure = failure_line in_words failure
-request_line in_words (Check protocol querier settings within flags until file) failure =
+request_line in_words (Check protocol querier settings within flags until packets file) failure =
     check_line querier.now failure
 
 -- an MLD message lacks an address
@@ -85,7 +85,7 @@ IsRefused (Message protocol hex from to json) failure =
 IsRefused (Convert interface vlan once json file) failure = ⊥
 IsRefused (Show json file) failure = ⊥
 IsRefused (Replay protocol own settings until changes json file) failure = IsRefusedReplay protocol own.now settings until failure
-IsRefused (Check protocol querier settings within flags until file) failure =
+IsRefused (Check protocol querier settings within flags until packets file) failure =
     IsRefusedReplay protocol querier.now (checked_settings settings) until failure
 
 -- a given text is parsed as this IPv6 address
@@ -133,7 +133,7 @@ IsDone (Show json file) input output flag =
     (flag ≡ true) × (output.new.failed ≡ output.old.failed) × (count : ℕ) × WritesListing json input output (Ok count)
 IsDone (Replay protocol own settings until changes json file) input output flag =
     WritesReport protocol own.now settings (record { until = until; changes = changes; json = json }) input output flag
-IsDone (Check protocol querier settings within flags until file) input output flag =
+IsDone (Check protocol querier settings within flags until packets file) input output flag =
     (flag ≡ true) × (totals : Totals)
     × WritesVerdict protocol querier.now (checked_settings settings) (asked_terms within until flags false) input output totals
 
@@ -160,7 +160,7 @@ IsBroken (Convert interface vlan once json file) input output failure =
 IsBroken (Show json file) input output failure = IsBrokenOff (WritesListing json input output) input output failure
 IsBroken (Replay protocol own settings until changes json file) input output failure =
     IsBrokenReplay protocol own.now settings (record { until = until; changes = changes; json = json }) input output failure
-IsBroken (Check protocol querier settings within flags until file) input output failure =
+IsBroken (Check protocol querier settings within flags until packets file) input output failure =
     IsBrokenCheck protocol querier.now (checked_settings settings) (asked_terms within until flags false) input output failure
 
 -- a message's fault was written without a line on standard error, or the work ended early and its reason was reported
@@ -175,7 +175,7 @@ IsOfMessage (Message protocol hex from to json) = Unit {0}
 IsOfMessage (Convert interface vlan once json file) = ⊥
 IsOfMessage (Show json file) = ⊥
 IsOfMessage (Replay protocol own settings until changes json file) = ⊥
-IsOfMessage (Check protocol querier settings within flags until file) = ⊥
+IsOfMessage (Check protocol querier settings within flags until packets file) = ⊥
 
 -- a request for a conversion
 abbrev pub IsConversion : Request → Type 0
@@ -183,7 +183,7 @@ IsConversion (Message protocol hex from to json) = ⊥
 IsConversion (Convert interface vlan once json file) = Unit {0}
 IsConversion (Show json file) = ⊥
 IsConversion (Replay protocol own settings until changes json file) = ⊥
-IsConversion (Check protocol querier settings within flags until file) = ⊥
+IsConversion (Check protocol querier settings within flags until packets file) = ⊥
 
 -- a request for a check
 abbrev pub IsCheck : Request → Type 0
@@ -191,7 +191,7 @@ IsCheck (Message protocol hex from to json) = ⊥
 IsCheck (Convert interface vlan once json file) = ⊥
 IsCheck (Show json file) = ⊥
 IsCheck (Replay protocol own settings until changes json file) = ⊥
-IsCheck (Check protocol querier settings within flags until file) = Unit {0}
+IsCheck (Check protocol querier settings within flags until packets file) = Unit {0}
 
 -- A check reached its end with these totals, and standard error is unchanged.
 abbrev pub HasChecked : CheckOptions → (querier : List ℕ) → Input → (output errors : Output) → Totals → Type 0
@@ -229,7 +229,7 @@ IsDoneTelling (Convert interface vlan once json file) input output errors =
 IsDoneTelling (Show json file) input output errors = IsDone (Show json file) input output true × (errors.new ≡ errors.old)
 IsDoneTelling (Replay protocol own settings until changes json file) input output errors =
     IsDone (Replay protocol own settings until changes json file) input output true × (errors.new ≡ errors.old)
-IsDoneTelling (Check protocol querier settings within flags until file) input output errors =
+IsDoneTelling (Check protocol querier settings within flags until packets file) input output errors =
     (totals : Totals) × (totals.findings ≡ 0) × IsJudged totals × HasChecked (asked_options protocol settings within until flags false) querier.now input output errors totals
 
 -- A check reached its end without anything to judge, and the reason was reported.
@@ -245,7 +245,7 @@ IsFinding (Message protocol hex from to json) input output errors = ⊥
 IsFinding (Convert interface vlan once json file) input output errors = ⊥
 IsFinding (Show json file) input output errors = ⊥
 IsFinding (Replay protocol own settings until changes json file) input output errors = ⊥
-IsFinding (Check protocol querier settings within flags until file) input output errors =
+IsFinding (Check protocol querier settings within flags until packets file) input output errors =
     (totals : Totals) × (1 ≤ totals.findings) × IsJudged totals
     × HasChecked (asked_options protocol settings within until flags false) querier.now input output errors totals
 
@@ -255,7 +255,7 @@ IsUnjudged (Message protocol hex from to json) input output errors = ⊥
 IsUnjudged (Convert interface vlan once json file) input output errors = ⊥
 IsUnjudged (Show json file) input output errors = ⊥
 IsUnjudged (Replay protocol own settings until changes json file) input output errors = ⊥
-IsUnjudged (Check protocol querier settings within flags until file) input output errors =
+IsUnjudged (Check protocol querier settings within flags until packets file) input output errors =
     HasJudgedNothing (asked_options protocol settings within until flags false) querier.now input output errors
 
 -- The request was performed with this status.

@@ -1,12 +1,14 @@
 -- Checks whose querier and variables come from the capture itself.
-use Rattle.std.specs.Prelude.{◌≡◌, ◌⊎◌, ◌≤◌, ℕ, Bool, true, false, if◌then◌else◌, List, [], ◌++◌, codes, Option, None, Some, Result, Ok, Err}
+use Rattle.std.specs.Prelude.{◌≡◌, ◌⊎◌, ◌≤◌, ℕ, zero, suc, Bool, true, false, if◌then◌else◌, List, [], ◌++◌, codes, Option, None, Some, Result, Ok, Err}
 use Rattle.std.specs.Fmt.{decimal}
 use Rattle.std.specs.Str.{bytes_eq}
 use Rattle.std.specs.Option.{option_or}
-use Rattle.clap.specs.declared.error.Error.{Error}
+use Rattle.mq_walk.specs.declared.capture_fault.CaptureFault.{CaptureFault}
+use Rattle.mq_walk.specs.declared.capture_fault.CaptureFault.TheVariants as answer
 use Rattle.mq_check.specs.declared.announced.Announced.{Announced}
-use Rattle.mq_replay.specs.declared.capture_fault.CaptureFault.{CaptureFault}
-use Rattle.mq_replay.specs.declared.capture_fault.CaptureFault.TheVariants as answer
+use Rattle.mq_check.specs.declared.check_terms.CheckTerms.{CheckTerms}
+use Rattle.mq_check.specs.declared.others.Four.{Four}
+use Rattle.mq_check.specs.declared.others.Others.{Others}
 use Rattle.mq_check.specs.declared.totals.Totals.{Totals}
 use Rattle.mq_check.specs.declared.unjudged.Unjudged.{Unjudged}
 use Rattle.mq_check.specs.Announced.{Announces}
@@ -14,7 +16,7 @@ use Rattle.mq_check.specs.Basis.{unjudged_by}
 use Rattle.mq_command.specs.declared.Request.{Request}
 use Rattle.mq_command.specs.declared.Request.TheVariants.{Message, Convert, Show, Replay, Check}
 use Rattle.mq_command.specs.declared.replay.Settings.{Settings}
-use Rattle.mq_lines.specs.Objects.{address_object}
+use Rattle.mq_lines.specs.Objects.{address_object, comma_before, truth_object}
 use Rattle.mq_lines.specs.Text.{address_text}
 use Rattle.mq_text.specs.Printing.{OutputState}
 use Rattle.mq_wire.specs.Family.{Family}
@@ -28,27 +30,40 @@ use Rattle.mquerier.specs.Replays.{IsRefusedAt, family_of}
 use Rattle.mquerier.specs.Status.{IsJudged, IsTold, Told}
 
 -- The request for a check whose querier is the word `auto`. It reports a changed variable of the querier once.
-abbrev pub taking_in : Request → Option CheckOptions
-taking_in (Message protocol hex from to json) = None
-taking_in (Convert interface vlan once json file) = None
-taking_in (Show json file) = None
-taking_in (Replay protocol own settings until changes json file) = None
-taking_in (Check protocol querier settings within flags until file) =
+abbrev pub taking_of : Request → Option CheckOptions
+taking_of (Message protocol hex from to json) = None
+taking_of (Convert interface vlan once json file) = None
+taking_of (Show json file) = None
+taking_of (Replay protocol own settings until changes json file) = None
+taking_of (Check protocol querier settings within flags until packets file) =
     if bytes_eq querier.now (codes "auto")
     then Some (asked_options protocol settings within until flags true)
     else None
 
-abbrev pub taking_of : Result Request Error → Option CheckOptions
-taking_of (Ok request) = taking_in request
-taking_of (Err error) = None
+-- The Robustness Variable that a QRV stands for. QRV 0 says that it is above 7, and the greatest of a configuration is 7.
+abbrev pub robustness_by : (qrv : Option ℕ) → Option ℕ
+robustness_by None = None
+robustness_by (Some zero) = Some 7
+robustness_by (Some (suc n)) = Some (suc n)
 
--- the settings, with the announced variables for those that aren't given
+abbrev pub is_above_7 : (given qrv : Option ℕ) → Bool
+is_above_7 (Some value) qrv = false
+is_above_7 None None = false
+is_above_7 None (Some zero) = true
+is_above_7 None (Some (suc n)) = false
+
+-- the settings, with the announced variables for those that aren't given, and the terms of the check
 abbrev pub with_variables : Settings → Announced ℕ → Settings
 with_variables s found = record s {
-  robustness = option_or s.robustness found.robustness;
+  robustness = option_or s.robustness (robustness_by found.robustness);
   query_seconds = option_or s.query_seconds found.query_seconds;
   response_interval = option_or s.response_interval found.response_interval;
   last_member_interval = option_or s.last_member_interval found.last_member_interval;
+}
+
+abbrev pub terms_found : CheckOptions → Announced ℕ → CheckTerms
+terms_found options found = record options.terms {
+  flags = record options.terms.flags { above_7 = is_above_7 options.settings.robustness found.robustness };
 }
 
 -- a variable that isn't given and that the capture has
@@ -57,10 +72,42 @@ taken_text name (Some value) found = []
 taken_text name None None = []
 taken_text name None (Some value) = name ++ decimal value
 
--- the lowest other router that sends general queries, if there is one
-abbrev pub beside_text : Family → Option ℕ → List ℕ
-beside_text family None = []
-beside_text family (Some address) = codes ", beside " ++ address_text family address
+-- the Robustness Variable, and what follows if it is above 7
+abbrev pub robustness_text : (given qrv : Option ℕ) → List ℕ
+robustness_text given qrv =
+    if is_above_7 given qrv then codes " rv above 7" else taken_text (codes " rv ") given qrv
+
+abbrev pub unjudged_text : (is_above_7 : Bool) → List ℕ
+unjudged_text false = []
+unjudged_text true = codes "; what depends on rv is not judged"
+
+-- the other routers that send general queries: the lowest ones, and whether there are more
+abbrev pub beside_word : (is_first : Bool) → List ℕ
+beside_word true = codes ", beside "
+beside_word false = codes ", "
+
+abbrev pub address_item : (json : Bool) → Family → (is_first : Bool) → (address : ℕ) → List ℕ
+address_item false family is_first address = beside_word is_first ++ address_text family address
+address_item true family is_first address = comma_before is_first ++ address_object family address
+
+abbrev pub item_text : (json : Bool) → Family → (is_first : Bool) → Option ℕ → List ℕ
+item_text json family is_first None = []
+item_text json family is_first (Some address) = address_item json family is_first address
+
+abbrev pub four_text : (json : Bool) → Family → (is_first : Bool) → Four ℕ → List ℕ
+four_text json family is_first four =
+    item_text json family is_first four.first ++ item_text json family false four.second ++ item_text json family false four.third
+    ++ item_text json family false four.fourth
+
+abbrev pub others_text : (json : Bool) → Family → Others ℕ → List ℕ
+others_text json family others = four_text json family true others.low ++ four_text json family false others.high
+
+abbrev pub more_text : (has_more : Bool) → List ℕ
+more_text false = []
+more_text true = codes " and more"
+
+abbrev pub beside_text : Family → Others ℕ → List ℕ
+beside_text family others = others_text false family others ++ more_text others.has_more
 
 -- the same in an object
 abbrev pub taken_value : (given found : Option ℕ) → List ℕ
@@ -68,9 +115,9 @@ taken_value (Some value) found = codes "null"
 taken_value None None = codes "null"
 taken_value None (Some value) = decimal value
 
-abbrev pub beside_value : Family → Option ℕ → List ℕ
-beside_value family None = codes "null"
-beside_value family (Some address) = address_object family address
+abbrev pub beside_value : Family → Others ℕ → List ℕ
+beside_value family others =
+    codes "[" ++ others_text true family others ++ codes "],\"more\":" ++ truth_object others.has_more
 
 -- the line, or the object, for the querier and the variables that come from the capture
 abbrev pub taken_line : (json : Bool) → Family → Settings → Announced ℕ → List ℕ
@@ -83,24 +130,24 @@ taken_line true family s found =
     ++ codes ",\"beside\":" ++ beside_value family found.beside ++ codes "}}\n"
 taken_line false family s found =
     codes "taken from the capture: querier " ++ address_text family found.querier
-    ++ taken_text (codes " rv ") s.robustness found.robustness ++ taken_text (codes " qi ") s.query_seconds found.query_seconds
+    ++ robustness_text s.robustness found.robustness ++ taken_text (codes " qi ") s.query_seconds found.query_seconds
     ++ taken_text (codes " qri ") s.response_interval found.response_interval
     ++ taken_text (codes " lmqi ") s.last_member_interval found.last_member_interval ++ beside_text family found.beside
-    ++ codes "\n"
+    ++ unjudged_text (is_above_7 s.robustness found.robustness) ++ codes "\n"
 
 -- The check of this querier reached its end. Then the line of what comes from the capture was written.
 abbrev pub IsFoundDone : Family → CheckOptions → Announced ℕ → Input → Output → Totals → Type 0
 IsFoundDone family options found input output totals =
     (mid : OutputState)
-    × IsCheckDoneAt family found.querier (with_variables options.settings found) options.terms input (record { old = output.old; new = mid }) totals
+    × IsCheckDoneAt family found.querier (with_variables options.settings found) (terms_found options found) input (record { old = output.old; new = mid }) totals
     × Writes (record { old = mid; new = output.new }) (taken_line options.terms.additions.json family options.settings found)
 
 -- the check ended early, or the output failed at that line
 abbrev pub IsFoundBroken : Family → CheckOptions → Announced ℕ → Input → Output → Failure → Type 0
 IsFoundBroken family options found input output failure =
-    IsCheckBrokenAt family found.querier (with_variables options.settings found) options.terms input output failure
+    IsCheckBrokenAt family found.querier (with_variables options.settings found) (terms_found options found) input output failure
     ⊎ ((failure ≡ Write) × (mid : OutputState) × (totals : Totals)
-    × IsCheckDoneAt family found.querier (with_variables options.settings found) options.terms input (record { old = output.old; new = mid }) totals
+    × IsCheckDoneAt family found.querier (with_variables options.settings found) (terms_found options found) input (record { old = output.old; new = mid }) totals
     × BreaksOff (record { old = mid; new = output.new }) (taken_line options.terms.additions.json family options.settings found))
 
 -- nothing was read again, and nothing was written

@@ -8,7 +8,7 @@ ghost use Rattle.mquerier.specs.Breaking.{IsBrokenBy, IsEndedBy, IsUnflushed};
 use crate::failure::Failure;
 use crate::work::flush;
 use mq_count::Watched;
-use mq_replay::CaptureFault;
+use mq_walk::CaptureFault;
 use std::io::Write;
 
 /// Returns the result for work with this result. Flushes the output, unless a write or an allocation has failed.

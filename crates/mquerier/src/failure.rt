@@ -144,6 +144,7 @@ fn put_configuration_words(
             line,
             b"\n  --own or --querier has to be an address of a router: for igmp not 0.0.0.0 and below 224.0.0.0, for mld in fe80::/10",
         ),
+        ConfigFault::LastMemberCount => put(line, b"\n  the query count has to be 0 to 7"),
     }
 }
 
@@ -281,6 +282,7 @@ fn put_configuration(line: &mut Text, fault: ConfigFault)
         ConfigFault::LastMember => put(line, b"configuration fault 4"),
         ConfigFault::Limit { .. } => put(line, b"configuration fault 5"),
         ConfigFault::OwnAddress => put(line, b"configuration fault 6"),
+        ConfigFault::LastMemberCount => put(line, b"configuration fault 7"),
     }
 }
 

@@ -11,12 +11,16 @@
 
 mod breaking;
 mod checking;
+mod chosen;
 mod console;
+mod converted;
 mod converting;
 mod counts;
 mod counts_object;
 mod failure;
 mod foreign;
+mod inputs;
+mod networks;
 mod program;
 mod replaying;
 mod source;
@@ -24,30 +28,29 @@ mod taken_line;
 mod taking;
 mod unopened;
 mod unread;
+mod unseen;
 mod work;
 
 pub use checking::CheckOptions;
+pub use chosen::{CheckedPackets, packets_of};
 use clap::Error;
 pub use console::Console;
+pub use converted::{perform_converted, perform_twice};
 use failure::FAULTY;
 use foreign::tell_kind;
+use inputs::{check_of, opened};
 use mq_command::{Request, request_of};
 use mq_count::Watched;
+pub use networks::tell_networks;
 pub use program::{perform, run};
-pub use source::{Beginning, Source};
+pub use source::Source;
 use std::alloc::Global;
-use std::fs::File;
-use std::io::{BufReader, ErrorKind, IsTerminal, Read, Write};
+use std::io::{ErrorKind, IsTerminal, Read, Write};
 use std::process::ExitCode;
 use std::{env, io};
 pub use taking::{names_querier, perform_taking, taking_of};
 pub use unopened::{refuse_file, tell_failed_read, tell_late_querier};
-
-/// The number of bytes that are read at once.
-const INPUT: usize = 65_536;
-
-/// The most bytes of standard input that are kept to find a querier.
-const KEPT: usize = 1 << 26;
+pub use unseen::{perform_seen, refusal_of, seek};
 
 fn main(rt: HostRuntime) -> ExitCode {
     let status = run_on_host(&rt).unwrap_or_else(|error| {
@@ -75,124 +78,39 @@ fn run_on_host(rt: &HostRuntime) -> io::Result<u8> {
         in_words: rt.stderr().is_terminal(),
     };
     let asked = request_of(alloc, &words);
-    let taking = taking_of(&asked);
-    let Some(name) = named_file(&asked) else {
-        if let Some(options) = taking {
-            return run_on_stream(rt, &options, &mut console);
-        }
-        let reader = BufReader::with_capacity(alloc, INPUT, Beginning::new(rt.stdin()))?;
-        return Ok(run_on(alloc, asked, reader, &mut console));
-    };
-    let reader = match opened(rt, name, &mut console.errors)? {
-        Ok(reader) => reader,
-        Err(status) => return Ok(status),
-    };
-    let Some(options) = taking else {
-        return Ok(run_on(alloc, asked, reader, &mut console));
-    };
-    match opened(rt, name, &mut console.errors)? {
-        Ok(again) => Ok(run_twice(alloc, &options, reader, again, &mut console)),
-        Err(status) => Ok(status),
-    }
-}
-
-/// Returns a reader of the file. If the file can't be opened, it reports the reason and returns the status.
-fn opened<E: Write>(
-    rt: &HostRuntime,
-    name: &str,
-    errors: &mut Watched<E>,
-) -> io::Result<Result<BufReader<Beginning<File>>, u8>> {
-    let alloc = rt.alloc();
-    match File::open(rt, name) {
-        Ok(file) => {
-            let reader = BufReader::with_capacity(alloc, INPUT, Beginning::new(file))?;
-            Ok(Ok(reader))
-        }
-        Err(error) => {
-            let reason = format!(in alloc; "{error}")?;
-            Ok(Err(refuse_file(name, &reason, errors)))
+    let mut name = None;
+    if let Ok(request) = &asked {
+        name = request.file();
+        if let Some(check) = check_of(request) {
+            return match name {
+                Some(name) => check.on_file(rt, name, &mut console),
+                None => check.on_stream(alloc, rt.stdin(), &mut console),
+            };
         }
     }
+    let Some(name) = name else {
+        let source = Source::new(alloc, rt.stdin())?;
+        return Ok(run_on(alloc, asked, &source, &mut console));
+    };
+    let Some(file) = opened(rt, name, &mut console.errors)? else {
+        return Ok(FAULTY);
+    };
+    let source = Source::new(alloc, file)?;
+    Ok(run_on(alloc, asked, &source, &mut console))
 }
 
-/// Runs a check of the querier that a capture on standard input names. It keeps the first bytes, which have to name the
-/// querier, and reads them twice.
-fn run_on_stream<W: Write, E: Write>(
-    rt: &HostRuntime,
-    options: &CheckOptions,
-    console: &mut Console<W, E>,
-) -> io::Result<u8> {
-    let alloc = rt.alloc();
-    let mut kept = Vec::new(alloc);
-    match rt.stdin().take(KEPT as u64).read_to_end(&mut kept) {
-        Ok(_) => {}
-        Err(error) if error.kind() == ErrorKind::OutOfMemory => return Err(error),
-        Err(_) => return Ok(tell_failed_read(&mut console.errors)),
-    }
-    let bytes = kept.as_slice();
-    if bytes.len() == KEPT && !names_querier(alloc, options.protocol, bytes) {
-        return Ok(tell_late_querier(&mut console.errors));
-    }
-    let reader = BufReader::with_capacity(alloc, INPUT, Beginning::new(bytes))?;
-    let again = Beginning::new(bytes.chain(rt.stdin()));
-    let again = BufReader::with_capacity(alloc, INPUT, again)?;
-    Ok(run_twice(alloc, options, reader, again, console))
-}
-
-/// Runs a check of the querier that the capture names. `reader` and `again` read the same capture, `reader` perhaps only
-/// its beginning.
-fn run_twice<Q: Read + Drop, R: Read + Drop, W: Write, E: Write>(
-    alloc: Global,
-    options: &CheckOptions,
-    reader: BufReader<Beginning<Q>>,
-    again: BufReader<Beginning<R>>,
-    console: &mut Console<W, E>,
-) -> u8 {
-    let source = Source::new(reader);
-    let mut first = Watched::new(&source);
-    let status = run_again(alloc, options, &mut first, again, console);
-    if status == FAULTY {
-        tell_kind(source.first(), false, &mut console.errors);
-    }
-    status
-}
-
-/// Runs the check after the first reader of the file.
-fn run_again<Q: Read, R: Read + Drop, W: Write, E: Write>(
-    alloc: Global,
-    options: &CheckOptions,
-    first: &mut Watched<Q>,
-    again: BufReader<Beginning<R>>,
-    console: &mut Console<W, E>,
-) -> u8 {
-    let source = Source::new(again);
-    let mut input = Watched::new(&source);
-    perform_taking(alloc, options, first, &source, &mut input, console)
-}
-
-/// Runs on this input. If a file is of another kind, it also says how to read it: to a person, or for a conversion or a
-/// check.
-fn run_on<R: Read + Drop, W: Write, E: Write>(
+/// Runs on this input, of a request that isn't for a check. If a file is of another kind, it also says how to read it: to
+/// a person, or for a conversion.
+fn run_on<R: Read, W: Write, E: Write>(
     alloc: Global,
     asked: Result<Request<'_>, Error>,
-    reader: BufReader<Beginning<R>>,
+    source: &Source<R>,
     console: &mut Console<W, E>,
 ) -> u8 {
     let converts = matches!(&asked, Ok(Request::Convert { .. }));
-    let explains = converts || matches!(&asked, Ok(Request::Check { .. }));
-    let source = Source::new(reader);
-    let mut input = Watched::new(&source);
-    let status = run(alloc, asked, &source, &mut input, console);
-    if (explains || console.in_words) && status == FAULTY {
-        tell_kind(source.first(), converts, &mut console.errors);
+    let status = run(alloc, asked, source, &mut Watched::new(source), console);
+    if converts || console.in_words {
+        tell_kind(status, source.first(), converts, &mut console.errors);
     }
     status
-}
-
-/// Returns the file that the request names in place of standard input.
-fn named_file<'a>(asked: &Result<Request<'a>, Error>) -> Option<&'a str> {
-    match asked {
-        Ok(request) => request.file(),
-        Err(_) => None,
-    }
 }

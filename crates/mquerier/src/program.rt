@@ -207,7 +207,7 @@ fn perform_work<S: Supply, R: Read, W: Write, E: Write>(
 }
 
 /// Returns the packets that a conversion selects.
-fn choice_of(interface: Option<Interface<'_>>, vlan: Option<u64>, once: bool) -> Choice
+pub(crate) fn choice_of(interface: Option<Interface<'_>>, vlan: Option<u64>, once: bool) -> Choice
     ensures { result ≡ asked_choice interface.entry vlan once }
 {
     let interface = match interface {
@@ -272,6 +272,7 @@ pub(crate) fn terms_of(
         flags: mq_check::CheckFlags {
             began: flags.began,
             strict: flags.strict,
+            above_7: false,
         },
     }
 }
@@ -341,7 +342,7 @@ pub(crate) fn status_of_totals<E: Write>(totals: &Totals, errors: &mut Watched<E
 }
 
 /// Reports on standard error why a check had nothing to judge.
-fn tell_unjudged<E: Write>(why: Unjudged, errors: &mut Watched<E>)
+pub(crate) fn tell_unjudged<E: Write>(why: Unjudged, errors: &mut Watched<E>)
     ensures { IsTold (output_by E.contents errors.old errors.new) (unjudged_line why) }
 {
     let _ = print(unjudged_line_of(why), errors);
@@ -361,7 +362,7 @@ fn unjudged_line_of(why: Unjudged) -> &'static [u8]
         Unjudged::NoMessage => b"mquerier: nothing judged: there is no message of this family\n",
         Unjudged::NoQuery => b"mquerier: nothing judged: no query from this address was seen\n",
         Unjudged::LimitsExceeded => {
-            b"mquerier: nothing judged: the limits refuse records, and may cause what is found\n"
+            b"mquerier: nothing judged: the limits refuse records about too many groups\n"
         }
     }
 }

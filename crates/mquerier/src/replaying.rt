@@ -7,13 +7,15 @@ ghost use Rattle.mquerier.specs.Working.{IsConfigured, IsUnwritten, WorksAt, Wor
 
 use crate::breaking::ended;
 use crate::failure::Failure;
+use mq_arena::OfAllocator;
 use mq_command::{Protocol, Settings};
 use mq_count::{Moment, Watched};
 use mq_lines::LineKey;
 use mq_link::{Config, Igmp, Limits, Mld};
 use mq_pcap::Supply;
-use mq_replay::{Asked, CapturedFamily, replay};
+use mq_replay::{Asked, replay};
 use mq_text::{read_v4, read_v6};
+use mq_walk::CapturedFamily;
 use std::alloc::Global;
 use std::io::{Read, Write};
 
@@ -81,7 +83,14 @@ where
 {
     let _end = moment_asked(options.asked.until)?;
     let config = configured::<F>(own, &options.settings)?;
-    let answer = replay(alloc, config, options.asked, supply, input, output);
+    let answer = replay(
+        &mut OfAllocator(alloc),
+        config,
+        options.asked,
+        supply,
+        input,
+        output,
+    );
     ended(answer, output)?;
     Ok(true)
 }

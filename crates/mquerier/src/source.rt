@@ -1,32 +1,58 @@
 //! The input of the program, read in large pieces.
 
+use mq_convert::FIRST_BYTES;
 use mq_pcap::Supply;
+use std::alloc::Global;
 use std::cell::RefCell;
 use std::io;
 use std::io::{BufReader, ErrorKind, Read};
 
-/// The number of first bytes that are kept.
-pub const FIRST: usize = 4;
+/// The number of first bytes that are kept: those that decide whether a capture is converted before a check.
+pub const FIRST: usize = FIRST_BYTES;
+
+/// The number of bytes that are read at once.
+const INPUT: usize = 65_536;
 
 /// A stream that is read in large pieces. One reference reads it. Another returns the bytes at hand, and the first
 /// bytes.
 #[derive(Drop)]
-pub struct Source<R>(RefCell<BufReader<R>>);
+pub struct Source<R>(RefCell<BufReader<Beginning<R>>>);
 
 impl<R: Read> Source<R> {
-    /// Returns the source that reads through this buffer.
-    pub fn new(reader: BufReader<R>) -> Source<R> {
-        Source(RefCell::new(reader))
+    /// Returns the source that reads from `inner`, and keeps at most `most` of its first bytes.
+    pub fn keeping(alloc: Global, inner: R, most: usize) -> io::Result<Source<R>>
+    where
+        R: Drop,
+    {
+        let kept = Vec::with_capacity(alloc, most)?;
+        let reader = BufReader::with_capacity(alloc, INPUT, Beginning { inner, kept })?;
+        Ok(Source(RefCell::new(reader)))
+    }
+
+    /// Returns the source that reads from `inner`, and keeps the bytes that decide how it is read.
+    pub fn new(alloc: Global, inner: R) -> io::Result<Source<R>>
+    where
+        R: Drop,
+    {
+        Source::keeping(alloc, inner, FIRST)
+    }
+
+    /// Returns the first bytes of the stream. Bytes that were not read are 0.
+    pub fn first(&self) -> [u8; FIRST] {
+        let mut first = [0; FIRST];
+        if let Ok(reader) = self.0.try_borrow() {
+            for (to, from) in first.iter_mut().zip(reader.get_ref().kept.as_slice()) {
+                *to = *from;
+            }
+        }
+        first
     }
 }
 
-impl<R: Read> Source<Beginning<R>> {
-    /// Returns the first four bytes of the stream. Bytes that were not read are 0.
-    pub fn first(&self) -> [u8; FIRST] {
-        match self.0.try_borrow() {
-            Ok(reader) => reader.get_ref().first,
-            Err(_) => [0; FIRST],
-        }
+impl<R: Read + Drop> Source<R> {
+    /// Returns the first bytes that were read, as many as are kept.
+    pub fn into_kept(self) -> Vec<u8> {
+        self.0.into_inner().into_inner().kept
     }
 }
 
@@ -57,35 +83,20 @@ impl<R: Read> Supply for Source<R> {
     }
 }
 
-/// A stream whose first bytes are kept.
+/// A stream whose first bytes are kept, as many as `kept` has room for.
 #[derive(Drop)]
-pub struct Beginning<R> {
+struct Beginning<R> {
     inner: R,
-    first: [u8; FIRST],
-    known: usize,
-}
-
-impl<R: Read> Beginning<R> {
-    /// Returns the stream that reads from `inner`.
-    pub fn new(inner: R) -> Beginning<R> {
-        Beginning {
-            inner,
-            first: [0; FIRST],
-            known: 0,
-        }
-    }
+    kept: Vec<u8>,
 }
 
 impl<R: Read> Read for Beginning<R> {
     fn read(&mut self, buf: &mut [u8]) -> io::Result<usize> {
         let count = self.inner.read(buf)?;
-        for byte in &buf[..count] {
-            if self.known >= FIRST {
-                break;
-            }
-            self.first[self.known] = *byte;
-            self.known += 1;
-        }
+        let room = self.kept.capacity() - self.kept.len();
+        let read = &buf[..count];
+        // Within its capacity a vector grows without an allocation, so this never fails.
+        let _ = self.kept.extend_from_slice(&read[..count.min(room)]);
         Ok(count)
     }
 }

@@ -2,13 +2,20 @@
 
 ghost use Rattle.std.specs.Prelude.{◌≡◌, ◌≤◌, ◌+◌, ◌++◌, false, length, true};
 ghost use Rattle.arrayvec.specs.ArrayVec.{array_vec_len};
-ghost use Rattle.mq_check.specs.Numbered.{number_if, numbered_announced};
+ghost use Rattle.mq_check.specs.Numbered.{number_if, numbered_announced, numbered_four, numbered_others};
 ghost use Rattle.mquerier.specs.Taking as spec;
 
-use mq_check::Announced;
+use mq_check::{Announced, Four, Others};
 use mq_command::Settings;
-use mq_lines::{LineKey, put_address, put_address_object};
+use mq_lines::{LineKey, put_address, put_address_object, put_comma, put_truth};
 use mq_text::{Text, put, put_decimal};
+
+/// Returns whether the Robustness Variable is above 7, as a QRV says, and none is given.
+pub(crate) fn is_above_7(given: Option<u32>, qrv: Option<u32>) -> bool
+    ensures { result ≡ spec.is_above_7 given qrv }
+{
+    matches!((given, qrv), (None, Some(0)))
+}
 
 /// Returns the line, or the object of JSON, for the querier and the variables that come from the capture.
 pub(crate) fn taken_line_of<K: LineKey>(
@@ -31,7 +38,7 @@ fn text_of<K: LineKey>(settings: &Settings, found: &Announced<K>) -> Text
     let mut line = Text::new();
     put(&mut line, b"taken from the capture: querier ");
     put_address(&mut line, found.querier);
-    put_taken(&mut line, b" rv ", settings.robustness, found.robustness);
+    put_robustness(&mut line, settings.robustness, found.robustness);
     put_taken(
         &mut line,
         b" qi ",
@@ -50,7 +57,8 @@ fn text_of<K: LineKey>(settings: &Settings, found: &Announced<K>) -> Text
         settings.last_member_interval,
         found.last_member_interval,
     );
-    put_beside(&mut line, found.beside);
+    put_beside(&mut line, &found.beside);
+    put_unjudged(&mut line, is_above_7(settings.robustness, found.robustness));
     put(&mut line, b"\n");
     line
 }
@@ -79,21 +87,21 @@ fn object_of<K: LineKey>(settings: &Settings, found: &Announced<K>) -> Text
         found.last_member_interval,
     );
     put(&mut line, b",\"beside\":");
-    put_beside_value(&mut line, found.beside);
+    put_beside_value(&mut line, &found.beside);
     put(&mut line, b"}}\n");
     line
 }
 
-/// Appends the lowest other router that sends general queries, if there is one, to the object.
-fn put_beside_value<K: LineKey>(line: &mut Text, beside: Option<K>)
-    requires room { array_vec_len line.old ≤ 3200 }
-    ensures text { line.new.items ≡ line.old.items ++ spec.beside_value K.family (number_if K.number beside) }
-    ensures room { array_vec_len line.new ≤ array_vec_len line.old + 50 }
+/// Appends the list of the other routers that send general queries, and whether there are more, to the object.
+fn put_beside_value<K: LineKey>(line: &mut Text, others: &Others<K>)
+    requires room { array_vec_len line.old ≤ 3000 }
+    ensures text { line.new.items ≡ line.old.items ++ spec.beside_value K.family (numbered_others K.number others.now) }
+    ensures room { array_vec_len line.new ≤ array_vec_len line.old + 500 }
 {
-    match beside {
-        Some(address) => put_address_object(line, address),
-        None => put(line, b"null"),
-    }
+    put(line, b"[");
+    put_others(line, true, others);
+    put(line, b"],\"more\":");
+    put_truth(line, others.has_more);
 }
 
 /// Appends the value of a variable that comes from the capture and isn't given to the object.
@@ -108,15 +116,79 @@ fn put_value(line: &mut Text, given: Option<u32>, found: Option<u32>)
     }
 }
 
-/// Appends the lowest other router that sends general queries, if there is one.
-fn put_beside<K: LineKey>(line: &mut Text, beside: Option<K>)
-    requires room { array_vec_len line.old ≤ 3200 }
-    ensures text { line.new.items ≡ line.old.items ++ spec.beside_text K.family (number_if K.number beside) }
+/// Appends the other routers that send general queries, if there are some.
+fn put_beside<K: LineKey>(line: &mut Text, others: &Others<K>)
+    requires room { array_vec_len line.old ≤ 3000 }
+    ensures text { line.new.items ≡ line.old.items ++ spec.beside_text K.family (numbered_others K.number others.now) }
+    ensures room { array_vec_len line.new ≤ array_vec_len line.old + 500 }
+{
+    put_others(line, false, others);
+    if others.has_more {
+        put(line, b" and more");
+    }
+}
+
+/// Appends addresses, as items of a list of JSON or in words.
+fn put_others<K: LineKey>(line: &mut Text, json: bool, others: &Others<K>)
+    requires room { array_vec_len line.old ≤ 3100 }
+    ensures text { line.new.items ≡ line.old.items ++ spec.others_text json K.family (numbered_others K.number others.now) }
+    ensures room { array_vec_len line.new ≤ array_vec_len line.old + 400 }
+{
+    put_four(line, json, true, &others.low);
+    put_four(line, json, false, &others.high);
+}
+
+/// Appends up to four addresses.
+fn put_four<K: LineKey>(line: &mut Text, json: bool, is_first: bool, four: &Four<K>)
+    requires room { array_vec_len line.old ≤ 3300 }
+    ensures text { line.new.items ≡ line.old.items ++ spec.four_text json K.family is_first (numbered_four K.number four.now) }
+    ensures room { array_vec_len line.new ≤ array_vec_len line.old + 200 }
+{
+    put_one(line, json, is_first, four.first);
+    put_one(line, json, false, four.second);
+    put_one(line, json, false, four.third);
+    put_one(line, json, false, four.fourth);
+}
+
+/// Appends an address as an item, if there is one.
+fn put_one<K: LineKey>(line: &mut Text, json: bool, is_first: bool, address: Option<K>)
+    requires room { array_vec_len line.old ≤ 3500 }
+    ensures text { line.new.items ≡ line.old.items ++ spec.item_text json K.family is_first (number_if K.number address) }
     ensures room { array_vec_len line.new ≤ array_vec_len line.old + 50 }
 {
-    if let Some(address) = beside {
-        put(line, b", beside ");
+    let Some(address) = address else {
+        return;
+    };
+    if json {
+        put_comma(line, is_first);
+        put_address_object(line, address);
+    } else {
+        put(line, if is_first { b", beside " } else { b", " });
         put_address(line, address);
+    }
+}
+
+/// Appends the Robustness Variable if it isn't given, or that it is above 7.
+fn put_robustness(line: &mut Text, given: Option<u32>, qrv: Option<u32>)
+    requires room { array_vec_len line.old ≤ 3000 }
+    ensures text { line.new.items ≡ line.old.items ++ spec.robustness_text given qrv }
+    ensures room { array_vec_len line.new ≤ array_vec_len line.old + 30 }
+{
+    if is_above_7(given, qrv) {
+        put(line, b" rv above 7");
+    } else {
+        put_taken(line, b" rv ", given, qrv);
+    }
+}
+
+/// Appends that what depends on the Robustness Variable isn't judged, if it is above 7.
+fn put_unjudged(line: &mut Text, above_7: bool)
+    requires room { array_vec_len line.old ≤ 3600 }
+    ensures text { line.new.items ≡ line.old.items ++ spec.unjudged_text above_7 }
+    ensures room { array_vec_len line.new ≤ array_vec_len line.old + 40 }
+{
+    if above_7 {
+        put(line, b"; what depends on rv is not judged");
     }
 }
 

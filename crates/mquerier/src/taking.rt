@@ -10,36 +10,33 @@ use crate::checking::{CheckOptions, check_at, checked_settings};
 use crate::console::Console;
 use crate::failure::{Failure, UNJUDGED};
 use crate::program::{print_whole, status_of_totals, terms_of, told};
-use crate::taken_line::taken_line_of;
+use crate::taken_line::{is_above_7, taken_line_of};
 use crate::unopened::tell_no_querier;
-use clap::Error;
-use mq_check::{Announced, CheckedFamily, Totals, announced_variables};
+use mq_check::{Announced, CheckFlags, CheckTerms, CheckedFamily, Totals, announced_variables};
 use mq_command::{Protocol, Request, Settings};
 use mq_count::Watched;
 use mq_lines::LineKey;
 use mq_link::{Igmp, Mld};
 use mq_pcap::Supply;
-use mq_replay::CaptureFault;
+use mq_walk::CaptureFault;
 use mq_wire::WireKey;
 use std::alloc::Global;
 use std::io::{Read, Write};
 
 /// Returns the options of a check whose querier is `auto`, if the request is one.
-pub fn taking_of(asked: &Result<Request<'_>, Error>) -> Option<CheckOptions>
-    ensures { result ≡ spec.taking_of asked.now }
+pub fn taking_of(request: &Request<'_>) -> Option<CheckOptions>
+    ensures { result ≡ spec.taking_of request.now }
 {
-    match asked {
-        Ok(
-            Request::Check {
-                protocol,
-                querier,
-                settings,
-                within,
-                flags,
-                until,
-                ..
-            },
-        ) if *querier == "auto" => Some(CheckOptions {
+    match request {
+        Request::Check {
+            protocol,
+            querier,
+            settings,
+            within,
+            flags,
+            until,
+            ..
+        } if *querier == "auto" => Some(CheckOptions {
             protocol: *protocol,
             settings: checked_settings(settings),
             terms: terms_of(*within, *until, *flags, true),
@@ -146,7 +143,7 @@ where
 }
 
 /// Returns the failure of the first reading: a fault of the capture, or else refused memory.
-fn first_failure(fault: CaptureFault) -> Failure
+pub(crate) fn first_failure(fault: CaptureFault) -> Failure
     ensures { result ≡ spec.first_failure fault }
 {
     match fault {
@@ -173,6 +170,7 @@ where
 {
     let options = CheckOptions {
         settings: with_variables(&given.settings, found),
+        terms: terms_found(given, found),
         ..*given
     };
     let totals = check_at::<F, S, R, W>(alloc, &options, found.querier, supply, input, output)?;
@@ -181,12 +179,35 @@ where
     Ok(totals)
 }
 
+/// Returns the Robustness Variable that a QRV stands for. It is 7 if QRV 0 says that it is above 7.
+fn robustness_by(qrv: Option<u32>) -> Option<u32>
+    ensures { result ≡ spec.robustness_by qrv }
+{
+    match qrv {
+        Some(0) => Some(7),
+        other => other,
+    }
+}
+
+/// Returns the terms of the check of the querier that announces these variables.
+fn terms_found<K: WireKey>(given: &CheckOptions, found: &Announced<K>) -> CheckTerms
+    ensures { result ≡ spec.terms_found given.now (numbered_announced K.number found.now) }
+{
+    CheckTerms {
+        flags: CheckFlags {
+            above_7: is_above_7(given.settings.robustness, found.robustness),
+            ..given.terms.flags
+        },
+        ..given.terms
+    }
+}
+
 /// Returns the settings with the announced variables for those that aren't given.
 fn with_variables<K: WireKey>(settings: &Settings, found: &Announced<K>) -> Settings
     ensures { result ≡ spec.with_variables settings.now (numbered_announced K.number found.now) }
 {
     Settings {
-        robustness: settings.robustness.or(found.robustness),
+        robustness: settings.robustness.or(robustness_by(found.robustness)),
         query_seconds: settings.query_seconds.or(found.query_seconds),
         response_interval: settings.response_interval.or(found.response_interval),
         last_member_interval: settings.last_member_interval.or(found.last_member_interval),

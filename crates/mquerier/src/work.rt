@@ -14,6 +14,7 @@ use crate::breaking::ended;
 use crate::failure::Failure;
 use crate::replaying::{ReplayOptions, replay_capture};
 use hex::FromHexError;
+use mq_arena::OfAllocator;
 use mq_command::{Protocol, Request};
 use mq_count::Watched;
 use mq_lines::{igmp_line, mld_line};
@@ -194,7 +195,7 @@ fn listing<S: Supply, R: Read, W: Write>(
     ensures accepted { IsRefusal result → ⊥ }
     ensures unwritten { IsUnwritten result → output.new ≡ output.old }
 {
-    let answer = show(alloc, json, supply, input, output);
+    let answer = show(&mut OfAllocator(alloc), json, supply, input, output);
     ended(answer, output)?;
     Ok(true)
 }

@@ -1,13 +1,10 @@
-use Rattle.std.proofs.Common.{ℕ, Option, ap, ◌∙◌}
-use Rattle.mq_wire.specs.declared.query.Query.{Query}
+use Rattle.mq_check.proofs.Common.{ℕ, Option, ap, ◌∙◌, Query, numbered_sought_if}
 use Rattle.mq_check.specs.Announced.{with_query}
-use Rattle.mq_check.specs.Numbered.{numbered_sought_if}
 use Rattle.mq_check.proofs.announced.with_datagram.Goals as goal
 
 pub returns-in-Some : goal.returns-in-Some
 returns-in-Some g c =
-    c.with_query.ensures ∙
-    (λ i. with_query g.F.Family.FAMILY c.args.stamp (c.source.ensures i) (c.in-Some.ensures i)
+    c.with_query.ensures ∙ (λ i. with_query g.F.Family.FAMILY c.args.stamp (c.source.ensures i) (c.in-Some.ensures i)
     (numbered_sought_if g.F.Address.Key.number c.args.sought))
 
 pub returns-in-None : goal.returns-in-None

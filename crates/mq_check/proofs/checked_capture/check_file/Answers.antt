@@ -1,11 +1,5 @@
-use Rattle.std.proofs.Common.{◌≤◌, ◌^◌, ◌||◌, Bool, ap, sym, subst, ◌∙◌}
-use Rattle.std.specs.Prelude.{IfSome}
-use Rattle.std.proofs.lemmas.Result.{err_from_is_err_and}
-use Rattle.mq_link.specs.Configuration.{Configuration}
-use Rattle.mq_text.specs.Printing.{output_of}
-use Rattle.mq_replay.specs.Faults.{is_failed_write}
-use Rattle.mq_replay.proofs.WalkedOver.{fault_or}
-use Rattle.mq_check.specs.declared.check_terms.CheckTerms.{CheckTerms}
+use Rattle.mq_check.proofs.Common.{◌≤◌, ◌^◌, ◌||◌, Bool, ap, sym, subst, ◌∙◌, IfSome, err_from_is_err_and, Configuration, output_of, CheckTerms}
+use Rattle.mq_walk.{specs.Faults.is_failed_write, proofs.WalkedOver.fault_or}
 use Rattle.mq_check.proofs.CheckedOver.{kept, verdict_early, verdict_well}
 use Rattle.mq_check.proofs.checked_capture.check_file.Goals as goal
 

@@ -1,14 +1,7 @@
-use Rattle.std.proofs.Common.{ap, sym, ◌∙◌}
-use Rattle.std.proofs.Math.Bool.{or-false}
-use Rattle.mq_arena.proofs.Takes.{both, neither}
-use Rattle.mq_link.specs.Configuration.{Configuration}
-use Rattle.mq_link.specs.Link.{LinkValue}
+use Rattle.mq_check.proofs.Common.{ap, sym, ◌∙◌, or-false, both, neither, Configuration, LinkValue, most_bytes, room_of_filled, taken_at}
 use Rattle.mq_link.specs.State.{link_at}
-use Rattle.mq_pcap.specs.Capture.{most_bytes}
-use Rattle.mq_replay.proofs.Rooms.{room_of_filled}
-use Rattle.mq_replay.proofs.WrittenReports.{nothing_reported}
+use Rattle.mq_walk.proofs.WrittenReports.{nothing_reported}
 use Rattle.mq_check.specs.Checking.{checking_at_start}
-use Rattle.mq_check.proofs.Rooms.{taken_at}
 use Rattle.mq_check.proofs.checked_capture.check_in.Goals as goal
 
 pub returns-in_default-clause-checks : goal.returns-in_default-clause-checks

@@ -1,8 +1,6 @@
-use Rattle.std.proofs.Common.{ap}
+use Rattle.mq_check.proofs.Common.{ap, FindingWriterState}
 use Rattle.mq_count.specs.Streams.{has_failed}
-use Rattle.mq_replay.proofs.Finished.{failed_end, granted_end}
-use Rattle.mq_replay.proofs.WrittenReports.{finished}
-use Rattle.mq_check.specs.Telling.{FindingWriterState}
+use Rattle.mq_walk.proofs.{Finished.failed_end, Finished.granted_end, WrittenReports.finished}
 use Rattle.mq_check.proofs.CheckedOver.{only_waits}
 use Rattle.mq_check.proofs.checked_capture.check_on.Goals as goal
 

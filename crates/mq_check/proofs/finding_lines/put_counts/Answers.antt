@@ -1,6 +1,5 @@
 -- Three counts, and then the end of the line.
-use Rattle.std.proofs.Common.{codes}
-use Rattle.mq_check.specs.FindingLines.{count_text}
+use Rattle.mq_check.proofs.Common.{codes, count_text}
 use Rattle.mq_check.proofs.Texts.{four_parts}
 use Rattle.mq_check.proofs.finding_lines.put_counts.Goals as goal
 

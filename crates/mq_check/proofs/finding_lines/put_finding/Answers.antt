@@ -1,8 +1,6 @@
 -- A moment, and then a time or what is asked for.
-use Rattle.std.proofs.Common.{codes}
-use Rattle.std.proofs.lemmas.List.{append_assoc}
-use Rattle.mq_check.specs.FindingLines.{asked_text, at_moment, header_fault_text, interval_text}
-use Rattle.mq_check.specs.Numbered.{numbered_asked}
+use Rattle.mq_check.proofs.Common.{codes, append_assoc, at_moment, numbered_asked}
+use Rattle.mq_check.specs.FindingLines.{asked_text, header_fault_text, interval_text}
 use Rattle.mq_check.proofs.finding_lines.put_finding.Goals as goal
 
 pub returns-in-PossiblyMissing-clause-text : goal.returns-in-PossiblyMissing-clause-text

@@ -1,7 +1,6 @@
 -- Six parts of a line.
-use Rattle.std.proofs.Common.{codes}
-use Rattle.mq_check.specs.FindingLines.{lost_text, querier_text, unseen_text}
-use Rattle.mq_check.proofs.Texts.{six_parts}
+use Rattle.mq_check.proofs.Common.{codes}
+use Rattle.mq_check.{specs.FindingLines.lost_text, specs.FindingLines.querier_text, specs.FindingLines.unseen_text, proofs.Texts.six_parts}
 use Rattle.mq_check.proofs.finding_lines.put_querier_line.Goals as goal
 
 pub returns : goal.returns

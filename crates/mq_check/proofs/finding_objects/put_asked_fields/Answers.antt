@@ -1,7 +1,5 @@
-use Rattle.std.proofs.Common.{codes}
-use Rattle.mq_lines.specs.Objects.{address_object}
-use Rattle.mq_check.specs.FindingLines.{asked_fields}
-use Rattle.mq_check.proofs.Texts.{three_parts, four_parts}
+use Rattle.mq_check.proofs.Common.{codes, address_object}
+use Rattle.mq_check.{specs.FindingLines.asked_fields, proofs.Texts.three_parts}
 use Rattle.mq_check.proofs.finding_objects.put_asked_fields.Goals as goal
 
 pub returns-in-AllGroups-clause-text : goal.returns-in-AllGroups-clause-text
@@ -13,8 +11,7 @@ returns-in-AllGroups-clause-text g c =
       c.put_address_object.ensures.text,
       c.unspecified.ensures,
       c.put.ensures.text,
-    )
-    (three_parts c.args.text.now.items (codes ",\"group\":") (address_object g.F.Address.LineKey.family 0) (codes ",\"source\":null"))
+    ) (three_parts c.args.text.now.items (codes ",\"group\":") (address_object g.F.Address.LineKey.family 0) (codes ",\"source\":null"))
 
 pub returns-in-Group-clause-text : goal.returns-in-Group-clause-text
 unfolding asked_fields

@@ -1,6 +1,5 @@
-use Rattle.std.proofs.Common.{codes}
-use Rattle.mq_check.specs.FindingLines.{querier_object, variables_field}
-use Rattle.mq_check.proofs.Texts.{three_parts}
+use Rattle.mq_check.proofs.Common.{codes, querier_object}
+use Rattle.mq_check.{specs.FindingLines.variables_field, proofs.Texts.three_parts}
 use Rattle.mq_check.proofs.finding_objects.put_checked.Goals as goal
 
 pub returns : goal.returns

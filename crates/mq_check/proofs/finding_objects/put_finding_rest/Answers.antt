@@ -1,4 +1,4 @@
-use Rattle.std.proofs.Common.{append_assoc}
+use Rattle.mq_check.proofs.Common.{append_assoc}
 use Rattle.mq_check.proofs.finding_objects.put_finding_rest.Goals as goal
 
 pub returns : goal.returns
@@ -13,5 +13,4 @@ returns g c =
       c.number_of.ensures,
       c.put.ensures.text,
       c.put_finding_values.ensures.text,
-    )
-    (simp append_assoc)
+    ) (simp append_assoc)

@@ -1,9 +1,6 @@
-use Rattle.std.proofs.Common.{◌≡◌, ◌∙◌, sym, ap, codes, not}
-use Rattle.std.proofs.Math.Bool.{not-not}
-use Rattle.std.specs.Prelude.{is_none}
-use Rattle.mq_lines.specs.Objects.{truth_object}
-use Rattle.mq_check.specs.FindingLines.{judged_fields, why_object}
-use Rattle.mq_check.proofs.Texts.{four_parts}
+use Rattle.mq_check.proofs.Common.{◌∙◌, sym, ap, codes, not, truth_object}
+use Rattle.std.{proofs.Math.Bool.not-not, specs.Prelude.is_none}
+use Rattle.mq_check.{specs.FindingLines.judged_fields, specs.FindingLines.why_object, proofs.Texts.four_parts}
 use Rattle.mq_check.proofs.finding_objects.put_judged.Goals as goal
 
 pub returns-clause-text : goal.returns-clause-text
@@ -16,6 +13,5 @@ returns-clause-text c =
       c.put_truth.ensures.text,
       sym (ap not c.is_none.ensures ∙ not-not _),
       c.put.ensures.text,
-    )
-    (four_parts c.args.text.now.items (codes "{\"summary\":{\"judged\":") (truth_object (is_none c.args.why)) (codes ",\"why\":")
+    ) (four_parts c.args.text.now.items (codes "{\"summary\":{\"judged\":") (truth_object (is_none c.args.why)) (codes ",\"why\":")
     (why_object c.args.why))

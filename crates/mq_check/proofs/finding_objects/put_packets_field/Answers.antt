@@ -1,4 +1,4 @@
-use Rattle.std.proofs.Common.{append_assoc}
+use Rattle.mq_check.proofs.Common.{append_assoc}
 use Rattle.mq_check.proofs.finding_objects.put_packets_field.Goals as goal
 
 pub returns : goal.returns
@@ -12,5 +12,4 @@ returns c =
       c.put_count-3.ensures.text,
       c.put_count-2.ensures.text,
       c.put_count.ensures.text,
-    )
-    (simp append_assoc)
+    ) (simp append_assoc)

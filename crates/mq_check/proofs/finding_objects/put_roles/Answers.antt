@@ -1,8 +1,5 @@
-use Rattle.std.proofs.Common.{codes}
-use Rattle.mq_lines.specs.Objects.{truth_object}
-use Rattle.mq_check.specs.Basis.{is_unseen}
-use Rattle.mq_check.specs.FindingLines.{count_text, last_lost}
-use Rattle.mq_check.proofs.Texts.{five_parts}
+use Rattle.mq_check.proofs.Common.{codes, truth_object, count_text, last_lost}
+use Rattle.mq_check.{specs.Basis.is_unseen, proofs.Texts.five_parts}
 use Rattle.mq_check.proofs.finding_objects.put_roles.Goals as goal
 
 pub returns : goal.returns
@@ -15,6 +12,5 @@ returns c =
       c.put.ensures.text,
       c.put_last_lost.ensures.text,
       c.put_count.ensures.text,
-    )
-    (five_parts c.args.text.now.items (count_text (codes ",\"roles\":{\"lost\":") basis.lost) (last_lost basis) (codes ",\"unseen\":")
+    ) (five_parts c.args.text.now.items (count_text (codes ",\"roles\":{\"lost\":") basis.lost) (last_lost basis) (codes ",\"unseen\":")
     (truth_object (is_unseen basis)) (codes "}"))

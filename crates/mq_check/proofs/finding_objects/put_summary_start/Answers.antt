@@ -1,4 +1,4 @@
-use Rattle.std.proofs.Common.{append_assoc}
+use Rattle.mq_check.proofs.Common.{append_assoc}
 use Rattle.mq_check.proofs.finding_objects.put_summary_start.Goals as goal
 
 pub returns : goal.returns
@@ -10,5 +10,4 @@ returns c =
       c.put_count.ensures.text,
       c.put_judged.ensures.text,
       c.unjudged.ensures,
-    )
-    (simp append_assoc)
+    ) (simp append_assoc)

@@ -1,9 +1,7 @@
--- The text of a finding and its additions, or a beginning of them.
-use Rattle.std.proofs.Common.{ℕ, List, [], ◌++◌, ◌∙◌, ap, append_assoc}
-use Rattle.std.proofs.lemmas.Result.{err_from_is_err_and}
-use Rattle.mq_text.proofs.Passing.{both_passed, broken_behind, broken_within, held_more}
+-- The text of a finding and its additions, or a prefix of them.
+use Rattle.mq_check.proofs.Common.{ℕ, List, [], ◌++◌, ◌∙◌, ap, append_assoc, err_from_is_err_and, both_passed, broken_behind, broken_within, held_more}
+use Rattle.mq_check.proofs.Common.{numbered_finding}
 use Rattle.mq_check.specs.FindingLines.{additions_text, citation_text, finding_text, packet_text}
-use Rattle.mq_check.specs.Numbered.{numbered_finding}
 use Rattle.mq_check.proofs.finding_writer.put_finding_line.Goals as goal
 
 pub returns-in_err-make_room-clause-text : goal.returns-in_err-make_room-clause-text

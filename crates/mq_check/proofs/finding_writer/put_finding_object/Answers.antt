@@ -1,9 +1,6 @@
--- The start and the rest of a finding, or a beginning of them.
-use Rattle.std.proofs.Common.{[]}
-use Rattle.std.proofs.lemmas.Result.{err_from_is_err_and}
-use Rattle.mq_text.proofs.Passing.{both_passed, broken_behind, broken_within, held_more}
+-- The start and the rest of a finding, or a prefix of them.
+use Rattle.mq_check.proofs.Common.{[], err_from_is_err_and, both_passed, broken_behind, broken_within, held_more, numbered_finding}
 use Rattle.mq_check.specs.FindingLines.{finding_rest, finding_start}
-use Rattle.mq_check.specs.Numbered.{numbered_finding}
 use Rattle.mq_check.proofs.finding_writer.put_finding_object.Goals as goal
 
 pub returns-in_err-make_room-clause-text : goal.returns-in_err-make_room-clause-text

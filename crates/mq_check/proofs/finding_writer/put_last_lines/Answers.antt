@@ -1,7 +1,5 @@
--- Three parts one after the other, or a beginning of them.
-use Rattle.std.proofs.Common.{[], ◌++◌}
-use Rattle.std.proofs.lemmas.Result.{err_from_is_err_and}
-use Rattle.mq_text.proofs.Passing.{both_passed, broken_behind, broken_within, held_more}
+-- Three parts one after the other, or a prefix of them.
+use Rattle.mq_check.proofs.Common.{[], ◌++◌, err_from_is_err_and, both_passed, broken_behind, broken_within, held_more}
 use Rattle.mq_check.specs.FindingLines.{packets_line, querier_line, totals_line}
 use Rattle.mq_check.proofs.finding_writer.put_last_lines.Goals as goal
 

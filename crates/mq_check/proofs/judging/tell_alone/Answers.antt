@@ -1,8 +1,5 @@
--- A query that may be extra is told, and then what differs.
-use Rattle.std.proofs.Common.{[], ◌∷◌}
-use Rattle.std.proofs.lemmas.Result.{err_from_is_err_and}
-use Rattle.mq_check.specs.declared.finding.Finding.TheVariants.{PossiblyExtra}
-use Rattle.mq_check.specs.Numbered.{numbered_asked}
+-- A query that may be extra, and then the differing fields.
+use Rattle.mq_check.proofs.Common.{[], ◌∷◌, err_from_is_err_and, PossiblyExtra, numbered_asked}
 use Rattle.mq_check.proofs.Tellings.{broken_as, then_told, told_broken}
 use Rattle.mq_check.proofs.judging.tell_alone.Goals as goal
 

@@ -1,5 +1,5 @@
 -- the bytes that are left are to be mixed into the number so far
-use Rattle.std.proofs.Common.{◌≡◌, ◌<◌, drop}
+use Rattle.mq_check.proofs.Common.{◌≡◌, ◌<◌, drop}
 use Rattle.mq_check.specs.Slots.{mixed}
 use Rattle.mq_check.proofs.slots.mixed.Given as goal
 

@@ -1,9 +1,8 @@
-use Rattle.std.proofs.Common.{◌≡◌, ℕ, None, false, ap, sym, ◌∙◌}
-use Rattle.std.specs.FinMap as map
+use Rattle.mq_check.proofs.Common.{◌≡◌, ℕ, None, false, ap, sym, ◌∙◌, Groups}
 use Rattle.mq_table.specs.Group.{deadline_of, timer_at}
 use Rattle.mq_sched.specs.Schedule.{ScheduledGroup}
-use Rattle.mq_link.specs.State.{Groups, group_at}
-use Rattle.mq_link.proofs.KeptGroups.{absent_unheld}
+use Rattle.mq_link.{specs.State.group_at, proofs.KeptGroups.absent_unheld}
+use Rattle.std.specs.FinMap as map
 use Rattle.mq_check.proofs.standing.source_timer.Goals as goal
 
 -- no timer runs in a group that isn't held

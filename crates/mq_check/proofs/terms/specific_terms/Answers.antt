@@ -1,5 +1,5 @@
--- The version is that of the family of the configuration.
-use Rattle.std.proofs.Common.{refl}
+-- The version of the configuration's family.
+use Rattle.mq_check.proofs.Common.{refl}
 use Rattle.mq_check.proofs.terms.specific_terms.Goals as goal
 
 pub returns : goal.returns

@@ -1,7 +1,4 @@
-use Rattle.std.proofs.Common.{Bool, ap, refl, ◌∙◌, arith}
-use Rattle.std.proofs.lemmas.List.{length-set}
-use Rattle.mq_check.specs.Entries.{excused_if}
-use Rattle.mq_check.specs.Numbered.{numbered_entry}
+use Rattle.mq_check.proofs.Common.{Bool, ap, refl, ◌∙◌, arith, length-set, excused_if, numbered_entry}
 use Rattle.mq_check.proofs.Excusing.{one_excused, all_were_excused}
 use Rattle.mq_check.proofs.waiting.excuse_each.Goals as goal
 

@@ -1,9 +1,5 @@
 -- the entries so far were excused
-use Rattle.std.proofs.Common.{◌≡◌, ◌++◌, length, take, drop}
-use Rattle.std.specs.Prelude.{map as list_map}
-use Rattle.std.specs.VecDeque.{deque_capacity}
-use Rattle.mq_check.specs.Waiting.{excused_at}
-use Rattle.mq_check.specs.Numbered.{numbered_entry}
+use Rattle.mq_check.proofs.Common.{◌≡◌, ◌++◌, length, take, drop, list_map, deque_capacity, excused_at, numbered_entry}
 use Rattle.mq_check.proofs.waiting.excuse_each.Given as goal
 
 abbrev pub invariant-loop-place : goal.invariant-loop-place

@@ -1,8 +1,6 @@
-use Rattle.std.proofs.Common.{◌∙◌, ℕ, ap, arith}
-use Rattle.std.proofs.lemmas.Bool.Decides.{nat_tests}
+use Rattle.std.proofs.{Common.◌∙◌, Common.ℕ, Common.ap, Common.arith, lemmas.Bool.Decides.nat_tests}
 use Rattle.mq_count.specs.Streams.{counted_on}
-use Rattle.mq_pcap.specs.Filling.{Takes, input_of}
-use Rattle.mq_pcap.proofs.Filled.{filled_none, filled_more}
+use Rattle.mq_pcap.{specs.Filling.Takes, specs.Filling.input_of, proofs.Filled.filled_none, proofs.Filled.filled_more}
 use Rattle.mq_pcap.proofs.filling.fill.Goals as goal
 
 pub loop-count-init : goal.loop-count-init

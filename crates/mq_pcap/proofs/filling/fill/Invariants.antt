@@ -1,6 +1,5 @@
 use Rattle.std.proofs.Common.{◌-◌, length}
-use Rattle.mq_pcap.proofs.Filled.{IsFilledTo}
-use Rattle.mq_pcap.specs.Filling.{input_of}
+use Rattle.mq_pcap.{proofs.Filled.IsFilledTo, specs.Filling.input_of}
 use Rattle.mq_pcap.proofs.filling.fill.Given as goal
 
 abbrev pub invariant-loop-count : goal.invariant-loop-count

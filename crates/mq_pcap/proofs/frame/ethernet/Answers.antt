@@ -1,5 +1,4 @@
-use Rattle.std.proofs.lemmas.Grind.{common_steps}
-use Rattle.std.proofs.Common.{arith}
+use Rattle.std.proofs.{lemmas.Grind.common_steps, Common.arith}
 use Rattle.mq_pcap.specs.Frame.{in_ethernet}
 use Rattle.mq_pcap.proofs.frame.ethernet.Goals as goal
 

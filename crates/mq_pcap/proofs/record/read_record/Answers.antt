@@ -1,5 +1,4 @@
-use Rattle.std.proofs.Common.{◌∙◌, arith}
-use Rattle.std.proofs.{lemmas.List.length-take-le, lemmas.Result.err_from_is_err_and}
+use Rattle.std.proofs.{Common.◌∙◌, Common.arith, lemmas.List.length-take-le, lemmas.Result.err_from_is_err_and}
 use Rattle.mq_pcap.proofs.Records.{record_read, data_cut, data_failed}
 use Rattle.mq_pcap.proofs.record.read_record.Goals as goal
 

@@ -1,9 +1,4 @@
-use Rattle.std.proofs.Common.{ℕ, List, [], arith}
-use Rattle.std.proofs.lemmas.Result.{err_from_is_err_and}
-use Rattle.std.proofs.lemmas.Bool.Decides.{nat_tests}
-use Rattle.mq_table.specs.declared.sources.Source.{Source}
-use Rattle.mq_text.proofs.Passing.{broken_among, held_more, item_passed}
-use Rattle.mq_replay.specs.NamedSources.{named_by}
+use Rattle.mq_replay.proofs.Common.{ℕ, List, [], arith, err_from_is_err_and, nat_tests, Source, broken_among, held_more, item_passed, named_by}
 use Rattle.mq_replay.proofs.change_lines.put_all_named.Goals as goal
 
 pub loop-source-preserved : goal.loop-source-preserved

@@ -1,8 +1,4 @@
-use Rattle.std.proofs.Common.{◌≡◌, take}
-use Rattle.std.specs.List.{flat_map}
-use Rattle.mq_count.specs.Streams.{inner_of, has_failed}
-use Rattle.mq_text.specs.Printing.{Passes}
-use Rattle.mq_replay.specs.NamedSources.{named_by}
+use Rattle.mq_replay.proofs.Common.{◌≡◌, take, flat_map, inner_of, has_failed, Passes, named_by}
 use Rattle.mq_replay.proofs.change_lines.put_all_named.Given as goal
 
 -- the sources so far were put

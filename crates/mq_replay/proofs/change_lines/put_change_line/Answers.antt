@@ -1,11 +1,5 @@
-use Rattle.std.proofs.Common.{[], ◌++◌, codes}
-use Rattle.std.specs.List.{flat_map, list_any}
-use Rattle.std.proofs.lemmas.Result.{err_from_is_err_and}
-use Rattle.mq_table.specs.declared.sources.Source.{Source}
-use Rattle.mq_table.specs.Group.{is_include}
-use Rattle.mq_text.proofs.Passing.{broken_behind, broken_within, held_more, put_as, then_put}
-use Rattle.mq_replay.specs.ChangeLines.{change_start}
-use Rattle.mq_replay.specs.NamedSources.{is_named, name_by, named_by}
+use Rattle.mq_replay.proofs.Common.{[], ◌++◌, codes, flat_map, list_any, err_from_is_err_and, Source, is_include, broken_behind, broken_within, held_more}
+use Rattle.mq_replay.proofs.Common.{put_as, then_put, change_start, is_named, name_by, named_by}
 use Rattle.mq_replay.proofs.ChangeTexts.{line-row}
 use Rattle.mq_replay.proofs.change_lines.put_change_line.Goals as goal
 

@@ -1,9 +1,5 @@
-use Rattle.std.proofs.Common.{ℕ, List, refl, arith, ap, ◌∙◌}
-use Rattle.std.proofs.lemmas.Result.{err_from_is_err_and}
-use Rattle.std.proofs.lemmas.Bool.Decides.{nat_tests}
-use Rattle.mq_held.specs.Groups.{group_at}
-use Rattle.mq_text.proofs.Passing.{item_passed, nothing_passed}
-use Rattle.mq_replay.specs.Events.{Changes, change_events, event_in}
+use Rattle.mq_replay.proofs.Common.{ℕ, List, refl, arith, ap, ◌∙◌, err_from_is_err_and, nat_tests, group_at, item_passed, nothing_passed, Changes}
+use Rattle.mq_replay.proofs.Common.{change_events, event_in}
 use Rattle.mq_replay.proofs.ChangeTexts.{all_passed, item_broken, events-numbered}
 use Rattle.mq_replay.proofs.change_lines.put_each.Goals as goal
 
@@ -45,5 +41,4 @@ returns-clause-text g c =
     let text : _ → List ℕ = λ x. event_in c.args.json family c.args.moment (Changes (number x) (group_at groups (number x)).group) in
     all_passed text _ _ _ _ items c.loop-address.address-index _ (grind (arith, nat_tests))
     (events-numbered number c.args.json family c.args.moment groups items
-    ∙ ap (change_events c.args.json family c.args.moment groups) c.changed-address-items.ensures.changed)
-    c.loop-address.invariant.put
+    ∙ ap (change_events c.args.json family c.args.moment groups) c.changed-address-items.ensures.changed) c.loop-address.invariant.put

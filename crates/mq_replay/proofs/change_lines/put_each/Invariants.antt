@@ -1,9 +1,4 @@
-use Rattle.std.proofs.Common.{◌≡◌, take}
-use Rattle.std.specs.List.{flat_map}
-use Rattle.mq_count.specs.Streams.{inner_of, has_failed}
-use Rattle.mq_held.specs.Groups.{group_at}
-use Rattle.mq_text.specs.Printing.{Passes}
-use Rattle.mq_replay.specs.Events.{Changes, event_in}
+use Rattle.mq_replay.proofs.Common.{◌≡◌, take, flat_map, inner_of, has_failed, group_at, Passes, Changes, event_in}
 use Rattle.mq_replay.proofs.change_lines.put_each.Given as goal
 
 -- the groups so far were put

@@ -1,8 +1,5 @@
-use Rattle.std.proofs.Common.{ℕ, ap, sym, ◌∙◌}
-use Rattle.mq_sched.specs.Schedule.{ScheduledGroup}
+use Rattle.mq_replay.proofs.Common.{ℕ, ap, sym, ◌∙◌, ScheduledGroup, put_as, Changes, event_in}
 use Rattle.mq_link.specs.Storage.{group_stored}
-use Rattle.mq_text.proofs.Passing.{put_as}
-use Rattle.mq_replay.specs.Events.{Changes, event_in}
 use Rattle.mq_replay.proofs.ChangeTexts.{event-absent}
 use Rattle.mq_replay.proofs.change_lines.put_group.Goals as goal
 
@@ -20,5 +17,4 @@ pub returns-in-None-clause-text : goal.returns-in-None-clause-text
 returns-in-None-clause-text g c =
     let number = g.F.Address.Key.number in
     put_as _ _ _ _ _ _ c.put_unheld.result
-    (event-absent c.args.json g.F.Address.LineKey.family c.args.moment (number c.args.address) _ (sym c.in-None.ensures.held))
-    c.put_unheld.ensures.text
+    (event-absent c.args.json g.F.Address.LineKey.family c.args.moment (number c.args.address) _ (sym c.in-None.ensures.held)) c.put_unheld.ensures.text

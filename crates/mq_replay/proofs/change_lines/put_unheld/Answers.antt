@@ -1,6 +1,4 @@
-use Rattle.std.proofs.Common.{[]}
-use Rattle.std.proofs.lemmas.Result.{err_from_is_err_and}
-use Rattle.mq_text.proofs.Passing.{broken_within, held_more}
+use Rattle.mq_replay.proofs.Common.{[], err_from_is_err_and, broken_within, held_more}
 use Rattle.mq_replay.proofs.ChangeTexts.{line-vacant}
 use Rattle.mq_replay.proofs.change_lines.put_unheld.Goals as goal
 
@@ -10,8 +8,7 @@ returns-in_err-make_room-clause-text g c =
     rw p.1 (broken_within _ _ _ [] _ c.in_err-make_room.ensures.text)
 
 pub returns-then-json-clause-text : goal.returns-then-json-clause-text
-returns-then-json-clause-text g c =
-    rw c.if-json.true (held_more _ _ _ _ _ [] _ c.in_ok-make_room.ensures.text c.put_vacant_object.ensures)
+returns-then-json-clause-text g c = rw c.if-json.true (held_more _ _ _ _ _ [] _ c.in_ok-make_room.ensures.text c.put_vacant_object.ensures)
 
 pub returns-clause-text : goal.returns-clause-text
 returns-clause-text g c =

@@ -1,5 +1,4 @@
-use Rattle.std.proofs.Common.{◌≡◌, ◌+◌, ap, ◌∙◌}
-use Rattle.std.proofs.lemmas.Result.{err_from_is_err_and}
+use Rattle.mq_replay.proofs.Common.{◌≡◌, ◌+◌, ap, ◌∙◌, err_from_is_err_and}
 use Rattle.mq_replay.proofs.EndLines.{end_ticks_broken, end_role_broken, end_groups_broken, all_put, all_answered, if_ok}
 use Rattle.mq_replay.proofs.ending.put_ending.Goals as goal
 

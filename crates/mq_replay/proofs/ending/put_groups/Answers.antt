@@ -1,8 +1,4 @@
-use Rattle.std.proofs.Common.{◌∙◌, refl, arith}
-use Rattle.std.proofs.lemmas.Bool.Decides.{nat_tests}
-use Rattle.std.proofs.lemmas.Result.{err_from_is_err_and}
-use Rattle.std.proofs.Math.Bool.{or-false}
-use Rattle.mq_text.proofs.Passing.{nothing_passed}
+use Rattle.mq_replay.proofs.Common.{◌∙◌, refl, arith, nat_tests, err_from_is_err_and, or-false, nothing_passed}
 use Rattle.mq_replay.proofs.EndLines.{group_passed, group_broken, groups_passed}
 use Rattle.mq_replay.proofs.ending.put_groups.Goals as goal
 
@@ -28,5 +24,4 @@ returns-in_err-put_group-clause-text g c =
     (c.entry.ensures.group _ has) now.put c.in_err-put_group.ensures.text)
 
 pub returns-clause-text : goal.returns-clause-text
-returns-clause-text g c =
-    groups_passed _ _ _ _ c.loop-place.place _ _ _ _ (grind (arith, nat_tests)) c.loop-place.invariant.put
+returns-clause-text g c = groups_passed _ _ _ _ c.loop-place.place _ _ _ _ (grind (arith, nat_tests)) c.loop-place.invariant.put

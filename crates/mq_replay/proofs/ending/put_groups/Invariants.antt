@@ -1,9 +1,6 @@
-use Rattle.std.proofs.Common.{◌≡◌, take}
-use Rattle.std.specs.FinMap as map
-use Rattle.std.specs.List.{flat_map}
-use Rattle.mq_count.specs.Streams.{inner_of, has_failed}
-use Rattle.mq_text.specs.Printing.{Passes}
+use Rattle.mq_replay.proofs.Common.{◌≡◌, take, flat_map, inner_of, has_failed, Passes}
 use Rattle.mq_replay.proofs.EndLines.{entry_event}
+use Rattle.std.specs.FinMap as map
 use Rattle.mq_replay.proofs.ending.put_groups.Given as goal
 
 -- the events of the groups so far were put

@@ -1,11 +1,6 @@
-use Rattle.std.proofs.Common.{[], ◌++◌, List, ℕ}
-use Rattle.std.specs.List.{flat_map}
-use Rattle.std.proofs.lemmas.Result.{err_from_is_err_and}
-use Rattle.mq_table.specs.declared.sources.Source.{Source}
-use Rattle.mq_text.proofs.Passing.{both_passed, broken_behind, broken_within, held_more}
-use Rattle.mq_lines.specs.Text.{line_of}
-use Rattle.mq_replay.specs.ReplayLines.{group_start, older_hosts_text, timer_text}
-use Rattle.mq_replay.proofs.ReplayTexts.{timers-row}
+use Rattle.mq_replay.proofs.Common.{[], ◌++◌, List, ℕ, flat_map, err_from_is_err_and, Source, both_passed, broken_behind, broken_within, held_more, line_of}
+use Rattle.mq_replay.proofs.Common.{timer_text}
+use Rattle.mq_replay.{specs.ReplayLines.group_start, specs.ReplayLines.older_hosts_text, proofs.ReplayTexts.timers-row}
 use Rattle.mq_replay.proofs.group_line.put_group_line.Goals as goal
 
 pub returns-in_err-make_room-clause-text : goal.returns-in_err-make_room-clause-text

@@ -1,9 +1,4 @@
-use Rattle.std.proofs.Common.{ℕ, List, [], arith}
-use Rattle.std.proofs.lemmas.Result.{err_from_is_err_and}
-use Rattle.std.proofs.lemmas.Bool.Decides.{nat_tests}
-use Rattle.mq_table.specs.declared.sources.Source.{Source}
-use Rattle.mq_text.proofs.Passing.{broken_among, held_more, item_passed}
-use Rattle.mq_replay.specs.ReplayLines.{timer_text}
+use Rattle.mq_replay.proofs.Common.{ℕ, List, [], arith, err_from_is_err_and, nat_tests, Source, broken_among, held_more, item_passed, timer_text}
 use Rattle.mq_replay.proofs.group_line.put_timers.Goals as goal
 
 pub loop-source-preserved : goal.loop-source-preserved

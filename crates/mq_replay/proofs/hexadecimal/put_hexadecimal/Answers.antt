@@ -1,11 +1,5 @@
-use Rattle.std.proofs.Common.{◌≡◌, ℕ, ◌+◌, ◌-◌, List, [], take, sym, ap, ◌∙◌, subst, arith}
-use Rattle.std.specs.List.{flat_map}
-use Rattle.std.proofs.lemmas.Result.{err_from_is_err_and}
-use Rattle.std.proofs.lemmas.List.{take_all}
-use Rattle.std.proofs.lemmas.Bool.Decides.{nat_tests}
-use Rattle.mq_count.specs.Streams.{inner_of}
-use Rattle.mq_text.specs.Printing.{Passes}
-use Rattle.mq_text.proofs.Passing.{broken_among, both_passed, held_more}
+use Rattle.mq_replay.proofs.Common.{◌≡◌, ℕ, ◌+◌, ◌-◌, List, [], take, sym, ap, ◌∙◌, subst, arith, flat_map, err_from_is_err_and, take_all, nat_tests, inner_of}
+use Rattle.mq_replay.proofs.Common.{Passes, broken_among, both_passed, held_more}
 use Rattle.mq_replay.proofs.ReplayTexts.{byte_text, encode_lower-each, encode_lower-next}
 use Rattle.mq_replay.proofs.hexadecimal.put_hexadecimal.Goals as goal
 

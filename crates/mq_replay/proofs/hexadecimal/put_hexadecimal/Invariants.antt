@@ -1,7 +1,4 @@
-use Rattle.std.proofs.Common.{◌≡◌, ◌-◌, ◌≤◌, length, take}
-use Rattle.std.specs.List.{flat_map}
-use Rattle.mq_count.specs.Streams.{inner_of, has_failed}
-use Rattle.mq_text.specs.Printing.{Passes}
+use Rattle.mq_replay.proofs.Common.{◌≡◌, ◌-◌, ◌≤◌, length, take, flat_map, inner_of, has_failed, Passes}
 use Rattle.mq_replay.proofs.ReplayTexts.{byte_text}
 use Rattle.mq_replay.proofs.hexadecimal.put_hexadecimal.Given as goal
 

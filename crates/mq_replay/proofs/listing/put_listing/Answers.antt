@@ -1,8 +1,5 @@
-use Rattle.std.proofs.Common.{ap}
-use Rattle.std.proofs.lemmas.Result.{err_from_is_err_and}
-use Rattle.mq_text.specs.Printing.{output_of}
+use Rattle.mq_replay.proofs.Common.{ap, err_from_is_err_and, output_of, fault_or}
 use Rattle.mq_replay.proofs.ListedOver.{listed_early, listed_well}
-use Rattle.mq_replay.proofs.WalkedOver.{fault_or}
 use Rattle.mq_replay.proofs.listing.put_listing.Goals as goal
 
 pub returns-in_err-walked-clause-puts : goal.returns-in_err-walked-clause-puts
@@ -22,8 +19,7 @@ returns-in_err-walked-clause-no_memory g c =
     let p = err_from_is_err_and c.from_residual.result c.from_residual.ensures.1 in
     rw (p.1, p.2) (λ is.
     (listed_early (λ x. record { json = x.0.json; held = x.0.buffer.items; output = output_of g.W.Write.contents x.1 }) _ _ _ _ _
-    c.in_err-walked.ensures).2
-    (ap (fault_or c.in_err-walked.field-0.0) is))
+    c.in_err-walked.ensures).2 (ap (fault_or c.in_err-walked.field-0.0) is))
 
 pub returns-clause-puts : goal.returns-clause-puts
 returns-clause-puts g c =

@@ -1,8 +1,4 @@
-use Rattle.std.proofs.Common.{ℕ, true, false, [], ◌++◌, ap, ◌∙◌}
-use Rattle.std.proofs.lemmas.Result.{err_from_is_err_and}
-use Rattle.mq_pcap.specs.Frame.{carried_in}
-use Rattle.mq_text.proofs.Passing.{broken_within, held_more}
-use Rattle.mq_replay.specs.Listing.{place_fields, place_in, place_text}
+use Rattle.mq_replay.proofs.Common.{ℕ, [], ◌++◌, ap, ◌∙◌, err_from_is_err_and, carried_in, broken_within, held_more, place_in}
 use Rattle.mq_replay.proofs.Packets.{some_said, put_as_packet}
 use Rattle.mq_replay.proofs.listing.put_packet.Goals as goal
 
@@ -13,22 +9,13 @@ returns-in_err-make_room-clause-line g c =
     rw p.1 (record {
       said = some.0;
       is_said = some.1;
-      put =
-          broken_within _ _ _ [] (place_in c.args.json c.args.packet.now.number c.args.packet.now.moment ++ some.0) c.in_err-make_room.ensures.text;
+      put = broken_within _ _ _ [] (place_in c.args.json c.args.packet.now.number c.args.packet.now.moment ++ some.0) c.in_err-make_room.ensures.text;
     })
-
-pub returns-then-json-clause-line : goal.returns-then-json-clause-line
-returns-then-json-clause-line g c =
-    let place = place_fields c.args.packet.now.number c.args.packet.now.moment in
-    rw c.if-json.true (put_as_packet true _ _ _ _ _ _ c.args.packet.now.number c.args.packet.now.moment _ _ c.put_packet_fields.result
-    c.unwrap_frame-inner.ensures
-    (held_more _ _ _ _ _ [] place c.in_ok-make_room.ensures.text
-    (c.put_place_fields.ensures.text ∙ ap (λ (m : ℕ). c.make_room.new.buffer.items ++ place_fields c.args.packet.now.number m) c.ms.ensures))
-    c.put_packet_fields.ensures.line)
 
 pub returns-clause-line : goal.returns-clause-line
 returns-clause-line g c =
-    let place = place_text c.args.packet.now.number c.args.packet.now.moment in
-    rw c.if-json.false (put_as_packet false _ _ _ _ _ _ c.args.packet.now.number c.args.packet.now.moment _ _ c.put_said.result c.unwrap_frame-inner.ensures
+    let place = place_in c.args.json c.args.packet.now.number c.args.packet.now.moment in
+    put_as_packet c.args.json _ _ _ _ _ _ c.args.packet.now.number c.args.packet.now.moment _ _ c.put_said.result c.unwrap_frame-inner.ensures
     (held_more _ _ _ _ _ [] place c.in_ok-make_room.ensures.text
-    (c.put_place.ensures.text ∙ ap (λ (m : ℕ). c.make_room.new.buffer.items ++ place_text c.args.packet.now.number m) c.ms-2.ensures)) c.put_said.ensures.line)
+    (c.put_place.ensures.text ∙ ap (λ (m : ℕ). c.make_room.new.buffer.items ++ place_in c.args.json c.args.packet.now.number m) c.ms.ensures))
+    c.put_said.ensures.line

@@ -1,6 +1,4 @@
-use Rattle.std.proofs.Common.{ap, sym, ◌∙◌}
-use Rattle.std.proofs.lemmas.Result.{err_from_is_err_and}
-use Rattle.mq_link.specs.Configuration.{Configuration}
+use Rattle.mq_replay.proofs.Common.{ap, sym, ◌∙◌, err_from_is_err_and, Configuration}
 use Rattle.mq_replay.proofs.OnePacket.{receipt_broken, receipt_cut, receipt_lined, receipt_whole}
 use Rattle.mq_replay.proofs.one_packet.hand_over.Goals as goal
 
@@ -23,5 +21,4 @@ returns-clause-puts g c =
     let is_family = g.met.F.CapturedFamily.same_family ∙ sym c.is_faultless.ensures.family ∙ ap (λ (config : Configuration). config.family) c.config.ensures in
     receipt_whole _ _ _ _ _ _ _ _ _ _ _ _ _ _ is_family c.in_ok-answer.ensures.changed
     (receipt_lined _ _ _ _ _ _ _ _ _ _ _ _ _ _ _ _ is_family c.source.ensures c.in_ok-answer.ensures.config c.in_ok-answer.ensures.receives
-    c.in_ok-put_receipt.ensures.text)
-    c.put_changes.ensures.text
+    c.in_ok-put_receipt.ensures.text) c.put_changes.ensures.text

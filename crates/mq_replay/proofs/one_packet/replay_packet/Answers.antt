@@ -1,9 +1,4 @@
-use Rattle.std.proofs.Common.{◌≡◌, None, Some, ap, sym, subst, ◌∙◌}
-use Rattle.std.proofs.lemmas.Result.{err_from_is_err_and}
-use Rattle.mq_pcap.specs.Frame.{carried_of}
-use Rattle.mq_wire.specs.Family.{Family}
-use Rattle.mq_link.specs.Configuration.{Configuration}
-use Rattle.mq_replay.specs.Report.{Datagram, datagram_of}
+use Rattle.mq_replay.proofs.Common.{◌≡◌, None, Some, ap, sym, subst, ◌∙◌, err_from_is_err_and, carried_of, Family, Configuration, Datagram, datagram_of}
 use Rattle.mq_replay.proofs.OnePacket.{ticks_broken, packet_skipped, packet_received}
 use Rattle.mq_replay.proofs.one_packet.replay_packet.Goals as goal
 

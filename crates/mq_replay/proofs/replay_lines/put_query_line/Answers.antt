@@ -1,7 +1,4 @@
-use Rattle.std.proofs.Common.{[], ◌++◌, codes}
-use Rattle.std.proofs.lemmas.Result.{err_from_is_err_and}
-use Rattle.hex.specs.Hex.{encode_lower}
-use Rattle.mq_text.proofs.Passing.{both_passed, broken_behind, broken_within, held_more, then_put}
+use Rattle.mq_replay.proofs.Common.{[], ◌++◌, codes, err_from_is_err_and, encode_lower, both_passed, broken_behind, broken_within, held_more, then_put}
 use Rattle.mq_replay.specs.ReplayLines.{query_line, query_start}
 use Rattle.mq_replay.proofs.replay_lines.put_query_line.Goals as goal
 

@@ -1,4 +1,4 @@
-use Rattle.std.proofs.Common.{append_assoc}
+use Rattle.mq_replay.proofs.Common.{append_assoc}
 use Rattle.mq_replay.proofs.replay_objects.put_counts_object.Goals as goal
 
 pub returns : goal.returns
@@ -19,5 +19,4 @@ returns c =
       c.dropped.ensures,
       c.put_number.ensures.text,
       c.received.ensures,
-    )
-    (simp append_assoc)
+    ) (simp append_assoc)

@@ -1,6 +1,4 @@
-use Rattle.std.proofs.Common.{codes}
-use Rattle.mq_lines.specs.Objects.{truth_object}
-use Rattle.mq_lines.proofs.Parts.{four_parts}
+use Rattle.mq_replay.proofs.Common.{codes, truth_object, four_parts}
 use Rattle.mq_replay.specs.ReplayObjects.{event_start}
 use Rattle.mq_replay.proofs.replay_objects.put_role_object.Goals as goal
 

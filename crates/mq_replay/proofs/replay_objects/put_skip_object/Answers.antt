@@ -1,8 +1,5 @@
-use Rattle.std.proofs.Common.{codes}
-use Rattle.mq_pcap.specs.Frame.{carried_of}
-use Rattle.mq_lines.proofs.Parts.{four_parts}
-use Rattle.mq_replay.specs.ReplayLines.{skipped_text}
-use Rattle.mq_replay.specs.ReplayObjects.{packet_start}
+use Rattle.mq_replay.proofs.Common.{codes, carried_of, four_parts}
+use Rattle.mq_replay.specs.{ReplayLines.skipped_text, ReplayObjects.packet_start}
 use Rattle.mq_replay.proofs.replay_objects.put_skip_object.Goals as goal
 
 pub returns : goal.returns

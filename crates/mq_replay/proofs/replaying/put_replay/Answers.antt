@@ -1,11 +1,6 @@
-use Rattle.std.proofs.Common.{◌≤◌, ◌^◌, ◌||◌, Bool, ap, sym, subst, ◌∙◌}
-use Rattle.std.specs.Prelude.{IfSome}
-use Rattle.std.proofs.lemmas.Result.{err_from_is_err_and}
-use Rattle.mq_text.specs.Printing.{output_of}
-use Rattle.mq_replay.specs.declared.asked.Asked.{Asked}
-use Rattle.mq_replay.specs.Faults.{is_failed_write}
+use Rattle.mq_replay.proofs.Common.{◌≤◌, ◌||◌, Bool, ap, sym, subst, ◌∙◌, err_from_is_err_and, output_of, is_failed_write, fault_or, Asked}
+use Rattle.std.{proofs.Common.◌^◌, specs.Prelude.IfSome}
 use Rattle.mq_replay.proofs.ReplayedOver.{kept, replayed_early, replayed_well}
-use Rattle.mq_replay.proofs.WalkedOver.{fault_or}
 use Rattle.mq_replay.proofs.replaying.put_replay.Goals as goal
 
 pub returns-in_err-walked-clause-puts : goal.returns-in_err-walked-clause-puts

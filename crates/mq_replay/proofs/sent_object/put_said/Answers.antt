@@ -1,9 +1,5 @@
-use Rattle.std.proofs.Common.{◌≡◌, ap, codes, ◌++◌, []}
-use Rattle.std.proofs.lemmas.Result.{err_from_is_err_and}
-use Rattle.mq_wire.specs.declared.message.Message.TheVariants.{Query as AQuery}
+use Rattle.mq_replay.proofs.Common.{true, ap, codes, [], err_from_is_err_and, AQuery, broken_within, held_more, put_as, then_put, message_in}
 use Rattle.mq_wire.specs.declared.query.Query.{Query}
-use Rattle.mq_text.proofs.Passing.{broken_within, held_more, put_as, then_put}
-use Rattle.mq_lines.specs.Objects.{message_object}
 use Rattle.mq_replay.proofs.sent_object.put_said.Goals as goal
 
 pub returns-in_err-make_room-clause-text : goal.returns-in_err-make_room-clause-text
@@ -14,6 +10,5 @@ returns-in_err-make_room-clause-text g c =
 pub returns-clause-text : goal.returns-clause-text
 returns-clause-text g c =
     let begun = held_more _ _ _ _ _ [] (codes "\",\"message\":") c.in_ok-make_room.ensures.text c.put.ensures.text in
-    then_put _ _ _ _ _ _ (codes "\",\"message\":") _ c.put_message_object.result begun
-    (put_as _ _ _ _ _ _ c.put_message_object.result
-    (ap (λ (q : Query _). message_object g.K.LineKey.family (AQuery q)) c.query_said.ensures) c.put_message_object.ensures.text)
+    then_put _ _ _ _ _ _ (codes "\",\"message\":") _ c.put_message.result begun (put_as _ _ _ _ _ _ c.put_message.result
+    (ap (λ (q : Query _). message_in true g.K.LineKey.family (AQuery q)) c.query_said.ensures) c.put_message.ensures.text)

@@ -1,8 +1,5 @@
-use Rattle.std.proofs.Common.{[], ◌++◌, codes}
-use Rattle.std.proofs.lemmas.Result.{err_from_is_err_and}
-use Rattle.hex.specs.Hex.{encode_lower}
+use Rattle.mq_replay.proofs.Common.{[], ◌++◌, codes, err_from_is_err_and, encode_lower, broken_behind, broken_within, held_more, then_put}
 use Rattle.mq_wire.specs.Numbered.{numbered_query}
-use Rattle.mq_text.proofs.Passing.{broken_behind, broken_within, held_more, then_put}
 use Rattle.mq_replay.specs.ReplayObjects.{said_field, send_start}
 use Rattle.mq_replay.proofs.sent_object.put_send_object.Goals as goal
 
@@ -38,6 +35,6 @@ returns-clause-text g c =
     let bytes = encode_lower c.args.bytes.now in
     let said = said_field g.K.LineKey.family (numbered_query g.K.Key.number c.args.query.now) in
     let begun = held_more _ _ _ _ _ [] start c.in_ok-make_room.ensures.text c.put_send_start.ensures in
-    then_put _ _ _ _ _ _ start (bytes ++ (said ++ codes "}\n")) c.put_object_end.result begun
-    (then_put _ _ _ _ _ _ bytes (said ++ codes "}\n") c.put_object_end.result c.in_ok-put_hexadecimal.ensures.text
-    (then_put _ _ _ _ _ _ said (codes "}\n") c.put_object_end.result c.in_ok-put_said.ensures.text c.put_object_end.ensures.text))
+    then_put _ _ _ _ _ _ start (bytes ++ (said ++ codes "}\n")) c.put_end.result begun
+    (then_put _ _ _ _ _ _ bytes (said ++ codes "}\n") c.put_end.result c.in_ok-put_hexadecimal.ensures.text
+    (then_put _ _ _ _ _ _ said (codes "}\n") c.put_end.result c.in_ok-put_said.ensures.text c.put_end.ensures.text))

@@ -1,5 +1,4 @@
-use Rattle.std.proofs.Common.{Ok, Err, refl, sym, ◌∙◌}
-use Rattle.std.proofs.lemmas.Result.{err_from_is_err_and}
+use Rattle.mq_replay.proofs.Common.{Ok, Err, refl, sym, ◌∙◌, err_from_is_err_and}
 use Rattle.mq_replay.proofs.PrintedQueries.{printed_by, same_buffer, same_writer}
 use Rattle.mq_replay.proofs.sent_queries.receive.Goals as goal
 
@@ -16,14 +15,12 @@ returns-in_err-answer-clause-receives g c =
     made.same_buffer in
     let done = printed_by contents family c.args.json c.args.now c.new-queries.result receives.messages receives.answers c.receive-received.new.outlet
     (Err c.in_err-answer.field-0.0) made.json made.moment made.answer receives.handed c.in_err-answer.ensures in
-    rw (c.writer-1.given.1 (sym writer), c.buffer-1.given.1 (sym buffer), p.1, ← made.writer, ← made.buffer)
-    (record {
+    rw (c.writer-1.given.1 (sym writer), c.buffer-1.given.1 (sym buffer), p.1, ← made.writer, ← made.buffer) (record {
       answer = c.receive-received.result;
       messages = receives.messages;
       answers = receives.answers;
       receives = receives.receives;
-      put =
-          done.put;
+      put = done.put;
       answer_is = tt;
       all_sent = tt;
     })
@@ -53,14 +50,12 @@ returns-clause-receives g c =
     made.same_buffer in
     let done = printed_by contents family c.args.json c.args.now c.new-queries.result receives.messages receives.answers c.receive-received.new.outlet
     (Ok c.in_ok-answer.field-0) made.json made.moment made.answer receives.handed c.in_ok-answer.ensures in
-    rw (c.writer-1.given.1 (sym writer), c.buffer-1.given.1 (sym buffer), ← made.writer, ← made.buffer)
-    (record {
+    rw (c.writer-1.given.1 (sym writer), c.buffer-1.given.1 (sym buffer), ← made.writer, ← made.buffer) (record {
       answer = c.receive-received.result;
       messages = receives.messages;
       answers = receives.answers;
       receives = receives.receives;
-      put =
-          done.put;
+      put = done.put;
       answer_is = refl;
       all_sent = done.all_sent;
     })

@@ -1,4 +1,4 @@
-use Rattle.std.proofs.Common.{sym, ◌∙◌}
+use Rattle.mq_replay.proofs.Common.{sym, ◌∙◌}
 use Rattle.mq_replay.proofs.PrintedQueries.{printed_by, same_buffer, same_writer}
 use Rattle.mq_replay.proofs.sent_queries.tick.Goals as goal
 

@@ -1,10 +1,5 @@
-use Rattle.std.proofs.Common.{[], ◌++◌, true}
-use Rattle.std.specs.Prelude.{map as list_map}
-use Rattle.std.proofs.lemmas.Result.{err_from_is_err_and}
-use Rattle.mq_table.specs.declared.sources.Source.{Source}
-use Rattle.mq_text.proofs.Passing.{both_passed, broken_behind, broken_within, held_more}
-use Rattle.mq_lines.specs.Objects.{items_from}
-use Rattle.mq_replay.specs.ReplayObjects.{state_end, state_start, timer_item}
+use Rattle.mq_replay.proofs.Common.{[], ◌++◌, true, list_map, err_from_is_err_and, Source, both_passed, broken_behind, broken_within, held_more, items_from}
+use Rattle.mq_replay.proofs.Common.{state_end, state_start, timer_item}
 use Rattle.mq_replay.proofs.ReplayTexts.{timers-entries}
 use Rattle.mq_replay.proofs.state_object.put_state_object.Goals as goal
 

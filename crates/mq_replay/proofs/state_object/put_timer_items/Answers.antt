@@ -1,12 +1,6 @@
-use Rattle.std.proofs.Common.{ℕ, [], ◌++◌, refl, ap, arith}
-use Rattle.std.specs.Prelude.{map as list_map}
-use Rattle.std.proofs.lemmas.Result.{err_from_is_err_and}
-use Rattle.std.proofs.lemmas.Bool.Decides.{nat_tests}
-use Rattle.mq_table.specs.declared.sources.Source.{Source}
-use Rattle.mq_table.specs.declared.timers.SourceTimer.{SourceTimer}
-use Rattle.mq_text.proofs.Passing.{both_passed, broken_behind, broken_within, held_more, nothing_passed}
+use Rattle.mq_replay.proofs.Common.{ℕ, [], ◌++◌, refl, ap, arith, list_map, err_from_is_err_and, nat_tests, Source, SourceTimer, both_passed, broken_behind}
+use Rattle.mq_replay.proofs.Common.{broken_within, held_more, nothing_passed, timer_item}
 use Rattle.mq_lines.proofs.Listed.{next_of_list}
-use Rattle.mq_replay.specs.ReplayObjects.{timer_item}
 use Rattle.mq_replay.proofs.ReplayTexts.{one_left}
 use Rattle.mq_replay.proofs.state_object.put_timer_items.Goals as goal
 

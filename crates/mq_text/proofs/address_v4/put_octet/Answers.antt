@@ -1,5 +1,4 @@
-use Rattle.std.proofs.Common.{◌<◌, arith}
-use Rattle.std.proofs.lemmas.Fmt.{length-decimal-le}
+use Rattle.std.proofs.{Common.◌<◌, Common.arith, lemmas.Fmt.length-decimal-le}
 use Rattle.mq_text.proofs.address_v4.put_octet.Goals as goal
 
 pub put_few_digits-requires : goal.put_few_digits-requires

@@ -1,7 +1,6 @@
 use Rattle.std.proofs.Common.{◌≡◌, ◌-◌, drop, take, length-drop, ap, sym, ◌∙◌, arith}
 use Rattle.std.proofs.lemmas.List.{take_all}
-use Rattle.mq_text.specs.AddressV6.{zeros_ahead}
-use Rattle.mq_text.proofs.LongestRun.{first_run}
+use Rattle.mq_text.{specs.AddressV6.zeros_ahead, proofs.LongestRun.first_run}
 use Rattle.mq_text.proofs.address_v6.longest_zeros.Goals as goal
 
 pub returns-then-place-count-ge8-clause-run : goal.returns-then-place-count-ge8-clause-run

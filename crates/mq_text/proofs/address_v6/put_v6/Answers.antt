@@ -1,6 +1,5 @@
 use Rattle.std.proofs.Common.{◌≡◌, ◌++◌, List, ℕ, length, ap, ◌∙◌, refl}
-use Rattle.mq_text.specs.AddressV6.{groups_of, longest_zeros}
-use Rattle.mq_text.proofs.PutGroups.{put_shortened}
+use Rattle.mq_text.{specs.AddressV6.groups_of, specs.AddressV6.longest_zeros, proofs.PutGroups.put_shortened}
 use Rattle.mq_text.proofs.address_v6.put_v6.Goals as goal
 
 pub returns-clause-text : goal.returns-clause-text

@@ -1,5 +1,4 @@
-use Rattle.std.proofs.Common.{◌++◌, take, arith}
-use Rattle.std.proofs.{KnownBytes.Appends-trans, lemmas.Bool.Decides.nat_tests, lemmas.Grind.common_steps}
+use Rattle.std.proofs.{Common.◌++◌, Common.take, Common.arith, KnownBytes.Appends-trans, lemmas.Bool.Decides.nat_tests, lemmas.Grind.common_steps}
 use Rattle.mq_text.proofs.printing.print.Goals as goal
 
 pub loop-rest-preserved : goal.loop-rest-preserved

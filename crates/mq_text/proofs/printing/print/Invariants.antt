@@ -1,5 +1,4 @@
-use Rattle.std.proofs.Common.{◌≡◌, ℕ, List, ◌++◌, length}
-use Rattle.std.specs.Io.KnownBytes.{Appends}
+use Rattle.std.{proofs.Common.◌≡◌, proofs.Common.ℕ, proofs.Common.List, proofs.Common.◌++◌, proofs.Common.length, specs.Io.KnownBytes.Appends}
 use Rattle.mq_count.specs.Streams.{inner_of, has_failed}
 use Rattle.mq_text.proofs.printing.print.Given as goal
 

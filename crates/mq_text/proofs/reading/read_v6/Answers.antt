@@ -1,7 +1,5 @@
-use Rattle.std.proofs.Common.{sym, ◌∙◌, ap}
-use Rattle.std.specs.{Int.w128, Int.from_be_bytes, Net.Addr.ipv6_segments}
-use Rattle.mq_text.specs.Reading.{has_dot, number_of}
-use Rattle.mq_text.proofs.Spelled.{none_with_dot, none_v6, spelled_from_std}
+use Rattle.std.{proofs.Common.sym, proofs.Common.◌∙◌, proofs.Common.ap, specs.Int.w128, specs.Int.from_be_bytes, specs.Net.Addr.ipv6_segments}
+use Rattle.mq_text.{specs.Reading.has_dot, specs.Reading.number_of, proofs.Spelled.none_with_dot, proofs.Spelled.none_v6, proofs.Spelled.spelled_from_std}
 use Rattle.mq_text.proofs.reading.read_v6.Goals as goal
 
 pub returns-then-has_dot : goal.returns-then-has_dot

@@ -1,5 +1,4 @@
-use Rattle.std.proofs.Common.{ℕ, ◌≤◌, ◌<◌, ◌^◌, length, arith}
-use Rattle.std.proofs.lemmas.Fmt.{length-decimal-le}
+use Rattle.std.proofs.{Common.ℕ, Common.◌≤◌, Common.◌<◌, Common.◌^◌, Common.length, Common.arith, lemmas.Fmt.length-decimal-le}
 use Rattle.std.specs.Fmt.{decimal}
 use Rattle.mq_text.proofs.text.put_decimal.Goals as goal
 

@@ -1,5 +1,4 @@
-use Rattle.std.proofs.Common.{◌++◌, List, ℕ, length, ap, sym, ◌∙◌, arith}
-use Rattle.std.proofs.lemmas.Fmt.{decimal_digit}
+use Rattle.std.proofs.{Common.◌++◌, Common.List, Common.ℕ, Common.length, Common.ap, Common.sym, Common.◌∙◌, Common.arith, lemmas.Fmt.decimal_digit}
 use Rattle.mq_text.proofs.Digits.{two_digits, three_digits, three_from_pair, all_four_digits}
 use Rattle.mq_text.proofs.text.put_few_digits.Goals as goal
 

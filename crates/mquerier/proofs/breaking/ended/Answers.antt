@@ -1,6 +1,4 @@
-use Rattle.std.proofs.Common.{refl, ◌∙◌, inl, inr}
-use Rattle.std.proofs.Math.Bool.{or-false, or-true}
-use Rattle.std.proofs.lemmas.Result.{err_from_is_err_and}
+use Rattle.mquerier.proofs.Common.{refl, ◌∙◌, inl, inr, or-false, or-true, err_from_is_err_and}
 use Rattle.mquerier.proofs.breaking.ended.Goals as goal
 
 pub returns-in_err-flush-in-Ok-clause-ended : goal.returns-in_err-flush-in-Ok-clause-ended

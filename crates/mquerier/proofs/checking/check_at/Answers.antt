@@ -1,6 +1,5 @@
-use Rattle.std.proofs.Common.{◌∙◌}
-use Rattle.mquerier.proofs.Breakings.{end_by, unflushed_by, unwritten_end}
-use Rattle.mquerier.proofs.Checkings.{check_ended, until_in_range}
+use Rattle.mquerier.proofs.Common.{◌∙◌}
+use Rattle.mquerier.proofs.{Breakings.end_by, Breakings.unflushed_by, Breakings.unwritten_end, Checkings.check_ended, Checkings.until_in_range}
 use Rattle.mquerier.proofs.checking.check_at.Goals as goal
 
 pub check-answer-requires : goal.check-answer-requires

@@ -1,8 +1,6 @@
-use Rattle.std.proofs.Common.{Ok, Err, ◌∙◌}
-use Rattle.std.proofs.Math.Bool.{or-false, or-true}
-use Rattle.std.proofs.lemmas.Result.{err_from_is_err_and}
-use Rattle.mq_convert.specs.declared.fault.ConvertFault.TheVariants as answer
+use Rattle.mquerier.proofs.Common.{Ok, Err, ◌∙◌, or-false, or-true, err_from_is_err_and}
 use Rattle.mquerier.proofs.Conversions.{converted_kept}
+use Rattle.mq_convert.specs.declared.fault.ConvertFault.TheVariants as answer
 use Rattle.mquerier.proofs.converting.convert_capture.Goals as goal
 
 pub returns-in_ok-flush-in-Ok-clause-works : goal.returns-in_ok-flush-in-Ok-clause-works

@@ -1,5 +1,4 @@
-use Rattle.std.proofs.Common.{codes}
-use Rattle.std.specs.Fmt.{decimal}
+use Rattle.mquerier.proofs.Common.{codes, decimal}
 use Rattle.mquerier.proofs.Lines.{in_three, repeated_some}
 use Rattle.mquerier.proofs.counts.put_repeated.Goals as goal
 

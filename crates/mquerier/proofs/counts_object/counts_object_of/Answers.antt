@@ -1,6 +1,5 @@
-use Rattle.std.proofs.Common.{true, append_assoc, codes}
-use Rattle.mq_lines.specs.Objects.{items_from}
-use Rattle.mquerier.specs.Failures.{counts_start, link_item}
+use Rattle.mquerier.proofs.Common.{true, append_assoc, codes, items_from, link_item}
+use Rattle.mquerier.specs.Failures.{counts_start}
 use Rattle.mquerier.proofs.counts_object.counts_object_of.Goals as goal
 
 pub returns : goal.returns

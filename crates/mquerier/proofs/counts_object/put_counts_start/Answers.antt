@@ -1,6 +1,4 @@
-use Rattle.std.proofs.Common.{codes}
-use Rattle.mq_lines.proofs.Parts.{four_parts}
-use Rattle.mquerier.specs.Failures.{count_field}
+use Rattle.mquerier.proofs.Common.{codes, four_parts, count_field}
 use Rattle.mquerier.proofs.counts_object.put_counts_start.Goals as goal
 
 pub returns-clause-text : goal.returns-clause-text

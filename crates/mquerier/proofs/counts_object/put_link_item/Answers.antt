@@ -1,7 +1,4 @@
-use Rattle.std.proofs.Common.{codes}
-use Rattle.mq_lines.specs.Objects.{comma_before}
-use Rattle.mq_lines.proofs.Parts.{four_parts}
-use Rattle.mquerier.specs.Failures.{count_field}
+use Rattle.mquerier.proofs.Common.{codes, comma_before, four_parts, count_field}
 use Rattle.mquerier.proofs.counts_object.put_link_item.Goals as goal
 
 pub returns-clause-text : goal.returns-clause-text

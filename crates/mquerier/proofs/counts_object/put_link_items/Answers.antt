@@ -1,5 +1,4 @@
-use Rattle.std.proofs.Common.{[], refl, sym, append-nil, arith}
-use Rattle.std.proofs.lemmas.Bool.Decides.{nat_tests}
+use Rattle.mquerier.proofs.Common.{[], refl, sym, append-nil, arith, nat_tests}
 use Rattle.mquerier.proofs.counts_object.put_link_items.Goals as goal
 
 pub loop-row-init : goal.loop-row-init

@@ -1,7 +1,4 @@
-use Rattle.std.proofs.Common.{◌≡◌, ◌≤◌, ◌+◌, ◌*◌, ℕ, List, ◌++◌, true, drop}
-use Rattle.arrayvec.specs.ArrayVec.{array_vec_len}
-use Rattle.mq_lines.specs.Objects.{items_from}
-use Rattle.mquerier.specs.Failures.{link_item}
+use Rattle.mquerier.proofs.Common.{◌≡◌, ◌≤◌, ◌+◌, ◌*◌, ℕ, List, ◌++◌, true, drop, array_vec_len, items_from, link_item}
 use Rattle.mquerier.proofs.counts_object.put_link_items.Given as goal
 
 -- the text so far and that of the rows left are the whole text

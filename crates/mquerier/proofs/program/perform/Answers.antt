@@ -1,12 +1,5 @@
-use Rattle.std.proofs.Common.{subst}
-use Rattle.mq_check.specs.declared.check_terms.CheckTerms.{CheckTerms}
-use Rattle.mq_command.specs.declared.replay.Settings.{Settings}
-use Rattle.mq_convert.specs.declared.choice.Choice.{Choice}
-use Rattle.mquerier.specs.CheckRuns.{checked_settings}
-use Rattle.mquerier.specs.Changes.{input_by, output_by}
-use Rattle.mquerier.specs.Status.{PerformsCheck, PerformsConversion}
-use Rattle.mquerier.proofs.Checkings.{check_performed}
-use Rattle.mquerier.proofs.Conversions.{conversion_performed}
+use Rattle.mquerier.proofs.Common.{subst, CheckTerms, Settings, Choice, input_by, output_by, PerformsCheck, PerformsConversion}
+use Rattle.mquerier.{specs.CheckRuns.checked_settings, proofs.Checkings.check_performed, proofs.Conversions.conversion_performed}
 use Rattle.mquerier.proofs.program.perform.Goals as goal
 
 pub returns-in-Convert-clause-performs : goal.returns-in-Convert-clause-performs
@@ -29,4 +22,4 @@ returns-in-Check-clause-performs g c =
     let performs = subst
     (λ (terms : CheckTerms). PerformsCheck (record { protocol = c.in-Check.protocol; settings = checked_settings c.in-Check.settings; terms = terms })
     c.in-Check.querier.now input output errors c.perform_check.result) c.terms_of.ensures limited in
-    rw c.in-Check.is (check_performed _ _ _ _ _ _ _ _ input output errors c.perform_check.result performs)
+    rw c.in-Check.is (check_performed _ _ _ _ _ _ _ _ _ input output errors c.perform_check.result performs)

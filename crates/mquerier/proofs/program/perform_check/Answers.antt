@@ -1,5 +1,4 @@
-use Rattle.std.proofs.Common.{refl}
-use Rattle.mquerier.specs.Changes.{input_by, output_by}
+use Rattle.mquerier.proofs.Common.{refl, input_by, output_by}
 use Rattle.mquerier.proofs.Checkings.{check_concluded, check_failed, not_two}
 use Rattle.mquerier.proofs.program.perform_check.Goals as goal
 

@@ -1,5 +1,4 @@
-use Rattle.std.proofs.Common.{refl}
-use Rattle.mquerier.specs.Changes.{input_by, output_by}
+use Rattle.mquerier.proofs.Common.{refl, input_by, output_by}
 use Rattle.mquerier.proofs.Checkings.{work_failed}
 use Rattle.mquerier.proofs.program.perform_work.Goals as goal
 

@@ -1,5 +1,4 @@
-use Rattle.std.proofs.Common.{codes}
-use Rattle.std.proofs.lemmas.Result.{err_from_is_err_and}
+use Rattle.mquerier.proofs.Common.{codes, err_from_is_err_and}
 use Rattle.mq_text.proofs.Passing.{broken_off}
 use Rattle.mquerier.proofs.program.print_line.Goals as goal
 

@@ -1,6 +1,5 @@
-use Rattle.std.proofs.Common.{◌∙◌}
+use Rattle.mquerier.proofs.Common.{◌∙◌, output_by}
 use Rattle.mq_command.specs.declared.TheConstants.{VERSION}
-use Rattle.mquerier.specs.Changes.{output_by}
 use Rattle.mquerier.proofs.Telling.{version_failed}
 use Rattle.mquerier.proofs.program.print_version.Goals as goal
 

@@ -1,4 +1,4 @@
-use Rattle.std.proofs.Common.{◌∙◌}
+use Rattle.mquerier.proofs.Common.{◌∙◌}
 use Rattle.mquerier.proofs.Telling.{told_by_printing}
 use Rattle.mquerier.proofs.program.told.Goals as goal
 

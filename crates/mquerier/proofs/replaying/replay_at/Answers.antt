@@ -1,8 +1,5 @@
-use Rattle.std.proofs.Common.{arith, refl, ◌∙◌}
-use Rattle.std.proofs.lemmas.Result.{err_from_is_err_and}
-use Rattle.mquerier.proofs.Breakings.{end_by, unflushed_by, unwritten_end}
-use Rattle.mquerier.proofs.Checkings.{until_in_range}
-use Rattle.mquerier.proofs.Replayed.{replay_ended}
+use Rattle.mquerier.proofs.Common.{arith, refl, ◌∙◌, err_from_is_err_and}
+use Rattle.mquerier.proofs.{Breakings.end_by, Breakings.unflushed_by, Breakings.unwritten_end, Checkings.until_in_range, Replayed.replay_ended}
 use Rattle.mquerier.proofs.replaying.replay_at.Goals as goal
 
 pub replay-answer-requires : goal.replay-answer-requires

@@ -1,6 +1,4 @@
-use Rattle.std.proofs.Common.{arith}
-use Rattle.mq_command.specs.declared.Protocol.TheVariants.{Igmp, Mld}
-use Rattle.mquerier.specs.Changes.{input_by, output_by}
+use Rattle.mquerier.proofs.Common.{arith, Igmp, Mld, input_by, output_by}
 use Rattle.mquerier.proofs.Replayed.{replayed_for}
 use Rattle.mquerier.proofs.replaying.replay_capture.Goals as goal
 

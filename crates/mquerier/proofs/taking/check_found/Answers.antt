@@ -1,10 +1,4 @@
-use Rattle.std.proofs.Common.{ap, ◌∙◌}
-use Rattle.std.proofs.lemmas.Result.{err_from_is_err_and}
-use Rattle.mq_check.specs.Numbered.{numbered_announced}
-use Rattle.mq_text.specs.Printing.{output_of}
-use Rattle.mq_wire.specs.Family.{Family}
-use Rattle.mquerier.specs.Changes.{input_by, output_by}
-use Rattle.mquerier.specs.Taking.{taken_line}
+use Rattle.mquerier.proofs.Common.{ap, ◌∙◌, err_from_is_err_and, numbered_announced, output_of, Family, input_by, output_by, taken_line}
 use Rattle.mquerier.proofs.Takings.{found_done, found_unwritten}
 use Rattle.mquerier.proofs.taking.check_found.Goals as goal
 
@@ -17,8 +11,8 @@ returns-in_err-print_whole g c =
     let mid = output_of g.W.Write.contents c.check_at.new.output in
     let line = c.as_slice.ensures ∙ c.taken_line_of-line.ensures ∙
     ap (λ (f : Family). taken_line c.args.given.now.terms.additions.json f c.args.given.now.settings found) g.met.F.CapturedFamily.same_family in
-    rw (p.1, p.2) (found_unwritten g.F.Family.FAMILY c.args.given.now found _ input output mid _ _ _ c.with_variables.ensures line
-    c.in_ok-totals.ensures.works c.in_err-print_whole.ensures)
+    rw (p.1, p.2) (found_unwritten g.F.Family.FAMILY c.args.given.now found _ _ input output mid _ _ _ c.with_variables.ensures
+    c.terms_found.ensures line c.in_ok-totals.ensures.works c.in_err-print_whole.ensures)
 
 pub returns : goal.returns
 returns g c =
@@ -28,5 +22,5 @@ returns g c =
     let mid = output_of g.W.Write.contents c.check_at.new.output in
     let line = c.as_slice.ensures ∙ c.taken_line_of-line.ensures ∙
     ap (λ (f : Family). taken_line c.args.given.now.terms.additions.json f c.args.given.now.settings found) g.met.F.CapturedFamily.same_family in
-    found_done g.F.Family.FAMILY c.args.given.now found _ input output mid _ _ c.with_variables.ensures line c.in_ok-totals.ensures.works
-    c.in_ok-print_whole.ensures
+    found_done g.F.Family.FAMILY c.args.given.now found _ _ input output mid _ _ c.with_variables.ensures c.terms_found.ensures line
+    c.in_ok-totals.ensures.works c.in_ok-print_whole.ensures

@@ -1,5 +1,4 @@
-use Rattle.std.proofs.Common.{ap}
-use Rattle.mquerier.specs.Replays.{family_of}
+use Rattle.mquerier.proofs.Common.{ap, family_of}
 use Rattle.mquerier.proofs.Takings.{as_family}
 use Rattle.mquerier.proofs.taking.check_named.Goals as goal
 

@@ -1,7 +1,4 @@
-use Rattle.std.proofs.Common.{refl, ap, Some, None, Ok, Err}
-use Rattle.std.proofs.lemmas.Result.{err_from_is_err_and}
-use Rattle.mq_check.specs.Numbered.{numbered_announced}
-use Rattle.mquerier.specs.declared.failure.Failure.{Failure}
+use Rattle.mquerier.proofs.Common.{refl, ap, Some, None, Ok, Err, err_from_is_err_and, numbered_announced, Failure}
 use Rattle.mquerier.proofs.Takings.{as_found}
 use Rattle.mquerier.proofs.taking.check_taking.Goals as goal
 

@@ -1,4 +1,4 @@
-use Rattle.mquerier.specs.Changes.{input_by, output_by}
+use Rattle.mquerier.proofs.Common.{input_by, output_by}
 use Rattle.mquerier.proofs.Takings.{as_result, taking_done, taking_failed, taking_nothing}
 use Rattle.mquerier.proofs.taking.perform_taking.Goals as goal
 

@@ -1,4 +1,4 @@
-use Rattle.std.proofs.Common.{refl}
+use Rattle.mquerier.proofs.Common.{refl}
 use Rattle.mquerier.proofs.Telling.{told_by_printing}
 use Rattle.mquerier.proofs.unopened.tell_late_querier.Goals as goal
 

@@ -1,8 +1,5 @@
-use Rattle.std.proofs.Common.{ℕ, List, subst, ◌∙◌}
-use Rattle.mquerier.specs.Changes.{output_by}
-use Rattle.mquerier.specs.Status.{IsTold}
-use Rattle.mquerier.proofs.Checkings.{explained}
-use Rattle.mquerier.proofs.Telling.{told_by_printing}
+use Rattle.mquerier.proofs.Common.{ℕ, List, subst, ◌∙◌, output_by, IsTold}
+use Rattle.mquerier.proofs.{Checkings.explained, Telling.told_by_printing}
 use Rattle.mquerier.proofs.unopened.told_of_check.Goals as goal
 
 pub returns-in-NotAnAddress-clause-line : goal.returns-in-NotAnAddress-clause-line

@@ -1,5 +1,4 @@
-use Rattle.std.proofs.Common.{◌≡◌, drop}
-use Rattle.mquerier.specs.Failures.{others}
+use Rattle.mquerier.proofs.Common.{◌≡◌, drop, others}
 use Rattle.mquerier.proofs.unread.others.Given as goal
 
 -- the rest after the rows so far

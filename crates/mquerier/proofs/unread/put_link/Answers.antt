@@ -1,4 +1,4 @@
-use Rattle.std.proofs.Common.{append_assoc}
+use Rattle.mquerier.proofs.Common.{append_assoc}
 use Rattle.mquerier.proofs.unread.put_link.Goals as goal
 
 pub returns-clause-text : goal.returns-clause-text

@@ -1,7 +1,4 @@
-use Rattle.std.proofs.Common.{◌≡◌, ◌≤◌, ◌+◌, ◌*◌, ◌++◌, take}
-use Rattle.std.specs.List.{flat_map}
-use Rattle.arrayvec.specs.ArrayVec.{array_vec_len}
-use Rattle.mquerier.specs.Failures.{link_text}
+use Rattle.mquerier.proofs.Common.{◌≡◌, ◌≤◌, ◌+◌, ◌*◌, ◌++◌, take, flat_map, array_vec_len, link_text}
 use Rattle.mquerier.proofs.unread.put_links.Given as goal
 
 -- the lines of the rows so far

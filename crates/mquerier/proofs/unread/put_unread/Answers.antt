@@ -1,8 +1,5 @@
-use Rattle.std.proofs.Common.{codes}
-use Rattle.std.specs.Fmt.{decimal}
-use Rattle.std.specs.List.{flat_map}
-use Rattle.mquerier.specs.Failures.{link_text, others, others_text}
-use Rattle.mquerier.proofs.Lines.{in_six}
+use Rattle.mquerier.proofs.Common.{codes, decimal, flat_map, link_text, others}
+use Rattle.mquerier.{specs.Failures.others_text, proofs.Lines.in_six}
 use Rattle.mquerier.proofs.unread.put_unread.Goals as goal
 
 pub returns : goal.returns

@@ -1,5 +1,4 @@
-use Rattle.std.proofs.Common.{arith, refl, ◌∙◌}
-use Rattle.std.proofs.lemmas.Result.{err_from_is_err_and}
+use Rattle.mquerier.proofs.Common.{arith, refl, ◌∙◌, err_from_is_err_and}
 use Rattle.mquerier.proofs.Breakings.{end_by, listing_ended, status_end, unflushed_by, unwritten_end}
 use Rattle.mquerier.proofs.work.listing.Goals as goal
 

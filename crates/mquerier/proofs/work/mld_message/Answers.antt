@@ -1,10 +1,6 @@
-use Rattle.std.proofs.Common.{ap, sym, rules, Ok, ◌∙◌, inl, inr, refl, arith}
-use Rattle.std.proofs.Math.Bool.{or-true}
-use Rattle.std.specs.Option.{option_copied}
-use Rattle.std.proofs.lemmas.Result.{err_from_is_err_and}
-use Rattle.mq_wire.specs.Family.{Mld}
-use Rattle.mq_wire.specs.PseudoHeader.{pseudo_header}
-use Rattle.mquerier.specs.Changes.{output_by}
+use Rattle.mquerier.proofs.Common.{ap, sym, Ok, ◌∙◌, inl, inr, refl, arith, or-true, option_copied, err_from_is_err_and, output_by}
+use Rattle.std.proofs.Common.{rules}
+use Rattle.mq_wire.specs.{Family.Mld, PseudoHeader.pseudo_header}
 use Rattle.mquerier.proofs.Worked.{undecoded, line_written, line_begun}
 use Rattle.mquerier.proofs.work.mld_message.Goals as goal
 

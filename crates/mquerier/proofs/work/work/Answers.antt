@@ -1,4 +1,4 @@
-use Rattle.mquerier.specs.Changes.{input_by, output_by}
+use Rattle.mquerier.proofs.Common.{input_by, output_by}
 use Rattle.mquerier.proofs.Worked.{worked}
 use Rattle.mquerier.proofs.work.work.Goals as goal
 

@@ -1,10 +1,5 @@
-use Rattle.std.proofs.Common.{List, ap, sym, ◌∙◌}
-use Rattle.std.specs.Prelude.{flat_map}
-use Rattle.mq_wire.specs.declared.records.RecordView.{RecordView}
+use Rattle.mq_check.proofs.Common.{List, ap, sym, ◌∙◌, flat_map, RecordView, causes_by, CheckingValue, all_changed, specific_terms}
 use Rattle.mq_wire.specs.Numbered.{numbered_record}
-use Rattle.mq_check.specs.Causes.{causes_by}
-use Rattle.mq_check.specs.Checking.{CheckingValue, all_changed}
-use Rattle.mq_check.specs.Queries.{specific_terms}
 use Rattle.mq_check.proofs.Entering.{changed_both}
 use Rattle.mq_check.proofs.checking.Checking.change_records.Goals as goal
 

@@ -1,9 +1,5 @@
--- what was made of the records so far, and then of those that are left, is what is made of all
-use Rattle.std.proofs.Common.{◌≡◌}
-use Rattle.std.specs.Prelude.{flat_map}
-use Rattle.mq_check.specs.Causes.{causes_by}
-use Rattle.mq_check.specs.Checking.{all_changed}
-use Rattle.mq_check.specs.Queries.{specific_terms}
+-- the records so far, and then the rest, have the result of all
+use Rattle.mq_check.proofs.Common.{◌≡◌, flat_map, causes_by, all_changed, specific_terms}
 use Rattle.mq_check.proofs.checking.Checking.change_records.Given as goal
 
 abbrev pub invariant-loop-view : goal.invariant-loop-view

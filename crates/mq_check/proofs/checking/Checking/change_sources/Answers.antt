@@ -1,8 +1,4 @@
-use Rattle.std.proofs.Common.{ℕ, List, ap, sym, ◌∙◌}
-use Rattle.std.specs.Prelude.{map as list_map}
-use Rattle.mq_check.specs.declared.asked.Asked.TheVariants.{Source}
-use Rattle.mq_check.specs.Checking.{CheckingValue, all_changed}
-use Rattle.mq_check.specs.Queries.{specific_terms}
+use Rattle.mq_check.proofs.Common.{ℕ, List, ap, sym, ◌∙◌, list_map, Source, CheckingValue, all_changed, specific_terms}
 use Rattle.mq_check.proofs.checking.Checking.change_sources.Goals as goal
 
 pub loop-source-init : goal.loop-source-init

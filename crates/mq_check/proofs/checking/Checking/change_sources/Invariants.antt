@@ -1,9 +1,5 @@
--- what was made of the sources so far, and then of those that are left, is what is made of all
-use Rattle.std.proofs.Common.{◌≡◌}
-use Rattle.std.specs.Prelude.{map as list_map}
-use Rattle.mq_check.specs.declared.asked.Asked.TheVariants.{Source}
-use Rattle.mq_check.specs.Checking.{all_changed}
-use Rattle.mq_check.specs.Queries.{specific_terms}
+-- the sources so far, and then the rest, have the result of all
+use Rattle.mq_check.proofs.Common.{◌≡◌, list_map, Source, all_changed, specific_terms}
 use Rattle.mq_check.proofs.checking.Checking.change_sources.Given as goal
 
 abbrev pub invariant-loop-source : goal.invariant-loop-source

@@ -1,5 +1,4 @@
-use Rattle.std.proofs.Common.{ℕ, ap, ◌∙◌}
-use Rattle.mq_check.specs.General.{silence_up_to}
+use Rattle.mq_check.proofs.Common.{ℕ, ap, ◌∙◌, silence_up_to}
 use Rattle.mq_check.proofs.Entering.{lost_put}
 use Rattle.mq_check.proofs.checking.Checking.lose_role.Goals as goal
 

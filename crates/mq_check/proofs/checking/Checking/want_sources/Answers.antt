@@ -1,8 +1,4 @@
-use Rattle.std.proofs.Common.{ℕ, List, ap, sym, ◌∙◌}
-use Rattle.std.specs.Prelude.{fold, map as list_map}
-use Rattle.mq_check.specs.declared.asked.Asked.TheVariants.{Source}
-use Rattle.mq_check.specs.Checking.{CheckingValue, subject_wanted}
-use Rattle.mq_check.specs.Numbered.{numbered_terms}
+use Rattle.mq_check.proofs.Common.{ℕ, List, ap, sym, ◌∙◌, fold, list_map, Source, CheckingValue, subject_wanted, numbered_terms}
 use Rattle.mq_check.proofs.checking.Checking.want_sources.Goals as goal
 
 pub loop-source-init : goal.loop-source-init

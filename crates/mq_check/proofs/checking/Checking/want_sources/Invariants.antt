@@ -1,9 +1,5 @@
--- what was made of the sources so far, and then of those that are left, is what is made of all
-use Rattle.std.proofs.Common.{◌≡◌}
-use Rattle.std.specs.Prelude.{fold, map as list_map}
-use Rattle.mq_check.specs.declared.asked.Asked.TheVariants.{Source}
-use Rattle.mq_check.specs.Checking.{subject_wanted}
-use Rattle.mq_check.specs.Numbered.{numbered_terms}
+-- the sources so far, and then the rest, have the result of all
+use Rattle.mq_check.proofs.Common.{◌≡◌, fold, list_map, Source, subject_wanted, numbered_terms}
 use Rattle.mq_check.proofs.checking.Checking.want_sources.Given as goal
 
 abbrev pub invariant-loop-source : goal.invariant-loop-source

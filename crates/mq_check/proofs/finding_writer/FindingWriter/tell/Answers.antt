@@ -1,7 +1,5 @@
 -- A finding that is left out, or whose line is put.
-use Rattle.std.proofs.Common.{ap, sym, ◌∙◌}
-use Rattle.mq_check.specs.Numbered.{numbered_finding}
-use Rattle.mq_check.specs.Telling.{FindingWriterState, counted_one}
+use Rattle.mq_check.proofs.Common.{ap, sym, ◌∙◌, numbered_finding, FindingWriterState, counted_one}
 use Rattle.mq_check.proofs.Tellings.{one_left_out, one_told}
 use Rattle.mq_check.proofs.finding_writer.FindingWriter.tell.Goals as goal
 

@@ -1,11 +1,6 @@
-use Rattle.std.proofs.Common.{Some, ap, refl, sym, ◌∙◌}
-use Rattle.std.proofs.lemmas.Result.{err_from_is_err_and}
-use Rattle.mq_pcap.specs.Frame.{Carried, carried_in}
-use Rattle.mq_text.specs.Printing.{output_of}
-use Rattle.mq_replay.specs.Report.{datagram_of}
-use Rattle.mq_check.specs.declared.check_terms.CheckTerms.{CheckTerms}
+use Rattle.mq_check.proofs.Common.{Some, ap, refl, sym, ◌∙◌, err_from_is_err_and, carried_in, output_of, datagram_of, CheckTerms, WantingValue}
+use Rattle.mq_pcap.specs.Frame.{Carried}
 use Rattle.mq_check.specs.Basis.{with_datagram, with_other}
-use Rattle.mq_check.specs.Wanting.{WantingValue}
 use Rattle.mq_check.proofs.CheckedPackets.{counted_in, packet_came, packet_broken, ticks_at, nothing_came}
 use Rattle.mq_check.proofs.running_check.Check.check_packet.Goals as goal
 
@@ -19,8 +14,7 @@ returns-in-Some-clause-comes g c =
     let carries = sym c.in-Some.ensures ∙ (λ i. datagram_of (sym c.is_faultless.ensures.family i) (c.unwrap_frame-inner.ensures i)) in
     let notes = counted_in _ _ (record { envelope = g.F.Family.envelope_of c.in-Some.datagram.envelope; body = c.in-Some.datagram.body.now })
     c.note_packet.new.self c.note_datagram.new.self c.note_datagram.ensures
-    (c.config-in-Some.ensures ∙ c.in_ok-tick_through.ensures.comes.same_config ∙ sym c.config.ensures) ∙
-    ap (λ (q : WantingValue). record q {
+    (c.config-in-Some.ensures ∙ c.in_ok-tick_through.ensures.comes.same_config ∙ sym c.config.ensures) ∙ ap (λ (q : WantingValue). record q {
       basis = with_datagram c.config.result.now
           (record { envelope = g.F.Family.envelope_of c.in-Some.datagram.envelope; body = c.in-Some.datagram.body.now }) q.basis;
     }) c.note_packet.ensures in
@@ -37,13 +31,10 @@ returns-in-Some-clause-comes g c =
 pub returns-in-None-clause-comes : goal.returns-in-None-clause-comes
 returns-in-None-clause-comes g c =
     let carries = sym c.in-None.ensures ∙ (λ i. datagram_of (sym c.is_faultless.ensures.family i) (c.unwrap_frame-inner.ensures i)) in
-    let notes = c.note_other.ensures ∙
-    ap (λ (content : Carried). record c.note_packet.new.self {
+    let notes = c.note_other.ensures ∙ ap (λ (content : Carried). record c.note_packet.new.self {
       basis = with_other c.args.packet.now.link c.args.packet.now.frame.now content c.note_packet.new.self.basis;
-    }) c.unwrap_frame-inner.ensures ∙
-    ap (λ (q : WantingValue). record q {
-      basis = with_other c.args.packet.now.link c.args.packet.now.frame.now
-          (carried_in c.args.packet.now.link c.args.packet.now.frame.now) q.basis;
+    }) c.unwrap_frame-inner.ensures ∙ ap (λ (q : WantingValue). record q {
+      basis = with_other c.args.packet.now.link c.args.packet.now.frame.now (carried_in c.args.packet.now.link c.args.packet.now.frame.now) q.basis;
     }) c.note_packet.ensures in
     packet_came _ _ _ _ _ _ _ _ _ _ _ _ _ _ _ _ _ _ _ _ _ _ _ _ _ refl c.config.ensures carries
     (ticks_at _ _ _ _ _ _ _ _ _ _ _ _ _ c.moment.ensures.same c.in_ok-tick_through.ensures.comes) notes

@@ -1,7 +1,5 @@
-use Rattle.std.proofs.Common.{ap, sym, ◌∙◌}
-use Rattle.mq_link.specs.Configuration.{Configuration}
+use Rattle.mq_check.proofs.Common.{ap, sym, ◌∙◌, Configuration, WantingValue}
 use Rattle.mq_check.specs.Basis.{basis_at_start, named, variables_in}
-use Rattle.mq_check.specs.Wanting.{WantingValue}
 use Rattle.mq_check.proofs.running_check.Check.new.Goals as goal
 
 pub returns-clause-starts : goal.returns-clause-starts

@@ -1,9 +1,5 @@
-use Rattle.std.proofs.Common.{◌+◌}
-use Rattle.std.proofs.lemmas.Result.{err_from_is_err_and}
-use Rattle.mq_replay.proofs.ReportedOver.{gap_put}
-use Rattle.mq_check.specs.declared.totals.Totals.{Totals}
-use Rattle.mq_check.specs.Coming.{checked_in}
-use Rattle.mq_check.specs.Ending.{ended_behind}
+use Rattle.mq_check.proofs.Common.{◌+◌, err_from_is_err_and, Totals, checked_in, ended_behind}
+use Rattle.mq_walk.proofs.ReportedOver.{gap_put}
 use Rattle.mq_check.proofs.running_check.Check.rest.Goals as goal
 
 pub returns-in_err-end-clause-rest : goal.returns-in_err-end-clause-rest

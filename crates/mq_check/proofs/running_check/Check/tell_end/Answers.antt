@@ -1,19 +1,12 @@
-use Rattle.std.proofs.Common.{ℕ, ap, ◌∙◌}
-use Rattle.std.specs.List.{flat_map}
-use Rattle.std.proofs.lemmas.Result.{err_from_is_err_and}
-use Rattle.mq_table.specs.declared.timing.Timing.{Timing}
-use Rattle.mq_link.specs.Configuration.{Configuration}
-use Rattle.mq_check.specs.Checking.{found_of_last, silence_found, told_at_end}
-use Rattle.mq_check.specs.Ending.{counted_behind}
-use Rattle.mq_check.specs.Telling.{reported_by}
+use Rattle.mq_check.proofs.Common.{ℕ, ap, ◌∙◌, flat_map, err_from_is_err_and, Timing, Configuration, found_of_last, told_at_end, counted_behind, reported_by}
+use Rattle.mq_check.{specs.Checking.silence_found, proofs.Tellings.tells_as, proofs.Tellings.then_told}
 use Rattle.mq_check.proofs.EndedChecks.{all_broken, end_broken, end_passed, end_unpassed, totals_counted}
-use Rattle.mq_check.proofs.Tellings.{tells_as, then_told}
 use Rattle.mq_check.proofs.running_check.Check.tell_end.Goals as goal
 
 pub returns-in_err-tell_rest-clause-text : goal.returns-in_err-tell_rest-clause-text
 returns-in_err-tell_rest-clause-text g c =
-    let ends = ap (λ (m : ℕ). flat_map (found_of_last c.args.self.now.terms.within m c.args.self.now.queries.checking.changed)
-    c.args.self.now.queries.checking.waiting.entries) c.moment.ensures.same in
+    let ends = ap (λ (m : ℕ). flat_map (found_of_last c.args.self.now.terms.within m c.args.self.now.queries.checking.changed
+    c.args.self.now.queries.checking.refused) c.args.self.now.queries.checking.waiting.entries) c.moment.ensures.same in
     let p = err_from_is_err_and c.from_residual.result c.from_residual.ensures.1 in
     let found = told_at_end c.args.self.now.terms.within c.args.self.now.link.config.timing c.args.end c.args.passed c.args.self.now.queries.checking in
     let totals = counted_behind c.args.self.now.told.count c.args.self.now.queries.checking c.args.rests_on (reported_by c.args.self.now.told found) in
@@ -21,8 +14,8 @@ returns-in_err-tell_rest-clause-text g c =
 
 pub returns-in_err-tell_silence-clause-text : goal.returns-in_err-tell_silence-clause-text
 returns-in_err-tell_silence-clause-text g c =
-    let ends = ap (λ (m : ℕ). flat_map (found_of_last c.args.self.now.terms.within m c.args.self.now.queries.checking.changed)
-    c.args.self.now.queries.checking.waiting.entries) c.moment.ensures.same in
+    let ends = ap (λ (m : ℕ). flat_map (found_of_last c.args.self.now.terms.within m c.args.self.now.queries.checking.changed
+    c.args.self.now.queries.checking.refused) c.args.self.now.queries.checking.waiting.entries) c.moment.ensures.same in
     let p = err_from_is_err_and c.from_residual-in_err-tell_silence.result c.from_residual-in_err-tell_silence.ensures.1 in
     let timing = c.timing-configured.ensures ∙ ap (λ (k : Configuration). k.timing) c.config.ensures in
     let silence = ap (λ (t : Timing). silence_found t c.args.end c.args.passed) timing in
@@ -33,8 +26,8 @@ returns-in_err-tell_silence-clause-text g c =
 
 pub returns-in_err-tell_last-clause-text : goal.returns-in_err-tell_last-clause-text
 returns-in_err-tell_last-clause-text g c =
-    let ends = ap (λ (m : ℕ). flat_map (found_of_last c.args.self.now.terms.within m c.args.self.now.queries.checking.changed)
-    c.args.self.now.queries.checking.waiting.entries) c.moment.ensures.same in
+    let ends = ap (λ (m : ℕ). flat_map (found_of_last c.args.self.now.terms.within m c.args.self.now.queries.checking.changed
+    c.args.self.now.queries.checking.refused) c.args.self.now.queries.checking.waiting.entries) c.moment.ensures.same in
     let p = err_from_is_err_and c.from_residual-in_err-tell_last.result c.from_residual-in_err-tell_last.ensures.1 in
     let timing = c.timing-configured.ensures ∙ ap (λ (k : Configuration). k.timing) c.config.ensures in
     let silence = ap (λ (t : Timing). silence_found t c.args.end c.args.passed) timing in
@@ -48,8 +41,8 @@ returns-in_err-tell_last-clause-text g c =
 
 pub returns-clause-text : goal.returns-clause-text
 returns-clause-text g c =
-    let ends = ap (λ (m : ℕ). flat_map (found_of_last c.args.self.now.terms.within m c.args.self.now.queries.checking.changed)
-    c.args.self.now.queries.checking.waiting.entries) c.moment.ensures.same in
+    let ends = ap (λ (m : ℕ). flat_map (found_of_last c.args.self.now.terms.within m c.args.self.now.queries.checking.changed
+    c.args.self.now.queries.checking.refused) c.args.self.now.queries.checking.waiting.entries) c.moment.ensures.same in
     let timing = c.timing-configured.ensures ∙ ap (λ (k : Configuration). k.timing) c.config.ensures in
     let silence = ap (λ (t : Timing). silence_found t c.args.end c.args.passed) timing in
     let told = then_told _ _ _ _ _ _ _ _ _ _ _ (tells_as _ _ _ _ _ _ _ _ ends c.in_ok-tell_rest.ensures.tells)
@@ -62,8 +55,8 @@ returns-clause-text g c =
 
 pub returns-clause-totals : goal.returns-clause-totals
 returns-clause-totals g c =
-    let ends = ap (λ (m : ℕ). flat_map (found_of_last c.args.self.now.terms.within m c.args.self.now.queries.checking.changed)
-    c.args.self.now.queries.checking.waiting.entries) c.moment.ensures.same in
+    let ends = ap (λ (m : ℕ). flat_map (found_of_last c.args.self.now.terms.within m c.args.self.now.queries.checking.changed
+    c.args.self.now.queries.checking.refused) c.args.self.now.queries.checking.waiting.entries) c.moment.ensures.same in
     let timing = c.timing-configured.ensures ∙ ap (λ (k : Configuration). k.timing) c.config.ensures in
     let silence = ap (λ (t : Timing). silence_found t c.args.end c.args.passed) timing in
     let told = then_told _ _ _ _ _ _ _ _ _ _ _ (tells_as _ _ _ _ _ _ _ _ ends c.in_ok-tell_rest.ensures.tells)

@@ -1,10 +1,6 @@
-use Rattle.std.proofs.Common.{Bool, true, not, ap, sym, ◌∙◌}
-use Rattle.mq_sched.specs.Election.{is_querier}
-use Rattle.mq_link.specs.Configuration.{Configuration}
-use Rattle.mq_check.specs.Basis as basis
-use Rattle.mq_check.specs.Checking.{role_after_tick}
-use Rattle.mq_check.specs.Wanting.{WantingValue}
+use Rattle.mq_check.proofs.Common.{Bool, true, not, ap, sym, ◌∙◌, is_querier, Configuration, role_after_tick, WantingValue}
 use Rattle.mq_check.proofs.Steppings.{ticked_is}
+use Rattle.mq_check.specs.Basis as basis
 use Rattle.mq_check.proofs.running_check.Check.tick.Goals as goal
 
 pub returns-then-was_querier-clause-ticks : goal.returns-then-was_querier-clause-ticks

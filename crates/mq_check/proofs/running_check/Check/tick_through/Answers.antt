@@ -1,8 +1,5 @@
-use Rattle.std.proofs.Common.{◌≡◌, ◌+◌, ap, ◌∙◌, arith}
-use Rattle.mq_text.specs.Printing.{output_of}
-use Rattle.mq_check.specs.Coming.{checked_in}
-use Rattle.mq_check.proofs.Steppings.{comes_as}
-use Rattle.mq_check.proofs.TickedChecks.{rest_of, ticks_come}
+use Rattle.mq_check.proofs.Common.{◌≡◌, ◌+◌, ap, ◌∙◌, arith, output_of, checked_in}
+use Rattle.mq_check.proofs.{Steppings.comes_as, TickedChecks.rest_of, TickedChecks.ticks_come}
 use Rattle.mq_check.proofs.running_check.Check.tick_through.Goals as goal
 
 pub returns : goal.returns

@@ -1,7 +1,4 @@
-use Rattle.std.proofs.Common.{Ok, Err, ap, refl, sym, ◌∙◌}
-use Rattle.std.proofs.lemmas.Result.{err_from_is_err_and}
-use Rattle.mq_text.specs.declared.printing.LineFault.{LineFault}
-use Rattle.mq_check.specs.Checking.{CheckingValue}
+use Rattle.mq_check.proofs.Common.{Ok, Err, ap, refl, sym, ◌∙◌, err_from_is_err_and, LineFault, CheckingValue}
 use Rattle.mq_check.proofs.WalkedChecks.{comes_broken, comes_then, comes_well}
 use Rattle.mq_check.proofs.running_check.CheckGaplessStepWatched.packet.Goals as goal
 

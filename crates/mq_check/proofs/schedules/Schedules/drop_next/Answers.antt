@@ -1,7 +1,5 @@
-use Rattle.std.proofs.Common.{ap, refl, ◌∙◌}
-use Rattle.mq_check.specs.Numbered.{numbered_asked}
-use Rattle.mq_check.specs.Schedules.{SchedulesValue, next_in, terms_of}
-use Rattle.mq_check.proofs.Earlier.{next_dropped}
+use Rattle.mq_check.proofs.Common.{ap, refl, ◌∙◌, numbered_asked, SchedulesValue, next_in}
+use Rattle.mq_check.{specs.Schedules.terms_of, proofs.Earlier.next_dropped}
 use Rattle.mq_check.proofs.schedules.Schedules.drop_next.Goals as goal
 
 pub returns : goal.returns

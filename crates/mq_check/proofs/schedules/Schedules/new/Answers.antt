@@ -1,4 +1,4 @@
-use Rattle.mq_arena.proofs.Takes.{both, neither, refused}
+use Rattle.mq_check.proofs.Common.{both, neither, refused}
 use Rattle.mq_check.proofs.schedules.Schedules.new.Goals as goal
 
 pub returns-in_err-sent-clause-memory : goal.returns-in_err-sent-clause-memory
@@ -16,5 +16,4 @@ returns-in_err-next-clause-memory g c =
     (both (both c.in_ok-sent.ensures.memory c.in_ok-causes.ensures.memory) c.in_err-next.ensures.memory)
 
 pub returns-clause-memory : goal.returns-clause-memory
-returns-clause-memory g c =
-    both (both c.in_ok-sent.ensures.memory c.in_ok-causes.ensures.memory) c.in_ok-next.ensures.memory
+returns-clause-memory g c = both (both c.in_ok-sent.ensures.memory c.in_ok-causes.ensures.memory) c.in_ok-next.ensures.memory

@@ -1,9 +1,5 @@
-use Rattle.std.proofs.Common.{ℕ, ◌-◌, ◌^◌, List, length, sym, ap, ◌∙◌, subst, arith}
-use Rattle.std.proofs.lemmas.List.{length-replicate}
-use Rattle.mq_arena.proofs.Takes.{both, neither, refused}
-use Rattle.mq_check.specs.Sizes.{bytes_of_trails}
-use Rattle.mq_check.specs.Trails.{AreNumbers, AreLinked}
-use Rattle.mq_check.proofs.LinkedSlots.{linked_none, numbers_none, numbers_made}
+use Rattle.mq_check.proofs.Common.{ℕ, ◌-◌, ◌^◌, List, length, sym, ap, ◌∙◌, subst, arith, length-replicate, both, neither, refused, AreNumbers, AreLinked}
+use Rattle.mq_check.{specs.Sizes.bytes_of_trails, proofs.LinkedSlots.linked_none, proofs.LinkedSlots.numbers_none, proofs.LinkedSlots.numbers_made}
 use Rattle.mq_check.proofs.trails.Trails.new.Goals as goal
 
 pub invariant_of-result : goal.invariant_of-result
@@ -31,8 +27,7 @@ invariant_of-result g c =
 pub returns-in_err-filled-2-clause-memory : goal.returns-in_err-filled-2-clause-memory
 unfolding bytes_of_trails
 returns-in_err-filled-2-clause-memory g c =
-    refused c.from_residual-in_err-filled-2.result c.from_residual-in_err-filled-2.ensures.0
-    (neither _ (both (both
+    refused c.from_residual-in_err-filled-2.result c.from_residual-in_err-filled-2.ensures.0 (neither _ (both (both
     (both (both c.in_ok-with_capacity.ensures.memory c.in_ok-with_capacity-2.ensures.memory) c.in_ok-with_capacity-3.ensures.memory)
     c.in_ok-filled.ensures.memory) c.in_err-filled-2.ensures.memory))
 

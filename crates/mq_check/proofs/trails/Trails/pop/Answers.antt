@@ -1,6 +1,4 @@
-use Rattle.std.proofs.Common.{◌≡◌, ℕ, ◌+◌, ◌<◌, List, length, drop, sym, ap, subst, arith}
-use Rattle.std.proofs.lemmas.List.{length-drop}
-use Rattle.mq_check.specs.Trails.{TrailsValue, Reaches, AreNumbers, AreLinked}
+use Rattle.mq_check.proofs.Common.{◌≡◌, ℕ, ◌+◌, ◌<◌, List, length, drop, sym, ap, subst, arith, length-drop, TrailsValue, Reaches, AreNumbers, AreLinked}
 use Rattle.mq_check.proofs.LinkedSlots.{linked_popped, numbers_popped, reaches_popped}
 use Rattle.mq_check.proofs.trails.Trails.pop.Goals as goal
 
@@ -53,7 +51,6 @@ returns-clause-others g c = λ k within before.
     let passed = c.pass.ensures.others (k + 1) within (λ e. absurd (omega (arith, e))) before in
     let seen = subst (λ (t : TrailsValue). Reaches t (k + 1)) (sym {A = TrailsValue} c.self.view_is) passed in
     let popped = reaches_popped c.self.inside.slots.items c.self.inside.nexts.items c.self.inside.starts.items c.self.inside.nears.items
-    c.self.inside.base next k are.1 are.2 (omega arith) c.saturating_add-self-inside.ensures
-    (subst (Reaches _) later seen) in
+    c.self.inside.base next k are.1 are.2 (omega arith) c.saturating_add-self-inside.ensures (subst (Reaches _) later seen) in
     subst (λ (xs : List ℕ). Reaches (Here xs c.pop_front-2.new.self.items) k) (sym {A = List ℕ} c.pop_front.ensures.rest)
     (subst (λ (xs : List ℕ). Reaches (Here (drop 1 c.self.inside.slots.items) xs) k) (sym {A = List ℕ} c.pop_front-2.ensures.rest) popped)

@@ -1,7 +1,6 @@
-use Rattle.std.proofs.Common.{◌≡◌, ℕ, ◌-◌, ◌<◌, ◌≤◌, ◌^◌, ◌++◌, ◌∷◌, [], List, length, get_or, sym, ap, subst, arith}
+use Rattle.mq_check.proofs.Common.{◌≡◌, ℕ, ◌-◌, ◌<◌, ◌≤◌, ◌^◌, ◌++◌, ◌∷◌, [], List, length, get_or, sym, ap, subst, arith, get_or_read, length-set, length_push}
+use Rattle.mq_check.proofs.Common.{TrailsValue, Reaches, AreNumbers, AreLinked}
 use Rattle.std.specs.Prelude.{slice_set}
-use Rattle.std.proofs.lemmas.List.{get_or_read, length-set, length_push}
-use Rattle.mq_check.specs.Trails.{TrailsValue, Reaches, AreNumbers, AreLinked}
 use Rattle.mq_check.proofs.LinkedSlots.{linked_pushed, reaches_pushed, reaches_still, numbers_pushed, numbers_set, numbers_lower}
 use Rattle.mq_check.proofs.trails.Trails.push.Goals as goal
 
@@ -19,8 +18,7 @@ invariant_of-self g c =
     let pending : c.self.inside.base ≤ get_or lasts c.args.slot 0 → c.pending_place-last.result ≡ get_or lasts c.args.slot 0 - c.self.inside.base =
     λ there. omega (arith, read, c.pending_place-last.ensures.pending (omega (arith, read, there))) in (
       subst (λ (xs : List ℕ). AreLinked xs c.push_back_reserved-2.new.self.items (slice_set lasts c.args.slot number) c.self.inside.base)
-          (sym {A = List ℕ} slots)
-          (subst (λ (xs : List ℕ). AreLinked (c.self.inside.slots.items ++ c.args.slot ∷ []) xs
+          (sym {A = List ℕ} slots) (subst (λ (xs : List ℕ). AreLinked (c.self.inside.slots.items ++ c.args.slot ∷ []) xs
           (slice_set lasts c.args.slot number) c.self.inside.base) (sym {A = List ℕ} nexts)
           (linked_pushed _ _ _ _ _ _ _ _ are.0 are.4 are.8 c.requires.slot
           (omega (arith, c.number-number.ensures, ap (λ (t : TrailsValue). t.base) c.self.view_is, c.len.ensures, c.self.inside.slots.ok.0)) pending closed)),
@@ -69,8 +67,7 @@ returns-clause-here g c =
       slots = some;
       nexts = leads;
       starts = slice_set starts c.args.slot c.min.result;
-      nears =
-          slice_set c.self.inside.nears.items c.args.slot c.min-2.result;
+      nears = slice_set c.self.inside.nears.items c.args.slot c.min-2.result;
       base = base;
     } in
     let made = reaches_pushed slots _ _ lasts starts (slice_set c.self.inside.nears.items c.args.slot c.min-2.result) base c.args.slot
@@ -95,8 +92,7 @@ returns-clause-others g c = λ k within before.
       slots = some;
       nexts = leads;
       starts = slice_set starts c.args.slot c.min.result;
-      nears =
-          slice_set c.self.inside.nears.items c.args.slot c.min-2.result;
+      nears = slice_set c.self.inside.nears.items c.args.slot c.min-2.result;
       base = base;
     } in
     let made = reaches_still slots c.self.inside.nexts.items _ starts c.self.inside.nears.items

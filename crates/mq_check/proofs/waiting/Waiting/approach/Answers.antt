@@ -1,10 +1,4 @@
-use Rattle.std.proofs.Common.{◌≤◌, ℕ, List, ap, sym, subst, arith}
-use Rattle.std.specs.Prelude.{map as list_map}
-use Rattle.std.proofs.lemmas.Bool.Decides.{nat_tests}
-use Rattle.mq_check.specs.declared.entry.Entry.{Entry}
-use Rattle.mq_check.specs.Numbered.{numbered_entry}
-use Rattle.mq_check.specs.Slots.{AreMarked, AreNoneOf}
-use Rattle.mq_check.specs.Waiting.{WaitingValue}
+use Rattle.mq_check.proofs.Common.{◌≤◌, ℕ, List, ap, sym, subst, arith, list_map, nat_tests, Entry, numbered_entry, AreMarked, AreNoneOf, WaitingValue}
 use Rattle.mq_check.proofs.MarkedEntries.{marked_near}
 use Rattle.mq_check.proofs.waiting.Waiting.approach.Goals as goal
 
@@ -16,5 +10,10 @@ invariant_of-self g c =
     let none = subst (λ (es : List (Entry ℕ)). AreNoneOf g.F.Address.WireKey.WIDTH c.slot_of-slot.result c.args.from.now es c.near_place-place.result)
     (sym {A = List (Entry ℕ)} made) c.near_place-place.ensures in
     let near = marked_near _ _ _ _ _ _ _ _ are.1 later none c.come_near.ensures.slots c.come_near.ensures.others c.come_near.ensures.nears in
-    let items = list_map (numbered_entry g.F.Address.Key.number) c.self.inside.entries.items in
-    (are.0, subst (λ (from : ℕ). AreMarked g.F.Address.WireKey.WIDTH from items c.come_near.new.self) (sym c.copied-self-inside.ensures) near, are.2, are.3)
+    let items = list_map (numbered_entry g.F.Address.Key.number) c.self.inside.entries.items in (
+      are.0,
+      subst (λ (from : ℕ). AreMarked g.F.Address.WireKey.WIDTH from items c.come_near.new.self) (sym c.copied-self-inside.ensures) near,
+      are.2,
+      are.3,
+      are.4,
+    )

@@ -1,4 +1,4 @@
-use Rattle.std.proofs.Common.{[], length, ap, sym, ◌∙◌, arith}
+use Rattle.mq_check.proofs.Common.{[], length, ap, sym, ◌∙◌, arith}
 use Rattle.mq_check.proofs.waiting.Waiting.clear.Goals as goal
 
 pub loop-entry-preserved : goal.loop-entry-preserved

@@ -1,5 +1,5 @@
--- what is left without entries is all without entries
-use Rattle.std.proofs.Common.{◌≡◌, length}
+-- the rest without entries is all without entries
+use Rattle.mq_check.proofs.Common.{◌≡◌, length}
 use Rattle.mq_check.specs.Waiting.{emptied}
 use Rattle.mq_check.proofs.waiting.Waiting.clear.Given as goal
 

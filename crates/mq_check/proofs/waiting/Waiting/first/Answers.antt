@@ -1,8 +1,4 @@
-use Rattle.std.proofs.Common.{ℕ, ap, sym, ◌∙◌}
-use Rattle.std.specs.Prelude.{Some}
-use Rattle.mq_check.specs.Entries.{first_entry}
-use Rattle.mq_check.specs.Numbered.{numbered_asked, numbered_entry}
-use Rattle.mq_check.specs.Waiting.{WaitingValue, is_free}
+use Rattle.mq_check.proofs.Common.{ℕ, ap, sym, ◌∙◌, Some, first_entry, numbered_asked, numbered_entry, WaitingValue, is_free}
 use Rattle.mq_check.proofs.Waits.{made_at}
 use Rattle.mq_check.proofs.waiting.Waiting.first.Goals as goal
 

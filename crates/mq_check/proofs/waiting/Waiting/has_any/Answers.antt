@@ -1,5 +1,4 @@
-use Rattle.std.proofs.Common.{ℕ, ap, ◌∙◌}
-use Rattle.mq_check.specs.Numbered.{numbered_asked}
+use Rattle.mq_check.proofs.Common.{ℕ, ap, ◌∙◌, numbered_asked}
 use Rattle.mq_check.specs.Waiting.{has_free}
 use Rattle.mq_check.proofs.waiting.Waiting.has_any.Goals as goal
 

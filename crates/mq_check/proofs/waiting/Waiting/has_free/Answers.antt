@@ -1,10 +1,5 @@
-use Rattle.std.proofs.Common.{ap, sym, ◌∙◌}
-use Rattle.std.specs.Prelude.{is_some}
-use Rattle.mq_check.specs.Entries.{terms_in}
-use Rattle.mq_check.specs.Numbered.{numbered_entry}
-use Rattle.mq_check.specs.Waiting.{WaitingValue}
-use Rattle.mq_check.proofs.Entering.{has_terms}
-use Rattle.mq_check.proofs.Waits.{made_at}
+use Rattle.mq_check.proofs.Common.{ap, sym, ◌∙◌, is_some, terms_in, numbered_entry, WaitingValue}
+use Rattle.mq_check.proofs.{Entering.has_terms, Waits.made_at}
 use Rattle.mq_check.proofs.waiting.Waiting.has_free.Goals as goal
 
 pub returns-in-Some : goal.returns-in-Some

@@ -1,12 +1,5 @@
-use Rattle.std.proofs.Common.{◌<◌, ℕ, List, length, ap, sym, subst, ◌∙◌, arith}
-use Rattle.std.proofs.lemmas.List.{get_or_read}
-use borrow.Author.Tests.{ltb-true}
-use Rattle.mq_check.specs.declared.entry.Entry.{Entry}
-use Rattle.mq_check.specs.Numbered.{numbered_entry}
-use Rattle.mq_check.specs.Slots.{AreBounded}
-use Rattle.mq_check.specs.Waiting.{WaitingValue}
-use Rattle.mq_check.proofs.MarkedEntries.{none_wanted, one_wanted}
-use Rattle.mq_check.proofs.Waits.{made_at, made_long}
+use Rattle.mq_check.proofs.Common.{◌<◌, ℕ, List, length, ap, sym, subst, ◌∙◌, arith, get_or_read, ltb-true, Entry, numbered_entry, AreBounded, WaitingValue}
+use Rattle.mq_check.proofs.{MarkedEntries.none_wanted, MarkedEntries.one_wanted, Waits.made_at, Waits.made_long}
 use Rattle.mq_check.proofs.waiting.Waiting.has_group_wanted.Goals as goal
 
 pub returns-then-is_before : goal.returns-then-is_before

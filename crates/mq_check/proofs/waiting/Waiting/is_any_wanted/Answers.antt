@@ -1,6 +1,4 @@
-use Rattle.std.proofs.Common.{◌≡◌, ◌<◌, length, refl, ap, sym, ◌∙◌, arith}
-use Rattle.mq_check.specs.Numbered.{numbered_entry}
-use Rattle.mq_check.specs.Waiting.{WaitingValue}
+use Rattle.mq_check.proofs.Common.{◌≡◌, ◌<◌, length, refl, ap, sym, ◌∙◌, arith, numbered_entry, WaitingValue}
 use Rattle.mq_check.proofs.Waits.{made_at, made_long, one_any, any_at, any_of_none}
 use Rattle.mq_check.proofs.waiting.Waiting.is_any_wanted.Goals as goal
 

@@ -1,7 +1,5 @@
 -- none of the entries so far is such a query
-use Rattle.std.proofs.Common.{◌≡◌, drop}
-use Rattle.std.specs.List.{list_any}
-use Rattle.mq_check.specs.Entries.{is_group_wanted}
+use Rattle.mq_check.proofs.Common.{◌≡◌, drop, list_any, is_group_wanted}
 use Rattle.mq_check.proofs.waiting.Waiting.is_any_wanted.Given as goal
 
 abbrev pub invariant-loop-place : goal.invariant-loop-place

@@ -1,11 +1,6 @@
-use Rattle.std.proofs.Common.{◌≡◌, ◌<◌, ℕ, List, get_or, subst, length, refl, arith, ap, sym, ◌∙◌}
-use Rattle.std.specs.Prelude.{map as list_map}
-use Rattle.mq_check.specs.declared.entry.Entry.{Entry}
-use Rattle.mq_check.specs.Slots.{AreMarked, AreBounded}
-use Rattle.mq_check.specs.Entries.{first_terms, terms_in}
-use Rattle.mq_check.specs.Numbered.{numbered_asked, numbered_entry, numbered_terms}
-use Rattle.mq_check.specs.Waiting.{WaitingValue, is_free, with_partner}
-use Rattle.mq_check.proofs.MarkedEntries.{made_set, marked_joined, bounded_joined}
+use Rattle.mq_check.proofs.Common.{◌≡◌, ◌<◌, ℕ, List, get_or, subst, length, refl, arith, ap, sym, ◌∙◌, list_map, Entry, AreMarked, AreBounded, IsJudgedTo}
+use Rattle.mq_check.proofs.Common.{first_terms, terms_in, numbered_asked, numbered_entry, numbered_terms, WaitingValue, is_free, with_partner}
+use Rattle.mq_check.proofs.{JudgedEntries.judged_joined, MarkedEntries.made_set, MarkedEntries.marked_joined, MarkedEntries.bounded_joined}
 use Rattle.mq_check.proofs.Waits.{made_at, made_long, partner_of_none, partner_joined}
 use Rattle.mq_check.proofs.waiting.Waiting.join.Goals as goal
 
@@ -49,4 +44,6 @@ invariant_of-self g c =
       subst (λ (es : List (Entry ℕ)). AreBounded g.F.Address.WireKey.WIDTH es c.self.inside.latest.items) (sym {A = List (Entry ℕ)} changed)
           (bounded_joined _ _ _ _ _ _ are.2 there_too read),
       are.3,
+      subst (λ (es : List (Entry ℕ)). IsJudgedTo c.self.inside.judged es) (sym {A = List (Entry ℕ)} changed)
+          (judged_joined _ _ _ _ _ are.4 there_too read),
     )

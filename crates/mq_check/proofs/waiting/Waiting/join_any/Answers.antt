@@ -1,7 +1,4 @@
-use Rattle.std.proofs.Common.{ℕ, ap, ◌∙◌}
-use Rattle.mq_check.specs.Entries.{first_terms}
-use Rattle.mq_check.specs.Numbered.{numbered_asked, numbered_terms}
-use Rattle.mq_check.specs.Waiting.{is_free, with_partner}
+use Rattle.mq_check.proofs.Common.{ℕ, ap, ◌∙◌, first_terms, numbered_asked, numbered_terms, is_free, with_partner}
 use Rattle.mq_check.proofs.waiting.Waiting.join_any.Goals as goal
 
 pub returns-clause-terms : goal.returns-clause-terms

@@ -1,12 +1,6 @@
-use Rattle.std.proofs.Common.{◌<◌, ℕ, List, length, false, ap, sym, subst, ◌∙◌, arith}
-use Rattle.std.specs.Prelude.{◌≡◌, nat_le}
-use Rattle.mq_check.specs.declared.entry.Entry.{Entry}
-use Rattle.mq_check.specs.Entries.{moment_of}
-use Rattle.mq_check.specs.Numbered.{numbered_entry}
-use Rattle.mq_check.specs.Slots.{AreMarked}
-use Rattle.mq_check.specs.Waiting.{WaitingValue}
-use Rattle.mq_check.proofs.MarkedEntries.{none_of_further}
-use Rattle.mq_check.proofs.Waits.{made_at, made_long}
+use Rattle.mq_check.proofs.Common.{◌<◌, ℕ, List, length, false, ap, sym, subst, ◌∙◌, arith, ◌≡◌, nat_le, Entry, moment_of, numbered_entry, AreMarked}
+use Rattle.mq_check.proofs.Common.{WaitingValue}
+use Rattle.mq_check.proofs.{MarkedEntries.none_of_further, Waits.made_at, Waits.made_long}
 use Rattle.mq_check.proofs.waiting.Waiting.near_place.Goals as goal
 
 pub loop-place-preserved : goal.loop-place-preserved

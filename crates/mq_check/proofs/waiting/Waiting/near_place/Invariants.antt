@@ -1,6 +1,5 @@
 -- none of the slot so far is free
-use Rattle.std.proofs.Common.{◌-◌, length}
-use Rattle.mq_check.specs.Slots.{AreNoneOf}
+use Rattle.mq_check.proofs.Common.{◌-◌, length, AreNoneOf}
 use Rattle.mq_check.proofs.waiting.Waiting.near_place.Given as goal
 
 abbrev pub invariant-loop-place : goal.invariant-loop-place

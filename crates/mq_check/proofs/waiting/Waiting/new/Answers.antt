@@ -1,12 +1,6 @@
-use Rattle.std.proofs.Common.{ℕ, false, List, length, ap, subst, sym, ◌∙◌}
-use Rattle.std.specs.Prelude.{map as list_map}
-use Rattle.std.proofs.lemmas.List.{length-replicate}
-use Rattle.mq_arena.proofs.Takes.{both, neither, refused}
-use Rattle.mq_check.specs.declared.entry.Entry.{Entry}
-use Rattle.mq_check.specs.Numbered.{numbered_entry}
-use Rattle.mq_check.specs.Sizes.{bytes_of_entries}
-use Rattle.mq_check.specs.Slots.{AreMarked, AreBounded}
-use Rattle.mq_check.proofs.MarkedEntries.{marked_none, bounded_none}
+use Rattle.mq_check.proofs.Common.{ℕ, false, List, length, ap, subst, sym, ◌∙◌, list_map, length-replicate, both, neither, refused, Entry, numbered_entry}
+use Rattle.mq_check.proofs.Common.{AreMarked, AreBounded}
+use Rattle.mq_check.{specs.Sizes.bytes_of_entries, proofs.JudgedEntries.judged_none, proofs.MarkedEntries.marked_none, proofs.MarkedEntries.bounded_none}
 use Rattle.mq_check.proofs.waiting.Waiting.new.Goals as goal
 
 pub invariant_of-result : goal.invariant_of-result
@@ -18,13 +12,13 @@ invariant_of-result g c =
           (marked_none _ _ _ c.in_ok-new.ensures.empty),
       subst (λ (es : List (Entry ℕ)). AreBounded g.F.Address.WireKey.WIDTH es c.in_ok-filled.field-0.items) (sym {A = List (Entry ℕ)} none) (bounded_none _ _),
       ap (λ (xs : List ℕ). length xs) c.in_ok-filled.ensures.items ∙ length-replicate {A = ℕ} 65522 c.moment.result,
+      judged_none _,
     )
 
 pub returns-in_err-with_capacity-clause-memory : goal.returns-in_err-with_capacity-clause-memory
 unfolding bytes_of_entries
 returns-in_err-with_capacity-clause-memory g c =
-    refused c.from_residual.result c.from_residual.ensures.0
-    (neither {between = 0} _ (neither _ c.in_err-with_capacity.ensures.memory))
+    refused c.from_residual.result c.from_residual.ensures.0 (neither {between = 0} _ (neither _ c.in_err-with_capacity.ensures.memory))
 
 pub returns-in_err-new-clause-memory : goal.returns-in_err-new-clause-memory
 unfolding bytes_of_entries

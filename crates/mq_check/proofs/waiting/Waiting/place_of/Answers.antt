@@ -1,8 +1,4 @@
-use Rattle.std.proofs.Common.{ℕ, ◌<◌, ◌≤◌, List, length, ap, sym, subst, refl, ◌∙◌, arith}
-use Rattle.mq_check.specs.declared.entry.Entry.{Entry}
-use Rattle.mq_check.specs.Numbered.{numbered_entry}
-use Rattle.mq_check.specs.Slots.{AreMarked}
-use Rattle.mq_check.specs.Waiting.{WaitingValue}
+use Rattle.mq_check.proofs.Common.{ℕ, ◌<◌, ◌≤◌, List, length, ap, sym, subst, refl, ◌∙◌, arith, Entry, numbered_entry, AreMarked, WaitingValue}
 use Rattle.mq_check.proofs.MarkedEntries.{AreNoneBefore, none_at_start, none_further, passed_up_to}
 use Rattle.mq_check.proofs.Waits.{made_at, made_long, free_at, none_free}
 use Rattle.mq_check.proofs.waiting.Waiting.place_of.Goals as goal

@@ -1,6 +1,5 @@
 -- none of the entries so far is free
-use Rattle.std.proofs.Common.{◌-◌, length}
-use Rattle.mq_check.specs.Numbered.{numbered_asked}
+use Rattle.mq_check.proofs.Common.{◌-◌, length, numbered_asked}
 use Rattle.mq_check.proofs.MarkedEntries.{AreNoneBefore}
 use Rattle.mq_check.proofs.waiting.Waiting.place_of.Given as goal
 

@@ -1,9 +1,5 @@
-use Rattle.std.proofs.Common.{◌<◌, length, refl, arith}
-use Rattle.std.specs.Prelude.{map as list_map}
-use Rattle.std.proofs.lemmas.Bool.Decides.{nat_tests}
-use Rattle.mq_check.specs.Numbered.{numbered_entry}
-use Rattle.mq_check.proofs.MarkedEntries.{made_behind, marked_popped, bounded_popped}
-use Rattle.mq_check.proofs.Waits.{made_long}
+use Rattle.mq_check.proofs.Common.{◌<◌, length, refl, arith, list_map, nat_tests, numbered_entry}
+use Rattle.mq_check.proofs.{JudgedEntries.judged_popped, MarkedEntries.made_behind, MarkedEntries.marked_popped, MarkedEntries.bounded_popped, Waits.made_long}
 use Rattle.mq_check.proofs.waiting.Waiting.pop.Goals as goal
 
 pub invariant_of-self : goal.invariant_of-self
@@ -17,4 +13,5 @@ invariant_of-self g c =
       marked_popped _ _ _ _ _ _ are.1 rest some_too c.pop.ensures.slots c.pop.ensures.others c.pop.ensures.nears,
       bounded_popped _ _ _ _ are.2 rest,
       are.3,
+      judged_popped _ _ _ _ are.4 rest c.saturating_sub-self-inside.ensures,
     )

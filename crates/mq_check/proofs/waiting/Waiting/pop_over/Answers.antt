@@ -1,9 +1,6 @@
-use Rattle.std.proofs.Common.{◌≡◌, ℕ, ◌+◌, ◌<◌, length, refl, ap, sym, ◌∙◌, arith}
-use Rattle.std.specs.Prelude.{nat_lt, map as list_map}
-use Rattle.std.proofs.lemmas.Bool.Decides.{nat_tests}
-use Rattle.mq_check.specs.Numbered.{numbered_entry}
-use Rattle.mq_check.specs.Waiting.{WaitingValue}
-use Rattle.mq_check.proofs.MarkedEntries.{made_behind, marked_popped, bounded_popped}
+use Rattle.mq_check.proofs.Common.{◌≡◌, ℕ, ◌+◌, ◌<◌, length, refl, ap, sym, ◌∙◌, arith, list_map, nat_tests, numbered_entry, WaitingValue}
+use Rattle.std.specs.Prelude.{nat_lt}
+use Rattle.mq_check.proofs.{JudgedEntries.judged_popped, MarkedEntries.made_behind, MarkedEntries.marked_popped, MarkedEntries.bounded_popped}
 use Rattle.mq_check.proofs.Waits.{made_at, made_long, from_place, none_of_full, none_of_none, none_of_first, none_made, popped}
 use Rattle.mq_check.proofs.waiting.Waiting.pop_over.Goals as goal
 
@@ -44,4 +41,5 @@ invariant_of-self g c =
       marked_popped _ _ _ _ _ _ are.1 rest some_too c.pop.ensures.slots c.pop.ensures.others c.pop.ensures.nears,
       bounded_popped _ _ _ _ are.2 rest,
       are.3,
+      judged_popped _ _ _ _ are.4 rest c.saturating_sub-self-inside.ensures,
     )

@@ -1,11 +1,7 @@
-use Rattle.std.proofs.Common.{◌≡◌, ◌<◌, ◌≤◌, ◌++◌, ◌∷◌, [], ◌∙◌, ℕ, List, get_or, set, ap, subst, sym, length, arith}
-use Rattle.std.specs.Prelude.{map as list_map}
-use Rattle.std.proofs.lemmas.List.{length-set, get_or_read}
-use Rattle.mq_check.specs.declared.entry.Entry.{Entry}
-use Rattle.mq_check.specs.Slots.{wanted_slot, wanted_moment, AreMarked, AreBounded}
-use Rattle.mq_check.specs.Numbered.{numbered_entry}
-use Rattle.mq_check.proofs.MarkedEntries.{made_put, marked_pushed, bounded_pushed}
-use Rattle.mq_check.proofs.Waits.{entry_put, no_room_left}
+use Rattle.mq_check.proofs.Common.{◌≡◌, ◌<◌, ◌≤◌, ◌++◌, ◌∷◌, [], ◌∙◌, ℕ, List, get_or, set, ap, subst, sym, length, arith, list_map, length-set, get_or_read}
+use Rattle.mq_check.proofs.Common.{Entry, wanted_slot, wanted_moment, AreMarked, AreBounded, IsJudgedTo, numbered_entry}
+use Rattle.mq_check.proofs.JudgedEntries.{judged_pushed}
+use Rattle.mq_check.proofs.{MarkedEntries.made_put, MarkedEntries.marked_pushed, MarkedEntries.bounded_pushed, Waits.entry_put, Waits.no_room_left}
 use Rattle.mq_check.proofs.waiting.Waiting.put.Goals as goal
 
 pub returns-then-len-lt-ROOM : goal.returns-then-len-lt-ROOM
@@ -43,4 +39,5 @@ invariant_of-self g c =
           (subst (λ (s : ℕ). AreBounded width (list_map f items ++ f c.args.entry ∷ []) (set latest s c.later_of.result)) (sym {A = ℕ} slot)
           (bounded_pushed _ _ _ _ _ are.2 known first second)),
       omega (arith, length-set {A = ℕ}, are.3),
+      subst (λ (es : List (Entry ℕ)). IsJudgedTo c.self.inside.judged es) (sym {A = List (Entry ℕ)} put) (judged_pushed _ _ _ are.4),
     )

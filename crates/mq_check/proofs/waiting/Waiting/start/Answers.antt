@@ -1,8 +1,4 @@
-use Rattle.std.proofs.Common.{◌≤◌, ℕ, List, ap, subst, arith}
-use Rattle.std.proofs.lemmas.Bool.Decides.{nat_tests}
-use Rattle.mq_check.specs.declared.entry.Entry.{Entry}
-use Rattle.mq_check.specs.Slots.{AreNoneOf}
-use Rattle.mq_check.specs.Waiting.{WaitingValue}
+use Rattle.mq_check.proofs.Common.{◌≤◌, ℕ, List, ap, subst, arith, nat_tests, Entry, AreNoneOf, WaitingValue}
 use Rattle.mq_check.proofs.MarkedEntries.{none_of_near, none_of_start}
 use Rattle.mq_check.proofs.waiting.Waiting.start.Goals as goal
 

@@ -1,7 +1,4 @@
-use Rattle.std.proofs.Common.{Bool, ◌||◌, true, Ok, Err, ap, refl, sym, ◌∙◌}
-use Rattle.std.proofs.lemmas.Result.{err_from_is_err_and}
-use Rattle.std.proofs.Math.Bool.{or-false}
-use Rattle.mq_text.specs.declared.printing.LineFault.{LineFault}
+use Rattle.mq_replay.proofs.Common.{Bool, ◌||◌, true, Ok, Err, ap, refl, sym, ◌∙◌, err_from_is_err_and, or-false, LineFault}
 use Rattle.mq_replay.proofs.WrittenEarly.{both_unfailed, packet_then_nothing}
 use Rattle.mq_replay.proofs.listing.ListingStepWatched.packet.Goals as goal
 

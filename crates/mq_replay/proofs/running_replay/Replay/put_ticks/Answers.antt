@@ -1,5 +1,4 @@
-use Rattle.std.proofs.Common.{arith}
-use Rattle.mq_text.specs.Printing.{output_of}
+use Rattle.mq_replay.proofs.Common.{arith, output_of}
 use Rattle.mq_replay.proofs.TickedReplays.{ticks_put}
 use Rattle.mq_replay.proofs.running_replay.Replay.put_ticks.Goals as goal
 

@@ -1,9 +1,5 @@
-use Rattle.std.proofs.Common.{Bool, ◌||◌, true, Ok, Err, ap, sym, ◌∙◌}
-use Rattle.std.proofs.lemmas.Result.{err_from_is_err_and}
-use Rattle.std.proofs.Math.Bool.{or-false}
-use Rattle.mq_text.specs.declared.printing.LineFault.{LineFault}
-use Rattle.mq_replay.proofs.WalkedPackets.{replays_broken, replays_well}
-use Rattle.mq_replay.proofs.WrittenEarly.{both_unfailed, replayed_then_nothing}
+use Rattle.mq_replay.proofs.Common.{Bool, ◌||◌, true, Ok, Err, ap, sym, ◌∙◌, err_from_is_err_and, or-false, LineFault}
+use Rattle.mq_replay.proofs.{WalkedPackets.replays_broken, WalkedPackets.replays_well, WrittenEarly.both_unfailed, WrittenEarly.replayed_then_nothing}
 use Rattle.mq_replay.proofs.running_replay.ReplayGaplessStepWatched.packet.Goals as goal
 
 pub returns-in_err-replay_packet-clause-taken : goal.returns-in_err-replay_packet-clause-taken

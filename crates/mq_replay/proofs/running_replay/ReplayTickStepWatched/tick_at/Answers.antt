@@ -1,9 +1,5 @@
-use Rattle.std.proofs.Common.{Bool, ◌||◌, is_err, refl, ap, sym, ◌∙◌}
-use Rattle.std.proofs.lemmas.Result.{err_from_is_err_and}
-use Rattle.std.proofs.Math.Bool.{or-false}
-use Rattle.mq_link.specs.Configuration.{Configuration}
-use Rattle.mq_replay.proofs.EventLines.{tick_broken_off, tick_lined}
-use Rattle.mq_replay.proofs.TickedReplays.{comes_later}
+use Rattle.mq_replay.proofs.Common.{Bool, ◌||◌, is_err, refl, ap, sym, ◌∙◌, err_from_is_err_and, or-false, Configuration}
+use Rattle.mq_replay.proofs.{EventLines.tick_broken_off, EventLines.tick_lined, TickedReplays.comes_later}
 use Rattle.mq_replay.proofs.running_replay.ReplayTickStepWatched.tick_at.Goals as goal
 
 pub returns-in_err-tick-clause-effect : goal.returns-in_err-tick-clause-effect

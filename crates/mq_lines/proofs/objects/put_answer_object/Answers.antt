@@ -1,9 +1,0 @@
-use Rattle.std.proofs.Common.{[]}
-use Rattle.std.proofs.lemmas.Result.{err_from_is_err_and}
-use Rattle.mq_text.proofs.Passing.{broken_within}
-use Rattle.mq_lines.proofs.objects.put_answer_object.Goals as goal
-
-pub returns-in_err-make_room-in-Err-clause-object : goal.returns-in_err-make_room-in-Err-clause-object
-returns-in_err-make_room-in-Err-clause-object g c =
-    let p = err_from_is_err_and c.from_residual-in_err-make_room-in-Err.result c.from_residual-in_err-make_room-in-Err.ensures.1 in
-    rw (p.1, c.in-Err.is) (broken_within _ _ _ [] _ c.in_err-make_room-in-Err.ensures.text)

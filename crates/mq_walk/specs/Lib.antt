@@ -1,0 +1,10 @@
+pub mod Courses
+pub mod Datagrams
+pub mod Faults
+pub mod Finishing
+pub mod Outlets
+pub mod PlacedPackets
+pub mod PuttingReports
+pub mod Reports
+pub mod Ticks
+pub mod Walking

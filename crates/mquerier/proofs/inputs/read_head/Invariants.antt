@@ -1,0 +1,10 @@
+use Rattle.mquerier.proofs.Common.{◌≤◌}
+use Rattle.std.proofs.Common.{◌-◌}
+use Rattle.mquerier.proofs.inputs.read_head.Given as goal
+
+-- at most all bytes were read
+abbrev pub invariant-loop-count : goal.invariant-loop-count
+invariant-loop-count g l = l.count ≤ 24
+
+abbrev pub decreases-loop-count : goal.decreases-loop-count
+decreases-loop-count g l = 24 - l.count
