@@ -1,8 +1,9 @@
 -- Lists of sources that all have one timer, for the worked examples of many sources: what is done to each is done to one.
 use Rattle.mq_examples.proofs.Common.{◌≡◌, ℕ, Bool, true, false, cond, ◌||◌, refl, List, [], ◌∷◌, ◌++◌, length, Option, None, Some, sym, ap, ◌∙◌, suc, arith}
 use Rattle.mq_examples.proofs.Common.{filter, list_any, nat_cmp, eq_by_cmp, option_and_then, nat_cmp_total, T, nat_tests, find, is_sorted}
-use Rattle.mq_examples.proofs.Common.{nat_cmp-IsAntisymmetric, same_entries, SourceTimer, with_entry, entries_by, each_as, Entries, ordered, find-ordered}
-use Rattle.mq_examples.proofs.Common.{sorted-ordered, keys_of, kept_in}
+use Rattle.mq_examples.proofs.Common.{nat_cmp-IsAntisymmetric, same_entries, SourceTimer, entries_by, each_as, Entries, ordered, find-ordered, sorted-ordered}
+use Rattle.mq_examples.proofs.Common.{keys_of, kept_in}
+use Rattle.mq_table.specs.Maps.{with_entry}
 use Rattle.std.proofs.lemmas.List.Folds.{list_any-append}
 use Rattle.mq_examples.proofs.KnownGroups.{named_in, ascending}
 
@@ -99,9 +100,7 @@ ruled_again rule before after ss ascend each =
     ∙ ap ordered (entries_by-each rule after (ss ++ ss) (λ s is. each s (sym (same_named ss s) ∙ is)))
     ∙ same_entries nat_cmp nat_cmp_total nat_cmp-IsAntisymmetric (ordered (each_as after (ss ++ ss))) (each_as after ss)
     (sorted-ordered (each_as after (ss ++ ss))) (ascend after) (λ q.
-    find-ordered (each_as after (ss ++ ss)) q
-    ∙ find-each after (ss ++ ss) q
-    ∙ ap (λ b. cond b (Some after) None) (same_named ss q)
+    find-ordered (each_as after (ss ++ ss)) q ∙ find-each after (ss ++ ss) q ∙ ap (λ b. cond b (Some after) None) (same_named ss q)
     ∙ sym (find-each after ss q))
 
 -- tests of them

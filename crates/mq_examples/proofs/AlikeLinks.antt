@@ -1,13 +1,12 @@
 -- Links with one group whose sources all have one timer: what a Report and a tick do to it.
 use Rattle.mq_examples.proofs.Common.{◌≡◌, ℕ, ◌+◌, Bool, true, false, cond, ◌&&◌, refl, List, [], ◌∷◌, ◌++◌, length, Option, None, Some, Ok, ap, ◌∙◌, ltb, leb}
 use Rattle.mq_examples.proofs.Common.{eqb, arith, max, sum_by, nat_cmp, option_and_then, unwrap_or, is_some, nat_tests, find, by_order, Family, ReportMessage}
-use Rattle.mq_examples.proofs.Common.{RecordView, Allow, Block, with_entry, default_timing, SourceTimer, Running, SentQuery, sources_queries, ElectionState}
-use Rattle.mq_examples.proofs.Common.{ticked, general_messages, Limits, Taken, per_query, v1_mutes_leave, Configuration, Envelope, count_read, drop_reason}
-use Rattle.mq_examples.proofs.Common.{Counters, Applied, Refused, count_verdicts, limit_passed_by, Setting, GoesOn, entrance, querier, saying, ordered, kept_in}
-use Rattle.mq_examples.proofs.Common.{without}
-use Rattle.std.proofs.{lemmas.List.append-nil, lemmas.List.Sums.sum_by-cons}
+use Rattle.mq_examples.proofs.Common.{RecordView, Allow, Block, default_timing, SourceTimer, Running, SentQuery, sources_queries, ElectionState, ticked}
+use Rattle.mq_examples.proofs.Common.{general_messages, Limits, Taken, per_query, v1_mutes_leave, Configuration, Envelope, count_read, drop_reason, Counters}
+use Rattle.mq_examples.proofs.Common.{Applied, Refused, count_verdicts, limit_passed_by, Setting, GoesOn, entrance, querier, saying, ordered, kept_in, without}
+use Rattle.mq_examples.proofs.Common.{append-nil, sum_by-cons, Repeated}
+use Rattle.mq_table.specs.Maps.{with_entry}
 use Rattle.std.specs.declared.cmp.Ordering.TheVariants.{Equal}
-use Rattle.mq_link.specs.declared.answers.Refusal.TheVariants.{Repeated}
 use Rattle.mq_link.specs.Configured.{configured}
 use Rattle.mq_examples.proofs.KnownGroups.{Known, KnownChange, nothing_known, is_empty, expired_in, change_in}
 use Rattle.mq_examples.proofs.{KnownSendings.changed_in, KnownSendings.sent_in, KnownSendings.round_in, Alike.Ascend, Alike.tied_to_itself, Alike.count-each}
@@ -83,8 +82,7 @@ changed : (family : Family) (limits : Limits) (own now group : ℕ) (gs : KnownG
 changed family limits own now group gs change e left queries is_changed is_round is_sent is_one none =
     ap outcome is_changed
     ∙ (λ i. passed_or_not (passed_in limits (with_known gs group (is_round i)) (is_round i)) gs (with_known gs group (is_round i)) (is_sent i))
-    ∙ (λ i. passed_or_not (passed_in limits (is_one i) left) gs (is_one i) queries)
-    ∙ ap (λ name. passed_or_not name gs (one group left) queries) none
+    ∙ (λ i. passed_or_not (passed_in limits (is_one i) left) gs (is_one i) queries) ∙ ap (λ name. passed_or_not name gs (one group left) queries) none
   where
     outcome : Known → KnownOutcome
     outcome x =
@@ -108,8 +106,7 @@ all_blocked family limits own envelope now deadline group s ss suits above =
     ∙ changed family limits own now group gs (change_in default_timing now before Block (s ∷ ss))
     (all_as (Running (now + 2000) 2) (Some now) (s ∷ ss)) after (sources_queries (per_query family) group false (s ∷ ss))
     (ap (λ k. changed_in true default_timing now (change_in default_timing now before Block (s ∷ ss)) k.schedule) (group-one group before) ∙
-    blocked now deadline s ss suits.ascend above)
-    (counts now (now + 2000) 2 now s ss suits.ascend is_now)
+    blocked now deadline s ss suits.ascend above) (counts now (now + 2000) 2 now s ss suits.ascend is_now)
     (sends (per_query family) now group (now + 2000) 2 now (s ∷ ss) suits.ascend is_now refl not_above)
     (with-one group before after (held (Running (now + 2000) 1) (Some (now + 1000)) s ss suits.ascend))
     (passed-one limits group (Running (now + 2000) 1) (Some (now + 1000)) (s ∷ ss) 1 suits.ascend refl suits.scheduled)
@@ -141,11 +138,8 @@ pub all_allowed : (family : Family) (limits : Limits) (own : ℕ) (envelope : En
     → judged_known (meeting family limits own now) [] (saying group 5 (s ∷ ss)) [] ≡ applied_to (one group (all_as (Running (now + 260000) 0) None (s ∷ ss))) []
 all_allowed family limits own envelope now group s ss suits =
     ap (judged_from_known (meeting family limits own now) [] (saying group 5 (s ∷ ss)) []) suits.allow
-    ∙ changed family limits own now group [] (change_in default_timing now nothing_known Allow (s ∷ ss)) after after []
-    (allowed now s ss suits.ascend)
-    refl
-    refl
-    (ap (λ b. cond b (ordered (without group [])) (ordered ((group, after) ∷ []))) (held (Running (now + 260000) 0) None s ss suits.ascend))
+    ∙ changed family limits own now group [] (change_in default_timing now nothing_known Allow (s ∷ ss)) after after [] (allowed now s ss suits.ascend)
+    refl refl (ap (λ b. cond b (ordered (without group [])) (ordered ((group, after) ∷ []))) (held (Running (now + 260000) 0) None s ss suits.ascend))
     (passed-one limits group (Running (now + 260000) 0) None (s ∷ ss) 0 suits.ascend refl suits.unscheduled)
   where
     after : Known
@@ -159,12 +153,10 @@ step_to now counters groups queries = record { link = link_of now counters group
 pub reported : (family : Family) (limits : Limits) (own : ℕ) (envelope : Envelope) (now : ℕ) (counters : Counters) (l : KnownLink) (r : RecordView ℕ)
     (before after : KnownGroups) (queries : List SentQuery) → drop_reason (plain family limits own) envelope (Ok (ReportMessage (r ∷ []))) ≡ None →
     tick_in (plain family limits own) now l ≡ step_to now counters before [] → judged_known (meeting family limits own now) [] r before
-    ≡ applied_to after queries
-    → receipt_known (plain family limits own) envelope (Ok (ReportMessage (r ∷ []))) now l
+    ≡ applied_to after queries → receipt_known (plain family limits own) envelope (Ok (ReportMessage (r ∷ []))) now l
     ≡ record { step = step_to now (count_verdicts (Applied ∷ []) (count_read (Ok (ReportMessage (r ∷ []))) counters)) after queries; answer = Taken 1 0 0 }
 reported family limits own envelope now counters l r before after queries taken ticks judges =
-    (λ i. taken_or_dropped_known config envelope (ticks i) (Ok (ReportMessage (r ∷ []))) (taken i))
-    ∙ ap receipt judges
+    (λ i. taken_or_dropped_known config envelope (ticks i) (Ok (ReportMessage (r ∷ []))) (taken i)) ∙ ap receipt judges
     ∙ ap (λ qs. record { step = step_to now after_counts after qs; answer = Taken 1 0 0 }) (append-nil queries)
   where
     config : Configuration
@@ -182,13 +174,11 @@ pub tick-one : (family : Family) (limits : Limits) (own now : ℕ) (l : KnownLin
     l.groups ≡ one group before → expired_in (max l.last now) before ≡ Some left →
     round_in (ticked default_timing (max l.last now) l.election).timing (max l.last now) left ≡ after →
     sent_in (per_query family) (ticked default_timing (max l.last now) l.election).timing (max l.last now) group left ≡ queries
-    → tick_in (plain family limits own) now l
-    ≡ record {
+    → tick_in (plain family limits own) now l ≡ record {
       link = record {
         groups = one group after;
         election = ticked default_timing (max l.last now) l.election;
-        last =
-            max l.last now;
+        last = max l.last now;
         counters = l.counters;
       };
       queries = general_messages default_timing (max l.last now) l.election ++ queries;
@@ -196,12 +186,9 @@ pub tick-one : (family : Family) (limits : Limits) (own now : ℕ) (l : KnownLin
     }
 tick-one family limits own now l group before left after queries is_group is_left is_after is_sent =
     ap stepped (
-    ap (kept_in (λ _. expired_in moment)) is_group
-    ∙ kept-one (λ _. expired_in moment) group before
-    ∙ ap (λ k. with_entry group k []) is_left)
+    ap (kept_in (λ _. expired_in moment)) is_group ∙ kept-one (λ _. expired_in moment) group before ∙ ap (λ k. with_entry group k []) is_left)
     ∙ (λ i. step_of (kept-one (λ _ k. Some (round_in election.timing moment k)) group left i)
-    (append-nil (sent_in (per_query family) election.timing moment group left) i))
-    ∙ (λ i. step_of (one group (is_after i)) (is_sent i))
+    (append-nil (sent_in (per_query family) election.timing moment group left) i)) ∙ (λ i. step_of (one group (is_after i)) (is_sent i))
   where
     moment : ℕ
     moment = max l.last now
@@ -212,8 +199,7 @@ tick-one family limits own now l group before left after queries is_group is_lef
     step_of : KnownGroups → List SentQuery → KnownStep
     step_of groups qs = record {
       link = record { groups = groups; election = election; last = moment; counters = l.counters };
-      queries =
-          general_messages default_timing moment l.election ++ qs;
+      queries = general_messages default_timing moment l.election ++ qs;
       timing = election.timing;
     }
 
@@ -222,24 +208,19 @@ tick-one family limits own now l group before left after queries is_group is_lef
 
 -- A tick at which the group goes.
 pub tick-gone : (family : Family) (limits : Limits) (own now : ℕ) (l : KnownLink) (group : ℕ) (before : Known) → l.groups ≡ one group before →
-    expired_in (max l.last now) before ≡ None
-    → tick_in (plain family limits own) now l
-    ≡ record {
+    expired_in (max l.last now) before ≡ None → tick_in (plain family limits own) now l ≡ record {
       link = record {
         groups = [];
         election = ticked default_timing (max l.last now) l.election;
         last = max l.last now;
-        counters =
-            l.counters;
+        counters = l.counters;
       };
       queries = general_messages default_timing (max l.last now) l.election ++ [];
       timing = (ticked default_timing (max l.last now) l.election).timing;
     }
 tick-gone family limits own now l group before is_group is_gone =
     ap stepped (
-    ap (kept_in (λ _. expired_in moment)) is_group
-    ∙ kept-one (λ _. expired_in moment) group before
-    ∙ ap (λ k. with_entry group k []) is_gone)
+    ap (kept_in (λ _. expired_in moment)) is_group ∙ kept-one (λ _. expired_in moment) group before ∙ ap (λ k. with_entry group k []) is_gone)
   where
     moment : ℕ
     moment = max l.last now
@@ -253,8 +234,7 @@ tick-gone family limits own now l group before is_group is_gone =
         groups = kept_in (λ _ k. Some (round_in election.timing moment k)) groups;
         election = election;
         last = moment;
-        counters =
-            l.counters;
+        counters = l.counters;
       };
       queries = general_messages default_timing moment l.election ++ sent_from family election.timing moment groups;
       timing = election.timing;

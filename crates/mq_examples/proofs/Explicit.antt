@@ -2,11 +2,13 @@
 use Rattle.mq_examples.proofs.Common.{◌≡◌, ℕ, ◌+◌, Bool, true, false, cond, ◌&&◌, not, refl, List, [], ◌∷◌, ◌++◌, Option, None, Some, sym, subst, ap, ◌∙◌}
 use Rattle.mq_examples.proofs.Common.{arith, list_map, filter, nat_lt, nat_eq, T, list_any, nat_cmp, nat_cmp_total, find, is_sorted, Timing, FilterMode}
 use Rattle.mq_examples.proofs.Common.{SourceTimer, Set, GroupChange, lowered_to, mode_lowered, last_member_count, default_timing, GroupState, is_include}
-use Rattle.mq_examples.proofs.Common.{is_ahead, group_deadline, deadline_of, sendings_of, naming, Sends, keys-from_entries, kept-from_entries, source_asked}
-use Rattle.mq_examples.proofs.Common.{source_counted, sendings_counted, the_group, ScheduleState, ScheduledGroup, settled, SentQuery, GroupQuery, sources_asked}
+use Rattle.mq_examples.proofs.Common.{is_ahead, group_deadline, deadline_of, retransmissions_of, naming, Sends, keys-from_entries, kept-from_entries}
+use Rattle.mq_examples.proofs.Common.{source_asked}
+use Rattle.mq_examples.proofs.Common.{source_counted, retransmissions_counted, the_group, ScheduleState, ScheduledGroup, SentQuery, GroupQuery, sources_asked}
 use Rattle.mq_examples.proofs.Common.{group_asked, after_change, is_due, group_due, sources_queries, messages_due, group_counted, sources_due_next, after_round}
+use Rattle.mq_examples.proofs.Common.{QuerySchedule}
+use Rattle.mq_sched.specs.Schedule.{settled}
 use Rattle.mq_examples.specs.Schedules.{per_query}
-use Rattle.mq_sched.specs.declared.queries.QuerySchedule.{QuerySchedule}
 use Rattle.std.specs.FinMap as map
 use Rattle.std.specs.FinSet as set
 
@@ -20,14 +22,14 @@ known mode es v1 v2 = record { mode = mode; sources = map.from_entries es; v1 = 
 abbrev pub keys_of : Sources → List ℕ
 keys_of es = list_map (λ (e : ℕ × SourceTimer). e.0) es
 
-abbrev pub any_sending : List ℕ → (ℕ → Option SourceTimer) → Bool
-any_sending keys timer = list_any (λ s. nat_lt 0 (sendings_of (timer s))) keys
+abbrev pub any_retransmission : List ℕ → (ℕ → Option SourceTimer) → Bool
+any_retransmission keys timer = list_any (λ s. nat_lt 0 (retransmissions_of (timer s))) keys
 
 -- the settled schedule of a changed group
 abbrev pub settled_by : FilterMode → ScheduleState → List ℕ → (ℕ → Option SourceTimer) → ScheduleState
 settled_by mode schedule keys timer = record {
   group_query = cond (is_include mode) None schedule.group_query;
-  sources_due = cond (any_sending keys timer) schedule.sources_due None;
+  sources_due = cond (any_retransmission keys timer) schedule.sources_due None;
 }
 
 pub settled-known : (mode : FilterMode) (es : Sources) (v1 v2 : Option ℕ) (schedule : ScheduleState) → T (is_sorted nat_cmp es) →
@@ -46,17 +48,14 @@ asked_by timing now asked schedule keys timer = record {
 }
 
 pub sources_asked-known : (timing : Timing) (now : ℕ) (asked : Set) (mode : FilterMode) (es : Sources) (v1 v2 : Option ℕ) (schedule : ScheduleState) →
-    T (is_sorted nat_cmp es) → sources_asked timing now asked (record { group = known mode es v1 v2; schedule = schedule })
-    ≡ record {
+    T (is_sorted nat_cmp es) → sources_asked timing now asked (record { group = known mode es v1 v2; schedule = schedule }) ≡ record {
       group = known mode (asked_sources timing now asked es) v1 v2;
-      schedule = asked_by timing now asked schedule (keys_of es)
-          (λ s. find nat_cmp s es);
+      schedule = asked_by timing now asked schedule (keys_of es) (λ s. find nat_cmp s es);
     }
 sources_asked-known timing now asked mode es v1 v2 schedule sorted = λ i. record {
   group = record {
     mode = mode;
-    sources =
-        kept-from_entries (λ s timer. cond (asked s) (source_asked (lowered_to timing now) (last_member_count timing) timer) timer) es i;
+    sources = kept-from_entries (λ s timer. cond (asked s) (source_asked (lowered_to timing now) (last_member_count timing) timer) timer) es i;
     v1 = v1;
     v2 = v2;
   };
@@ -84,10 +83,9 @@ abbrev pub sent_by : ℕ → Timing → ℕ → FilterMode → ScheduleState →
 sent_by n timing now mode schedule keys timer =
     cond (is_due now (group_due schedule.group_query)) (GroupQuery the_group (is_ahead (lowered_to timing now) (group_deadline mode)) ∷ []) []
     ++ cond (is_due now schedule.sources_due)
-    (sources_queries n the_group true (filter (λ s. nat_lt 0 (sendings_of (timer s)) && is_ahead (lowered_to timing now) (deadline_of (timer s))) keys)
+    (sources_queries n the_group true (filter (λ s. nat_lt 0 (retransmissions_of (timer s)) && is_ahead (lowered_to timing now) (deadline_of (timer s))) keys)
     ++ sources_queries n the_group false
-    (filter (λ s. nat_lt 0 (sendings_of (timer s)) && not (is_ahead (lowered_to timing now) (deadline_of (timer s)))) keys))
-    []
+    (filter (λ s. nat_lt 0 (retransmissions_of (timer s)) && not (is_ahead (lowered_to timing now) (deadline_of (timer s)))) keys)) []
 
 pub sent-known : (n : ℕ) (timing : Timing) (now : ℕ) (mode : FilterMode) (es : Sources) (v1 v2 : Option ℕ) (schedule : ScheduleState) →
     T (is_sorted nat_cmp es) → messages_due n timing now the_group (record { group = known mode es v1 v2; schedule = schedule })
@@ -104,31 +102,27 @@ left_with mode es v1 v2 group_query sources_due =
     record { group = known mode es v1 v2; schedule = record { group_query = group_query; sources_due = sources_due } }
 
 abbrev pub next_by : Timing → ℕ → List ℕ → (ℕ → Option SourceTimer) → Option ℕ
-next_by timing now keys timer = cond (any_sending keys timer) (Some (now + timing.last_member_interval)) None
+next_by timing now keys timer = cond (any_retransmission keys timer) (Some (now + timing.last_member_interval)) None
 
 abbrev pub left_by : Timing → ℕ → FilterMode → Sources → Option ℕ → Option ℕ → ScheduleState → ScheduledGroup
 left_by timing now mode es v1 v2 schedule =
-    cond (is_due now schedule.sources_due)
-    (left_with mode (counted es) v1 v2 (group_counted timing now schedule.group_query)
+    cond (is_due now schedule.sources_due) (left_with mode (counted es) v1 v2 (group_counted timing now schedule.group_query)
     (next_by timing now (keys_of (counted es)) (λ s. find nat_cmp s (counted es))))
     (left_with mode es v1 v2 (group_counted timing now schedule.group_query) schedule.sources_due)
 
 left-cases : (timing : Timing) (now : ℕ) (mode : FilterMode) (es : Sources) (v1 v2 : Option ℕ) (q : Option QuerySchedule) (d : Option ℕ) →
     T (is_sorted nat_cmp (counted es)) → (due : Bool) →
-    ◌≡◌ {A = ScheduledGroup}
-    (record {
-      group = cond due (sendings_counted (known mode es v1 v2)) (known mode es v1 v2);
+    ◌≡◌ {A = ScheduledGroup} (record {
+      group = cond due (retransmissions_counted (known mode es v1 v2)) (known mode es v1 v2);
       schedule =
           record {
             group_query = q;
-            sources_due =
-                cond due (sources_due_next timing now (cond due (sendings_counted (known mode es v1 v2)) (known mode es v1 v2))) d;
+            sources_due = cond due (sources_due_next timing now (cond due (retransmissions_counted (known mode es v1 v2)) (known mode es v1 v2))) d;
           };
     }) (cond due (left_with mode (counted es) v1 v2 q (next_by timing now (keys_of (counted es)) (λ s. find nat_cmp s (counted es))))
     (left_with mode es v1 v2 q d))
 left-cases timing now mode es v1 v2 q d sorted true =
-    ap (λ m. state m) (kept-from_entries (λ _. source_counted) es)
-    ∙ (λ i. left_with mode (counted es) v1 v2 q
+    ap (λ m. state m) (kept-from_entries (λ _. source_counted) es) ∙ (λ i. left_with mode (counted es) v1 v2 q
     (next_by timing now (keys-from_entries (counted es) sorted i) (λ s. map.get-from_entries nat_cmp_total (counted es) s i)))
   where
     state : map.FinMap nat_cmp SourceTimer → ScheduledGroup
@@ -168,11 +162,9 @@ schedule_after timing now mode es asks asked schedule =
 
 pub change-known : (timing : Timing) (now : ℕ) (mode : FilterMode) (es : Sources) (v1 v2 : Option ℕ) (asks : Bool) (asked : Set)
     (schedule : ScheduleState) → T (is_sorted nat_cmp es) →
-    after_change true timing now (record { group = known mode es v1 v2; query = asked; query_group = asks }) schedule
-    ≡ record {
+    after_change true timing now (record { group = known mode es v1 v2; query = asked; query_group = asks }) schedule ≡ record {
       group = known (mode_asked timing now asks mode) (asked_sources timing now asked es) v1 v2;
-      schedule =
-          schedule_after timing now mode es asks asked schedule;
+      schedule = schedule_after timing now mode es asks asked schedule;
     }
 change-known timing now mode es v1 v2 asks asked schedule sorted =
     ap (λ x. sources_asked timing now asked (cond asks (group_asked timing now (record { group = known mode es v1 v2; schedule = x }))
@@ -184,16 +176,10 @@ change-known timing now mode es v1 v2 asks asked schedule sorted =
 -- The group and its schedule after a change. The change is known source by source; the rest is
 -- computed of the list of sources.
 pub change_leaves : (now : ℕ) (change : GroupChange) (schedule : ScheduleState) (mode : FilterMode) (es : Sources) (asks : Bool)
-    (query : List ℕ) {v1 v2 : Option ℕ}
-    → change.group ≡ known mode es v1 v2
-    → ((s : ℕ) → change.query s ≡ set.contains (naming query) s)
-    → change.query_group ≡ asks
-    → T (is_sorted nat_cmp es)
-    → after_change true default_timing now change schedule
-    ≡ record {
+    (query : List ℕ) {v1 v2 : Option ℕ} → change.group ≡ known mode es v1 v2 → ((s : ℕ) → change.query s ≡ set.contains (naming query) s)
+    → change.query_group ≡ asks → T (is_sorted nat_cmp es) → after_change true default_timing now change schedule ≡ record {
       group = known (mode_asked default_timing now asks mode) (asked_sources default_timing now (those query) es) v1 v2;
-      schedule =
-          schedule_after default_timing now mode es asks (those query) schedule;
+      schedule = schedule_after default_timing now mode es asks (those query) schedule;
     }
 change_leaves now change schedule mode es asks query {v1 = v1} {v2 = v2} group_is query_is asks_is sorted =
     ap (λ x. after_change true default_timing now x schedule) (change_is change (known mode es v1 v2) asks query group_is query_is asks_is)
@@ -212,11 +198,8 @@ known_sends now mode es v1 v2 schedule sorted counted_sorted sent left = record 
 
 -- The queries at once after a change, and the group after.
 pub change_sends : (now : ℕ) (change : GroupChange) (schedule : ScheduleState) (mode : FilterMode) (es : Sources) (asks : Bool)
-    (query : List ℕ) {v1 v2 : Option ℕ} {queries : List SentQuery} {after : ScheduledGroup}
-    → change.group ≡ known mode es v1 v2
-    → ((s : ℕ) → change.query s ≡ set.contains (naming query) s)
-    → change.query_group ≡ asks
-    → T (is_sorted nat_cmp es)
+    (query : List ℕ) {v1 v2 : Option ℕ} {queries : List SentQuery} {after : ScheduledGroup} → change.group ≡ known mode es v1 v2
+    → ((s : ℕ) → change.query s ≡ set.contains (naming query) s) → change.query_group ≡ asks → T (is_sorted nat_cmp es)
     → T (is_sorted nat_cmp (asked_sources default_timing now (those query) es))
     → T (is_sorted nat_cmp (counted (asked_sources default_timing now (those query) es)))
     → sent_by per_query default_timing now (mode_asked default_timing now asks mode)

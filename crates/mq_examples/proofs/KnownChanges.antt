@@ -1,17 +1,14 @@
 -- The changed groups, if those before and after are known, for the worked examples.
 use Rattle.mq_examples.proofs.Common.{◌≡◌, ℕ, Bool, true, false, not, ◌||◌, refl, List, [], ◌∷◌, None, Result, Ok, sym, ap, ◌∙◌, filter, nat_cmp, find}
 use Rattle.mq_examples.proofs.Common.{nat_cmp_total, ReportMessage, RecordView, is_include, Configuration, LinkState, Envelope, read_of, pseudo_of, drop_reason}
-use Rattle.mq_examples.proofs.Common.{setting_of, ordered, keys_of, keys-known}
+use Rattle.mq_examples.proofs.Common.{setting_of, ordered, keys_of, keys-known, Message, WireFault, changed_by_tick}
 use Rattle.std.specs.Bool.{beq}
-use Rattle.mq_wire.specs.{declared.message.Message.Message, declared.message.WireFault.WireFault}
-use Rattle.mq_table.specs.Filter.{Filter, names, filter_of, changes_filter}
-use Rattle.mq_table.proofs.Filters.{changes-at}
-use Rattle.mq_link.specs.{Run.Tick, Run.Datagram, Forwarding.changes, Forwarding.changed_by_tick, Forwarding.changed_by_read}
+use Rattle.mq_table.{specs.Filter.Filter, specs.Filter.names, specs.Filter.filter_of, specs.Filter.changes_filter, proofs.Filters.changes-at}
+use Rattle.mq_link.specs.{Run.Tick, Run.Datagram, Forwarding.changes, Forwarding.changed_by_read}
 use Rattle.mq_link.proofs.KeptFilters.{alike_after, unchanged}
-use Rattle.mq_examples.specs.Named.{Names}
-use Rattle.mq_examples.proofs.{KnownGroups.Known, KnownGroups.as_held, KnownReceipts.setting_in}
+use Rattle.mq_examples.{specs.Named.Names, proofs.KnownGroups.Known, proofs.KnownGroups.as_held}
+use Rattle.mq_examples.proofs.{KnownReceipts.setting_in, KnownRecords.group_in, KnownRecords.group-known, KnownRecords.judged_known, KnownRecords.judged-known}
 use Rattle.mq_examples.proofs.KnownLinks.{KnownGroups, as_groups, KnownLink, as_link, tick_in, tick-known}
-use Rattle.mq_examples.proofs.KnownRecords.{group_in, group-known, judged_known, judged-known}
 use Rattle.std.specs.FinMap as map
 use Rattle.std.specs.FinSet as set
 
@@ -41,8 +38,7 @@ module _ (before after : KnownGroups) (group : ℕ) where
   changed_at s is =
       let k = group_in before group in
       let m = group_in after group in
-      known ∙ changes-at (as_held k).group (as_held m).group s
-      ((λ i. not (beq (names k.mode (map.get-from_entries nat_cmp_total k.sources s i))
+      known ∙ changes-at (as_held k).group (as_held m).group s ((λ i. not (beq (names k.mode (map.get-from_entries nat_cmp_total k.sources s i))
       (names m.mode (map.get-from_entries nat_cmp_total m.sources s i)))) ∙ is)
 
   stays : filter_known (group_in before group) ≡ filter_known (group_in after group) → changes (as_groups before) (as_groups after) group ≡ false
@@ -83,8 +79,7 @@ module _ (config : Configuration) (envelope : Envelope) (bytes : List ℕ) (now 
         named =
             (λ i. (tick_is config now l group ∙ stays l.groups left.groups group h.quiet) i || by (tick-known config now l i).state (h.read i))
             ∙ ap (λ reason. changed_by_read (setting_in config left) (Ok (ReportMessage (r ∷ []))) reason (as_groups left.groups) group) h.taken
-            ∙ ap (λ o. changes (as_groups left.groups) o.groups group || false) (judged-known (setting_in config left) [] r left.groups)
-            ∙ or_nothing _
+            ∙ ap (λ o. changes (as_groups left.groups) o.groups group || false) (judged-known (setting_in config left) [] r left.groups) ∙ or_nothing _
             ∙ is;
       }
     where

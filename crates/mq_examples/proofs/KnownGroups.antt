@@ -3,11 +3,12 @@
 use Rattle.mq_examples.proofs.Common.{◌≡◌, ℕ, ◌+◌, Bool, true, false, cond, ◌&&◌, ◌||◌, refl, List, [], ◌++◌, length, Option, None, Some, ap, ◌∙◌, ltb, eqb}
 use Rattle.mq_examples.proofs.Common.{arith, list_any, find, nat_cmp_total, option_map, option_and_then, nat_cmp, eq_by_cmp, Timing, IsIn, IsEx, ToIn, ToEx}
 use Rattle.mq_examples.proofs.Common.{Allow, Block, Set, membership_interval, entries_by, by_rule, FilterMode, Include, SourceTimer, GroupState, is_include}
-use Rattle.mq_examples.proofs.Common.{is_running, is_stopped, sendings_of, vacant, is_vacant, TableRow, table_row, timer_by, GroupChange, change_of}
-use Rattle.mq_examples.proofs.Common.{ScheduleState, no_schedule, settled, group_expired, if_held, Entries, ordered, keys_of, keys-known, len-known, kept_in}
-use Rattle.mq_examples.proofs.Common.{kept-known, by_rule-known}
-use Rattle.mq_table.specs.{declared.kind.Kind.Kind, declared.older_hosts.Hosts.Hosts, OlderHosts.hosts_of, OlderHosts.translated, OlderHosts.translated_change}
-use Rattle.mq_table.specs.{Expiry.ahead, Expiry.mode_expired, Expiry.source_expired, Expiry.held_or_vacant}
+use Rattle.mq_examples.proofs.Common.{is_running, is_stopped, retransmissions_of, vacant, is_vacant, TableRow, table_row, timer_by, GroupChange, change_of}
+use Rattle.mq_examples.proofs.Common.{ScheduleState, no_schedule, group_expired, if_held, Entries, ordered, keys_of, keys-known, len-known, kept_in, kept-known}
+use Rattle.mq_examples.proofs.Common.{by_rule-known, Kind, source_expired}
+use Rattle.mq_sched.specs.Schedule.{settled}
+use Rattle.mq_table.specs.declared.older_hosts.Hosts.{Hosts}
+use Rattle.mq_table.specs.{OlderHosts.hosts_of, OlderHosts.translated, OlderHosts.translated_change, Expiry.ahead, Expiry.mode_expired, Expiry.held_or_vacant}
 use Rattle.std.specs.FinMap as map
 use Rattle.std.specs.FinSet as set
 pub use Rattle.mq_examples.specs.Links.{ListedGroup as Known, as_held, group_listed as group_of}
@@ -22,14 +23,14 @@ timer_in es s = find nat_cmp s es
 abbrev pub ascending : Entries SourceTimer → List ℕ
 ascending es = keys_of (ordered es)
 
-abbrev pub any_sending : List ℕ → (ℕ → Option SourceTimer) → Bool
-any_sending keys timer = list_any (λ s. ltb 0 (sendings_of (timer s))) keys
+abbrev pub any_retransmission : List ℕ → (ℕ → Option SourceTimer) → Bool
+any_retransmission keys timer = list_any (λ s. ltb 0 (retransmissions_of (timer s))) keys
 
 -- the settled schedule of a changed group
 abbrev pub settled_by : FilterMode → ScheduleState → List ℕ → (ℕ → Option SourceTimer) → ScheduleState
 settled_by mode schedule keys timer = record {
   group_query = cond (is_include mode) None schedule.group_query;
-  sources_due = cond (any_sending keys timer) schedule.sources_due None;
+  sources_due = cond (any_retransmission keys timer) schedule.sources_due None;
 }
 
 abbrev pub settled_in : FilterMode → Entries SourceTimer → ScheduleState → ScheduleState
@@ -77,8 +78,7 @@ pub expired-known : (now : ℕ) (k : Known) → if_held (group_expired now (as_h
 expired-known now k =
     ap (λ sources. if_held
     (let h = held_or_vacant (record { mode = mode; sources = sources; v1 = option_and_then (ahead now) k.v1; v2 = option_and_then (ahead now) k.v2 })
-    in record { group = h; schedule = settled h k.schedule })) (kept-known (λ s. source_expired mode now) k.sources)
-    ∙ ended (group_of left) k.schedule
+    in record { group = h; schedule = settled h k.schedule })) (kept-known (λ s. source_expired mode now) k.sources) ∙ ended (group_of left) k.schedule
     ∙ (λ i. cond (is_empty-known left i) None
     (Some (record { group = group_of left; schedule = settled-known mode (sources_expired now k) left.v1 left.v2 k.schedule i })))
     ∙ mapped as_held (is_empty left) left
@@ -129,8 +129,7 @@ change-known timing now k kind named =
     ∙ ap (λ sources. record {
       group = record { mode = l.mode; sources = sources; v1 = k.v1; v2 = k.v2 };
       query = l.query;
-      query_group =
-          l.query_group;
+      query_group = l.query_group;
     }) (by_rule-known k.sources named (rule_of timing now k.mode kind (timer_in k.sources) (named_in named)))
   where
     changed : (ℕ → Option SourceTimer) → Set → GroupChange

@@ -25,8 +25,7 @@ pub queries_due-known : (family : Family) (timing : Timing) (now : ℕ) (gs : Kn
 unfolding queries_due
 queries_due-known family timing now gs =
     ap (flat_map (λ (e : ℕ × ScheduledGroup). messages_due (per_query family) timing now e.0 e.1))
-    (entries-known (with_values as_held gs) ∙ ordered-with_values as_held gs)
-    ∙ each (ordered gs)
+    (entries-known (with_values as_held gs) ∙ ordered-with_values as_held gs) ∙ each (ordered gs)
   where
     each : (es : KnownGroups) → flat_map (λ (e : ℕ × ScheduledGroup). messages_due (per_query family) timing now e.0 e.1) (with_values as_held es)
         ≡ flat_map (λ (e : ℕ × Known). sent_in (per_query family) timing now e.0 e.1) es

@@ -41,8 +41,7 @@ forwards-known : (l : KnownLink) (group source : ℕ) →
     (let k = group_in l.groups group in forwards (as_link l) group source ≡ wants k.mode (find nat_cmp source k.sources))
 forwards-known l group source =
     let k = group_in l.groups group in
-    ap (λ e. forwards_in e.group source) (group-known l.groups group)
-    ∙ ap (wants k.mode) (map.get-from_entries nat_cmp_total k.sources source)
+    ap (λ e. forwards_in e.group source) (group-known l.groups group) ∙ ap (wants k.mode) (map.get-from_entries nat_cmp_total k.sources source)
 
 -- the lemmas for examples
 pub next_is : (l : KnownLink) (moment : ℕ) → next_in l ≡ moment → NextIs l moment

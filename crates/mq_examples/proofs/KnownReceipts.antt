@@ -1,12 +1,12 @@
 -- The receipt of a datagram at a link whose groups are known one by one, for the worked examples.
 use Rattle.mq_examples.proofs.Common.{◌≡◌, ℕ, refl, [], ◌∷◌, ◌++◌, Option, None, Some, Result, Ok, Err, ap, ◌∙◌, QueryMessage, OldReport, LeaveMessage}
 use Rattle.mq_examples.proofs.Common.{ReportMessage, Dropped, Configuration, tick_of, Setting, alone, count_dropped, count_verdicts, Envelope, Receipt, taken}
-use Rattle.mq_examples.proofs.Common.{with_outcomes, with_state, count_read, reason_of_fault, taken_or_dropped, drop_reason, receipt_after}
-use Rattle.mq_wire.specs.{declared.message.Message.Message, declared.message.WireFault.WireFault}
-use Rattle.mq_link.specs.{declared.answers.DropReason.DropReason, declared.answers.Received.Received, Receive.taken_in}
+use Rattle.mq_examples.proofs.Common.{with_outcomes, with_state, count_read, reason_of_fault, taken_or_dropped, drop_reason, receipt_after, Message, WireFault}
+use Rattle.mq_examples.proofs.Common.{DropReason, Received}
+use Rattle.mq_link.specs.Receive.{taken_in}
 use Rattle.mq_examples.proofs.KnownLinks.{KnownLink, as_link, KnownStep, as_step, tick_in, tick-known}
-use Rattle.mq_examples.proofs.KnownRecords.{Join, Leave, KnownOutcome, stated_known, stated-known, KnownOutcomes, all_judged_known, all_judged-known}
-use Rattle.mq_examples.proofs.KnownRecords.{heard_in, heard-known}
+use Rattle.mq_examples.proofs.KnownRecords.{Join, Leave, KnownOutcome, stated_alone_known, stated_alone-known, KnownOutcomes, all_judged_known}
+use Rattle.mq_examples.proofs.KnownRecords.{all_judged-known, heard_in, heard-known}
 
 pub record KnownReceipt : Type 0 where
   pub step : KnownStep
@@ -37,14 +37,12 @@ abbrev pub setting_in : Configuration → KnownLink → Setting
 setting_in config l = record { config = config; election = l.election; now = l.last }
 
 abbrev pub taken_known : Configuration → Envelope → Message ℕ → KnownStep → KnownReceipt
-taken_known config envelope (QueryMessage query) s =
-    with_known_link s (heard_in config s.link.last envelope.source query s.link) (taken [])
+taken_known config envelope (QueryMessage query) s = with_known_link s (heard_in config s.link.last envelope.source query s.link) (taken [])
 taken_known config envelope (OldReport version group) s =
-    with_known_outcomes s (known_alone (stated_known (setting_in config s.link) group (Join version) s.link.groups))
+    with_known_outcomes s (known_alone (stated_alone_known (setting_in config s.link) group (Join version) s.link.groups))
 taken_known config envelope (LeaveMessage group) s =
-    with_known_outcomes s (known_alone (stated_known (setting_in config s.link) group Leave s.link.groups))
-taken_known config envelope (ReportMessage records) s =
-    with_known_outcomes s (all_judged_known (setting_in config s.link) [] records s.link.groups)
+    with_known_outcomes s (known_alone (stated_alone_known (setting_in config s.link) group Leave s.link.groups))
+taken_known config envelope (ReportMessage records) s = with_known_outcomes s (all_judged_known (setting_in config s.link) [] records s.link.groups)
 
 taken-known : (config : Configuration) (envelope : Envelope) (message : Message ℕ) (s : KnownStep) → taken_in config envelope message (as_step s)
     ≡ as_receipt (taken_known config envelope message s)
@@ -52,9 +50,9 @@ unfolding taken_in
 taken-known config envelope (QueryMessage query) s = ap (λ state. with_state (as_step s) state (taken []))
     (heard-known config s.link.last envelope.source query s.link)
 taken-known config envelope (OldReport version group) s = ap (λ o. with_outcomes (as_step s) (alone o))
-    (stated-known (setting_in config s.link) group (Join version) s.link.groups)
+    (stated_alone-known (setting_in config s.link) group (Join version) s.link.groups)
 taken-known config envelope (LeaveMessage group) s = ap (λ o. with_outcomes (as_step s) (alone o))
-    (stated-known (setting_in config s.link) group Leave s.link.groups)
+    (stated_alone-known (setting_in config s.link) group Leave s.link.groups)
 taken-known config envelope (ReportMessage records) s = ap (with_outcomes (as_step s)) (all_judged-known (setting_in config s.link) [] records s.link.groups)
 
 abbrev pub dropped_known : DropReason → KnownStep → KnownReceipt

@@ -2,26 +2,21 @@
 use Rattle.mq_examples.proofs.Common.{◌≡◌, ℕ, ◌+◌, Bool, true, false, cond, not, ◌&&◌, refl, List, [], ◌∷◌, ◌++◌, length, Option, None, Some, sym, ap, ◌∙◌, leb}
 use Rattle.mq_examples.proofs.Common.{eqb, suc, arith, list_map, nat_cmp_total, option_map, unwrap_or, is_some, sum_by, find, nat_cmp, eq_by_cmp, RecordView}
 use Rattle.mq_examples.proofs.Common.{IsEx, ToIn, Timing, Set, ∅, lowered_by_query, older_host_present, ScheduledGroup, SentQuery, after_change, ElectionState}
-use Rattle.mq_examples.proofs.Common.{is_querier, loses_role, Limits, v1_mutes_leave, per_query, Configuration, Verdict, Applied, Ignored, Refused, Groups}
-use Rattle.mq_examples.proofs.Common.{LinkState, unheld, group_at, with_group, sources_of, schedules_of, one_if, Statement, RecordOf, OlderJoin, OlderLeave}
-use Rattle.mq_examples.proofs.Common.{change_stated, limit_passed_by, limit_passed, Outcome, Setting, leaving, unless_passed, sent_at_once, after_sending}
-use Rattle.mq_examples.proofs.Common.{changed_or_refused, is_muted, asking_nothing, Seen, met, Entrance, Stops, GoesOn, entrance, seen_by, judged_from}
-use Rattle.mq_examples.proofs.Common.{Outcomes, and_then, all_judged, Entries, ordered, ordered-known, entries-known, len-known, kept_in, kept_as, without}
-use Rattle.mq_examples.proofs.Common.{remove-known, with_values, find-with_values, ordered-with_values}
-use Rattle.std.proofs.lemmas.List.Sums.{sum_by-cons}
-use Rattle.mq_count.specs.declared.versions.OlderVersion.{OlderVersion}
-use Rattle.mq_count.specs.declared.versions.OlderVersion.TheVariants.{V1, V2}
-use Rattle.mq_wire.specs.{declared.query.Query.Query, declared.query.QueryVersion.QueryVersion, declared.query.QueryVersion.TheVariants.Older}
-use Rattle.mq_wire.specs.{declared.query.QueryVersion.TheVariants.Current}
-use Rattle.mq_table.specs.{declared.kind.Kind.Kind, OlderHosts.older_host}
-use Rattle.mq_link.specs.{declared.answers.Refusal.Refusal, declared.answers.Refusal.TheVariants.Repeated, Record.stated, Record.judged, Heard.election_after}
-use Rattle.mq_link.specs.{Heard.suppresses, Heard.some_named, Heard.asked_by, Heard.groups_cleared, Heard.group_lowered, Heard.groups_lowered}
-use Rattle.mq_link.specs.{Heard.query_heard}
+use Rattle.mq_examples.proofs.Common.{is_querier, loses_role, Limits, v1_mutes_leave, per_query, Configuration, is_allowed, Verdict, Applied, Denied, Ignored}
+use Rattle.mq_examples.proofs.Common.{Refused, Groups, LinkState, unheld, group_at, with_group, sources_of, schedules_of, one_if, Statement, RecordOf}
+use Rattle.mq_examples.proofs.Common.{OlderJoin, OlderLeave, change_stated, limit_passed_by, limit_passed, Outcome, Setting, leaving, unless_passed}
+use Rattle.mq_examples.proofs.Common.{sent_at_once, after_sending, changed_or_refused, is_muted, asking_nothing, Seen, met, Entrance, Stops, GoesOn, entrance}
+use Rattle.mq_examples.proofs.Common.{seen_by, judged_from, Outcomes, and_then, all_judged, Entries, ordered, ordered-known, entries-known, len-known, kept_in}
+use Rattle.mq_examples.proofs.Common.{kept_as, without, remove-known, with_values, find-with_values, ordered-with_values, sum_by-cons, Kind, Refusal, Repeated}
+use Rattle.mq_count.specs.declared.versions.OlderVersion.{OlderVersion, TheVariants.V1, TheVariants.V2}
+use Rattle.mq_wire.specs.declared.query.{Query.Query, QueryVersion.QueryVersion, QueryVersion.TheVariants.Older, QueryVersion.TheVariants.Current}
+use Rattle.mq_table.specs.OlderHosts.{older_host}
+use Rattle.mq_link.specs.Record.{stated, judged, stated_alone}
+use Rattle.mq_link.specs.Heard.{suppresses, some_named, asked_by, groups_cleared, group_lowered, groups_lowered, election_after, query_heard}
 use Rattle.mq_examples.proofs.KnownGroups.{Known, KnownChange, as_held, as_change, group_of, nothing_known, is_empty, is_empty-known, named_in}
 use Rattle.mq_examples.proofs.KnownGroups.{change_in as table_in, change-known, translated_change_in, translated-known}
-use Rattle.mq_examples.proofs.KnownSendings.{changed_in, changed-known, sent_in, sent-known, round_in, round-known, cleared_in, cleared-known}
-use Rattle.mq_examples.proofs.KnownSendings.{lowered_in, lowered-known}
-use Rattle.mq_examples.proofs.KnownLinks.{KnownGroups, as_groups, KnownLink, as_link}
+use Rattle.mq_examples.proofs.KnownSendings.{changed_in, changed-known, sent_in, sent-known, round_in, round-known, cleared_in, cleared-known, lowered_in}
+use Rattle.mq_examples.proofs.{KnownSendings.lowered-known, KnownLinks.KnownGroups, KnownLinks.as_groups, KnownLinks.KnownLink, KnownLinks.as_link}
 use Rattle.std.specs.FinMap as map
 use Rattle.std.specs.FinSet as set
 
@@ -68,8 +63,7 @@ without-values group (e ∷ gs) = at_front (not (eq_by_cmp nat_cmp group e.0)) (
 
 with_group-known : (gs : KnownGroups) (group : ℕ) (k : Known) → with_group (as_groups gs) group (as_held k) ≡ as_groups (with_known gs group k)
 with_group-known gs group k =
-    (λ i. cond (is_empty-known k i) (map.remove (as_groups gs) group) (map.insert (as_groups gs) group (as_held k)))
-    ∙ by_test (is_empty k)
+    (λ i. cond (is_empty-known k i) (map.remove (as_groups gs) group) (map.insert (as_groups gs) group (as_held k))) ∙ by_test (is_empty k)
   where
     by_test : (b : Bool) → cond b (map.remove (as_groups gs) group) (map.insert (as_groups gs) group (as_held k))
         ≡ as_groups (cond b (ordered (without group gs)) (ordered ((group, k) ∷ gs)))
@@ -215,6 +209,20 @@ stated-known at group st gs =
     muted : Bool
     muted = is_muted at.config group (as_statement st)
 
+-- a message of an older version
+abbrev pub stated_alone_known : Setting → ℕ → KnownStatement → KnownGroups → KnownOutcome
+stated_alone_known at group st gs =
+    cond (is_allowed at.config group) (stated_known at group st gs) (record { verdict = Denied; groups = gs; queries = [] })
+
+pub stated_alone-known : (at : Setting) (group : ℕ) (st : KnownStatement) (gs : KnownGroups) → stated_alone at group (as_statement st) (as_groups gs)
+    ≡ as_outcome (stated_alone_known at group st gs)
+stated_alone-known at group st gs = by_test (is_allowed at.config group)
+  where
+    by_test : (b : Bool) → cond b (stated at group (as_statement st) (as_groups gs)) (leaving (as_groups gs) Denied)
+        ≡ as_outcome (cond b (stated_known at group st gs) (record { verdict = Denied; groups = gs; queries = [] }))
+    by_test true = stated-known at group st gs
+    by_test false = refl
+
 -- records with the count of those that met each group
 abbrev pub as_seen : Entries ℕ → Seen
 as_seen es = map.from_entries es
@@ -267,8 +275,7 @@ judged-known at es r gs = by_entrance (entrance at.config r)
     by_entrance (Stops verdict) = refl
     by_entrance (GoesOn kind) =
         (λ i. cond (held-known gs r.group i && leb 4 (met-known es r.group i)) (leaving (as_groups gs) (Refused Repeated))
-        (stated at r.group (RecordOf kind (set.from_list r.sources)) (as_groups gs)))
-        ∙ by_test (repeated_in gs es r.group) kind
+        (stated at r.group (RecordOf kind (set.from_list r.sources)) (as_groups gs))) ∙ by_test (repeated_in gs es r.group) kind
 
 pub record KnownOutcomes : Type 0 where
   pub verdicts : List Verdict
@@ -328,10 +335,8 @@ groups_lowered-known timing now query gs = kept_as as_held _ (lowered_by timing 
     by_test true k =
         (λ i. Some (record {
           group = lowered_by_query timing now (suppresses query.version) (asked-known query.version i) (group_of k);
-          schedule =
-              k.schedule;
-        }))
-        ∙ ap Some (lowered-known timing now (suppresses query.version) (asked_of query.version) k)
+          schedule = k.schedule;
+        })) ∙ ap Some (lowered-known timing now (suppresses query.version) (asked_of query.version) k)
     by_test false k = refl
 
     at_group : (group : ℕ) (k : Known) → Some (cond (eqb group query.group) (group_lowered timing now query.version (as_held k)) (as_held k))

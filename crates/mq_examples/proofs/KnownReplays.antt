@@ -3,21 +3,17 @@ use Rattle.mq_examples.proofs.Common.{◌≡◌, ℕ, ◌+◌, true, false, refl
 use Rattle.mq_examples.proofs.Common.{option_to_list, Captured, Family, SourceTimer, group_deadline, deadline_of, ScheduledGroup, group_due, next_moment}
 use Rattle.mq_examples.proofs.Common.{is_querier, election_at, Configuration, LinkState, next_of, tick_of, Counters, count_answers, no_counts, read_of}
 use Rattle.mq_examples.proofs.Common.{pseudo_of, ListedGroup, ListedGroups, ListedLink, as_groups, as_held, as_link, up_to, Entries, ordered, entries-known}
-use Rattle.mq_examples.proofs.Common.{with_values, ordered-with_values}
-use Rattle.std.proofs.Common.{append-nil}
-use Rattle.mq_pcap.specs.{declared.fault.PcapFault.PcapFault, declared.form.Form.Form, declared.link_type.LinkType.LinkType, Frame.Carried, Frame.carried_in}
-use Rattle.mq_held.specs.Moments.{those_of, moments_of, moments_in, least}
-use Rattle.mq_link.specs.{Sent.outgoing, Forwarding.changed_by_tick}
+use Rattle.mq_examples.proofs.Common.{with_values, ordered-with_values, append-nil, Form, those_of, moments_of, moments_in, least, outgoing, changed_by_tick}
+use Rattle.mq_examples.proofs.Common.{with_packets, ticked_within}
+use Rattle.mq_pcap.specs.{declared.fault.PcapFault.PcapFault, declared.link_type.LinkType.LinkType, Frame.Carried, Frame.carried_in}
 use Rattle.mq_lines.specs.Text.{line_of}
-use Rattle.mq_replay.specs.{declared.capture_fault.CaptureFault.CaptureFault, declared.capture_fault.CaptureFault.TheVariants.Gap, Courses.Course}
-use Rattle.mq_replay.specs.{Courses.Report, Courses.Work, Courses.broken_off, Courses.last_moment, Courses.report_of, Courses.reported, Courses.with_packets}
-use Rattle.mq_replay.specs.{PlacedPackets.Place, PlacedPackets.at_first, PlacedPackets.is_gap, PlacedPackets.place_behind, PlacedPackets.placed}
-use Rattle.mq_replay.specs.{Events.end_events, Events.group_events, Events.query_events, ReplayLines.receipt_line, ReplayLines.skip_line}
-use Rattle.mq_replay.specs.{ReplayLines.end_line, ReplayLines.counts_line, ReplayLines.timer_text, ReplayLines.group_start, ReplayLines.older_hosts_text}
-use Rattle.mq_replay.specs.{ReplayLines.group_line, Report.Replayed, Report.all_sent, Report.after_step, Report.changed_at, Report.those_among}
-use Rattle.mq_replay.specs.{Report.with_changes, Report.ticked_at, Report.Datagram, Report.datagram_of, Report.received_at, Report.replay_of}
-use Rattle.mq_replay.specs.{Report.taken_or_skipped, Report.with_packet, Report.ended_at, Ticks.ticked_within}
-use Rattle.mq_replay.proofs.Ticking.{through_within}
+use Rattle.mq_walk.specs.{declared.capture_fault.CaptureFault.CaptureFault, declared.capture_fault.CaptureFault.TheVariants.Gap, Courses.Course, Courses.Report}
+use Rattle.mq_walk.specs.{Courses.Work, Courses.broken_off, Courses.last_moment, Courses.report_of, Courses.reported, Datagrams.Datagram, Datagrams.datagram_of}
+use Rattle.mq_walk.specs.{PlacedPackets.Place, PlacedPackets.at_first, PlacedPackets.is_gap, PlacedPackets.place_behind, PlacedPackets.placed, Outlets.all_sent}
+use Rattle.mq_walk.proofs.Ticking.{through_within}
+use Rattle.mq_replay.specs.{Events.end_events, Events.group_events, Events.query_events, Report.with_packet, Report.ended_at}
+use Rattle.mq_replay.specs.ReplayLines.{receipt_line, skip_line, end_line, counts_line, timer_text, group_start, older_hosts_text, group_line}
+use Rattle.mq_replay.specs.Report.{Replayed, after_step, changed_at, those_among, with_changes, ticked_at, received_at, replay_of, taken_or_skipped}
 use Rattle.mq_examples.proofs.{KnownLinks.KnownStep, KnownLinks.tick_in, KnownLinks.tick-known, KnownReceipts.receipt_known, KnownReceipts.receipt-known}
 use Rattle.std.specs.FinMap as map
 
@@ -38,8 +34,7 @@ all_moments_known gs = flat_map (λ (e : ℕ × ListedGroup). moments_known e.1)
 moments_in-known : (gs : ListedGroups) → moments_in (as_groups gs) ≡ all_moments_known gs
 moments_in-known gs =
     ap (λ (es : Entries ScheduledGroup). flat_map moments_of (list_map (λ (e : ℕ × ScheduledGroup). e.1) es))
-    (entries-known (with_values as_held gs) ∙ ordered-with_values as_held gs)
-    ∙ each (ordered gs)
+    (entries-known (with_values as_held gs) ∙ ordered-with_values as_held gs) ∙ each (ordered gs)
   where
     each : (es : ListedGroups) → flat_map moments_of (list_map (λ (e : ℕ × ScheduledGroup). e.1) (with_values as_held es))
         ≡ flat_map (λ (e : ℕ × ListedGroup). moments_known e.1) es
@@ -149,8 +144,7 @@ group_line_known family group k =
 group_line-known : (family : Family) (group : ℕ) (k : ListedGroup) → group_line family group (as_held k).group ≡ group_line_known family group k
 group_line-known family group k =
     ap (λ (es : Entries SourceTimer). group_start family group k.mode ++
-    (flat_map (λ (e : ℕ × SourceTimer). timer_text family e.0 e.1) es ++ line_of (older_hosts_text k.v1 k.v2)))
-    (entries-known k.sources)
+    (flat_map (λ (e : ℕ × SourceTimer). timer_text family e.0 e.1) es ++ line_of (older_hosts_text k.v1 k.v2))) (entries-known k.sources)
 
 abbrev pub group_lines_known : Family → ListedGroups → List ℕ
 group_lines_known family gs = flat_map (λ (e : ℕ × ListedGroup). group_line_known family e.0 e.1) (ordered gs)
@@ -222,8 +216,7 @@ packets-known config until link at (packet ∷ packets) k =
     elim b [
       | true ↦ record { state = as_replayed k; moment = at.before; fault = Some (Gap at.number) }
       | false ↦ with_packets (replay_of config (up_to until)) link behind packets (with_packet config next.moment at.number frame (as_replayed k))
-    ]
-    ≡ as_course (elim b [
+    ] ≡ as_course (elim b [
       | true ↦ record { state = k; moment = at.before; fault = Some (Gap at.number) }
       | false ↦ with_packets (known config until) link behind packets (packet_known config next.moment at.number frame k)
     ])) [

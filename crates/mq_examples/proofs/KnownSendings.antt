@@ -1,12 +1,12 @@
 -- The schedules and queries of known groups, for the worked examples.
 use Rattle.mq_examples.proofs.Common.{◌≡◌, ℕ, ◌+◌, Bool, true, false, cond, not, ◌&&◌, refl, List, [], ◌∷◌, ◌++◌, Option, None, Some, ap, ◌∙◌, ltb, filter}
 use Rattle.mq_examples.proofs.Common.{nat_cmp, list_any, FinMap, nat_cmp_total, Timing, FilterMode, SourceTimer, Set, last_member_count, is_include, is_ahead}
-use Rattle.mq_examples.proofs.Common.{deadline_of, sendings_of, group_deadline, lowered_to, mode_lowered, source_lowered, lowered_by_query, source_cleared}
-use Rattle.mq_examples.proofs.Common.{source_asked, source_counted, sendings_counted, ScheduleState, ScheduledGroup, no_schedule, cleared, SentQuery}
+use Rattle.mq_examples.proofs.Common.{deadline_of, retransmissions_of, group_deadline, lowered_to, mode_lowered, source_lowered, lowered_by_query}
+use Rattle.mq_examples.proofs.Common.{source_cleared}
+use Rattle.mq_examples.proofs.Common.{source_asked, source_counted, retransmissions_counted, ScheduleState, ScheduledGroup, no_schedule, cleared, SentQuery}
 use Rattle.mq_examples.proofs.Common.{GroupQuery, sources_asked, acted, after_change, is_due, group_due, sources_queries, messages_due, group_counted}
-use Rattle.mq_examples.proofs.Common.{sources_due_next, after_round, Entries, keys-known, kept_in, kept-known}
-use Rattle.mq_sched.specs.declared.queries.QuerySchedule.{QuerySchedule}
-use Rattle.mq_examples.proofs.KnownGroups.{Known, KnownChange, as_held, as_change, group_of, timer_in, ascending, any_sending, settled_in, settled-known}
+use Rattle.mq_examples.proofs.Common.{sources_due_next, after_round, Entries, keys-known, kept_in, kept-known, QuerySchedule}
+use Rattle.mq_examples.proofs.KnownGroups.{Known, KnownChange, as_held, as_change, group_of, timer_in, ascending, any_retransmission, settled_in, settled-known}
 use Rattle.std.specs.FinMap as map
 
 -- asking for sources
@@ -29,8 +29,7 @@ asked-known : (timing : Timing) (now : ℕ) (asked : Set) (k : Known) → source
 asked-known timing now asked k = λ i. record {
   group = record {
     mode = k.mode;
-    sources =
-        kept-known (λ s timer. Some (cond (asked s) (source_asked (lowered_to timing now) (last_member_count timing) timer) timer)) k.sources i;
+    sources = kept-known (λ s timer. Some (cond (asked s) (source_asked (lowered_to timing now) (last_member_count timing) timer) timer)) k.sources i;
     v1 = k.v1;
     v2 = k.v2;
   };
@@ -81,8 +80,9 @@ abbrev pub sent_by : ℕ → Timing → ℕ → ℕ → FilterMode → ScheduleS
 sent_by n timing now group mode schedule keys timer =
     cond (is_due now (group_due schedule.group_query)) (GroupQuery group (is_ahead (lowered_to timing now) (group_deadline mode)) ∷ []) []
     ++ cond (is_due now schedule.sources_due)
-    (sources_queries n group true (filter (λ s. ltb 0 (sendings_of (timer s)) && is_ahead (lowered_to timing now) (deadline_of (timer s))) keys)
-    ++ sources_queries n group false (filter (λ s. ltb 0 (sendings_of (timer s)) && not (is_ahead (lowered_to timing now) (deadline_of (timer s)))) keys))
+    (sources_queries n group true (filter (λ s. ltb 0 (retransmissions_of (timer s)) && is_ahead (lowered_to timing now) (deadline_of (timer s))) keys)
+    ++ sources_queries n group false (filter
+    (λ s. ltb 0 (retransmissions_of (timer s)) && not (is_ahead (lowered_to timing now) (deadline_of (timer s)))) keys))
     []
 
 abbrev pub sent_in : ℕ → Timing → ℕ → ℕ → Known → List SentQuery
@@ -97,12 +97,11 @@ abbrev pub counted_in : Known → Entries SourceTimer
 counted_in k = kept_in (λ s timer. Some (source_counted timer)) k.sources
 
 abbrev pub next_by : Timing → ℕ → List ℕ → (ℕ → Option SourceTimer) → Option ℕ
-next_by timing now keys timer = cond (any_sending keys timer) (Some (now + timing.last_member_interval)) None
+next_by timing now keys timer = cond (any_retransmission keys timer) (Some (now + timing.last_member_interval)) None
 
 abbrev pub round_in : Timing → ℕ → Known → Known
 round_in timing now k =
-    cond (is_due now k.schedule.sources_due)
-    (record {
+    cond (is_due now k.schedule.sources_due) (record {
       mode = k.mode;
       sources = counted_in k;
       v1 = k.v1;
@@ -111,8 +110,7 @@ round_in timing now k =
         group_query = group_counted timing now k.schedule.group_query;
         sources_due = next_by timing now (ascending (counted_in k)) (timer_in (counted_in k));
       };
-    })
-    (record {
+    }) (record {
       mode = k.mode;
       sources = k.sources;
       v1 = k.v1;
@@ -131,8 +129,7 @@ round-known timing now k = by_due (is_due now k.schedule.sources_due)
         record { group = record { mode = k.mode; sources = sources; v1 = k.v1; v2 = k.v2 }; schedule = record { group_query = q; sources_due = due } }
 
     by_due : (due : Bool) →
-        ◌≡◌ {A = ScheduledGroup}
-        (let g = cond due (sendings_counted (group_of k)) (group_of k) in
+        ◌≡◌ {A = ScheduledGroup} (let g = cond due (retransmissions_counted (group_of k)) (group_of k) in
         record { group = g; schedule = record { group_query = q; sources_due = cond due (sources_due_next timing now g) k.schedule.sources_due } })
         (as_held (cond due (record {
           mode = k.mode;
@@ -172,8 +169,7 @@ lowered_in timing now false (Some asked) k = record {
 pub lowered-known : (timing : Timing) (now : ℕ) (s : Bool) (asked : Option Set) (k : Known) →
     ◌≡◌ {A = ScheduledGroup} (record { group = lowered_by_query timing now s asked (group_of k); schedule = k.schedule })
     (as_held (lowered_in timing now s asked k))
-lowered-known timing now true asked k = refl
-lowered-known timing now false None k = refl
 lowered-known timing now false (Some asked) k =
     ap (λ m. record { group = record { mode = k.mode; sources = m; v1 = k.v1; v2 = k.v2 }; schedule = k.schedule })
     (kept-known (λ s timer. Some (cond (asked s) (source_lowered (lowered_to timing now) timer) timer)) k.sources)
+lowered-known timing now _ _ k = refl

@@ -3,13 +3,11 @@ use Rattle.mq_examples.proofs.Common.{◌≡◌, ◌<◌, ℕ, zero, suc, ◌+�
 use Rattle.mq_examples.proofs.Common.{list_map, is_sorted, below_all, count_by, nat_cmp, is_lt, T, Family, ReportMessage, Include, SourceTimer, Running}
 use Rattle.mq_examples.proofs.Common.{default_timing, until, SentQuery, GeneralQuery, sources_queries, Limits, Taken, per_query, Envelope, Configuration, Step}
 use Rattle.mq_examples.proofs.Common.{ListedLink, listed, listed_due, early, after, querier, saying, sources_from, each_as, having_sent, HandsAll, TicksSending}
-use Rattle.mq_examples.proofs.Common.{Reports}
+use Rattle.mq_examples.proofs.Common.{Reports, outgoing}
 use Rattle.mq_count.specs.Streams.{counted_on}
-use Rattle.mq_link.specs.Sent.{outgoing}
 use Rattle.mq_held.proofs.Sorted.{both}
-use Rattle.mq_examples.proofs.KnownLinks.{KnownStep, as_step, tick-known}
-use Rattle.mq_examples.proofs.{KnownReceipts.as_receipt, KnownReceipts.receipt-known, Alike.Ascend}
-use Rattle.mq_examples.proofs.AlikeGroups.{all_as, stays, goes, sends, counts}
+use Rattle.mq_examples.proofs.{KnownLinks.KnownStep, KnownLinks.as_step, KnownLinks.tick-known, KnownReceipts.as_receipt, KnownReceipts.receipt-known}
+use Rattle.mq_examples.proofs.{Alike.Ascend, AlikeGroups.all_as, AlikeGroups.stays, AlikeGroups.goes, AlikeGroups.sends, AlikeGroups.counts}
 use Rattle.mq_examples.proofs.AlikeLinks.{one, plain, Suits, all_allowed, all_blocked, reported, tick-one, tick-gone}
 
 -- sources in a row ascend
@@ -85,8 +83,7 @@ at_2000 family limits own envelope group s ss queries lengths sent suits qs long
 
 pub at_3000 : (family : Family) (limits : Limits) (own group s : ℕ) (ss : List ℕ) (queries : List SentQuery) (lengths : List ℕ) (before sent : ℕ) →
     Ascend (s ∷ ss) → sources_queries (per_query family) group false (s ∷ ss) ≡ queries → lengths_in (plain family limits own) queries ≡ lengths →
-    sent_with before queries ≡ sent →
-    TicksSending (plain family limits own) 3000
+    sent_with before queries ≡ sent → TicksSending (plain family limits own) 3000
     (having_sent before (early 2000 ((group, listed_due Include (each_as (Running 4000 1) (s ∷ ss)) None (Some 3000)) ∷ []))) queries lengths sent
     (early 3000 ((group, listed Include (each_as (until 4000) (s ∷ ss))) ∷ []))
 at_3000 family limits own group s ss queries lengths before sent ascend qs long count =

@@ -1,8 +1,8 @@
 -- Lemmas by which a worked example follows from the listed groups.
 use Rattle.mq_examples.proofs.Common.{◌≡◌, ℕ, List, [], ap, ◌∙◌, RecordView, SentQuery, Configuration, Verdict, Setting, Envelope, read_of, pseudo_of}
-use Rattle.mq_examples.proofs.Common.{ListedGroups, ListedLink, as_groups, TicksTo, Comes, Becomes, BecomeAll, CountsTo, counts_of}
-use Rattle.mq_link.specs.{declared.answers.Received.Received, declared.answers.Refusal.Refusal, declared.answers.DropReason.DropReason}
-use Rattle.mq_link.specs.{declared.answers.MessageKind.MessageKind}
+use Rattle.mq_examples.proofs.Common.{ListedGroups, ListedLink, as_groups, TicksTo, Comes, Becomes, BecomeAll, CountsTo, counts_of, Received, Refusal}
+use Rattle.mq_examples.proofs.Common.{DropReason}
+use Rattle.mq_link.specs.declared.answers.MessageKind.{MessageKind}
 use Rattle.mq_examples.proofs.{KnownLinks.tick_in, KnownLinks.tick-known, KnownReceipts.KnownReceipt, KnownReceipts.receipt_known, KnownReceipts.receipt-known}
 use Rattle.mq_examples.proofs.KnownRecords.{judged_known, judged-known, all_judged_known, all_judged-known}
 

@@ -1,7 +1,7 @@
 -- The data of the worked examples of checks: a query for the group 5 of a querier with the default variables. It is wanted and
 -- seen in either order, once or several times, and expired entries are removed before each step. Or a host leaves the
 -- group, which the link doesn't hold. The packet is always the seventh. The tolerance is 100 ms.
-use Rattle.std.specs.Prelude.{ℕ, Bool, true, false, List, map as list_map, Some}
+use Rattle.std.specs.Prelude.{ℕ, true, false, List, map as list_map, Some}
 use Rattle.mq_table.specs.declared.timing.Timing.{Timing}
 use Rattle.mq_check.specs.declared.asked.Asked.{Asked}
 use Rattle.mq_check.specs.declared.asked.Asked.TheVariants.{Group}
@@ -12,11 +12,11 @@ use Rattle.mq_check.specs.declared.finding.Finding.TheVariants.{Differs}
 use Rattle.mq_check.specs.declared.phase.Phase.TheVariants.{NotQuerier}
 use Rattle.mq_check.specs.declared.standing.Standing.{Standing}
 use Rattle.mq_check.specs.declared.terms.Terms.{Terms}
-use Rattle.mq_check.specs.Checking.{CheckingValue, checking_at_start, one_changed, settled, with_general, with_seen, with_wanted}
+use Rattle.mq_check.specs.Checking.{CheckingValue, checking_at_start, one_changed, purged, with_general, with_seen, with_wanted}
 use Rattle.mq_check.specs.Standing.{plain}
 
 abbrev pub timing : Timing
-timing = record { robustness = 2; query_seconds = 125; response_interval = 10000; last_member_interval = 1000 }
+timing = record { robustness = 2; query_seconds = 125; response_interval = 10000; last_member_interval = 1000; last_member_query_count = 0 }
 
 abbrev pub a_query : Terms ℕ
 a_query = record {
@@ -29,13 +29,13 @@ a_query = record {
 
 -- Checks from the querier's beginning, strict and not. Then a check of a capture that begins at any time.
 abbrev pub strict_from_the_beginning : CheckFlags
-strict_from_the_beginning = record { began = true; strict = true }
+strict_from_the_beginning = record { began = true; strict = true; above_7 = false }
 
 abbrev pub from_the_beginning : CheckFlags
-from_the_beginning = record { began = true; strict = false }
+from_the_beginning = record { began = true; strict = false; above_7 = false }
 
 abbrev pub from_any_time : CheckFlags
-from_any_time = record { began = false; strict = false }
+from_any_time = record { began = false; strict = false; above_7 = false }
 
 abbrev pub at_start : CheckFlags → CheckingValue
 at_start flags = checking_at_start 100 timing flags
@@ -46,17 +46,17 @@ muted = record plain { is_muted = true }
 
 -- a query for the group that is wanted, or seen, after expired entries are removed
 abbrev pub then_wanted : (moment : ℕ) → CheckingValue → CheckingValue
-then_wanted moment c = with_wanted moment false a_query (settled moment c) (Group 5)
+then_wanted moment c = with_wanted moment false a_query (purged moment c) (Group 5)
 
 abbrev pub then_seen : (moment : ℕ) → CheckingValue → CheckingValue
-then_seen moment c = with_seen moment a_query plain (settled moment c) (Group 5)
+then_seen moment c = with_seen moment a_query plain (purged moment c) (Group 5)
 
 abbrev pub then_met : (moment : ℕ) → CheckingValue → CheckingValue
 then_met moment c = then_seen moment (then_wanted moment c)
 
 -- a host leaves the group
 abbrev pub then_left : (moment : ℕ) → CheckingValue → CheckingValue
-then_left moment c = one_changed moment (λ group. a_query) (settled moment c) (Group 5)
+then_left moment c = one_changed moment (λ group. a_query) (purged moment c) (Group 5)
 
 -- the check after the query was wanted at a moment and seen at a later one, and in the other order
 abbrev pub wanted_first : (wanted seen : ℕ) → CheckingValue
@@ -84,7 +84,7 @@ left_twice flags second = then_wanted second (then_left second (then_met 1000 (t
 abbrev pub two_general : (first second : ℕ) → CheckingValue
 two_general first second =
     with_general 100 timing second a_query a_query
-    (settled second (with_general 100 timing first a_query a_query (at_start strict_from_the_beginning)))
+    (purged second (with_general 100 timing first a_query a_query (at_start strict_from_the_beginning)))
 
 -- the findings of queries on a subject with these QRVs, if 2 is wanted
 abbrev pub robustness_found : Asked ℕ → (seen : List ℕ) → List (Finding ℕ)

@@ -21,6 +21,7 @@ use Rattle.mq_link.specs.declared.answers.DropReason.{DropReason}
 use Rattle.mq_link.specs.declared.answers.MessageKind.{MessageKind}
 use Rattle.mq_link.specs.declared.answers.Refusal.{Refusal}
 use Rattle.mq_link.specs.Configuration.{Configuration}
+use Rattle.mq_link.specs.declared.ranges.GroupRange.{GroupRange}
 use Rattle.mq_link.specs.Configured.{configured}
 use Rattle.mq_link.specs.Counters.{Counters, Verdict, no_counts}
 use Rattle.mq_link.specs.State.{Groups, LinkState, forwards}
@@ -42,6 +43,10 @@ host n = ipv4 10 0 0 n
 
 abbrev pub default_limits : Limits
 default_limits = record { groups = 1024; group_sources = 366; sources = 16384; scheduled = 256 }
+
+-- a range of groups
+abbrev pub range : (address length : ℕ) → Bool → GroupRange
+range address length allows = record { address = address; length = length; allows = allows }
 
 -- the defaults, for the routers 10.0.0.9 and fe80::1
 abbrev pub igmp : Configuration
@@ -69,8 +74,13 @@ timed robustness query_seconds response_interval last_member_interval = record i
     query_seconds = query_seconds;
     response_interval = response_interval;
     last_member_interval = last_member_interval;
+    last_member_query_count = 0;
   };
 }
+
+-- the configuration of IGMP with this last member query count
+abbrev pub queried : ℕ → Configuration
+queried count = record igmp { timing = record igmp.timing { last_member_query_count = count } }
 
 abbrev pub owned : ℕ → Configuration
 owned own = record igmp { own = own }

@@ -7,8 +7,8 @@ use Rattle.mq_link.specs.Configuration.{Configuration}
 use Rattle.mq_link.specs.Counters.{Counters}
 use Rattle.mq_examples.specs.Links.{octets}
 use Rattle.mq_replay.specs.declared.asked.Asked.{Asked}
-use Rattle.mq_replay.specs.declared.capture_fault.CaptureFault.{CaptureFault}
-use Rattle.mq_replay.specs.Courses.{report_of}
+use Rattle.mq_walk.specs.declared.capture_fault.CaptureFault.{CaptureFault}
+use Rattle.mq_walk.specs.Courses.{report_of}
 use Rattle.mq_replay.specs.Report.{replay_of}
 
 -- a file's header: least significant byte first, microseconds, Ethernet

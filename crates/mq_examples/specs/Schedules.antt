@@ -55,6 +55,10 @@ querier timing due startup_queries = record { role = Querier due startup_queries
 abbrev pub other_until : Timing → ℕ → ElectionState
 other_until timing deadline = record { role = Other 2 deadline; timing = timing }
 
+-- the defaults with this many specific queries
+abbrev pub counted : ℕ → Timing
+counted count = record default_timing { last_member_query_count = count }
+
 abbrev pub announced : ℕ → ℕ → Option Announced
 announced robustness query_seconds =
     Some (record { robustness = robustness; query_seconds = query_seconds })

@@ -4,8 +4,8 @@ ghost use Rattle.std.specs.Prelude.{◌≡◌, List, [], ◌∷◌, ◌++◌, tr
 ghost use Rattle.mq_pcap.specs.declared.fault.PcapFault.{PcapFault};
 ghost use Rattle.mq_pcap.specs.Capture.{Captured};
 ghost use Rattle.mq_link.specs.Configuration.{Configuration};
-ghost use Rattle.mq_replay.specs.declared.capture_fault.CaptureFault.TheVariants.{Pcap};
-ghost use Rattle.mq_replay.specs.Courses.{report_of};
+ghost use Rattle.mq_walk.specs.declared.capture_fault.CaptureFault.TheVariants.{Pcap};
+ghost use Rattle.mq_walk.specs.Courses.{report_of};
 ghost use Rattle.mq_check.specs.declared.asked.Asked.TheVariants.{AllGroups, Group};
 ghost use Rattle.mq_check.specs.declared.check_terms.CheckTerms.{CheckTerms};
 ghost use Rattle.mq_check.specs.declared.finding.ExtraReason.TheVariants.{NoChange, NotQuerier, OlderHost};

@@ -101,6 +101,9 @@ pub fn intervals()
     ensures startups { startup_count default_timing ≡ 2 }
     ensures last_members { last_member_count default_timing ≡ 2 }
     ensures last_member { last_member_time default_timing ≡ 2000 }
+    // A count of its own, whatever the robustness variable.
+    ensures own_count { last_member_count (record default_timing { robustness = 3; last_member_query_count = 1 }) ≡ 1 }
+    ensures own_time { last_member_time (record default_timing { robustness = 3; last_member_query_count = 1 }) ≡ 1000 }
     // Robustness 3 and a query interval of 60 s.
     ensures adopted { other_querier_present (record default_timing { robustness = 3; query_seconds = 60 })
         ≡ 185000 }

@@ -4,7 +4,7 @@
 //! The captures and their texts are worked out by hand from the standards, for the router 10.0.0.9 with the defaults.
 ghost use Rattle.std.specs.Prelude.{[], ◌∷◌, ◌++◌, None, Some, Ok, Err, codes, take};
 ghost use Rattle.mq_pcap.specs.declared.fault.PcapFault.TheVariants.{CutHeader};
-ghost use Rattle.mq_replay.specs.declared.capture_fault.CaptureFault.TheVariants.{Pcap, Gap};
+ghost use Rattle.mq_walk.specs.declared.capture_fault.CaptureFault.TheVariants.{Pcap, Gap};
 ghost use Rattle.mq_examples.specs.Links.{igmp};
 ghost use Rattle.mq_examples.specs.Replays.{one_report, two_packets, Reports, Totals};
 

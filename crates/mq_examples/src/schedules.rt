@@ -18,7 +18,8 @@ ghost use Rattle.mq_sched.specs.Schedule.{no_schedule, settled, cleared};
 ghost use Rattle.mq_sched.specs.Sending.{GeneralQuery, GroupQuery, SourcesQuery, messages_due, after_change};
 ghost use Rattle.mq_sched.specs.Election.{Querier, Other, election_at, heard, loses_role, ticked, general_messages};
 ghost use Rattle.mq_sched.specs.Examples.{the_group, scheduled, robust, announced_timing};
-ghost use Rattle.mq_examples.specs.Schedules.{scheduled_group, with_schedule, recorded, recorded_at, Sends, blocked, refreshed, after_leave, reported_v2, querier, other_until, announced};
+ghost use Rattle.mq_examples.specs.Schedules.{scheduled_group, with_schedule, recorded, recorded_at, Sends, blocked, refreshed, after_leave, reported_v2, querier, other_until, announced, counted};
+ghost use Rattle.mq_table.specs.Timing.{last_member_count};
 
 use mq_table::{Kind, OlderVersion, Timing};
 
@@ -206,6 +207,10 @@ pub fn a_query_heard()
     ensures stays { heard default_timing 9 5000 200 (announced 3 60) (querier default_timing 31250 1)
         ≡ querier (robust 3) 31250 1 }
     ensures keeps { loses_role 9 200 (Querier 31250 1) ≡ false }
+    // Specific queries are as many as the adopted robustness, unless their count is configured.
+    ensures adopted_count { last_member_count (heard default_timing 9 5000 200 (announced 3 60) (querier default_timing 31250 1)).timing
+        ≡ 3 }
+    ensures own_count { last_member_count (heard (counted 1) 9 5000 200 (announced 3 60) (querier (counted 1) 31250 1)).timing ≡ 1 }
     // Zero restores the configured value.
     ensures zero { heard default_timing 9 6000 2 (announced 0 0) (other_until announced_timing 190000)
         ≡ other_until default_timing 261000 }

@@ -1,60 +1,38 @@
 -- After the end of a capture whose queries pair up, nothing more is found.
-use Rattle.std.proofs.Common.{◌≡◌, ℕ, ◌+◌, ◌≤◌, Bool, true, false, ◌&&◌, List, [], ◌∷◌, ◌++◌, refl, ap, sym, ◌∙◌, arith, append-nil}
-use Rattle.std.specs.Prelude.{Option, None, Some, ◌⊎◌, fold, flat_map, map as list_map, nat_le}
-use mathlib.Core.Logic.{inl, inr}
-use Rattle.std.specs.List.{AllByRecursion}
-use Rattle.std.proofs.lemmas.Bool.{le-leb, ltb-true}
-use Rattle.mq_table.specs.declared.timing.Timing.{Timing}
-use Rattle.mq_check.specs.declared.asked.Asked.{Asked}
-use Rattle.mq_check.specs.declared.entry.Entry.{Entry}
-use Rattle.mq_check.specs.declared.entry.Need.{Need}
-use Rattle.mq_check.specs.declared.entry.Need.TheVariants.{Required, Optional}
-use Rattle.mq_check.specs.declared.entry.Need.TheVariants as need
-use Rattle.mq_check.specs.declared.entry.Entry.TheVariants.{Wanted, Seen, Interval, Silence, Packet}
-use Rattle.mq_check.specs.declared.entry.Unpaired.{Unpaired}
-use Rattle.mq_check.specs.declared.terms.Terms.{Terms}
-use Rattle.mq_check.specs.Checking.{CheckingValue, found_of_last, near, role_returned, settled, subject_wanted}
-use Rattle.mq_check.specs.Entries.{excused_if, findings_of, first_joined, is_free_seen, is_over, terms_differ}
-use Rattle.mq_check.specs.Queries.{is_same}
-use Rattle.mq_check.specs.Schedules.{terms_wanted}
-use Rattle.mq_check.specs.Waiting.{WaitingValue, all_excused, excused_at, may_still_come}
-use Rattle.mq_laws.specs.Pairing.{Ask, Expected, Sent, LeftOut, PairUp, missing_of, seen_about, wanted_about}
-use Rattle.mq_laws.specs.Events.{CheckEvent, Comes, Wants, Sees, SeesGeneral, LosesRole, HasRoleAgain, SeesFault, Changes, check_by_all, told_by_all}
-use Rattle.mq_laws.specs.OnTime.{AreInOrder, IsOfTick}
-use Rattle.mq_laws.proofs.Same.{is_same-self}
-use Rattle.mq_laws.proofs.Held.{Holds, free_seen, passed_joined, seen_here, wanted_here}
-use Rattle.mq_laws.proofs.Partners.{SameFrom, same_behind, same_none}
-use Rattle.mq_laws.proofs.Steps.{to_pairs}
+use Rattle.mq_laws.proofs.Common.{◌≡◌, ℕ, ◌+◌, ◌≤◌, Bool, true, false, ◌&&◌, List, [], ◌∷◌, ◌++◌, refl, ap, sym, ◌∙◌, arith, append-nil, Option, None, Some}
+use Rattle.mq_laws.proofs.Common.{◌⊎◌, fold, flat_map, list_map, min, nat_le, inl, inr, AllByRecursion, le-leb, ltb-true, Timing, Asked, Entry, Need, Required}
+use Rattle.mq_laws.proofs.Common.{Optional, Wanted, Seen, Interval, Silence, Packet, SeenVerdict, Terms, CheckingValue, found_of_last, near, role_returned}
+use Rattle.mq_laws.proofs.Common.{purged, subject_wanted, with_s_judged, entry_judged, excused_if, findings_of, first_joined, is_free_seen, is_over}
+use Rattle.mq_laws.proofs.Common.{terms_differ, is_same, terms_wanted, WaitingValue, all_excused, excused_at, may_still_come, Ask, Expected, Sent, LeftOut}
+use Rattle.mq_laws.proofs.Common.{PairUp, missing_of, seen_about, wanted_about, CheckEvent, Comes, Wants, HasRoleAgain}
+use Rattle.mq_laws.proofs.Common.{Judges, check_by_all, told_by_all, AreInOrder, IsOfTick}
+use Rattle.mq_check.specs.{Refused.judged, Waiting.all_judged}
+use Rattle.mq_laws.proofs.{Judged.by_parts, Judged.judged_entries, Held.Holds, Held.free_seen, Held.passed_joined, Held.seen_here, Held.wanted_here}
+use Rattle.mq_laws.proofs.{Same.is_same-self, Rooms.IsFresh, Rooms.fresh_purged, Rooms.told_now, Rooms.purged_free, Rooms.wanted_part, Rooms.returned_part}
+use Rattle.mq_laws.proofs.{Partners.SameFrom, Partners.same_behind, Partners.same_none, Unrefused.judged_is, Unrefused.returned_stays, Unrefused.wants_stay}
+use Rattle.mq_laws.proofs.{Steps.to_pairs, Courses.all_free, Courses.wants_free}
 use Rattle.mq_laws.proofs.Comings.{told_of, left_of, over_told, over_left, ahead_told, ahead_left, pair_alike}
-use Rattle.mq_laws.proofs.Rooms.{IsFresh, fresh_settled, told_now, settled_free, wanted_part, returned_part}
-use Rattle.mq_laws.proofs.Courses.{all_free, wants_free}
 
 -- a wanted query that has a partner, or may be left out
-abbrev pub is_settled : Need → (is_found : Bool) → Bool
-is_settled Required is_found = is_found
-is_settled need.Possible is_found = is_found
-is_settled Optional is_found = true
+abbrev pub is_without_finding : Need → (is_found : Bool) → Bool
+is_without_finding Optional is_found = true
+is_without_finding _ is_found = is_found
 
-settled_found : (within : ℕ) (changed : Option ℕ) (m : ℕ) (a : Asked ℕ) (t : Terms ℕ) (o : Need) (f : Bool) → is_settled o f ≡ true →
+without_finding : (within : ℕ) (changed : Option ℕ) (m : ℕ) (a : Asked ℕ) (t : Terms ℕ) (o : Need) (f : Bool) → is_without_finding o f ≡ true →
     findings_of within changed (Wanted m a t o f) ≡ []
-settled_found within changed m a t o true is = refl
-settled_found within changed m a t Required false is = cc
-settled_found within changed m a t need.Possible false is = cc
-settled_found within changed m a t Optional false is = refl
+without_finding within changed m a t o true is = refl
+without_finding within changed m a t Optional false is = refl
+without_finding within changed m a t _ false is = cc
 
-settled_by : (o : Need) → is_settled o true ≡ true
-settled_by Required = refl
-settled_by need.Possible = refl
-settled_by Optional = refl
+found_is_without : (o : Need) → is_without_finding o true ≡ true
+found_is_without Required = refl
+found_is_without _ = refl
 
 -- nothing is found of an entry that expires up to a limit
 abbrev pub IsQuiet : (within limit : ℕ) → Entry ℕ → Type 0
-IsQuiet within limit (Wanted moment asked terms need is_found) = (is_settled need is_found ≡ true) ⊎ (limit ≤ moment + within)
-IsQuiet within limit (Seen moment asked terms None alone) = ⊥
+IsQuiet within limit (Wanted moment asked terms need is_found) = (is_without_finding need is_found ≡ true) ⊎ (limit ≤ moment + within)
 IsQuiet within limit (Seen moment asked terms (Some wanted) alone) = terms_differ terms wanted ≡ []
-IsQuiet within limit (Interval moment packet after wanted) = ⊥
-IsQuiet within limit (Silence moment after wanted) = ⊥
-IsQuiet within limit (Packet moment number fault) = ⊥
+IsQuiet within limit _ = ⊥
 
 abbrev pub AreQuiet : (within limit : ℕ) → List (Entry ℕ) → Type 0
 AreQuiet within limit es = AllByRecursion (IsQuiet within limit) es
@@ -62,14 +40,11 @@ AreQuiet within limit es = AllByRecursion (IsQuiet within limit) es
 quiet_found : (keep within limit moment : ℕ) (changed : Option ℕ) (e : Entry ℕ) → within ≤ keep → IsQuiet within limit e → moment ≤ limit →
     is_over keep moment e ≡ true → findings_of within changed e ≡ []
 quiet_found keep within limit moment changed (Wanted m a t o f) long is before over = elim is [
-  | inl left ↦ settled_found within changed m a t o f left
+  | inl left ↦ without_finding within changed m a t o f left
   | inr far ↦ absurd (let late = ltb-true (m + keep) moment over in omega (arith, late, far, before, long))
 ]
-quiet_found keep within limit moment changed (Seen m a t None alone) long is before over = absurd is
 quiet_found keep within limit moment changed (Seen m a t (Some w) alone) long is before over = pair_alike m a t w alone is
-quiet_found keep within limit moment changed (Interval m p a w) long is before over = absurd is
-quiet_found keep within limit moment changed (Silence m a w) long is before over = absurd is
-quiet_found keep within limit moment changed (Packet m n f) long is before over = absurd is
+quiet_found keep within limit moment changed _ long is before over = absurd is
 
 -- a moment comes
 quiet_told : (keep within limit moment : ℕ) (changed : Option ℕ) (es : List (Entry ℕ)) → within ≤ keep → AreQuiet within limit es → moment ≤ limit →
@@ -91,6 +66,20 @@ quiet_left keep within limit moment (e ∷ es) are =
       | false ↦ λ ahead. rw (ahead_left keep moment e es ahead) are
     ] refl
 
+quiet_one : (within limit : ℕ) (is_set : ℕ → Asked ℕ → Bool) (e : Entry ℕ) → IsQuiet within limit e → IsQuiet within limit (entry_judged is_set e)
+quiet_one within limit is_set (Wanted m a t o f) is = is
+quiet_one within limit is_set (Seen m a t None verdict) is = is
+quiet_one within limit is_set (Seen m a t (Some w) verdict) is = is
+quiet_one within limit is_set (Interval m p a w) is = is
+quiet_one within limit is_set (Silence m a w) is = is
+quiet_one within limit is_set (Packet m n f) is = is
+
+quiet_judged : (within limit beside : ℕ) (now : Option ℕ) (is_set : ℕ → Asked ℕ → Bool) (es : List (Entry ℕ)) → AreQuiet within limit es →
+    AreQuiet within limit (all_judged beside now is_set es)
+quiet_judged within limit beside now is_set [] are = are
+quiet_judged within limit beside now is_set (e ∷ es) are = by_parts beside now is_set (λ (l : List (Entry ℕ)). AreQuiet within limit l) e es are
+    (quiet_one within limit is_set e are.0, quiet_judged within limit beside now is_set es are.1)
+
 -- a query becomes wanted
 and_false : (b : Bool) → (b && false) ≡ false
 and_false true = refl
@@ -98,11 +87,8 @@ and_false false = refl
 
 not_free : (within limit : ℕ) (asked : Asked ℕ) (e : Entry ℕ) → IsQuiet within limit e → is_free_seen asked e ≡ false
 not_free within limit asked (Wanted m a t o f) is = refl
-not_free within limit asked (Seen m a t None alone) is = absurd is
 not_free within limit asked (Seen m a t (Some w) alone) is = and_false (is_same asked a)
-not_free within limit asked (Interval m p a w) is = absurd is
-not_free within limit asked (Silence m a w) is = absurd is
-not_free within limit asked (Packet m n f) is = absurd is
+not_free within limit asked _ is = absurd is
 
 none_joined : (within limit : ℕ) (asked : Asked ℕ) (other : Terms ℕ) (es : List (Entry ℕ)) → AreQuiet within limit es →
     first_joined (is_free_seen asked) other es ≡ es
@@ -143,79 +129,78 @@ quiet_wants within limit now is_again terms (a ∷ more) c fresh far are room =
 pub record FindsNothing (within limit : ℕ) (timing : Timing) (now : ℕ) (es : List CheckEvent) (c : CheckingValue) : Type 0 where
   pub told : told_by_all within timing now es c ≡ []
   pub quiet : AreQuiet within limit (check_by_all within timing now es c).waiting.entries
+  pub refused : (check_by_all within timing now es c).refused ≡ []
 
 in_time : (now : ℕ) (es : List CheckEvent) (end : ℕ) → AreInOrder now es end → now ≤ end
 in_time now [] end order = order
 in_time now (Comes moment ∷ es) end order = let rest = in_time moment es end order.1 in omega (arith, order.0, rest)
-in_time now (Wants is_again terms asked ∷ es) end order = in_time now es end order
-in_time now (Sees terms standing asked ∷ es) end order = in_time now es end order
-in_time now (SeesGeneral terms wanted ∷ es) end order = in_time now es end order
-in_time now (LosesRole ∷ es) end order = in_time now es end order
-in_time now (HasRoleAgain ∷ es) end order = in_time now es end order
-in_time now (SeesFault number fault ∷ es) end order = in_time now es end order
-in_time now (Changes terms asked ∷ es) end order = in_time now es end order
+in_time now (_ ∷ es) end order = in_time now es end order
 
-pub ticks_find_nothing : (within limit : ℕ) (timing : Timing) (now : ℕ) (es : List CheckEvent) (c : CheckingValue) → IsFresh c.schedules →
+pub ticks_find_nothing : (within limit : ℕ) (timing : Timing) (now : ℕ) (es : List CheckEvent) (c : CheckingValue) → IsFresh c.schedules → c.refused ≡ [] →
     within ≤ c.schedules.repeats.keep → limit ≤ now + within → AreInOrder now es limit → AllByRecursion IsOfTick es
     → AreQuiet within limit c.waiting.entries → (check_by_all within timing now es c).waiting.is_full ≡ false → FindsNothing within limit timing now es c
-ticks_find_nothing within limit timing now [] c fresh long far order ticks are room = record { told = refl; quiet = are }
-ticks_find_nothing within limit timing now (Comes moment ∷ es) c fresh long far order ticks are room =
+ticks_find_nothing within limit timing now [] c fresh none long far order ticks are room = record { told = refl; quiet = are; refused = none }
+ticks_find_nothing within limit timing now (Comes moment ∷ es) c fresh none long far order ticks are room =
     let keep = c.schedules.repeats.keep in
     let free = all_free within timing now (Comes moment ∷ es) c room in
     let before = in_time moment es limit order.1 in
-    let left : AreQuiet within limit (settled moment c).waiting.entries = rw (settled_free keep moment c.waiting free)
+    let left : AreQuiet within limit (purged moment c).waiting.entries = rw (purged_free keep moment c.waiting free)
     (quiet_left keep within limit moment c.waiting.entries are) in
-    let more = ticks_find_nothing within limit timing moment es (settled moment c) (fresh_settled moment c fresh) long
+    let more = ticks_find_nothing within limit timing moment es (purged moment c) (fresh_purged moment c fresh) none long
     (omega (arith, far, order.0)) order.1 ticks.1 left room in
     record {
-      told = (λ i. (told_now within moment c free fresh ∙ quiet_told keep within limit moment c.changed c.waiting.entries long are before) i ++ more.told i);
+      told = (λ i. (told_now within moment c free fresh none ∙ quiet_told keep within limit moment c.changed c.waiting.entries long are before) i ++ more.told
+          i);
       quiet = more.quiet;
+      refused = more.refused;
     }
-ticks_find_nothing within limit timing now (Wants is_again terms asked ∷ es) c fresh long far order ticks are room =
+ticks_find_nothing within limit timing now (Wants is_again terms asked ∷ es) c fresh none long far order ticks are room =
     let next = fold (subject_wanted now is_again terms) c asked in
     let wants = quiet_wants within limit now is_again terms asked c fresh far are (all_free within timing now es next room) in
-    let more = ticks_find_nothing within limit timing now es next wants.fresh (rw wants.repeats long) far order ticks.1 wants.quiet room in
-    record { told = more.told; quiet = more.quiet }
-ticks_find_nothing within limit timing now (HasRoleAgain ∷ es) c fresh long far order ticks are room =
+    let more = ticks_find_nothing within limit timing now es next wants.fresh (wants_stay now is_again terms asked c ∙ none) (rw wants.repeats long) far order
+    ticks.1 wants.quiet room in
+    record { told = more.told; quiet = more.quiet; refused = more.refused }
+ticks_find_nothing within limit timing now (HasRoleAgain ∷ es) c fresh none long far order ticks are room =
     let next = role_returned within now c in
     let part = returned_part within now c in
     let same = ap (λ (w : WaitingValue). w.entries) part.waiting in
-    let more = ticks_find_nothing within limit timing now es next (rw part.schedules fresh) (rw part.schedules long) far order ticks.1 (rw same are) room in
-    record { told = more.told; quiet = more.quiet }
-ticks_find_nothing within limit timing now (Sees terms standing asked ∷ es) c fresh long far order ticks are room = absurd ticks.0
-ticks_find_nothing within limit timing now (SeesGeneral terms wanted ∷ es) c fresh long far order ticks are room = absurd ticks.0
-ticks_find_nothing within limit timing now (LosesRole ∷ es) c fresh long far order ticks are room = absurd ticks.0
-ticks_find_nothing within limit timing now (SeesFault number fault ∷ es) c fresh long far order ticks are room = absurd ticks.0
-ticks_find_nothing within limit timing now (Changes terms asked ∷ es) c fresh long far order ticks are room = absurd ticks.0
+    let more = ticks_find_nothing within limit timing now es next (rw part.schedules fresh) (returned_stays within now c ∙ none) (rw part.schedules long) far
+    order ticks.1 (rw same are) room in
+    record { told = more.told; quiet = more.quiet; refused = more.refused }
+ticks_find_nothing within limit timing now (Judges moment is_set ∷ es) c fresh none long far order ticks are room =
+    let next = with_s_judged within moment is_set c in
+    let quiet : AreQuiet within limit next.waiting.entries =
+    rw (judged_entries within moment is_set c) (quiet_judged within limit (min within 1) moment is_set c.waiting.entries are) in
+    let more = ticks_find_nothing within limit timing now es next fresh none long far order ticks.1 quiet room in
+    record { told = more.told; quiet = more.quiet; refused = more.refused }
+ticks_find_nothing within limit timing now (_ ∷ es) c fresh none long far order ticks are room = absurd ticks.0
 
 -- a wanted query that may be left out, and a pair
 none_found : (within end m : ℕ) (a : Asked ℕ) (t : Terms ℕ) (o : Need) (f : Bool) (changed : Option ℕ) → IsQuiet within (end + within) (Wanted m a t o f) →
-    found_of_last within end changed (Wanted m a t o f) ≡ []
+    found_of_last within end changed [] (Wanted m a t o f) ≡ []
 none_found within end m a t o f changed (inl left) = by_end (nat_le end (m + within))
   where
-    by_end : (b : Bool) → findings_of within changed (excused_if b (Wanted m a t o f)) ≡ []
-    by_end true = settled_found within changed m a t Optional f refl
-    by_end false = settled_found within changed m a t o f left
+    by_end : (b : Bool) → judged within changed [] (excused_if b (Wanted m a t o f)) ≡ []
+    by_end true = judged_is within changed (Wanted m a t Optional f) ∙ without_finding within changed m a t Optional f refl
+    by_end false = judged_is within changed (Wanted m a t o f) ∙ without_finding within changed m a t o f left
 none_found within end m a t o f changed (inr far) =
     let late : nat_le end (m + within) ≡ true = le-leb end (m + within) (omega (arith, far)) in
-    ap (λ (b : Bool). findings_of within changed (excused_if b (Wanted m a t o f))) late ∙ settled_found within changed m a t Optional f refl
+    ap (λ (b : Bool). judged within changed [] (excused_if b (Wanted m a t o f))) late ∙ judged_is within changed (Wanted m a t Optional f)
+    ∙ without_finding within changed m a t Optional f refl
 
-pair_found : (within : ℕ) (changed : Option ℕ) (b : Bool) (m : ℕ) (a : Asked ℕ) (t w : Terms ℕ) (alone : Unpaired ℕ) → terms_differ t w ≡ [] →
-    findings_of within changed (excused_if b (Seen m a t (Some w) alone)) ≡ []
-pair_found within changed true m a t w alone alike = pair_alike m a t w alone alike
-pair_found within changed false m a t w alone alike = pair_alike m a t w alone alike
+pair_found : (within : ℕ) (changed : Option ℕ) (b : Bool) (m : ℕ) (a : Asked ℕ) (t w : Terms ℕ) (alone : SeenVerdict ℕ) → terms_differ t w ≡ [] →
+    judged within changed [] (excused_if b (Seen m a t (Some w) alone)) ≡ []
+pair_found within changed true m a t w alone alike = judged_is within changed (Seen m a t (Some w) alone) ∙ pair_alike m a t w alone alike
+pair_found within changed false m a t w alone alike = judged_is within changed (Seen m a t (Some w) alone) ∙ pair_alike m a t w alone alike
 
 -- and of what still waits then, nothing is found either
 pub none_last : (within end : ℕ) (changed : Option ℕ) (es : List (Entry ℕ)) → AreQuiet within (end + within) es →
-    flat_map (found_of_last within end changed) es ≡ []
+    flat_map (found_of_last within end changed []) es ≡ []
 none_last within end changed [] are = refl
 none_last within end changed (Wanted m a t o f ∷ es) are = λ i. (none_found within end m a t o f changed are.0 i) ++ none_last within end changed es are.1 i
-none_last within end changed (Seen m a t None alone ∷ es) are = absurd are.0
 none_last within end changed (Seen m a t (Some w) alone ∷ es) are = λ i. (pair_found within changed (nat_le end (m + within)) m a t w alone are.0 i)
     ++ none_last within end changed es are.1 i
-none_last within end changed (Interval m p a w ∷ es) are = absurd are.0
-none_last within end changed (Silence m a w ∷ es) are = absurd are.0
-none_last within end changed (Packet m n f ∷ es) are = absurd are.0
+none_last within end changed (_ ∷ es) are = absurd are.0
 
 -- at the end, each seen query has its partner
 pub none_free : (within keep : ℕ) (left : List Expected) (ss : List Ask) → ((asked : Asked ℕ) → (wanted_about asked left ≡ []) ⊎ (seen_about asked ss ≡ []))
@@ -241,19 +226,16 @@ none_wanted within keep (LeftOut w ∷ xs) pairs none = cc
 
 still_quiet : (within limit m : ℕ) (a : Asked ℕ) (t : Terms ℕ) (o : Need) (b : Bool) → IsQuiet within limit (excused_if b (Wanted m a t o true))
 still_quiet within limit m a t o true = inl refl
-still_quiet within limit m a t o false = inl (settled_by o)
+still_quiet within limit m a t o false = inl (found_is_without o)
 
 pub held_quiet : (within limit end : ℕ) (sent : WaitingValue) (es : List (Entry ℕ)) → Holds es [] → free_seen es ≡ [] →
     AreQuiet within limit (list_map (excused_at within end sent) es)
 held_quiet within limit end sent [] holds none = tt
 held_quiet within limit end sent (Wanted m a t o true ∷ es) holds none =
     (still_quiet within limit m a t o (may_still_come within end sent (Wanted m a t o true)), held_quiet within limit end sent es holds none)
-held_quiet within limit end sent (Wanted m a t o false ∷ es) holds none = absurd holds
 held_quiet within limit end sent (Seen m a t None alone ∷ es) holds none = absurd (cc)
 held_quiet within limit end sent (Seen m a t (Some w) alone ∷ es) holds none = (holds.0, held_quiet within limit end sent es holds.1 none)
-held_quiet within limit end sent (Interval m p a w ∷ es) holds none = absurd holds
-held_quiet within limit end sent (Silence m a w ∷ es) holds none = absurd holds
-held_quiet within limit end sent (Packet m n f ∷ es) holds none = absurd holds
+held_quiet within limit end sent (_ ∷ es) holds none = absurd holds
 
 -- the entries at the end
 pub excused_entries : (within end : ℕ) (sent w : WaitingValue) → (all_excused within end sent w).entries ≡ list_map (excused_at within end sent) w.entries

@@ -3,12 +3,10 @@ use Rattle.mq_laws.proofs.Common.{ℕ, ◌+◌, ◌<◌, Bool, true, false, cond
 use Rattle.mq_laws.proofs.Common.{GroupState, timer_at, deadline_of, group_deadline, running, stopped, lowered_to, mode_lowered, source_lowered}
 use Rattle.mq_laws.proofs.Common.{lowered_by_query, source_asked, Set, NamedSources, GroupChange, table_row, change_of, membership_interval, older_host_present}
 use Rattle.mq_laws.proofs.Common.{last_member_count, Kind, IsEx, ToIn, FilterMode, SourceTimer, Timing, ScheduleState, ScheduledGroup, group_asked}
-use Rattle.mq_laws.proofs.Common.{sources_asked, acted, after_change, Statement, RecordOf, OlderJoin, OlderLeave, change_stated}
-use Rattle.mq_count.specs.declared.versions.OlderVersion.{OlderVersion}
-use Rattle.mq_count.specs.declared.versions.OlderVersion.TheVariants.{V1, V2}
-use Rattle.mq_table.proofs.TableRows.{timer_then, at_source_of}
+use Rattle.mq_laws.proofs.Common.{sources_asked, acted, after_change, Statement, RecordOf, OlderJoin, OlderLeave, change_stated, timer_then, at_source_of}
+use Rattle.mq_laws.proofs.Common.{timer_at-sources_asked}
+use Rattle.mq_count.specs.declared.versions.OlderVersion.{OlderVersion, TheVariants.V1, TheVariants.V2}
 use Rattle.mq_table.specs.OlderHosts.{hosts_of, translated, older_report}
-use Rattle.mq_sched.proofs.Asked.{timer_at-sources_asked}
 use Rattle.mq_sched.specs.Schedule.{settled}
 use Rattle.std.specs.FinSet as set
 
@@ -56,8 +54,7 @@ mapped_ahead timing now g None later h = tt
 mapped_ahead timing now g (Some r) later h = change_ahead timing now g r.0 r.1 later h
 
 pub stated_ahead : (mutes muted : Bool) (timing : Timing) (now : ℕ) (statement : Statement) (g : GroupState) → now < now + membership_interval timing
-    → now < now + older_host_present timing → AllAhead now g
-    → ChangesAhead now (change_stated mutes muted timing now statement g)
+    → now < now + older_host_present timing → AllAhead now g → ChangesAhead now (change_stated mutes muted timing now statement g)
 stated_ahead mutes muted timing now (RecordOf kind named) g later present h =
     mapped_ahead timing now g (translated mutes muted (hosts_of g now) kind named) later h
 stated_ahead mutes true timing now (OlderJoin version) g later present h = tt

@@ -2,12 +2,11 @@
 use Rattle.mq_laws.proofs.Common.{◌≡◌, ◌<◌, ◌≤◌, ◌+◌, ℕ, true, List, [], ◌∷◌, ◌++◌, length, take, drop, Option, None, Some, Ok, refl, arith, sym, ◌∙◌, ap}
 use Rattle.mq_laws.proofs.Common.{subst, append-nil, All, flat_map, take-append-drop, All-drop, Little, field, field-append, BlockFault, Captured, block_in}
 use Rattle.mq_laws.proofs.Common.{AreBlocks, Captures, endless, file_header, packets_of, record_of, written_of, IsWhole, ArePlain, everything, is_untagged}
-use Rattle.mq_laws.proofs.Common.{looked_at, plain}
-use Rattle.mq_convert.specs.Moments.{second}
+use Rattle.mq_laws.proofs.Common.{looked_at, plain, second}
+use Rattle.mq_laws.proofs.{KeptBytes.AreBytes, KeptBytes.front_bytes, KeptBytes.rest_bytes, Sifted.all_go_out}
+use Rattle.mq_laws.proofs.{KeptHeader.header_read, KeptHeader.header_whole, KeptHeader.looked_is, KeptHeader.plain_header, OneFile.one_file_lem}
+use Rattle.mq_laws.proofs.KeptRecords.{behind_header, packet_of, record_kept, record_read, whole_record}
 use Rattle.mq_pcap.specs.Capture as pcap
-use Rattle.mq_laws.proofs.{KeptBytes.AreBytes, KeptBytes.front_bytes, KeptBytes.rest_bytes, KeptHeader.header_read, KeptHeader.header_whole}
-use Rattle.mq_laws.proofs.{KeptHeader.looked_is, KeptHeader.plain_header, KeptRecords.behind_header, KeptRecords.packet_of, KeptRecords.record_kept}
-use Rattle.mq_laws.proofs.{KeptRecords.record_read, KeptRecords.whole_record, OneFile.one_file_lem, Sifted.all_go_out}
 
 -- the records from this number on are blocks whose packets are written unchanged
 record IsKeptFrom (number : ℕ) (bytes : List ℕ) : Type 0 where
@@ -39,8 +38,7 @@ one_more number bytes first rest packet is all r below plainly next =
     }
 
 kept_records : (number : ℕ) (bytes : List ℕ) (packets : List pcap.Captured) (are : pcap.AreRecords plain number bytes packets None) →
-    ArePlain number bytes packets are → AreBytes bytes → number ≤ endless
-    → IsKeptFrom number bytes
+    ArePlain number bytes packets are → AreBytes bytes → number ≤ endless → IsKeptFrom number bytes
 kept_records number bytes [] are plainly all few = record { blocks = []; are_blocks = (are, refl); few = omega (arith, few); text = sym are }
 kept_records number bytes (packet ∷ packets) are plainly all few =
     let parts : AreBytes (are.0 ++ are.1) = subst AreBytes are.2 all in
@@ -50,8 +48,7 @@ kept_records number bytes (packet ∷ packets) are plainly all few =
 
 pub as_it_was_lem : (bytes : List ℕ) (packets : List pcap.Captured) (blocks : List (Option Captured)) (end : Option BlockFault)
     → All (λ byte. byte < 256) bytes → (is : pcap.Captures bytes (Ok plain) packets None) → ArePlain 1 (drop 24 bytes) packets is.1
-    → Captures bytes blocks end
-    → (end ≡ None) × (written_of everything blocks ≡ looked_at bytes ++ drop 24 bytes)
+    → Captures bytes blocks end → (end ≡ None) × (written_of everything blocks ≡ looked_at bytes ++ drop 24 bytes)
 as_it_was_lem bytes packets blocks end all is plainly capture =
     let h = plain_header bytes is.0 in
     let k = kept_records 1 (drop 24 bytes) packets is.1 plainly (All-drop (λ (byte : ℕ). byte < 256) 24 bytes all) (omega arith) in

@@ -1,7 +1,7 @@
 -- Asking for a group or for sources makes no timer end later.
 use Rattle.mq_laws.proofs.Common.{ℕ, Bool, true, false, cond, Option, sym, subst, arith, option_map, timer_at, deadline_of, group_deadline, lowered_to}
 use Rattle.mq_laws.proofs.Common.{source_asked, Set, last_member_count, SourceTimer, Timing, ScheduledGroup, group_asked, sources_asked, acted, IsNoLater}
-use Rattle.mq_sched.proofs.Asked.{timer_at-sources_asked}
+use Rattle.mq_laws.proofs.Common.{timer_at-sources_asked}
 
 no_later_refl : (d : Option ℕ) → IsNoLater d d
 no_later_refl d = grind arith

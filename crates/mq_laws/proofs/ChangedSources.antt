@@ -1,21 +1,19 @@
 -- The timer of one source after a record, by the row of the tables that it meets.
 use Rattle.mq_laws.proofs.Common.{◌≡◌, ℕ, ◌+◌, Bool, true, false, not, ◌||◌, inl, inr, Option, None, Some, IsSome, IsTrue, refl, sym, ap, ◌∙◌, subst, cond}
-use Rattle.mq_laws.proofs.Common.{arith, false≢true, GroupState, is_running, running, timer_at, deadline_of, group_deadline, sendings_of, wants, forwards_in}
-use Rattle.mq_laws.proofs.Common.{NamedSources, table_row_met, change_of, membership_interval, Kind, IsIn, IsEx, ToIn, ToEx, Allow, Block, FilterMode}
-use Rattle.mq_laws.proofs.Common.{SourceTimer, Timing, ForwardsAfter, group_after}
-use Rattle.std.proofs.Common.{◌⊎◌}
-use Rattle.mq_table.proofs.TableRows.{table_row_at, timer_then, timer_at-change_of, at_source_of}
+use Rattle.mq_laws.proofs.Common.{arith, false≢true, GroupState, is_running, running, timer_at, deadline_of, group_deadline, retransmissions_of, wants}
+use Rattle.mq_laws.proofs.Common.{forwards_in}
+use Rattle.mq_laws.proofs.Common.{NamedSources, table_row_met, change_of, membership_interval, Kind, IsEx, ToEx, Block, FilterMode}
+use Rattle.mq_laws.proofs.Common.{SourceTimer, Timing, ForwardsAfter, group_after, ◌⊎◌, timer_then, at_source_of}
+use Rattle.mq_table.proofs.TableRows.{table_row_at, timer_at-change_of}
 use Rattle.mq_table.specs.declared.timers.SourceTimer.TheVariants.{Stopped, Running}
 use Rattle.std.specs.FinSet as set
 
 -- the forwarding of a source after a record, by whether it is named and was forwarded before
 abbrev pub forwards_then : Kind → Bool → Bool → Bool
-forwards_then IsIn named before = named || before
-forwards_then Allow named before = named || before
-forwards_then ToIn named before = named || before
 forwards_then IsEx named before = not named || before
 forwards_then ToEx named before = not named || before
 forwards_then Block named before = before
+forwards_then _ named before = named || before
 
 wants_then : (gmi : ℕ) (mode : FilterMode) (kind : Kind) (s : ℕ) (t : Option SourceTimer) (a : Bool)
     → wants (table_row_at gmi mode kind t a).mode (timer_then gmi mode kind s t a) ≡ forwards_then kind a (wants mode t)
@@ -43,8 +41,7 @@ pub deadline_kept : (timing : Timing) (now : ℕ) (g : GroupState) (kind : Kind)
     → deadline_of (timer_at (change_of timing now g kind named).group s) ≡ Some e → deadline_of (timer_at g s) ≡ Some e
 deadline_kept timing now g kind named s =
     at_source_of (λ restart copy _ _ t. restart ≡ false → copy ≡ false → (e : ℕ) → deadline_of t ≡ Some e → deadline_of (timer_at g s) ≡ Some e)
-    timing now g kind named s
-    (kept_then (now + membership_interval timing) g.mode kind s (timer_at g s) (set.contains named s))
+    timing now g kind named s (kept_then (now + membership_interval timing) g.mode kind s (timer_at g s) (set.contains named s))
 
 pub unnamed_as_before : (timing : Timing) (now : ℕ) (g : GroupState) (kind : Kind) (named : NamedSources) (s : ℕ) → set.contains named s ≡ false
     → (timer_at (change_of timing now g kind named).group s ≡ timer_at g s) ⊎ (timer_at (change_of timing now g kind named).group s ≡ None)
@@ -58,8 +55,7 @@ pub known : (timing : Timing) (now : ℕ) (g : GroupState) (kind : Kind) (named 
 known timing now g kind named s some =
     elim (set.contains named s) as (λ a. set.contains named s ≡ a → IsSome (timer_at g s) ⊎ IsTrue a) [
       | true ↦ λ _. inr refl
-      | false ↦ λ unnamed. inl
-          (elim (unnamed_as_before timing now g kind named s unnamed)
+      | false ↦ λ unnamed. inl (elim (unnamed_as_before timing now g kind named s unnamed)
           [ inl same ↦ subst IsSome same some | inr gone ↦ absurd (false≢true (subst IsSome gone some)) ])
     ] refl
 
@@ -86,17 +82,17 @@ copied timing now g kind named s =
     at_source_of (λ _ copy _ _ t. copy ≡ true → deadline_of t ≡ group_deadline g.mode) timing now g kind named s
     (copied_then (now + membership_interval timing) g.mode kind s (timer_at g s) (set.contains named s))
 
--- a source that runs on keeps its sendings
-pub sendings_kept : (timing : Timing) (now : ℕ) (g : GroupState) (kind : Kind) (named : NamedSources) (s : ℕ)
+-- a source that runs on keeps its retransmissions
+pub retransmissions_kept : (timing : Timing) (now : ℕ) (g : GroupState) (kind : Kind) (named : NamedSources) (s : ℕ)
     → running (change_of timing now g kind named).group s ≡ true
-    → sendings_of (timer_at (change_of timing now g kind named).group s) ≡ sendings_of (timer_at g s)
-sendings_kept timing now g kind named s runs =
+    → retransmissions_of (timer_at (change_of timing now g kind named).group s) ≡ retransmissions_of (timer_at g s)
+retransmissions_kept timing now g kind named s runs =
     let l = table_row_met timing now g kind named in
     let same = timer_at-change_of timing now g kind named s in
-    ap sendings_of same ∙ by_rule (l.x s) (l.y s) _ (sendings_of (timer_at g s)) (sym (ap is_running same) ∙ runs)
+    ap retransmissions_of same ∙ by_rule (l.x s) (l.y s) _ (retransmissions_of (timer_at g s)) (sym (ap is_running same) ∙ runs)
   where
     by_rule : (x y : Bool) (d n : ℕ) → is_running (cond x (Some (Running d n)) (cond y (Some Stopped) None)) ≡ true →
-        sendings_of (cond x (Some (Running d n)) (cond y (Some Stopped) None)) ≡ n
+        retransmissions_of (cond x (Some (Running d n)) (cond y (Some Stopped) None)) ≡ n
     by_rule true y d n e = refl
     by_rule false true d n e = absurd (false≢true e)
     by_rule false false d n e = absurd (false≢true e)

@@ -1,31 +1,17 @@
--- A moment comes in a check whose queries pair up: what is over no longer waits, and of it only those are found that were
--- left out.
-use Rattle.std.proofs.Common.{◌≡◌, ℕ, suc, ◌+◌, ◌<◌, ◌≤◌, Bool, true, false, List, [], ◌∷◌, ◌++◌, refl, ap, sym, ◌∙◌, arith, append_assoc, drop}
-use Rattle.std.specs.Prelude.{Option, None, Some, ◌⊎◌, ◌&&◌, ◌==◌, flat_map, nat_lt, not, take_while, map as list_map}
-use mathlib.Core.Logic.{inl, inr}
-use Rattle.std.specs.List.{AllByRecursion, prefix_len}
-use Rattle.std.proofs.lemmas.Bool.{lt-ltb, ltb-true, ltb-false}
-use Rattle.mq_check.specs.declared.asked.Asked.{Asked}
-use Rattle.mq_check.specs.declared.entry.Entry.{Entry}
-use Rattle.mq_check.specs.declared.entry.Need.{Need}
-use Rattle.mq_check.specs.declared.entry.Need.TheVariants.{Required}
-use Rattle.mq_check.specs.declared.entry.Entry.TheVariants.{Wanted, Seen, Interval, Silence, Packet}
-use Rattle.mq_check.specs.declared.entry.Unpaired.{Unpaired}
-use Rattle.mq_check.specs.declared.finding.Difference.{Difference}
+-- The step of a check whose queries pair up, when a moment comes.
+-- Expired entries no longer wait, and findings come only from queries that were left out.
+use Rattle.mq_laws.proofs.Common.{◌≡◌, ℕ, suc, ◌+◌, ◌<◌, ◌≤◌, Bool, true, false, List, [], ◌∷◌, ◌++◌, refl, ap, sym, ◌∙◌, arith, append_assoc, drop, Option}
+use Rattle.mq_laws.proofs.Common.{None, Some, ◌⊎◌, ◌&&◌, ◌==◌, flat_map, nat_lt, not, take_while, list_map, inl, inr, AllByRecursion, prefix_len, lt-ltb}
+use Rattle.mq_laws.proofs.Common.{ltb-true, ltb-false, Asked, Entry, Need, Required, Wanted, Seen, SeenVerdict, Unpaired, Difference}
+use Rattle.mq_laws.proofs.Common.{Finding, Missing, Differs, Terms, QuerierTerms, moment_of, difference_if, findings_of, is_over, is_possible, is_unlike}
+use Rattle.mq_laws.proofs.Common.{queriers_differ, responses_differ, terms_differ, is_same, Ask, Expected, Sent, LeftOut, PairUp, ask_of, seen_about}
+use Rattle.mq_laws.proofs.Common.{wanted_about, missing_of, still_due}
+use Rattle.mq_check.specs.declared.entry.SVerdict.{SVerdict, TheVariants.Right}
+use Rattle.mq_check.specs.Entries.{with_s_judged, findings_of_pair, has_other_s}
+use Rattle.mq_laws.proofs.{RightS.alike_with_s, RightS.none_after, RightS.none_before, Held.ascending-from, Held.none_over-ascending, Held.moments_wanted}
+use Rattle.mq_laws.proofs.{Same.is_same-self, Steps.Stands, Steps.by_asked, Steps.moments_seen, Steps.returns_of, Steps.to_pairs}
+use Rattle.mq_laws.proofs.Held.{ask, Holds, free_seen, IsAscending, wanted_here, wanted_other, seen_here, seen_other, wanted_about-append, seen_about-append}
 use Rattle.mq_check.specs.declared.finding.Difference.TheVariants as field
-use Rattle.mq_check.specs.declared.finding.Finding.{Finding}
-use Rattle.mq_check.specs.declared.finding.Finding.TheVariants.{Missing, Differs}
-use Rattle.mq_check.specs.declared.terms.Terms.{Terms}
-use Rattle.mq_check.specs.declared.terms.QuerierTerms.{QuerierTerms}
-use Rattle.mq_check.specs.Entries.{moment_of, difference_if, findings_of, findings_of_pair, has_other_s, is_over, is_possible, is_unlike, queriers_differ}
-use Rattle.mq_check.specs.Entries.{responses_differ, terms_differ}
-use Rattle.mq_check.specs.Queries.{is_same}
-use Rattle.mq_laws.specs.Pairing.{Ask, Expected, Sent, LeftOut, PairUp, ask_of, seen_about, wanted_about, missing_of}
-use Rattle.mq_laws.specs.WantedAndSeen.{still_due}
-use Rattle.mq_laws.proofs.Same.{is_same-self}
-use Rattle.mq_laws.proofs.Held.{ask, Holds, free_seen, IsAscending, wanted_here, wanted_other, seen_here, seen_other, wanted_about-append}
-use Rattle.mq_laws.proofs.Held.{seen_about-append, ascending-from, none_over-ascending, moments_wanted}
-use Rattle.mq_laws.proofs.Steps.{Stands, by_asked, moments_seen, returns_of, to_pairs}
 
 -- all that is still to come comes at a moment or later
 abbrev pub WantedFrom : (moment : ℕ) → List Expected → Type 0
@@ -50,27 +36,27 @@ seen_from-about moment asked (s ∷ ss) is = one (seen_from-about moment asked s
     one rest true same = rw (seen_here asked s ss same) (is.0, rest)
     one rest false differs = rw (seen_other asked s ss differs) rest
 
--- one that was sent would have been answered by then
+-- a sent query would have been answered by then
 sent_in_time : (within keep moment : ℕ) (w : Ask) (ws : List Expected) (ss : List Ask) → within ≤ keep → PairUp within keep (Sent w ∷ ws) ss →
     SeenFrom moment ss → w.moment + keep < moment → ⊥
 sent_in_time within keep moment w ws [] long pairs from over = pairs
 sent_in_time within keep moment w ws (s ∷ ss) long pairs from over = let late = pairs.0.not_late in omega (arith, from.0)
 
--- one that was seen would have been wanted by then
+-- a seen query would have been wanted by then
 seen_in_time : (within keep moment : ℕ) (s : Ask) (ws : List Expected) (ss : List Ask) → within ≤ keep → PairUp within keep ws (s ∷ ss) →
     WantedFrom moment ws → s.moment + keep < moment → ⊥
 seen_in_time within keep moment s [] ss long pairs from over = pairs
 seen_in_time within keep moment s (Sent w ∷ ws) ss long pairs from over = let early = pairs.0.not_early in omega (arith, from.0)
 seen_in_time within keep moment s (LeftOut w ∷ ws) ss long pairs from over = omega (arith, from.0, pairs.0.0)
 
--- What waits when a moment comes, before what is over is told.
+-- The entries that wait when a moment comes, before the expired ones are reported.
 pub record Waits (within keep : ℕ) (low moment : ℕ) (entries : List (Entry ℕ)) (free wanted : List Expected) (seen : List Ask) : Type 0 where
   pub holds : Holds entries free
   pub ascending : IsAscending low entries moment
   pub one_side : (asked : Asked ℕ) → (wanted_about asked free ≡ []) ⊎ (seen_about asked (free_seen entries) ≡ [])
   pub pairs : (asked : Asked ℕ) → PairUp within keep (wanted_about asked (free ++ wanted)) (seen_about asked (free_seen entries ++ seen))
 
--- What is found of what is over at a moment, and what still waits.
+-- The findings of entries that expired at a moment, and the entries that still wait.
 abbrev pub told_of : (keep within moment : ℕ) (changed : Option ℕ) → List (Entry ℕ) → List (Finding ℕ)
 told_of keep within moment changed entries = flat_map (findings_of within changed) (take_while (is_over keep moment) entries)
 
@@ -93,7 +79,7 @@ ahead_told keep within moment changed e es is = rw is refl
 pub ahead_left : (keep moment : ℕ) (e : Entry ℕ) (es : List (Entry ℕ)) → is_over keep moment e ≡ false → left_of keep moment (e ∷ es) ≡ e ∷ es
 ahead_left keep moment e es is = rw is refl
 
--- What waits behind a moment that came; no less is missing than was told, and what is still missing.
+-- The entries that wait after a moment came. The findings of missing queries are those of expired entries, and then the rest.
 pub record Come (within keep moment : ℕ) (changed : Option ℕ) (entries : List (Entry ℕ)) (free wanted : List Expected) (seen : List Ask) : Type 0 where
   pub left : List Expected
   pub stands : Stands within keep moment (left_of keep moment entries) left wanted seen
@@ -122,7 +108,7 @@ none_comes within keep low moment changed e es free wanted seen ahead w =
       };
     }
 
--- the first entry is over, of which this is found
+-- the first entry is over, and `found` are its findings
 one_comes : (within keep moment : ℕ) (changed : Option ℕ) (e : Entry ℕ) (es : List (Entry ℕ)) (before free wanted : List Expected) (seen : List Ask)
     (found : List (Finding ℕ))
     → is_over keep moment e ≡ true → findings_of within changed e ≡ found → missing_of (before ++ wanted) ≡ found ++ missing_of (free ++ wanted)
@@ -156,7 +142,7 @@ plain_out within keep low moment e es free wanted seen holds same w = record {
   pairs = λ b. to_pairs within keep _ _ _ _ refl (ap (λ (l : List Ask). seen_about b (l ++ seen)) same) (w.pairs b);
 }
 
--- one that was left out is taken out
+-- the entry of a query that was left out is taken out
 missed_out : (within keep low moment : ℕ) (m : ℕ) (asked : Asked ℕ) (terms : Terms ℕ) (need : Need) (es : List (Entry ℕ)) (x : Ask)
     (free wanted : List Expected) (seen : List Ask)
     → Waits within keep low moment (Wanted m asked terms need false ∷ es) (LeftOut x ∷ free) wanted seen → Waits within keep m moment es free wanted seen
@@ -166,22 +152,20 @@ missed_out within keep low moment m asked terms need es x free wanted seen w =
     record {
       holds = w.holds.1;
       ascending = w.ascending.1;
-      one_side = by_asked (λ b. (wanted_about b free ≡ []) ⊎ (seen_about b (free_seen es) ≡ [])) asked
-          (elim (w.one_side asked) [
-            | inl n ↦ absurd (let two : [] ≡ LeftOut x ∷ wanted_about asked free = sym n ∙ here in cc)
-            | inr n ↦ inr n
-          ])
-          (λ b differs. elim (w.one_side b) [
-            | inl n ↦ inl (sym (wanted_other b (LeftOut x) free (ap (λ (a : Ask). is_same b a.asked) w.holds.0.0 ∙ differs)) ∙ n)
-            | inr n ↦ inr n
-          ]);
+      one_side = by_asked (λ b. (wanted_about b free ≡ []) ⊎ (seen_about b (free_seen es) ≡ [])) asked (elim (w.one_side asked) [
+        | inl n ↦ absurd (let two : [] ≡ LeftOut x ∷ wanted_about asked free = sym n ∙ here in cc)
+        | inr n ↦ inr n
+      ]) (λ b differs. elim (w.one_side b) [
+        | inl n ↦ inl (sym (wanted_other b (LeftOut x) free (ap (λ (a : Ask). is_same b a.asked) w.holds.0.0 ∙ differs)) ∙ n)
+        | inr n ↦ inr n
+      ]);
       pairs = by_asked (λ b. PairUp within keep (wanted_about b (free ++ wanted)) (seen_about b (free_seen es ++ seen))) asked
           ((to_pairs within keep _ _ _ _ (wanted_here asked (LeftOut x) (free ++ wanted) near) refl (w.pairs asked)).1)
           (λ b differs. to_pairs within keep _ _ _ _
           (wanted_other b (LeftOut x) (free ++ wanted) (ap (λ (a : Ask). is_same b a.asked) w.holds.0.0 ∙ differs)) refl (w.pairs b));
     }
 
--- one that was sent isn't over
+-- the entry of a sent query isn't over
 no_sent : (within keep low moment : ℕ) (m : ℕ) (asked : Asked ℕ) (terms : Terms ℕ) (need : Need) (es : List (Entry ℕ)) (x : Ask)
     (free wanted : List Expected) (seen : List Ask)
     → within ≤ keep → SeenFrom moment seen → m + keep < moment → Waits within keep low moment (Wanted m asked terms need false ∷ es)
@@ -199,8 +183,8 @@ no_sent within keep low moment m asked terms need es x free wanted seen long fro
     sent_in_time within keep moment x _ _ long (to_pairs within keep _ _ _ _ (wanted_here asked (Sent x) (free ++ wanted) near) alone (w.pairs asked))
     (seen_from-about moment asked seen from) (omega arith)
 
--- and neither is one that was seen and has no partner
-no_seen_over : (within keep low moment : ℕ) (m : ℕ) (asked : Asked ℕ) (terms : Terms ℕ) (alone : Unpaired ℕ) (es : List (Entry ℕ))
+-- and neither is the entry of a seen query without a partner
+no_seen_over : (within keep low moment : ℕ) (m : ℕ) (asked : Asked ℕ) (terms : Terms ℕ) (alone : SeenVerdict ℕ) (es : List (Entry ℕ))
     (free wanted : List Expected) (seen : List Ask)
     → within ≤ keep → WantedFrom moment wanted → m + keep < moment → Waits within keep low moment (Seen m asked terms None alone ∷ es) free wanted seen → ⊥
 no_seen_over within keep low moment m asked terms alone es free wanted seen long from over w =
@@ -215,41 +199,40 @@ no_seen_over within keep low moment m asked terms alone es free wanted seen long
     seen_in_time within keep moment s _ _ long (to_pairs within keep _ _ _ _ alone (seen_here asked s (free_seen es ++ seen) (is_same-self asked))
     (w.pairs asked)) (wanted_from-about moment asked wanted from) over
 
--- what is found of those that are over
--- nothing differs in either part if nothing differs in both
-none_before : (xs ys : List (Difference ℕ)) → xs ++ ys ≡ [] → xs ≡ []
-none_before [] ys none = refl
-none_before (x ∷ xs) ys none = absurd (cc)
-
-none_after : (xs ys : List (Difference ℕ)) → xs ++ ys ≡ [] → ys ≡ []
-none_after [] ys none = none
-none_after (x ∷ xs) ys none = absurd (cc)
-
+-- the findings of expired entries
 same_flag : (b : Bool) (difference : Difference ℕ) → difference_if b difference ≡ [] → b ≡ false
 same_flag true difference none = absurd (cc)
 same_flag false difference none = refl
 
 -- queries whose fields are alike have the same S, so nothing is found of them
 same_s : (seen wanted : Option QuerierTerms) → queriers_differ seen wanted ≡ [] → has_other_s seen wanted ≡ false
-same_s None wanted alike = refl
-same_s (Some seen) None alike = refl
 same_s (Some seen) (Some wanted) alike = same_flag (is_unlike seen.suppress wanted.suppress) (field.Suppress seen.suppress wanted.suppress)
     (none_before (difference_if (is_unlike seen.suppress wanted.suppress) (field.Suppress seen.suppress wanted.suppress)) _ (none_before _ _ alike))
+same_s _ _ alike = refl
 
 never_both : (a b : Bool) → b ≡ false → (a && b) ≡ false
 never_both true b fails = fails
 never_both false b fails = refl
 
-pub pair_alike : (m : ℕ) (asked : Asked ℕ) (terms wanted : Terms ℕ) (alone : Unpaired ℕ) → terms_differ terms wanted ≡ [] →
+fields_alike : (m : ℕ) (asked : Asked ℕ) (terms wanted : Terms ℕ) (alone : Unpaired ℕ) → terms_differ terms wanted ≡ [] →
     findings_of_pair m asked terms wanted alone ≡ []
-pair_alike m asked terms wanted alone alike =
+fields_alike m asked terms wanted alone alike =
     let version = difference_if (not (terms.version == wanted.version)) (field.Version terms.version wanted.version) in
     let response = responses_differ terms.response wanted.response in
     let queriers = queriers_differ terms.querier wanted.querier in
     let same = same_s terms.querier wanted.querier (none_after (version ++ response) queriers (none_before ((version ++ response) ++ queriers) _ alike)) in
     rw (never_both (is_possible alone) (has_other_s terms.querier wanted.querier) same) (ap (list_map (Differs m terms.packet asked)) alike)
 
-found_of_pair : (within : ℕ) (changed : Option ℕ) (m : ℕ) (asked : Asked ℕ) (terms wanted : Terms ℕ) (alone : Unpaired ℕ) →
+judged_alike : (s : SVerdict) (terms wanted : Terms ℕ) → terms_differ terms wanted ≡ [] → terms_differ terms (with_s_judged s terms wanted) ≡ []
+judged_alike Right terms wanted alike = alike_with_s terms wanted alike
+judged_alike _ terms wanted alike = alike
+
+pub pair_alike : (m : ℕ) (asked : Asked ℕ) (terms wanted : Terms ℕ) (verdict : SeenVerdict ℕ) → terms_differ terms wanted ≡ [] →
+    findings_of_pair m asked terms (with_s_judged verdict.s terms wanted) verdict.alone ≡ []
+pair_alike m asked terms wanted verdict alike =
+    fields_alike m asked terms (with_s_judged verdict.s terms wanted) verdict.alone (judged_alike verdict.s terms wanted alike)
+
+found_of_pair : (within : ℕ) (changed : Option ℕ) (m : ℕ) (asked : Asked ℕ) (terms wanted : Terms ℕ) (alone : SeenVerdict ℕ) →
     terms_differ terms wanted ≡ [] → findings_of within changed (Seen m asked terms (Some wanted) alone) ≡ []
 found_of_pair within changed m asked terms wanted alone alike = pair_alike m asked terms wanted alone alike
 
@@ -262,7 +245,7 @@ found_of_missed : (within : ℕ) (changed : Option ℕ) (m : ℕ) (asked : Asked
     → findings_of within changed (Wanted m asked terms need false) ≡ Missing x.moment x.terms.packet x.asked ∷ []
 found_of_missed within changed m asked terms need x is must = rw (must, is) refl
 
--- one that is over is no longer due
+-- a query that is over is no longer due
 missed_due : (within keep moment m : ℕ) (asked : Asked ℕ) (terms : Terms ℕ) (x : Ask) (free : List Expected) (b : Asked ℕ) → within ≤ keep →
     x ≡ ask m asked terms → nat_lt (m + keep) moment ≡ true
     → still_due within moment (moments_wanted (wanted_about b (LeftOut x ∷ free))) ≡ still_due within moment (moments_wanted (wanted_about b free))
@@ -277,7 +260,7 @@ missed_due within keep moment m asked terms x free b long is over =
       | false ↦ λ differs. ap (λ (l : List Expected). still_due within moment (moments_wanted l)) (wanted_other b (LeftOut x) free differs)
     ] refl
 
--- whether the first entry is over
+-- the first entry is over, or it isn't
 either_comes : (within keep low moment : ℕ) (changed : Option ℕ) (e : Entry ℕ) (es : List (Entry ℕ)) (free wanted : List Expected) (seen : List Ask)
     → Waits within keep low moment (e ∷ es) free wanted seen →
     (is_over keep moment e ≡ true → Come within keep moment changed (e ∷ es) free wanted seen) → Come within keep moment changed (e ∷ es) free wanted seen
@@ -322,9 +305,6 @@ comes within keep low moment changed (Seen m asked terms (Some partner) alone �
     let e = Seen m asked terms (Some partner) alone in
     either_comes within keep low moment changed e es free wanted seen w (λ over.
     one_comes within keep moment changed e es free free wanted seen [] over (found_of_pair within changed m asked terms partner alone w.holds.0) refl
-    (λ b. refl) refl
-    (comes within keep m moment changed es free wanted seen long later_wanted later_seen
+    (λ b. refl) refl (comes within keep m moment changed es free wanted seen long later_wanted later_seen
     (plain_out within keep low moment e es free wanted seen w.holds.1 refl w)))
-comes within keep low moment changed (Interval m packet after wanted' ∷ es) free wanted seen long later_wanted later_seen w = absurd w.holds
-comes within keep low moment changed (Silence m after wanted' ∷ es) free wanted seen long later_wanted later_seen w = absurd w.holds
-comes within keep low moment changed (Packet m number fault ∷ es) free wanted seen long later_wanted later_seen w = absurd w.holds
+comes within keep low moment changed (_ ∷ es) free wanted seen long later_wanted later_seen w = absurd w.holds

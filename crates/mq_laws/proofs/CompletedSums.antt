@@ -1,16 +1,12 @@
 -- A message with its checksum in its field has a right sum.
 use Rattle.mq_laws.proofs.Common.{◌≡◌, ◌≤◌, ℕ, ◌+◌, ◌-◌, ◌*◌, ◌/◌, ◌%◌, ◌<◌, inl, inr, List, [], ◌∷◌, ◌++◌, length, ap, ◌∙◌, arith, refl, div-add-mod}
-use Rattle.mq_laws.proofs.Common.{mul-mod_right, nat_tests, eqb_tells}
-use Rattle.mq_wire.specs.Checksum.{sum_of_words, ones_complement, with_field, checksum_of, checksum_behind, IsRight}
-use Rattle.mq_wire.proofs.Sums.{sum_of_both}
+use Rattle.mq_laws.proofs.Common.{mul-mod_right, nat_tests, eqb_tells, sum_of_words, with_field, checksum_behind, sum_of_both}
+use Rattle.mq_wire.specs.Checksum.{ones_complement, checksum_of, IsRight}
 
 sum_with_field : (high low : ℕ) (bytes : List ℕ) → 4 ≤ length bytes → sum_of_words (with_field high low bytes)
     ≡ sum_of_words (with_field 0 0 bytes) + (high * 256 + low)
 sum_with_field high low (a ∷ b ∷ c ∷ d ∷ bytes) long = omega arith
-sum_with_field high low [] long = absurd (omega arith)
-sum_with_field high low (a ∷ []) long = absurd (omega arith)
-sum_with_field high low (a ∷ b ∷ []) long = absurd (omega arith)
-sum_with_field high low (a ∷ b ∷ c ∷ []) long = absurd (omega arith)
+sum_with_field high low _ long = absurd (omega arith)
 
 -- the difference of a sum to the next multiple of 65535
 completed : (sum : ℕ) → 0 < sum → sum + (65535 - ((sum - 1) % 65535 + 1)) ≡ 65535 * ((sum - 1) / 65535 + 1)

@@ -1,13 +1,12 @@
 -- The counters that a datagram raises, and the outlet's answers, which change nothing else.
 use Rattle.mq_laws.proofs.Common.{◌≡◌, ℕ, ◌+◌, Bool, true, false, cond, not, refl, List, [], ◌∷◌, length, suc, Option, None, Some, Result, Ok, Err, ap, ◌∙◌}
 use Rattle.mq_laws.proofs.Common.{arith, count_by, Message, QueryMessage, OldReport, LeaveMessage, ReportMessage, WireFault, RecordView, Configuration}
-use Rattle.mq_laws.proofs.Common.{Counters, counted_at, kind_number, Verdict, Applied, Ignored, Refused, count_dropped, count_verdict, count_verdicts}
+use Rattle.mq_laws.proofs.Common.{Counters, counted_at, kind_number, Verdict, Applied, Denied, Ignored, Refused, count_dropped, count_verdict, count_verdicts}
 use Rattle.mq_laws.proofs.Common.{is_applied, is_ignored, is_refused, kind_of, Envelope, Receipt, with_outcomes, setting_of, count_read, counting_read}
-use Rattle.mq_laws.proofs.Common.{taken_or_dropped, reason_of_fault, Setting, OlderJoin, OlderLeave, Outcomes, stated, seen_after, judged, all_judged, alone}
-use Rattle.mq_laws.proofs.Common.{Groups, Step, DropReason, CountsDropped, CountsTaken, CountsAnswer, records_in, CountsRecords}
-use Rattle.std.proofs.lemmas.List.Sums.{sum_by-cons}
-use Rattle.mq_count.specs.Streams.{counted_on}
-use Rattle.mq_link.specs.{Receive.taken_in, Record.Seen, declared.answers.Received.Received, declared.answers.Received.TheVariants.Dropped}
+use Rattle.mq_laws.proofs.Common.{taken_or_dropped, reason_of_fault, Setting, OlderJoin, OlderLeave, Outcomes, stated_alone, seen_after, judged, all_judged}
+use Rattle.mq_laws.proofs.Common.{alone, Groups, Step, DropReason, CountsDropped, CountsTaken, CountsAnswer, records_in, CountsRecords, sum_by-cons, counted_on}
+use Rattle.mq_laws.proofs.Common.{taken_in, Dropped}
+use Rattle.mq_link.specs.{Record.Seen, declared.answers.Received.Received}
 use Rattle.std.specs.FinMap as map
 
 -- counts of verdicts; they leave the other counters
@@ -15,6 +14,7 @@ verdicts_kept : (vs : List Verdict) (c : Counters) → ((count_verdicts vs c).re
 verdicts_kept [] c = (refl, refl)
 verdicts_kept (Applied ∷ vs) c = verdicts_kept vs (count_verdict Applied c)
 verdicts_kept (Ignored ∷ vs) c = verdicts_kept vs (count_verdict Ignored c)
+verdicts_kept (Denied ∷ vs) c = verdicts_kept vs (count_verdict Denied c)
 verdicts_kept (Refused name ∷ vs) c = verdicts_kept vs (count_verdict (Refused name) c)
 
 -- one verdict, and then others
@@ -82,9 +82,9 @@ unfolding taken_in
 taken_counted config envelope (QueryMessage query) step =
     record { records = refl; counted = verdicts_counted [] step.state.counters; received = refl; spelled = refl }
 taken_counted config envelope (OldReport version group) step =
-    outcomes_counted _ step (alone (stated (setting_of config step.state) group (OlderJoin version) step.state.groups)) refl
+    outcomes_counted _ step (alone (stated_alone (setting_of config step.state) group (OlderJoin version) step.state.groups)) refl
 taken_counted config envelope (LeaveMessage group) step =
-    outcomes_counted _ step (alone (stated (setting_of config step.state) group OlderLeave step.state.groups)) refl
+    outcomes_counted _ step (alone (stated_alone (setting_of config step.state) group OlderLeave step.state.groups)) refl
 taken_counted config envelope (ReportMessage records) step =
     outcomes_counted _ step (all_judged (setting_of config step.state) map.empty records step.state.groups)
     (all_verdicts (setting_of config step.state) map.empty records step.state.groups)

@@ -1,42 +1,26 @@
--- What is found in the course of a check whose queries pair up.
-use Rattle.std.proofs.Common.{◌≡◌, ℕ, ◌+◌, ◌-◌, ◌≤◌, Bool, true, false, List, [], ◌∷◌, ◌++◌, refl, ap, sym, ◌∙◌, arith, subst, append_assoc}
-use Rattle.std.specs.Prelude.{Option, None, Some, fold, nat_le, if◌then◌else◌}
-use Rattle.mq_table.specs.declared.timing.Timing.{Timing}
-use Rattle.mq_check.specs.declared.asked.Asked.{Asked}
-use Rattle.mq_check.specs.declared.asked.Asked.TheVariants.{AllGroups}
-use Rattle.mq_check.specs.declared.check_terms.CheckFlags.{CheckFlags}
-use Rattle.mq_check.specs.declared.entry.Entry.{Entry}
-use Rattle.mq_check.specs.declared.finding.Finding.{Finding}
-use Rattle.mq_check.specs.declared.phase.Phase.{Phase}
-use Rattle.mq_check.specs.declared.phase.Phase.TheVariants.{Starting, Heard, Returned, NotQuerier}
-use Rattle.mq_check.specs.declared.schedules.Repeats.{Repeats}
-use Rattle.mq_check.specs.declared.standing.Standing.{Standing}
-use Rattle.mq_check.specs.declared.terms.Terms.{Terms}
-use Rattle.mq_check.specs.Checking.{CheckingValue, all_changed, alone_in, is_querier_in, near, subject_wanted, with_seen, one_seen, with_general}
-use Rattle.mq_check.specs.Checking.{general_compared, general_seen, specific_seen, role_lost, role_returned, settled, told, with_fault}
-use Rattle.mq_check.specs.Entries.{is_free_seen, is_free_wanted, terms_differ}
-use Rattle.mq_check.specs.General.{wrong_interval, phase_again, phase_behind, silence_up_to}
-use Rattle.mq_check.specs.Queries.{is_same}
-use Rattle.mq_check.specs.Schedules.{SchedulesValue, keep_in, more_in, repeats_in, terms_wanted}
-use Rattle.mq_check.specs.Standing.{plain}
-use Rattle.mq_check.specs.Waiting.{WaitingValue}
-use Rattle.mq_laws.specs.Pairing.{Ask, Expected, Sent, LeftOut, ask_of, asks_of, kept_for, missing_of, wanted_about}
-use Rattle.mq_laws.specs.Events.{CheckEvent, Comes, Wants, Sees, SeesGeneral, LosesRole, HasRoleAgain, SeesFault, Changes, moment_behind, check_by}
-use Rattle.mq_laws.specs.Events.{told_by, moment_behind_all, check_by_all, told_by_all}
-use Rattle.mq_laws.specs.WantedAndSeen.{asks_at, asks_wanted, wanted_in, seen_in, general_ask, general_returned, all_seen, all_wanted, return_seen}
-use Rattle.mq_laws.specs.WantedAndSeen.{return_wanted, still_due, Returns}
-use Rattle.mq_laws.specs.OnTime.{AreInOrder, AreOnTime, IsAsWantedThen}
-use Rattle.mq_laws.specs.AsWanted.{AreMissed}
-use Rattle.mq_laws.proofs.Held.{ask, IsKept, ascending-to, moments_wanted, still_later}
-use Rattle.mq_laws.proofs.Same.{same_asked}
-use Rattle.mq_laws.proofs.Partners.{SameFrom}
+-- The findings in the course of a check whose queries pair up.
+use Rattle.mq_laws.proofs.Common.{◌≡◌, ℕ, ◌+◌, ◌-◌, ◌≤◌, Bool, true, false, List, [], ◌∷◌, ◌++◌, refl, ap, sym, ◌∙◌, arith, subst, append_assoc, Option, None}
+use Rattle.mq_laws.proofs.Common.{Some, fold, min, nat_le, if◌then◌else◌, Timing, Asked, AllGroups, CheckFlags, Entry, Finding, NotQuerier, Repeats, Standing}
+use Rattle.mq_laws.proofs.Common.{Terms, CheckingValue, all_changed, is_querier_in, near, subject_wanted, with_seen, one_seen, with_general, general_compared}
+use Rattle.mq_laws.proofs.Common.{general_seen, specific_seen, role_lost, role_returned, purged, told, verdict_in, with_fault, with_s_judged, is_free_seen}
+use Rattle.mq_laws.proofs.Common.{is_free_wanted, terms_differ, wrong_interval, phase_again, phase_behind, silence_up_to, is_same, SchedulesValue, keep_in}
+use Rattle.mq_laws.proofs.Common.{repeats_in, terms_wanted, WaitingValue, Ask, Expected, Sent, LeftOut, ask_of, asks_of, kept_for, missing_of, wanted_about}
+use Rattle.mq_laws.proofs.Common.{CheckEvent, Comes, Wants, Sees, SeesGeneral, LosesRole, HasRoleAgain, SeesFault, Changes, Judges, moment_behind, check_by}
+use Rattle.mq_laws.proofs.Common.{Refuses, told_by, moment_behind_all, check_by_all, told_by_all, asks_at, asks_wanted, wanted_in, general_ask}
+use Rattle.mq_laws.proofs.Common.{general_returned, all_seen, all_wanted, return_seen, return_wanted, still_due, Returns, AreInOrder, AreOnTime, IsAsWantedThen}
+use Rattle.mq_laws.proofs.Common.{AreMissed}
+use Rattle.mq_check.specs.declared.phase.Phase.{Phase, TheVariants.Starting}
+use Rattle.mq_check.specs.{Checking.groups_refused, Refused.with_refused, Schedules.more_for, Schedules.more_in, Standing.plain}
+use Rattle.mq_laws.specs.WantedAndSeen.{seen_in}
+use Rattle.mq_laws.proofs.{Held.ask, Held.IsKept, Held.ascending-to, Held.moments_wanted, Held.still_later, Rooms.changed_free, Rooms.changed_part}
+use Rattle.mq_laws.proofs.{Same.same_asked, Judged.judged_entries, Judged.judged_free, Judged.returns_judged, Judged.stands_judged, Rooms.returned_part}
+use Rattle.mq_laws.proofs.{Partners.SameFrom, Comings.WantedFrom, Comings.SeenFrom, Comings.Waits, Comings.comes, Comings.left_of, Comings.told_of}
 use Rattle.mq_laws.proofs.Steps.{Stands, Stepped, general_one, returns_of, see_one, seen_near, want_one, wanted_near}
-use Rattle.mq_laws.proofs.Comings.{WantedFrom, SeenFrom, Waits, comes, left_of, told_of}
-use Rattle.mq_laws.proofs.Rooms.{IsFresh, fresh_as, fresh_settled, entered, wanted_part, seen_part, general_part, lost_part}
-use Rattle.mq_laws.proofs.Rooms.{need_now, required, told_now, settled_free, settled_full}
-use Rattle.mq_laws.proofs.Rooms.{compared_querier, compared_other, general_free, lost_free, returned_free, returned_part, changed_free, changed_part}
+use Rattle.mq_laws.proofs.Unrefused.{changes_stay, general_stays, lost_stays, returned_stays, sees_stay, wants_stay}
+use Rattle.mq_laws.proofs.Rooms.{IsFresh, fresh_as, fresh_purged, entered, wanted_part, seen_part, general_part, lost_part, need_now, required, told_now}
+use Rattle.mq_laws.proofs.Rooms.{purged_free, purged_full, compared_querier, compared_other, said_known, general_free, lost_free, returned_free}
 
--- What waits behind some steps, and the general queries among it.
+-- The entries that wait after some steps, and the general queries among them.
 pub record StepsTo (within keep now : ℕ) (entries : List (Entry ℕ)) (before wanted : List Expected) (seen : List Ask) (returns : Returns) : Type 0 where
   pub left : List Expected
   pub stands : Stands within keep now entries left wanted seen
@@ -48,8 +32,7 @@ general_returns within now free entries = returns_of within now AllGroups free e
 
 -- one step, as far as general queries go
 stepped : (within keep now : ℕ) (asked : Asked ℕ) (step : (due early : List ℕ) → Returns) (old entries : List (Entry ℕ))
-    (free before wanted : List Expected) (seen : List Ask)
-    → Stepped within keep now asked step old entries free before wanted seen
+    (free before wanted : List Expected) (seen : List Ask) → Stepped within keep now asked step old entries free before wanted seen
     → StepsTo within keep now entries before wanted seen
     (if is_same AllGroups asked then step (general_returns within now free old).due (general_returns within now free old).early else general_returns
     within now free old)
@@ -73,7 +56,7 @@ near_as : (within now : ℕ) (test : Entry ℕ → Bool) (c : CheckingValue) →
     SameFrom test (now - within) c.waiting.entries → SameFrom test (near now c) c.waiting.entries
 near_as within now test c within_is same = subst (λ (w : ℕ). SameFrom test (now - w) c.waiting.entries) (sym within_is) same
 
--- what is left to do behind some of what is wanted at a moment
+-- the rest of a moment after some of its wanted queries
 pub record WantedAll (strict : Bool) (within keep end now : ℕ) (c after : CheckingValue) (free before : List Expected) (seen : List Ask) (rest : List Ask)
     (returns : Returns) : Type 0 where
   pub wanted : List Expected
@@ -109,10 +92,8 @@ wants_free now is_again terms (a ∷ more) c free =
 wants_all : (strict : Bool) (within keep end now : ℕ) (is_again : Bool) (terms : Terms ℕ) (asked : List (Asked ℕ)) (c : CheckingValue)
     (free expected : List Expected) (seen : List Ask) (rest : List Ask)
     → IsFresh c.schedules → c.schedules.repeats.within ≡ within → (strict ≡ true → c.schedules.repeats.more ≡ 0) →
-    asks_of expected ≡ asks_wanted now is_again terms asked c ++ rest
-    → AreMissed strict keep end expected →
-    (fold (subject_wanted now is_again terms) c asked).waiting.is_full ≡ false
-    → Stands within keep now c.waiting.entries free expected seen
+    asks_of expected ≡ asks_wanted now is_again terms asked c ++ rest → AreMissed strict keep end expected →
+    (fold (subject_wanted now is_again terms) c asked).waiting.is_full ≡ false → Stands within keep now c.waiting.entries free expected seen
     → WantedAll strict within keep end now c (fold (subject_wanted now is_again terms) c asked) free (free ++ expected) seen rest
     (all_wanted now asked (general_returns within now free c.waiting.entries))
 wants_all strict within keep end now is_again terms [] c free expected seen rest is_fresh within_is none is missed room st =
@@ -121,8 +102,7 @@ wants_all strict within keep end now is_again terms [] c free expected seen rest
       step = record { left = free; stands = st; missing = refl; returns_are = refl };
       asks = is;
       missed = missed;
-      phase =
-          refl;
+      phase = refl;
       last = refl;
       repeats = refl;
       fresh = is_fresh;
@@ -196,7 +176,7 @@ sees_all within keep now terms standing (a ∷ more) c free wanted rest is_fresh
     let one : StepsTo within keep now next.waiting.entries (free ++ wanted) wanted (asks_at now terms more ++ rest)
     (if is_same AllGroups a then return_seen now r.due r.early else r) =
     rw (part.entries is_fresh near_is) (stepped within keep now a (return_seen now) _ _ free (free ++ wanted) wanted (asks_at now terms more ++ rest)
-    (see_one within keep now a terms (alone_in now terms (standing a) a c) c.waiting.entries free wanted (asks_at now terms more ++ rest) st)) in
+    (see_one within keep now a terms (verdict_in now terms (standing a) a c) c.waiting.entries free wanted (asks_at now terms more ++ rest) st)) in
     let all = sees_all within keep now terms standing more next one.left wanted rest (part.fresh is_fresh)
     (ap (λ (r : Repeats). r.within) part.repeats ∙ within_is) room one.stands in
     record {
@@ -216,8 +196,8 @@ sees_all within keep now terms standing (a ∷ more) c free wanted rest is_fresh
 pub all_free : (within : ℕ) (timing : Timing) (now : ℕ) (events : List CheckEvent) (c : CheckingValue) →
     (check_by_all within timing now events c).waiting.is_full ≡ false → c.waiting.is_full ≡ false
 all_free within timing now [] c free = free
-all_free within timing now (Comes moment ∷ es) c free = sym (settled_full c.schedules.repeats.keep moment c.waiting) ∙
-    all_free within timing moment es (settled moment c) free
+all_free within timing now (Comes moment ∷ es) c free = sym (purged_full c.schedules.repeats.keep moment c.waiting) ∙
+    all_free within timing moment es (purged moment c) free
 all_free within timing now (Wants is_again terms asked ∷ es) c free =
     wants_free now is_again terms asked c (all_free within timing now es (fold (subject_wanted now is_again terms) c asked) free)
 all_free within timing now (Sees terms standing asked ∷ es) c free =
@@ -229,8 +209,11 @@ all_free within timing now (HasRoleAgain ∷ es) c free = returned_free within n
 all_free within timing now (SeesFault number fault ∷ es) c free = (entered _ _ (all_free within timing now es (with_fault now number c fault) free)).was
 all_free within timing now (Changes terms asked ∷ es) c free =
     changed_free now terms asked c (all_free within timing now es (all_changed now terms asked c) free)
+all_free within timing now (Judges moment is_set ∷ es) c free =
+    judged_free within moment is_set c (all_free within timing now es (with_s_judged within moment is_set c) free)
+all_free within timing now (Refuses groups ∷ es) c free = all_free within timing now es (groups_refused groups c) free
 
--- What waits at the end, and that no less is missing than was told and is missing still.
+-- The entries that wait at the end. The findings of missing queries are those reported before, and then the rest.
 pub record Ended (within : ℕ) (timing : Timing) (flags : CheckFlags) (end now : ℕ) (events : List CheckEvent) (c : CheckingValue)
     (missing : List (Finding ℕ)) : Type 0 where
   pub left : List Expected
@@ -240,8 +223,9 @@ pub record Ended (within : ℕ) (timing : Timing) (flags : CheckFlags) (end now 
   pub in_time : moment_behind_all now events ≤ end
   pub repeats : (check_by_all within timing now events c).schedules.repeats ≡ repeats_in within timing flags
   pub fresh : IsFresh (check_by_all within timing now events c).schedules
+  pub refused : (check_by_all within timing now events c).refused ≡ []
 
--- what is still to come lies at a moment or later
+-- queries that are still to come lie at a moment or later
 asks-from : (now : ℕ) (terms : Terms ℕ) (asked : List (Asked ℕ)) (rest : List Ask) → SeenFrom now rest → SeenFrom now (asks_at now terms asked ++ rest)
 asks-from now terms [] rest is = is
 asks-from now terms (a ∷ more) rest is = (omega arith, asks-from now terms more rest is)
@@ -260,7 +244,7 @@ wanted-from : (within : ℕ) (timing : Timing) (now : ℕ) (events : List CheckE
     SeenFrom now (wanted_in within timing now events c)
 wanted-from within timing now [] c end order = tt
 wanted-from within timing now (Comes moment ∷ es) c end order =
-    later-from now moment _ order.0 (wanted-from within timing moment es (settled moment c) end order.1)
+    later-from now moment _ order.0 (wanted-from within timing moment es (purged moment c) end order.1)
 wanted-from within timing now (Wants is_again terms asked ∷ es) c end order =
     asks_wanted-from now is_again terms asked c _ (wanted-from within timing now es (fold (subject_wanted now is_again terms) c asked) end order)
 wanted-from within timing now (Sees terms standing asked ∷ es) c end order =
@@ -271,12 +255,13 @@ wanted-from within timing now (LosesRole ∷ es) c end order = wanted-from withi
 wanted-from within timing now (HasRoleAgain ∷ es) c end order = wanted-from within timing now es (role_returned within now c) end order
 wanted-from within timing now (SeesFault number fault ∷ es) c end order = wanted-from within timing now es (with_fault now number c fault) end order
 wanted-from within timing now (Changes terms asked ∷ es) c end order = wanted-from within timing now es (all_changed now terms asked c) end order
+wanted-from within timing now (Judges moment is_set ∷ es) c end order = wanted-from within timing now es (with_s_judged within moment is_set c) end order
+wanted-from within timing now (Refuses groups ∷ es) c end order = wanted-from within timing now es (groups_refused groups c) end order
 
 general-from : (is_querier : Bool) (due : List ℕ) (now : ℕ) (terms : Terms ℕ) (rest : List Ask) → SeenFrom now rest →
     SeenFrom now (general_ask is_querier due now terms ++ rest)
 general-from true [] now terms rest is = is
-general-from true (d ∷ due) now terms rest is = (omega arith, is)
-general-from false due now terms rest is = (omega arith, is)
+general-from _ _ now terms rest is = (omega arith, is)
 
 seen-from : (within : ℕ) (is_querier : Bool) (r : Returns) (now : ℕ) (events : List CheckEvent) (end : ℕ) → AreInOrder now events end →
     SeenFrom now (seen_in within is_querier r now events)
@@ -289,8 +274,7 @@ seen-from within q r now (SeesGeneral terms wanted ∷ es) end order =
     general-from q r.due now terms _ (seen-from within q (general_returned q now r.due r.early) now es end order)
 seen-from within q r now (LosesRole ∷ es) end order = seen-from within false r now es end order
 seen-from within q r now (HasRoleAgain ∷ es) end order = seen-from within true r now es end order
-seen-from within q r now (SeesFault number fault ∷ es) end order = seen-from within q r now es end order
-seen-from within q r now (Changes terms asked ∷ es) end order = seen-from within q r now es end order
+seen-from within q r now (_ ∷ es) end order = seen-from within q r now es end order
 
 expected-from : (now : ℕ) (expected : List Expected) (asks : List Ask) → asks_of expected ≡ asks → SeenFrom now asks → WantedFrom now expected
 expected-from now [] asks is from = tt
@@ -303,9 +287,7 @@ expected-from now (x ∷ xs) (a ∷ more) is from =
 -- the phase behind a general query
 querier_behind : (within : ℕ) (timing : Timing) (now : ℕ) (phase : Phase) → is_querier_in (phase_behind within timing now phase) ≡ is_querier_in phase
 querier_behind within timing now (Starting startup) = refl
-querier_behind within timing now (Heard before startup) = refl
-querier_behind within timing now Returned = refl
-querier_behind within timing now NotQuerier = refl
+querier_behind within timing now _ = refl
 
 querier_again : (within now : ℕ) (last : Option ℕ) → is_querier_in (phase_again within now last) ≡ true
 querier_again within now None = refl
@@ -316,10 +298,8 @@ querier_again within now (Some last) =
     ] refl
 
 no_phase_behind : (within : ℕ) (timing : Timing) (now : ℕ) (phase : Phase) → is_querier_in phase ≡ false → phase_behind within timing now phase ≡ phase
-no_phase_behind within timing now (Starting startup) is = absurd (cc)
-no_phase_behind within timing now (Heard before startup) is = absurd (cc)
-no_phase_behind within timing now Returned is = absurd (cc)
 no_phase_behind within timing now NotQuerier is = refl
+no_phase_behind within timing now _ is = absurd (cc)
 
 -- a general query that was seen
 pub record GeneralAll (within keep : ℕ) (timing : Timing) (now : ℕ) (c after : CheckingValue) (free before wanted : List Expected) (rest : List Ask)
@@ -331,15 +311,13 @@ pub record GeneralAll (within keep : ℕ) (timing : Timing) (now : ℕ) (c after
 
 -- one step about all groups
 general_step : (within keep now : ℕ) (step : (due early : List ℕ) → Returns) (old entries : List (Entry ℕ)) (free before wanted : List Expected)
-    (seen : List Ask)
-    → Stepped within keep now AllGroups step old entries free before wanted seen
+    (seen : List Ask) → Stepped within keep now AllGroups step old entries free before wanted seen
     → StepsTo within keep now entries before wanted seen (step (general_returns within now free old).due (general_returns within now free old).early)
 general_step within keep now step old entries free before wanted seen s = record { left = s.left; stands = s.stands; missing = s.missing; returns_are = s.here }
 
 general_all : (within keep : ℕ) (timing : Timing) (now : ℕ) (terms partner : Terms ℕ) (c : CheckingValue) (free wanted : List Expected) (rest : List Ask)
     → IsFresh c.schedules → c.schedules.repeats.within ≡ within → wrong_interval within timing now c.phase ≡ None
-    → IsAsWantedThen (is_querier_in c.phase) terms partner
-    → (general_compared within timing now terms partner c).waiting.is_full ≡ false
+    → IsAsWantedThen (is_querier_in c.phase) terms partner → (general_compared within timing now terms partner c).waiting.is_full ≡ false
     → (let r = general_returns within now free c.waiting.entries in
     Stands within keep now c.waiting.entries free wanted (general_ask (is_querier_in c.phase) r.due now terms ++ rest)
     → GeneralAll within keep timing now c (general_compared within timing now terms partner c) free (free ++ wanted) wanted rest
@@ -350,15 +328,15 @@ general_all within keep timing now terms partner c free wanted rest is_fresh wit
     (λ b. is_querier_in c.phase ≡ b → GeneralAll within keep timing now c (general_compared within timing now terms partner c) free
     (free ++ wanted) wanted rest (general_returned b now r.due r.early)) [
       | true ↦ λ is.
-          let same = compared_querier within timing now terms partner c is in
+          let same = compared_querier within timing now terms partner c is ∙
+          ap (λ (w : Terms ℕ). with_general within timing now terms w c) (said_known c.schedules.repeats partner is_fresh.known) in
           let part = general_part within timing now terms partner c in_time (ap (λ (d : CheckingValue). d.waiting.is_full) (sym same) ∙ room) in
           let before : Stands within keep now c.waiting.entries free wanted (general_ask true r.due now terms ++ rest) =
           subst (λ (b : Bool). Stands within keep now c.waiting.entries free wanted (general_ask b r.due now terms ++ rest)) is st in
           let fits : terms_differ terms partner ≡ [] = subst (λ (b : Bool). IsAsWantedThen b terms partner) is alike in
           let one : StepsTo within keep now (with_general within timing now terms partner c).waiting.entries (free ++ wanted) wanted rest
           (general_returned true now r.due r.early) =
-          rw (part.entries, within_is)
-          (general_step within keep now (general_returned true now) _ _ free (free ++ wanted) wanted rest
+          rw (part.entries, within_is) (general_step within keep now (general_returned true now) _ _ free (free ++ wanted) wanted rest
           (general_one within keep now terms partner c.waiting.entries free wanted rest fits before)) in
           rw same (record {
             step = one;
@@ -375,9 +353,8 @@ general_all within keep timing now terms partner c free wanted rest is_fresh wit
           near_as within now (is_free_wanted AllGroups) c within_is (wanted_near within keep now AllGroups terms c.waiting.entries free wanted rest before) in
           let one : StepsTo within keep now (with_seen now terms plain c AllGroups).waiting.entries (free ++ wanted) wanted rest
           (general_returned false now r.due r.early) =
-          rw (part.entries is_fresh near_is)
-          (general_step within keep now (return_seen now) _ _ free (free ++ wanted) wanted rest
-          (see_one within keep now AllGroups terms (alone_in now terms plain AllGroups c) c.waiting.entries free wanted rest before)) in
+          rw (part.entries is_fresh near_is) (general_step within keep now (return_seen now) _ _ free (free ++ wanted) wanted rest
+          (see_one within keep now AllGroups terms (verdict_in now terms plain AllGroups c) c.waiting.entries free wanted rest before)) in
           rw same (record {
             step = one;
             phase = part.phase ∙ sym (no_phase_behind within timing now c.phase is);
@@ -399,9 +376,10 @@ ended_behind within timing flags end now e es c before after told rest = record 
   in_time = rest.in_time;
   repeats = rest.repeats;
   fresh = rest.fresh;
+  refused = rest.refused;
 }
 
--- What waits, whatever is known of the queries to come by other names.
+-- The same entries wait if the role and the returns of general queries have other names.
 seen_as : (within keep now : ℕ) (entries : List (Entry ℕ)) (free wanted : List Expected) (q q' : Bool) (r r' : Returns) (events : List CheckEvent) →
     q' ≡ q → r' ≡ r
     → Stands within keep now entries free wanted (seen_in within q r now events) → Stands within keep now entries free wanted (seen_in within q' r' now events)
@@ -409,9 +387,12 @@ seen_as within keep now entries free wanted q q' r r' events same is st =
     subst (λ (b : Bool). Stands within keep now entries free wanted (seen_in within b r' now events)) (sym same)
     (subst (λ (x : Returns). Stands within keep now entries free wanted (seen_in within q x now events)) (sym is) st)
 
-time_as : (within : ℕ) (timing : Timing) (phase phase' : Phase) (last last' : Option ℕ) (now : ℕ) (events : List CheckEvent) (end : ℕ) →
-    phase' ≡ phase → last' ≡ last → AreOnTime within timing phase last now events end
-    → AreOnTime within timing phase' last' now events end
+-- the number of queries of a schedule if the Robustness Variable is known
+known_more : (timing : Timing) (flags : CheckFlags) → flags.above_7 ≡ false → more_for timing flags ≡ more_in timing flags.strict
+known_more timing flags known = rw known refl
+
+pub time_as : (within : ℕ) (timing : Timing) (phase phase' : Phase) (last last' : Option ℕ) (now : ℕ) (events : List CheckEvent) (end : ℕ) →
+    phase' ≡ phase → last' ≡ last → AreOnTime within timing phase last now events end → AreOnTime within timing phase' last' now events end
 time_as within timing phase phase' last last' now events end same is time =
     subst (λ (p : Phase). AreOnTime within timing p last' now events end) (sym same)
     (subst (λ (l : Option ℕ). AreOnTime within timing phase l now events end) (sym is) time)
@@ -424,19 +405,19 @@ kept-long within timing flags = by_readings flags.strict
     by_readings true = omega arith
     by_readings false = omega arith
 
--- What is wanted and what was seen are told at the end, or are pairs.
+-- Wanted and seen queries are pairs, or the check reports them by the end.
 pub course : (within : ℕ) (timing : Timing) (flags : CheckFlags) (end now : ℕ) (events : List CheckEvent) (c : CheckingValue) (free expected : List Expected)
-    → IsFresh c.schedules → c.schedules.repeats ≡ repeats_in within timing flags → asks_of expected ≡ wanted_in within timing now events c →
+    → IsFresh c.schedules → c.refused ≡ [] → c.schedules.repeats ≡ repeats_in within timing flags → asks_of expected ≡ wanted_in within timing now events c →
     AreMissed flags.strict (kept_for within timing flags) end expected → AreInOrder now events end
     → AreOnTime within timing c.phase c.last_general now events end → (check_by_all within timing now events c).waiting.is_full ≡ false
     → Stands within (kept_for within timing flags) now c.waiting.entries free expected
     (seen_in within (is_querier_in c.phase) (general_returns within now free c.waiting.entries) now events)
     → Ended within timing flags end now events c (missing_of (free ++ expected))
-course within timing flags end now [] c free [] is_fresh keeps asks missed order general room st =
-    record { left = free; stands = st; missing_is = refl; silence = general; in_time = order; repeats = keeps; fresh = is_fresh }
-course within timing flags end now [] c free (x ∷ xs) is_fresh keeps asks missed order general room st = absurd (cc)
-course within timing flags end now (Comes moment ∷ es) c free expected is_fresh keeps asks missed order general room st =
-    let next = settled moment c in
+course within timing flags end now [] c free [] is_fresh none keeps asks missed order general room st =
+    record { left = free; stands = st; missing_is = refl; silence = general; in_time = order; repeats = keeps; fresh = is_fresh; refused = none }
+course within timing flags end now [] c free (x ∷ xs) is_fresh none keeps asks missed order general room st = absurd (cc)
+course within timing flags end now (Comes moment ∷ es) c free expected is_fresh none keeps asks missed order general room st =
+    let next = purged moment c in
     let keep = kept_for within timing flags in
     let keep_is : c.schedules.repeats.keep ≡ keep = ap (λ (r : Repeats). r.keep) keeps in
     let before = all_free within timing now (Comes moment ∷ es) c room in
@@ -449,12 +430,11 @@ course within timing flags end now (Comes moment ∷ es) c free expected is_fres
       one_side = st.one_side;
       pairs = st.pairs;
     } in
-    let come = comes within keep 0 moment c.changed c.waiting.entries free expected (seen_in within q still moment es)
-    (kept-long within timing flags)
+    let come = comes within keep 0 moment c.changed c.waiting.entries free expected (seen_in within q still moment es) (kept-long within timing flags)
     (expected-from moment expected (wanted_in within timing moment es next) asks (wanted-from within timing moment es next end order.1))
     (seen-from within q still moment es end order.1) waits in
     let left_is : next.waiting.entries ≡ left_of keep moment c.waiting.entries =
-    settled_free c.schedules.repeats.keep moment c.waiting before ∙ ap (λ (k : ℕ). left_of k moment c.waiting.entries) keep_is in
+    purged_free c.schedules.repeats.keep moment c.waiting before ∙ ap (λ (k : ℕ). left_of k moment c.waiting.entries) keep_is in
     let stands : Stands within keep moment next.waiting.entries come.left expected (seen_in within q still moment es) =
     subst (λ (l : List (Entry ℕ)). Stands within keep moment l come.left expected (seen_in within q still moment es)) (sym left_is) come.stands in
     let returns : general_returns within moment come.left next.waiting.entries ≡ still =
@@ -462,23 +442,23 @@ course within timing flags end now (Comes moment ∷ es) c free expected is_fres
     ∙ (λ i. record { due = sym (still_later within now moment (moments_wanted (wanted_about AllGroups free)) order.0) i; early = r.early }) in
     ended_behind within timing flags end now (Comes moment) es c (missing_of (free ++ expected)) (missing_of (come.left ++ expected))
     (come.missing ∙ ap (λ (l : List (Finding ℕ)). l ++ missing_of (come.left ++ expected))
-    (sym (told_now within moment c before is_fresh ∙ ap (λ (k : ℕ). told_of k within moment c.changed c.waiting.entries) keep_is)))
-    (course within timing flags end moment es next come.left expected (fresh_settled moment c is_fresh) keeps asks missed order.1 general room
+    (sym (told_now within moment c before is_fresh none ∙ ap (λ (k : ℕ). told_of k within moment c.changed c.waiting.entries) keep_is)))
+    (course within timing flags end moment es next come.left expected (fresh_purged moment c is_fresh) none keeps asks missed order.1 general room
     (seen_as within _ moment next.waiting.entries come.left expected q q still _ es refl returns stands))
-course within timing flags end now (Wants is_again terms asked ∷ es) c free expected is_fresh keeps asks missed order general room st =
+course within timing flags end now (Wants is_again terms asked ∷ es) c free expected is_fresh none keeps asks missed order general room st =
     let next = fold (subject_wanted now is_again terms) c asked in
     let r = general_returns within now free c.waiting.entries in
     let all = wants_all flags.strict within (kept_for within timing flags) end now is_again terms asked c free expected
     (seen_in within (is_querier_in c.phase) (all_wanted now asked r) now es) (wanted_in within timing now es next)
-    is_fresh (ap (λ (r : Repeats). r.within) keeps) (λ is. ap (λ (r : Repeats). r.more) keeps ∙ ap (more_in timing) is) asks missed
-    (all_free within timing now es next room) st in
+    is_fresh (ap (λ (r : Repeats). r.within) keeps) (λ is. ap (λ (r : Repeats). r.more) keeps ∙ known_more timing flags
+    (sym (ap (λ (r : Repeats). r.above_7) keeps) ∙ is_fresh.known) ∙ ap (more_in timing) is) asks missed (all_free within timing now es next room) st in
     ended_behind within timing flags end now (Wants is_again terms asked) es c (missing_of (free ++ expected))
     (missing_of (all.step.left ++ all.wanted)) all.step.missing
-    (course within timing flags end now es next all.step.left all.wanted all.fresh (all.repeats ∙ keeps) all.asks all.missed order
-    (time_as within timing c.phase next.phase c.last_general next.last_general now es end all.phase all.last general) room
+    (course within timing flags end now es next all.step.left all.wanted all.fresh (wants_stay now is_again terms asked c ∙ none) (all.repeats ∙ keeps)
+    all.asks all.missed order (time_as within timing c.phase next.phase c.last_general next.last_general now es end all.phase all.last general) room
     (seen_as within _ now next.waiting.entries all.step.left all.wanted (is_querier_in c.phase) _ (all_wanted now asked r) _ es
     (ap is_querier_in all.phase) all.step.returns_are all.step.stands))
-course within timing flags end now (Sees terms standing asked ∷ es) c free expected is_fresh keeps asks missed order general room st =
+course within timing flags end now (Sees terms standing asked ∷ es) c free expected is_fresh none keeps asks missed order general room st =
     let next = specific_seen now terms standing asked c in
     let r = general_returns within now free c.waiting.entries in
     let all = sees_all within (kept_for within timing flags) now terms standing asked c free expected
@@ -486,11 +466,11 @@ course within timing flags end now (Sees terms standing asked ∷ es) c free exp
     (all_free within timing now es next room) st in
     ended_behind within timing flags end now (Sees terms standing asked) es c (missing_of (free ++ expected))
     (missing_of (all.step.left ++ expected)) all.step.missing
-    (course within timing flags end now es next all.step.left expected all.fresh (all.repeats ∙ keeps) asks missed order
-    (time_as within timing c.phase next.phase c.last_general next.last_general now es end all.phase all.last general) room
+    (course within timing flags end now es next all.step.left expected all.fresh (sees_stay now terms standing asked c ∙ none) (all.repeats ∙ keeps) asks
+    missed order (time_as within timing c.phase next.phase c.last_general next.last_general now es end all.phase all.last general) room
     (seen_as within _ now next.waiting.entries all.step.left expected (is_querier_in c.phase) _ (all_seen now asked r) _ es
     (ap is_querier_in all.phase) all.step.returns_are all.step.stands))
-course within timing flags end now (SeesGeneral terms partner ∷ es) c free expected is_fresh keeps asks missed order general room st =
+course within timing flags end now (SeesGeneral terms partner ∷ es) c free expected is_fresh none keeps asks missed order general room st =
     let next = general_seen within timing now terms partner c in
     let r = general_returns within now free c.waiting.entries in
     let q = is_querier_in c.phase in
@@ -499,40 +479,57 @@ course within timing flags end now (SeesGeneral terms partner ∷ es) c free exp
     (all_free within timing now es next room) st in
     ended_behind within timing flags end now (SeesGeneral terms partner) es c (missing_of (free ++ expected))
     (missing_of (all.step.left ++ expected)) all.step.missing
-    (course within timing flags end now es next all.step.left expected all.fresh (all.repeats ∙ keeps) asks missed order
-    (time_as within timing _ next.phase _ next.last_general now es end all.phase refl general.2) room
+    (course within timing flags end now es next all.step.left expected all.fresh (general_stays within timing now terms partner c ∙ none)
+    (all.repeats ∙ keeps) asks missed order (time_as within timing _ next.phase _ next.last_general now es end all.phase refl general.2) room
     (seen_as within _ now next.waiting.entries all.step.left expected q _ (general_returned q now r.due r.early) _ es
     (ap is_querier_in all.phase ∙ querier_behind within timing now c.phase) all.step.returns_are all.step.stands))
-course within timing flags end now (LosesRole ∷ es) c free expected is_fresh keeps asks missed order general room st =
+course within timing flags end now (LosesRole ∷ es) c free expected is_fresh none keeps asks missed order general room st =
     let next = role_lost within timing now c in
     let part = lost_part within timing now c general.0 in
     let r = general_returns within now free c.waiting.entries in
     let entries = ap (λ (w : WaitingValue). w.entries) part.waiting in
     ended_behind within timing flags end now LosesRole es c (missing_of (free ++ expected)) (missing_of (free ++ expected)) refl
-    (course within timing flags end now es next free expected (part.fresh is_fresh) (part.repeats ∙ keeps) asks missed order
-    (time_as within timing NotQuerier next.phase c.last_general next.last_general now es end part.phase part.last general.1) room
+    (course within timing flags end now es next free expected (part.fresh is_fresh) (lost_stays within timing now c ∙ none) (part.repeats ∙ keeps) asks missed
+    order (time_as within timing NotQuerier next.phase c.last_general next.last_general now es end part.phase part.last general.1) room
     (seen_as within _ now next.waiting.entries free expected false _ r _ es (ap is_querier_in part.phase)
     (ap (general_returns within now free) entries) (rw entries st)))
-course within timing flags end now (HasRoleAgain ∷ es) c free expected is_fresh keeps asks missed order general room st =
+course within timing flags end now (HasRoleAgain ∷ es) c free expected is_fresh none keeps asks missed order general room st =
     let next = role_returned within now c in
     let part = returned_part within now c in
     let r = general_returns within now free c.waiting.entries in
     let entries = ap (λ (w : WaitingValue). w.entries) part.waiting in
     ended_behind within timing flags end now HasRoleAgain es c (missing_of (free ++ expected)) (missing_of (free ++ expected)) refl
-    (course within timing flags end now es next free expected (rw part.schedules is_fresh)
+    (course within timing flags end now es next free expected (rw part.schedules is_fresh) (returned_stays within now c ∙ none)
     (ap (λ (s : SchedulesValue). s.repeats) part.schedules ∙ keeps) asks missed order
     (time_as within timing (phase_again within now c.last_general) next.phase c.last_general next.last_general now es end part.phase part.last general) room
     (seen_as within _ now next.waiting.entries free expected true _ r _ es (ap is_querier_in part.phase ∙ querier_again within now c.last_general)
     (ap (general_returns within now free) entries) (rw entries st)))
-course within timing flags end now (SeesFault number fault ∷ es) c free expected is_fresh keeps asks missed order general room st = absurd general
-course within timing flags end now (Changes terms asked ∷ es) c free expected is_fresh keeps asks missed order general room st =
+course within timing flags end now (SeesFault number fault ∷ es) c free expected is_fresh none keeps asks missed order general room st = absurd general
+course within timing flags end now (Changes terms asked ∷ es) c free expected is_fresh none keeps asks missed order general room st =
     let next = all_changed now terms asked c in
     let part = changed_part now terms asked c in
     let r = general_returns within now free c.waiting.entries in
     let entries = ap (λ (w : WaitingValue). w.entries) part.waiting in
     ended_behind within timing flags end now (Changes terms asked) es c (missing_of (free ++ expected)) (missing_of (free ++ expected)) refl
     (course within timing flags end now es next free expected (fresh_as c.schedules next.schedules part.repeats part.next is_fresh)
-    (part.repeats ∙ keeps) asks missed order
+    (changes_stay now terms asked c ∙ none) (part.repeats ∙ keeps) asks missed order
     (time_as within timing c.phase next.phase c.last_general next.last_general now es end part.phase part.last general) room
     (seen_as within _ now next.waiting.entries free expected (is_querier_in c.phase) _ r _ es (ap is_querier_in part.phase)
     (ap (general_returns within now free) entries) (rw entries st)))
+course within timing flags end now (Refuses groups ∷ es) c free expected is_fresh none keeps asks missed order general room st =
+    let missing = missing_of (free ++ expected) in
+    ended_behind within timing flags end now (Refuses groups) es c missing missing refl
+    (course within timing flags end now es (groups_refused groups c) free expected is_fresh
+    (ap (λ (more : List ℕ). fold with_refused c.refused more) general.0 ∙ none) keeps asks missed order general.1 room st)
+course within timing flags end now (Judges moment is_set ∷ es) c free expected is_fresh none keeps asks missed order general room st =
+    let next = with_s_judged within moment is_set c in
+    let r = general_returns within now free c.waiting.entries in
+    let seen = seen_in within (is_querier_in c.phase) r now es in
+    let entries = judged_entries within moment is_set c in
+    let still : Stands within (kept_for within timing flags) now next.waiting.entries free expected seen =
+    rw entries (stands_judged within (kept_for within timing flags) now (min within 1) moment is_set c.waiting.entries free expected seen st) in
+    let returns : general_returns within now free next.waiting.entries ≡ r =
+    ap (general_returns within now free) entries ∙ returns_judged within now (min within 1) moment is_set AllGroups free c.waiting.entries in
+    ended_behind within timing flags end now (Judges moment is_set) es c (missing_of (free ++ expected)) (missing_of (free ++ expected)) refl
+    (course within timing flags end now es next free expected is_fresh none keeps asks missed order general room
+    (seen_as within _ now next.waiting.entries free expected (is_querier_in c.phase) _ r _ es refl returns still))

@@ -1,19 +1,19 @@
 -- No datagram makes something due at its own moment or before.
 use Rattle.mq_laws.proofs.Common.{◌≡◌, ℕ, ◌+◌, ◌*◌, ◌<◌, Bool, true, false, cond, refl, List, [], ◌∷◌, Option, None, Some, IfSome, Result, Ok, Err, sym, ap}
-use Rattle.mq_laws.proofs.Common.{◌∙◌, arith, subst, mul-le-mul_right, option_and_then, unwrap_or, nat_cmp, nat_lt, ◌==◌, if◌then◌else◌, Message, QueryMessage}
-use Rattle.mq_laws.proofs.Common.{OldReport, LeaveMessage, ReportMessage, WireFault, Query, RecordView, get-kept, AllAhead, GroupState, group_deadline}
-use Rattle.mq_laws.proofs.Common.{timer_at, deadline_of, source_cleared, sendings_counted, GroupChange, membership_interval, older_host_present}
-use Rattle.mq_laws.proofs.Common.{other_querier_present, AreInRange, SourceTimer, Timing, quiet_after_round, deadlines_stay, Role, Other, is_querier}
-use Rattle.mq_laws.proofs.Common.{loses_role, next_moment, ScheduledGroup, cleared, is_due, after_round, timing_in_range, IsWellFormed-tick_at, Configuration}
-use Rattle.mq_laws.proofs.Common.{IsFaultless, Counters, group_lowered, election_after, suppresses, asked_by, query_heard, Envelope, read_of, pseudo_of}
-use Rattle.mq_laws.proofs.Common.{drop_reason, setting_of, counting_read, taken_or_dropped, receipt_of, Setting, Statement, RecordOf, OlderJoin, OlderLeave}
-use Rattle.mq_laws.proofs.Common.{change_in, changed_or_refused, changed_by, after_sending, sent_at_once, limit_passed, unless_passed, judged, all_judged}
-use Rattle.mq_laws.proofs.Common.{seen_after, is_muted, LinkState, IsWellFormed, Step, moment_of, moments_of, moments_in, next_of, tick_of, DropReason, Refusal}
-use Rattle.mq_held.specs.Groups.{Groups, group_at, unheld, with_group}
-use Rattle.mq_link.proofs.{HeldAs.All, HeldAs.all-kept, Later.later_after_tick, Quiet.AllAbove, Quiet.IsBeyond, Quiet.above_least, Quiet.least_above}
-use Rattle.mq_link.proofs.{Quiet.above_values, Quiet.values_above, Quiet.beyond, Quiet.above_beyond, Receipts.carried_where_read}
-use Rattle.mq_link.proofs.{Receipts.IsWellFormed-receipt_after, Recorded.all-with_group, Silent.each-entry, Silent.from-each}
-use Rattle.mq_link.specs.{Family.v1_mutes_leave, Heard.groups_cleared, Heard.groups_lowered, Receive.taken_in, Record.Seen, Record.stated}
+use Rattle.mq_laws.proofs.Common.{last_member_count, last_member_time, some_count, ◌∙◌, arith, subst, mul-le-mul_right, option_and_then, unwrap_or, nat_cmp}
+use Rattle.mq_laws.proofs.Common.{nat_lt, ◌==◌, if◌then◌else◌, Message, QueryMessage, OldReport, LeaveMessage, ReportMessage, WireFault, Query, RecordView}
+use Rattle.mq_laws.proofs.Common.{get-kept, AllAhead, GroupState, group_deadline, timer_at, deadline_of, source_cleared, retransmissions_counted, GroupChange}
+use Rattle.mq_laws.proofs.Common.{membership_interval, older_host_present, other_querier_present, AreInRange, SourceTimer, Timing, quiet_after_round}
+use Rattle.mq_laws.proofs.Common.{deadlines_stay, Role, Other, is_querier, loses_role, next_moment, ScheduledGroup, cleared, is_due, after_round}
+use Rattle.mq_laws.proofs.Common.{timing_in_range, IsWellFormed-tick_at, Configuration, IsFaultless, Counters, group_lowered, election_after, suppresses}
+use Rattle.mq_laws.proofs.Common.{asked_by, query_heard, Envelope, read_of, pseudo_of, drop_reason, setting_of, counting_read, taken_or_dropped, receipt_of}
+use Rattle.mq_laws.proofs.Common.{Setting, Statement, RecordOf, OlderJoin, OlderLeave, change_in, changed_or_refused, changed_by, after_sending, sent_at_once}
+use Rattle.mq_laws.proofs.Common.{limit_passed, unless_passed, judged, all_judged, seen_after, is_muted, LinkState, IsWellFormed, Step, moments_of, moments_in}
+use Rattle.mq_laws.proofs.Common.{next_of, tick_of, DropReason, Refusal, Groups, group_at, unheld, with_group, later_after_tick, carried_where_read}
+use Rattle.mq_laws.proofs.Common.{IsWellFormed-receipt_after, alone_by, groups_cleared, groups_lowered, taken_in, stated, stated_alone}
+use Rattle.mq_link.specs.{Tick.moment_of, Family.v1_mutes_leave, Record.Seen}
+use Rattle.mq_link.proofs.{HeldAs.All, HeldAs.all-kept, Recorded.all-with_group, Silent.each-entry, Silent.from-each}
+use Rattle.mq_link.proofs.Quiet.{AllAbove, IsBeyond, above_least, least_above, above_values, values_above, beyond, above_beyond}
 use Rattle.mq_laws.proofs.{AheadChanges.ChangesAhead, AheadChanges.stated_ahead, AheadChanges.query_ahead, AheadChanges.after_change_ahead, Unchanged.judged_by}
 use Rattle.std.specs.FinMap as map
 use Rattle.std.specs.FinSet as set
@@ -33,7 +33,8 @@ above_all m groups all =
 
 -- a group with what is due for it sent
 heads_stay : (g : GroupState) (due : Bool) (m : ℕ) → AllAhead m g
-    → (let left = cond due (sendings_counted g) g in IfSome (group_deadline left.mode) (λ d. m < d) × IfSome left.v1 (λ d. m < d) × IfSome left.v2 (λ d. m < d))
+    → (let left = cond due (retransmissions_counted g) g in IfSome (group_deadline left.mode) (λ d. m < d) × IfSome left.v1 (λ d. m < d) × IfSome left.v2
+    (λ d. m < d))
 heads_stay g due m h1 = grind arith
 
 beyond_sent : (timing : Timing) (m : ℕ) (e : ScheduledGroup) → 0 < timing.last_member_interval → AllAhead m e.group → IsBeyond m (after_round timing m e)
@@ -54,7 +55,7 @@ pub record AreSpans (timing : Timing) : Type 0 where
   pub membership : 0 < membership_interval timing
   pub older : 0 < older_host_present timing
   pub other : 0 < other_querier_present timing
-  pub lowered : 0 < timing.last_member_interval * timing.robustness
+  pub lowered : 0 < last_member_time timing
   pub sending : 0 < timing.last_member_interval
 
 positive_product : (a b : ℕ) → 0 < a → 0 < b → 0 < a * b
@@ -68,8 +69,8 @@ spans_of timing h =
       membership = omega (arith, intervals);
       older = omega (arith, intervals);
       other = omega (arith, intervals);
-      lowered = positive_product timing.last_member_interval timing.robustness (omega (arith, h.last_member_interval.at_least))
-          (omega (arith, h.robustness.at_least));
+      lowered = positive_product timing.last_member_interval (last_member_count timing) (omega (arith, h.last_member_interval.at_least))
+          (some_count timing (omega (arith, h.robustness.at_least)));
       sending = omega (arith, h.last_member_interval.at_least);
     }
 
@@ -95,8 +96,7 @@ changed_beyond at group groups (Some change) spans all h =
     let left = after_sending at e in
     let after = with_group groups group left in
     unless_beyond at.now (limit_passed at.config.limits after left) groups after (sent_at_once at group e) all
-    (all-with_group (λ _ e. IsBeyond at.now e) groups group left
-    (λ _. beyond_sent at.election.timing at.now e spans.sending
+    (all-with_group (λ _ e. IsBeyond at.now e) groups group left (λ _. beyond_sent at.election.timing at.now e spans.sending
     (after_change_ahead (is_querier at.election.role) at.election.timing at.now change (group_at groups group).schedule (omega (arith, spans.lowered)) h)) all)
 
 pub stated_beyond : (at : Setting) (group : ℕ) (statement : Statement) (groups : Groups) → AreSpans at.election.timing → AllBeyond at.now groups
@@ -107,6 +107,11 @@ stated_beyond at group statement groups spans all =
     (stated_ahead (v1_mutes_leave at.config.family) (is_muted at.config group statement) at.election.timing at.now statement
     (group_at groups group).group (omega (arith, spans.membership)) (omega (arith, spans.older))
     (met_ahead at.now (map.get groups group) (held_beyond at.now group groups all (map.get groups group) refl)))
+
+alone_beyond : (at : Setting) (group : ℕ) (statement : Statement) (groups : Groups) → AreSpans at.election.timing → AllBeyond at.now groups
+    → AllBeyond at.now (stated_alone at group statement groups).groups
+alone_beyond at group statement groups spans all =
+    alone_by (λ o. AllBeyond at.now o.groups) at group statement groups (stated_beyond at group statement groups spans all) all
 
 judged_beyond : (at : Setting) (seen : Seen) (r : RecordView ℕ) (groups : Groups) → AreSpans at.election.timing → AllBeyond at.now groups
     → AllBeyond at.now (judged at seen r groups).groups
@@ -145,8 +150,7 @@ lowered_beyond : (m : ℕ) (timing : Timing) (query : Query ℕ) (e : ScheduledG
     → IsBeyond m (group_lowered timing m query.version e)
 lowered_beyond m timing query e spans h =
     record {
-      timers = query_ahead timing m (suppresses query.version)
-          (asked_by query.version) e.group (omega (arith, spans.lowered)) h.timers;
+      timers = query_ahead timing m (suppresses query.version) (asked_by query.version) e.group (omega (arith, spans.lowered)) h.timers;
       schedule = h.schedule;
     }
 
@@ -203,9 +207,9 @@ unfolding taken_in
 taken_later config envelope (QueryMessage query) step before after h = heard_later config step.state.last envelope.source query step.state (spans_of _ after) h
 taken_later config envelope (OldReport version group) step before after h =
     outcomes_later config step.state _ _
-    (stated_beyond (setting_of config step.state) group (OlderJoin version) step.state.groups (spans_of _ before) h.groups) h
+    (alone_beyond (setting_of config step.state) group (OlderJoin version) step.state.groups (spans_of _ before) h.groups) h
 taken_later config envelope (LeaveMessage group) step before after h =
-    outcomes_later config step.state _ _ (stated_beyond (setting_of config step.state) group OlderLeave step.state.groups (spans_of _ before) h.groups) h
+    outcomes_later config step.state _ _ (alone_beyond (setting_of config step.state) group OlderLeave step.state.groups (spans_of _ before) h.groups) h
 taken_later config envelope (ReportMessage records) step before after h =
     outcomes_later config step.state _ _ (all_judged_beyond (setting_of config step.state) map.empty records step.state.groups (spans_of _ before) h.groups) h
 
@@ -220,8 +224,7 @@ decided_later config envelope step (Ok message) None before after h =
 
 -- After a datagram the next moment is later than its own.
 pub later_after_datagram : (config : Configuration) (envelope : Envelope) (bytes : List ℕ) (now : ℕ) (state : LinkState) → IsFaultless config
-    → IsWellFormed config state
-    → moment_of state now < next_of (receipt_of config envelope bytes now state).step.state
+    → IsWellFormed config state → moment_of state now < next_of (receipt_of config envelope bytes now state).step.state
 later_after_datagram config envelope bytes now state faultless h =
     let own = timing_in_range config faultless in
     let moment = moment_of state now in

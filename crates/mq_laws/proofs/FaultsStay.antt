@@ -1,9 +1,8 @@
 -- A fault of a file's first bytes, which is a fault of the whole file unless the bytes are cut.
 use Rattle.mq_laws.proofs.Common.{◌≡◌, ◌+◌, ℕ, Bool, true, false, List, ◌++◌, length, Option, None, Some, Result, Ok, Err, refl, arith, sym, ◌∙◌, ap, inl, inr}
 use Rattle.mq_laws.proofs.Common.{length-append, append_assoc, nat_lt, le-ltb, ltb-false, nat_tests, take-append-le, BlockFault, Captured, ContextState}
-use Rattle.mq_laws.proofs.Common.{Captures, EndsBy, endless, size_fault, head_size, is_start, size_in, size_of}
-use Rattle.std.specs.Prelude.{not, ◌&&◌}
-use Rattle.mq_convert.specs.{declared.context.Kind.Kind, Faults.is_cut, Files.outer_fault}
+use Rattle.mq_laws.proofs.Common.{Captures, EndsBy, endless, size_fault, head_size, is_start, size_in, size_of, not, ◌&&◌, is_cut, outer_fault}
+use Rattle.mq_convert.specs.declared.context.Kind.{Kind}
 use Rattle.mq_convert.specs.declared.fault.BlockFault.TheVariants as fault
 
 -- the facts that the tests of a fault by the size see: the bytes there are, or have to be, the number of blocks,
@@ -45,8 +44,7 @@ outer_stays number kind bytes more f uncut is =
     still a = rw (length-append bytes more) (still_some (length bytes) (length more) (is_start kind) a)
 
     by_tests : (none over short : Bool) → (nat_lt (length bytes) 1 && not (is_start kind)) ≡ none → not (nat_lt number endless) ≡ over →
-        nat_lt (length bytes) (head_size kind) ≡ short
-        → outer_fault number kind (bytes ++ more) ≡ Some f
+        nat_lt (length bytes) (head_size kind) ≡ short → outer_fault number kind (bytes ++ more) ≡ Some f
     by_tests true over short a b c = absurd (let none = is_tests number kind bytes true over short a b c in let d : None ≡ Some f = sym none ∙ is in cc)
     by_tests false true short a b c = is_tests number kind (bytes ++ more) false true _ (still a) b refl ∙
         sym (is_tests number kind bytes false true short a b c) ∙ is

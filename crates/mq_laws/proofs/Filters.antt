@@ -1,16 +1,15 @@
--- Forwarding, which doesn't depend on how often ticks come, since it doesn't read the sendings left.
+-- Forwarding, which doesn't depend on how often ticks come, since it doesn't read the retransmissions left.
 use Rattle.mq_laws.proofs.Common.{◌≡◌, ℕ, ◌≤◌, Bool, true, false, cond, ◌&&◌, refl, List, [], ◌∷◌, length, suc, Option, None, Some, sym, ap, ◌∙◌, eqb, arith}
 use Rattle.mq_laws.proofs.Common.{FinMap, option_and_then, unwrap_or, nat_cmp, get-kept, ahead, mode_expired, source_expired, held_or_vacant, expired}
-use Rattle.mq_laws.proofs.Common.{GroupState, is_include, vacant, is_vacant, timer_at, wants, forwards_in, source_cleared, source_counted, sendings_counted}
+use Rattle.mq_laws.proofs.Common.{GroupState, is_include, vacant, is_vacant, timer_at, wants, forwards_in, source_cleared, source_counted}
+use Rattle.mq_laws.proofs.Common.{retransmissions_counted}
 use Rattle.mq_laws.proofs.Common.{FilterMode, SourceTimer, Timing, ticked, ScheduledGroup, is_due, after_round, Configuration, Groups, LinkState, unheld}
-use Rattle.mq_laws.proofs.Common.{group_at, forwards, group_expired, if_held, tick_at}
-use Rattle.mq_table.proofs.{Composed.expired-expired, Groups.same_sources}
-use Rattle.mq_table.specs.{Maps.kept, declared.timers.FilterMode.TheVariants.Include}
-use Rattle.mq_link.proofs.{Entries.entries-kept, Entries.filtered, HeldAs.vacant_is}
-use Rattle.mq_link.specs.Tick.{groups_expired, groups_after_round}
+use Rattle.mq_laws.proofs.Common.{group_at, forwards, group_expired, if_held, tick_at, expired-expired}
+use Rattle.mq_table.{proofs.Groups.same_sources, specs.Maps.kept, specs.declared.timers.FilterMode.TheVariants.Include}
+use Rattle.mq_link.{proofs.Entries.entries-kept, proofs.Entries.filtered, proofs.HeldAs.vacant_is, specs.Tick.groups_expired, specs.Tick.groups_after_round}
 use Rattle.std.specs.FinMap as map
 
--- a group without its sendings
+-- a group without its retransmissions
 abbrev clear : ℕ → SourceTimer → Option SourceTimer
 clear s timer = Some (source_cleared timer)
 
@@ -23,24 +22,23 @@ wanted mode t = grind arith
 bare_forwards : (g : GroupState) (s : ℕ) → forwards_in (bare g) s ≡ forwards_in g s
 bare_forwards g s = ap (wants g.mode) (get-kept clear g.sources s) ∙ wanted g.mode (timer_at g s)
 
--- a round changes sendings alone
+-- a round changes retransmissions alone
 cleared_counted : (t : Option SourceTimer) → option_and_then (clear 0) (option_and_then (λ timer. Some (source_counted timer)) t) ≡ option_and_then (clear 0) t
 cleared_counted t = grind arith
 
-bare_counted : (g : GroupState) (due : Bool) → bare (cond due (sendings_counted g) g) ≡ bare g
+bare_counted : (g : GroupState) (due : Bool) → bare (cond due (retransmissions_counted g) g) ≡ bare g
 bare_counted g true = λ i. record {
   mode = g.mode;
   sources = same_sources (kept clear (kept (λ s timer. Some (source_counted timer)) g.sources)) (kept clear g.sources) (λ s.
       get-kept clear (kept (λ s timer. Some (source_counted timer)) g.sources) s
-      ∙ ap (option_and_then (clear 0)) (get-kept (λ s timer. Some (source_counted timer)) g.sources s)
-      ∙ cleared_counted (timer_at g s)
+      ∙ ap (option_and_then (clear 0)) (get-kept (λ s timer. Some (source_counted timer)) g.sources s) ∙ cleared_counted (timer_at g s)
       ∙ sym (get-kept clear g.sources s)) i;
   v1 = g.v1;
   v2 = g.v2;
 }
 bare_counted g false = refl
 
--- the end of timers doesn't look at sendings
+-- the end of timers doesn't look at retransmissions
 length-clear : (es : List (ℕ × SourceTimer)) → length (filtered clear es) ≡ length es
 length-clear [] = refl
 length-clear (e ∷ es) = ap (λ n. suc n) (length-clear es)
@@ -97,8 +95,7 @@ bare_if false g = refl
 bare_expired : (now : ℕ) (g : GroupState) → expired now (bare g) ≡ bare (expired now g)
 unfolding left_at
 bare_expired now g =
-    ap held_or_vacant (bare_left now g)
-    ∙ ap (λ b. cond b vacant (bare (left_at now g))) (bare_vacant (left_at now g))
+    ap held_or_vacant (bare_left now g) ∙ ap (λ b. cond b vacant (bare (left_at now g))) (bare_vacant (left_at now g))
     ∙ bare_if (is_vacant (left_at now g)) (left_at now g)
 
 -- a group that is vacant after the end of timers is the vacant one
@@ -144,10 +141,7 @@ pub same_filters : (config : Configuration) (a b : ℕ) (state : LinkState) (gro
     → forwards (tick_at config b (tick_at config a state).state).state group source ≡ forwards (tick_at config b state).state group source
 unfolding bare_at
 same_filters config a b state group source before =
-    sym (bare_forwards (group_at (tick_at config b (tick_at config a state).state).state.groups group).group source)
-    ∙ ap (λ g. forwards_in g source) (
-    ticked_at config b (tick_at config a state).state group
-    ∙ ap (expired b) (ticked_at config a state group)
-    ∙ expired-expired (bare_at state.groups group) a b before
-    ∙ sym (ticked_at config b state group))
+    sym (bare_forwards (group_at (tick_at config b (tick_at config a state).state).state.groups group).group source) ∙ ap (λ g. forwards_in g source) (
+    ticked_at config b (tick_at config a state).state group ∙ ap (expired b) (ticked_at config a state group)
+    ∙ expired-expired (bare_at state.groups group) a b before ∙ sym (ticked_at config b state group))
     ∙ bare_forwards (group_at (tick_at config b state).state.groups group).group source

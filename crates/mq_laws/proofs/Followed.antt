@@ -1,22 +1,20 @@
--- A check of a capture comes to what happens in it.
+-- The check of a capture, as the check by the events in it.
 use Rattle.mq_laws.proofs.Common.{◌≡◌, ℕ, zero, suc, ◌+◌, ◌<◌, ◌≤◌, Bool, true, false, not, ◌&&◌, List, [], ◌∷◌, ◌++◌, refl, ap, sym, ◌∙◌, subst, append_assoc}
 use Rattle.mq_laws.proofs.Common.{append-nil, if◌then◌else◌, nat_lt, ltb-true, ltb-false, lt-ltb, le-ltb, LinkType, Message, WireFault, Query, Family, Timing}
 use Rattle.mq_laws.proofs.Common.{Role, Querier, Other, is_querier, Configuration, receipt_of, Outgoing, outgoing_of, LinkState, tick_of, next_of, datagram_of}
-use Rattle.mq_laws.proofs.Common.{Finding, Checked, Outcome, behind, quiet, settled_at, ticked_through, seen_or_received, with_datagram, with_faults}
-use Rattle.mq_laws.proofs.Common.{destination_in, faults_in, noted, CheckingValue, all_changed, counted_up, told, settled, faults_seen, with_fault}
+use Rattle.mq_laws.proofs.Common.{Finding, Checked, Outcome, behind, judged_at, quiet, purged_at, ticked_through, seen_or_received, with_datagram, with_faults}
+use Rattle.mq_laws.proofs.Common.{destination_in, faults_in, noted, CheckingValue, all_changed, counted_up, told, purged, faults_seen, with_fault}
 use Rattle.mq_laws.proofs.Common.{with_messages, one_wanted, role_after_tick, role_changed, is_general, query_seen, specific_terms, Passage, nothing_happens}
 use Rattle.mq_laws.proofs.Common.{happening_behind, wanted_for, wanted_of, wanted_by, role_by_tick, role_by_datagram, tick_passage, ticks_through, event_of}
-use Rattle.mq_laws.proofs.Common.{fault_events, datagram_passage, frame_passage, packet_passage, CheckEvent, Comes, Changes, moment_behind, check_by, told_by}
-use Rattle.mq_laws.proofs.Common.{moment_behind_all, check_by_all, told_by_all}
-use Rattle.std.specs.Prelude.{Option, None, Some, Result, Ok, Err}
-use Rattle.mq_pcap.specs.Frame.{Carried, carried_in}
+use Rattle.mq_laws.proofs.Common.{fault_events, datagram_passage, frame_passage, packet_passage, CheckEvent, Changes, Judges, moment_behind, check_by, told_by}
+use Rattle.mq_laws.proofs.Common.{Refuses, moment_behind_all, check_by_all, told_by_all, Option, None, Some, Result, Ok, Err, carried_in, ticked_within, Basis}
+use Rattle.mq_laws.proofs.Common.{HeaderFault, causes_in, with_packet, refused_by, with_s_judged, is_set, ticks_passage}
+use Rattle.mq_pcap.specs.Frame.{Carried}
 use Rattle.mq_wire.specs.declared.message.WireFault.TheVariants.{Truncated, Checksum, UnknownType, QueryLength}
-use Rattle.mq_replay.specs.{Report.Datagram, Ticks.ticked_within}
-use Rattle.mq_replay.proofs.Ticking.{none_within}
-use Rattle.mq_check.specs.{declared.basis.Basis.Basis, declared.headers.HeaderFault.HeaderFault, Causes.causes_in, Check.ticked, Check.received, Check.seen_at}
-use Rattle.mq_check.specs.{Check.with_packet, Checking.query_came}
+use Rattle.mq_walk.{specs.Datagrams.Datagram, proofs.Ticking.none_within}
+use Rattle.mq_check.specs.{Check.ticked, Check.ticked_at, Check.received, Check.seen_at, Checking.query_came, Check.taken}
 use Rattle.mq_check.proofs.TickedChecks.{next_in, one_ticked, rest_of, tick_in}
-use Rattle.mq_laws.specs.Captures.{ticks_passage}
+use Rattle.mq_laws.specs.Captures.{comes}
 use Rattle.mq_pcap.specs.Frame as carried
 use Rattle.mq_check.specs.Basis as basis
 
@@ -34,7 +32,7 @@ told_by-append within timing now (x ∷ xs) ys c =
     ap (λ (l : List (Finding ℕ)). told_by within x c ++ l) (told_by-append within timing (moment_behind now x) xs ys (check_by within timing now x c))
     ∙ sym (append_assoc (told_by within x c) (told_by_all within timing (moment_behind now x) xs (check_by within timing now x c)) _)
 
--- What happens at one moment makes this of a check, and nothing is told by it.
+-- The check after the events of one moment, which report nothing.
 record IsStill (within : ℕ) (timing : Timing) (now : ℕ) (events : List CheckEvent) (c after : CheckingValue) : Type 0 where
   check : check_by_all within timing now events c ≡ after
   told : told_by_all within timing now events c ≡ []
@@ -106,20 +104,22 @@ pub record Follows (within : ℕ) (timing : Timing) (p : Passage) (r : Checked) 
 
 -- a moment comes, and then what happens at it
 follows-still : (within : ℕ) (timing : Timing) (moment packets : ℕ) (link : LinkState) (events : List CheckEvent) (r after : Checked)
-    → after.link ≡ link → after.basis.packets ≡ packets → IsStill within timing moment events (settled moment r.checking) after.checking
-    → Follows within timing (record { link = link; packets = packets; events = Comes moment ∷ events }) r
-    (record { checked = after; found = told within moment r.checking })
+    → after.link ≡ link → after.basis.packets ≡ packets →
+    IsStill within timing moment events (purged moment (judged_at within (Some moment) r).checking) after.checking
+    → Follows within timing (record { link = link; packets = packets; events = comes moment r.link events }) r
+    (record { checked = after; found = told within moment (judged_at within (Some moment) r).checking })
 follows-still within timing moment packets link events r after is counts still = record {
   link = is;
   packets = counts;
   checking = λ now. sym still.check;
-  found = λ now. sym (ap (λ (l : List (Finding ℕ)). told within moment r.checking ++ l) still.told ∙ append-nil (told within moment r.checking));
+  found = λ now.
+      let told_then = told within moment (judged_at within (Some moment) r).checking in
+      sym (ap (λ (l : List (Finding ℕ)). told_then ++ l) still.told ∙ append-nil told_then);
 }
 
 -- one passage behind another
 pub follows-behind : (within : ℕ) (timing : Timing) (p q : Passage) (r : Checked) (o u : Outcome) → Follows within timing p r o →
-    Follows within timing q o.checked u
-    → Follows within timing (happening_behind p.events q) r (behind o.found u)
+    Follows within timing q o.checked u → Follows within timing (happening_behind p.events q) r (behind o.found u)
 follows-behind within timing p q r o u first second = record {
   link = second.link;
   packets = second.packets;
@@ -128,8 +128,7 @@ follows-behind within timing p q r o u first second = record {
       ap (λ (c : CheckingValue). check_by_all within timing (moment_behind_all now p.events) q.events c) (first.checking now)
       ∙ sym (check_by-append within timing now p.events q.events r.checking);
   found = λ now.
-      (λ i. first.found now i ++
-      (second.found (moment_behind_all now p.events) ∙
+      (λ i. first.found now i ++ (second.found (moment_behind_all now p.events) ∙
       ap (λ (c : CheckingValue). told_by_all within timing (moment_behind_all now p.events) q.events c) (first.checking now)) i)
       ∙ sym (told_by-append within timing now p.events q.events r.checking);
 }
@@ -166,11 +165,8 @@ unread_packets b true = refl
 unread_packets b false = refl
 
 without_packets : (link : LinkType) (frame : List ℕ) (content : Carried) (b : Basis) → (basis.with_other link frame content b).packets ≡ b.packets
-without_packets link frame carried.Cut b = refl
-without_packets link frame carried.Fragment b = refl
 without_packets link frame carried.Other b = unread_packets b (basis.is_wrapped (basis.type_in link frame))
-without_packets link frame (carried.Igmp source destination ttl alert body) b = refl
-without_packets link frame (carried.Mld source destination hop_limit alert body) b = refl
+without_packets link frame _ b = refl
 
 frame_packets : (config : Configuration) (link : LinkType) (frame : List ℕ) (content : Carried) (datagram : Option Datagram) (b : Basis)
     → (basis.with_frame config link frame content datagram b).packets ≡ b.packets
@@ -179,16 +175,16 @@ frame_packets config link frame content None b = without_packets link frame cont
 
 -- a tick
 follows-tick : (config : Configuration) (within moment : ℕ) (r : Checked)
-    → Follows within config.timing (tick_passage config moment r.basis.packets r.link) r
-    (record { checked = ticked config within moment (settled_at moment r); found = told within moment r.checking })
+    → Follows within config.timing (tick_passage config moment r.basis.packets r.link) r (ticked_at config within moment r)
 unfolding ticked
 follows-tick config within moment r =
     let step = tick_of config moment r.link in
     let was = is_querier r.link.election.role in
-    let c = settled moment r.checking in
+    let before = judged_at within (Some moment) r in
+    let c = purged moment before.checking in
     let wanted = with_messages config.family moment r.basis.packets true (not was) (outgoing_of config step) c in
     follows-still within config.timing moment _ _ (wanted_by config r.basis.packets true r.link step ++
-    role_by_tick was (is_querier step.state.election.role)) r (ticked config within moment (settled_at moment r)) refl
+    role_by_tick was (is_querier step.state.election.role)) r (ticked config within moment (purged_at moment before)) refl
     (tick_packets moment was (is_querier step.state.election.role) r.basis)
     (still-append within config.timing moment (wanted_by config r.basis.packets true r.link step)
     (role_by_tick was (is_querier step.state.election.role)) c wanted _
@@ -222,7 +218,7 @@ follows-ticks (suc most) config within limit r =
       | true ↦ λ due.
           let before = ltb-true (next_of r.link) limit due in
           let one = follows-tick config within (next_of r.link) r in
-          let next = ticked config within (next_of r.link) (settled_at (next_of r.link) r) in
+          let next = (ticked_at config within (next_of r.link) r).checked in
           let rest = rest_of most config within limit next in
           follows-as within config.timing _ _ r _ _ (one_passes most config limit r.basis.packets r.link before) (one_ticked most config within limit r before)
           (follows-behind within config.timing (tick_passage config (next_of r.link) r.basis.packets r.link) _ r _ _ one
@@ -241,8 +237,7 @@ still-came : (within : ℕ) (config : Configuration) (link : LinkState) (moment 
     → IsStill within config.timing moment (event_of config link moment packets to query ∷ []) c (query_came within config link moment packets to query c)
 unfolding query_came
 still-came within config link moment packets to query c =
-    elim (is_general query) as
-    (λ b. is_general query ≡ b → IsStill within config.timing moment (event_of config link moment packets to query ∷ []) c
+    elim (is_general query) as (λ b. is_general query ≡ b → IsStill within config.timing moment (event_of config link moment packets to query ∷ []) c
     (query_came within config link moment packets to query c)) [
       | true ↦ λ is. rw is (record { check = refl; told = refl; moment = refl })
       | false ↦ λ is. rw is (record { check = refl; told = refl; moment = refl })
@@ -251,41 +246,47 @@ still-came within config link moment packets to query c =
 -- any other datagram, or a query of the querier
 follows-datagram : (config : Configuration) (within moment number to : ℕ) (datagram : Datagram) (query : Option (Query ℕ)) (faults : List HeaderFault)
     (r : Checked)
-    → Follows within config.timing (datagram_passage config moment to datagram query (fault_events number faults) r.basis.packets r.link) r
-    (record {
-      checked = seen_or_received config within moment to datagram query (with_faults moment number faults (settled_at moment r));
-      found =
-          told within moment r.checking;
+    → Follows within config.timing (datagram_passage config moment to datagram query (fault_events number faults) r.basis.packets r.link) r (record {
+      checked =
+          seen_or_received config within moment to datagram query
+          (with_faults moment number faults (purged_at moment (judged_at within (Some moment) r)));
+      found = told within moment (judged_at within (Some moment) r).checking;
     })
-unfolding received seen_at
+unfolding taken received seen_at
 follows-datagram config within moment number to datagram (Some query) faults r =
-    let begun = settled moment r.checking in
+    let before = judged_at within (Some moment) r in
+    let begun = purged moment before.checking in
     let c = faults_seen moment number faults begun in
     let event = event_of config r.link moment r.basis.packets to query in
     follows-still within config.timing moment r.basis.packets r.link (fault_events number faults ++ event ∷ []) r
-    (seen_at config within moment to query (with_faults moment number faults (settled_at moment r))) refl refl
+    (seen_at config within moment to query (with_faults moment number faults (purged_at moment before))) refl refl
     (still-append within config.timing moment (fault_events number faults) (event ∷ []) begun c _ (still-faults within config.timing moment number faults begun)
     (still-came within config r.link moment r.basis.packets to query c))
 follows-datagram config within moment number to datagram None faults r =
     let step = (receipt_of config datagram.envelope datagram.body moment r.link).step in
     let was = is_querier r.link.election.role in
-    let begun = settled moment r.checking in
+    let before = judged_at within (Some moment) r in
+    let begun = purged moment before.checking in
     let c = faults_seen moment number faults begun in
     let terms = specific_terms config r.link.election.timing r.basis.packets in
     let changes = causes_in config.family datagram in
     let noted = all_changed moment terms changes c in
     let wanted = with_messages config.family moment r.basis.packets false (not was) (outgoing_of config step) noted in
-    let rest = wanted_by config r.basis.packets false r.link step ++ role_by_datagram was (is_querier step.state.election.role) in
+    let answer = (receipt_of config datagram.envelope datagram.body moment r.link).answer in
+    let refuses = Refuses (refused_by config.family answer datagram) ∷ [] in
+    let is = is_querier step.state.election.role in
+    let role = role_changed within config.timing moment was is wanted in
+    let rest = wanted_by config r.basis.packets false r.link step ++ (role_by_datagram was is ++ refuses) in
     follows-still within config.timing moment _ _ (fault_events number faults ++ Changes terms changes ∷ rest) r
-    (received config within moment datagram (with_faults moment number faults (settled_at moment r))) refl
+    (taken config within moment datagram (with_faults moment number faults (purged_at moment before))) refl
     (other_packets config.family step.state.election.role _ ∙ role_packets moment was (is_querier step.state.election.role) r.basis)
     (still-append within config.timing moment (fault_events number faults) (Changes terms changes ∷ rest) begun c _
     (still-faults within config.timing moment number faults begun)
     (still-append within config.timing moment (Changes terms changes ∷ []) rest c noted _ (record { check = refl; told = refl; moment = refl })
-    (still-append within config.timing moment (wanted_by config r.basis.packets false r.link step)
-    (role_by_datagram was (is_querier step.state.election.role)) noted wanted _
+    (still-append within config.timing moment (wanted_by config r.basis.packets false r.link step) (role_by_datagram was is ++ refuses) noted wanted _
     (still-messages within config moment r.basis.packets false (not was) (outgoing_of config step) noted)
-    (still-datagram within config.timing moment was (is_querier step.state.election.role) wanted))))
+    (still-append within config.timing moment (role_by_datagram was is) refuses wanted role _
+    (still-datagram within config.timing moment was is wanted) (record { check = refl; told = refl; moment = refl })))))
 
 follows-frame : (config : Configuration) (link : LinkType) (within moment number : ℕ) (frame : List ℕ) (datagram : Option Datagram) (r : Checked)
     → Follows within config.timing (frame_passage config link moment number frame datagram r.basis.packets r.link) r
@@ -314,3 +315,18 @@ follows-packet config link within moment number back frame r =
     (subst (λ (l : LinkState). Follows within config.timing (frame_passage config link moment number frame datagram counted.basis.packets l)
     before.checked (with_datagram config link within moment number frame datagram counted)) ticks.link
     (record { link = frame_in.link; packets = frame_in.packets; checking = frame_in.checking; found = frame_in.found })))
+
+-- the judgement of S at the end of a capture
+pub follows-end : (within : ℕ) (timing : Timing) (p : Passage) (r : Checked) (o : Outcome) → Follows within timing p r o
+    → Follows within timing (record p { events = p.events ++ Judges None (is_set p.link.groups) ∷ [] }) r
+    (record { checked = judged_at within None o.checked; found = o.found })
+follows-end within timing p r o follows = record {
+  link = follows.link;
+  packets = follows.packets;
+  checking = λ now.
+      (λ i. with_s_judged within None (is_set (follows.link i).groups) (follows.checking now i)) ∙
+      sym (check_by-append within timing now p.events (Judges None (is_set p.link.groups) ∷ []) r.checking);
+  found = λ now.
+      follows.found now ∙ sym (told_by-append within timing now p.events (Judges None (is_set p.link.groups) ∷ []) r.checking ∙
+      append-nil (told_by_all within timing now p.events r.checking));
+}

@@ -1,14 +1,13 @@
 -- A table that takes over the filters of the named groups. It is that of the state,
 -- since a group that an event doesn't name keeps its filter.
 use Rattle.mq_laws.proofs.Common.{◌≡◌, ℕ, Bool, true, false, cond, not, List, [], ◌∷◌, Option, None, Some, Result, Ok, Err, refl, sym, ap, ◌∙◌, true≢false}
-use Rattle.mq_laws.proofs.Common.{or_parts, unwrap_or, nat_cmp, Message, QueryMessage, OldReport, LeaveMessage, ReportMessage, WireFault, RecordView}
+use Rattle.mq_laws.proofs.Common.{or_parts, unwrap_or, nat_cmp, Message, QueryMessage, ReportMessage, WireFault, RecordView}
 use Rattle.mq_laws.proofs.Common.{are_same-equal, forwards_by-filter_of, Filter, filter_of, nothing, forwards_by, are_same, GroupState, filter_of_unheld}
 use Rattle.mq_laws.proofs.Common.{Configuration, Envelope, read_of, pseudo_of, drop_reason, setting_of, counting_read, taken_or_dropped, Setting, judged}
 use Rattle.mq_laws.proofs.Common.{seen_after, all_judged, Event, Tick, Datagram, Happening, step_of, answered, RunFrom, Groups, LinkState, unheld, group_at}
-use Rattle.mq_laws.proofs.Common.{forwards, link_at, Step, tick_of, DropReason, filter_at, FilterTable, taken_over, IsTableOf, AllFollowed}
-use Rattle.mq_table.specs.Filter.{changes_filter}
-use Rattle.mq_link.specs.{Forwarding.changes, Forwarding.changed_by_tick, Forwarding.changed_by_all, Forwarding.changed_by_message, Forwarding.changed_by_read}
-use Rattle.mq_link.specs.{Forwarding.changed_by_event, Receive.taken_in, Record.Seen}
+use Rattle.mq_laws.proofs.Common.{forwards, link_at, Step, tick_of, DropReason, filter_at, FilterTable, taken_over, IsTableOf, AllFollowed, changes_filter}
+use Rattle.mq_laws.proofs.Common.{changes, changed_by_tick, changed_by_all, changed_by_message, changed_by_read, taken_in}
+use Rattle.mq_link.specs.{Forwarding.changed_by_event, Record.Seen}
 use Rattle.mq_laws.proofs.HeardFilters.{heard_keeps_filters}
 use Rattle.std.specs.FinMap as map
 
@@ -43,9 +42,8 @@ message_keeps : (config : Configuration) (envelope : Envelope) (message : Messag
     → filter_in (taken_in config envelope message step).step.state.groups group ≡ filter_in step.state.groups group
 unfolding taken_in
 message_keeps config envelope (QueryMessage query) step group is = heard_keeps_filters config step.state.last envelope.source query step.state group
-message_keeps config envelope (OldReport version joined) step group is = same_in step.state.groups _ group is
-message_keeps config envelope (LeaveMessage left) step group is = same_in step.state.groups _ group is
 message_keeps config envelope (ReportMessage records) step group is = records_keep (setting_of config step.state) map.empty records step.state.groups group is
+message_keeps config envelope _ step group is = same_in step.state.groups _ group is
 
 -- the read message, dropped or not
 read_keeps : (config : Configuration) (envelope : Envelope) (step : Step) (read : Result (Message ℕ) WireFault) (reason : Option DropReason) (group : ℕ)
@@ -69,8 +67,7 @@ event_keeps config (Datagram envelope bytes now) state group is =
 pub alike_forwarded : (before after : LinkState) (group source : ℕ) → filter_at after group ≡ filter_at before group
     → forwards after group source ≡ forwards before group source
 alike_forwarded before after group source same =
-    sym (forwards_by-filter_of (group_at after.groups group).group source)
-    ∙ ap (λ f. forwards_by f source) same
+    sym (forwards_by-filter_of (group_at after.groups group).group source) ∙ ap (λ f. forwards_by f source) same
     ∙ forwards_by-filter_of (group_at before.groups group).group source
 
 -- A table that has the filters of a state is its table.
@@ -82,8 +79,7 @@ table_of state table each = record {
 
 -- so it is that of the state after an event
 one_taken_over : (config : Configuration) (event : Event) (before after : LinkState) (answers : List Bool) (table : FilterTable)
-    → after ≡ answered answers (step_of config event before)
-    → ((group : ℕ) → table group ≡ filter_at before group) → (group : ℕ)
+    → after ≡ answered answers (step_of config event before) → ((group : ℕ) → table group ≡ filter_at before group) → (group : ℕ)
     → taken_over (changed_by_event config event before) after table group ≡ filter_at after group
 one_taken_over config event before after answers table leaves each group = by_name (changed_by_event config event before group) refl
   where

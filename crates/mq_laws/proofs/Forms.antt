@@ -1,11 +1,8 @@
 -- A link stays well-formed after ticks, datagrams and runs.
-use Rattle.std.proofs.Common.{ℕ, List, [], ◌∷◌, sym, subst}
-use Rattle.mq_link.proofs.Faultless.{timing_in_range}
-use Rattle.mq_link.proofs.{Receipts.carried_where_read, Receipts.IsWellFormed-receipt_after, Receipts.recounted, Ticked.IsWellFormed-tick_at}
-use Rattle.mq_link.specs.{Configuration.Configuration, Configuration.IsFaultless, Receive.Envelope, Receive.receipt_of, Receive.read_of, Receive.pseudo_of}
-use Rattle.mq_link.specs.Run.{Happening, Event, Tick, Datagram, step_of, RunFrom}
-use Rattle.mq_link.specs.{State.LinkState, State.IsWellFormed, Tick.moment_of, Tick.tick_of}
-use Rattle.mq_laws.specs.Laws.{AllAfter}
+use Rattle.mq_laws.proofs.Common.{ℕ, List, [], ◌∷◌, sym, subst, timing_in_range, carried_where_read, IsWellFormed-receipt_after, IsWellFormed-tick_at}
+use Rattle.mq_laws.proofs.Common.{Configuration, IsFaultless, Envelope, receipt_of, read_of, pseudo_of, Happening, Event, Tick, Datagram, step_of, RunFrom}
+use Rattle.mq_laws.proofs.Common.{LinkState, IsWellFormed, tick_of, AllAfter}
+use Rattle.mq_link.{proofs.Receipts.recounted, specs.Tick.moment_of}
 
 pub after_tick : (config : Configuration) (now : ℕ) (state : LinkState) → IsFaultless config → IsWellFormed config state
     → IsWellFormed config (tick_of config now state).state

@@ -2,11 +2,10 @@
 -- is what was to go.
 use Rattle.mq_laws.proofs.Common.{◌≡◌, ℕ, Bool, true, false, cond, Option, None, Some, refl, ap, ◌∙◌, eqb, arith, option_and_then, option_map, unwrap_or, Query}
 use Rattle.mq_laws.proofs.Common.{same_filter, named_alike, timer_at-sources_lowered, get-kept, names, filter_of, GroupState, is_include, timer_at, lowered_to}
-use Rattle.mq_laws.proofs.Common.{mode_lowered, source_lowered, sources_lowered, lowered_by_query, source_cleared, sendings_cleared, Set, FilterMode}
+use Rattle.mq_laws.proofs.Common.{mode_lowered, source_lowered, sources_lowered, lowered_by_query, source_cleared, retransmissions_cleared, Set, FilterMode}
 use Rattle.mq_laws.proofs.Common.{SourceTimer, Timing, loses_role, ScheduledGroup, cleared, Configuration, suppresses, asked_by, election_after, query_heard}
-use Rattle.mq_laws.proofs.Common.{heard_by, Groups, LinkState, unheld, group_at}
+use Rattle.mq_laws.proofs.Common.{heard_by, Groups, LinkState, unheld, group_at, groups_cleared, groups_lowered}
 use Rattle.mq_table.specs.Lowering.{group_lowered}
-use Rattle.mq_link.specs.Heard.{groups_cleared, groups_lowered}
 use Rattle.std.specs.FinMap as map
 
 -- a source is named as before
@@ -28,14 +27,12 @@ lowered_filter timing now false None g =
     same_filter (group_lowered timing now g) g stays (λ s. named_alike (mode_lowered (lowered_to timing now) g.mode) g.mode stays (timer_at g s))
 lowered_filter timing now false (Some asked) g =
     same_filter (sources_lowered timing now asked g) g refl (λ s.
-    ap (names g.mode) (timer_at-sources_lowered timing now asked g s)
-    ∙ lowered_named (lowered_to timing now) (asked s) g.mode (timer_at g s))
+    ap (names g.mode) (timer_at-sources_lowered timing now asked g s) ∙ lowered_named (lowered_to timing now) (asked s) g.mode (timer_at g s))
 
 cleared_filter : (e : ScheduledGroup) → filter_of (cleared e).group ≡ filter_of e.group
 cleared_filter e =
-    same_filter (sendings_cleared e.group) e.group refl (λ s.
-    ap (names e.group.mode) (get-kept (λ s timer. Some (source_cleared timer)) e.group.sources s)
-    ∙ cleared_named e.group.mode (timer_at e.group s))
+    same_filter (retransmissions_cleared e.group) e.group refl (λ s.
+    ap (names e.group.mode) (get-kept (λ s timer. Some (source_cleared timer)) e.group.sources s) ∙ cleared_named e.group.mode (timer_at e.group s))
 
 -- all groups
 cleared_at : (groups : Groups) (group : ℕ) → filter_of (group_at (groups_cleared groups) group).group ≡ filter_of (group_at groups group).group

@@ -1,9 +1,7 @@
--- What waits in the midst of a check whose queries pair up.
+-- The entries that wait during a check whose queries pair up.
 use Rattle.mq_laws.proofs.Common.{◌≡◌, ℕ, ◌+◌, ◌≤◌, Bool, true, false, List, [], ◌∷◌, ◌++◌, refl, ap, sym, ◌∙◌, arith, ⊤, nat_lt, AllByRecursion, le-ltb}
-use Rattle.mq_laws.proofs.Common.{lt-ltb, ltb-true, Asked, Entry, Need, Required, Wanted, Seen, Interval, Silence, Packet, Terms, terms_in, joined, first_terms}
-use Rattle.mq_laws.proofs.Common.{first_joined, terms_differ, is_same, Ask, Expected, Sent, LeftOut, ask_of, seen_about, wanted_about, still_due}
-use Rattle.std.specs.Prelude.{None, Some}
-use Rattle.mq_check.specs.Entries.{moment_of}
+use Rattle.mq_laws.proofs.Common.{lt-ltb, ltb-true, Asked, Entry, Need, Required, Wanted, Seen, Terms, terms_in, joined, first_terms, first_joined}
+use Rattle.mq_laws.proofs.Common.{terms_differ, is_same, Ask, Expected, Sent, LeftOut, ask_of, seen_about, wanted_about, still_due, None, Some, moment_of}
 
 abbrev pub ask : (moment : ℕ) → Asked ℕ → Terms ℕ → Ask
 ask moment asked terms = record { moment = moment; asked = asked; terms = terms }
@@ -22,19 +20,13 @@ Holds (Wanted moment asked terms need false ∷ es) [] = ⊥
 Holds (Wanted moment asked terms need false ∷ es) (x ∷ xs) = IsKept moment asked terms need x × Holds es xs
 Holds (Seen moment asked terms None is_querier ∷ es) xs = Holds es xs
 Holds (Seen moment asked terms (Some wanted) is_querier ∷ es) xs = (terms_differ terms wanted ≡ []) × Holds es xs
-Holds (Interval moment packet after wanted ∷ es) xs = ⊥
-Holds (Silence moment after wanted ∷ es) xs = ⊥
-Holds (Packet moment number fault ∷ es) xs = ⊥
+Holds (_ ∷ es) xs = ⊥
 
 -- the queries among entries that were seen and have no partner
 abbrev pub free_seen : List (Entry ℕ) → List Ask
 free_seen [] = []
-free_seen (Wanted moment asked terms need is_found ∷ es) = free_seen es
 free_seen (Seen moment asked terms None is_querier ∷ es) = ask moment asked terms ∷ free_seen es
-free_seen (Seen moment asked terms (Some wanted) is_querier ∷ es) = free_seen es
-free_seen (Interval moment packet after wanted ∷ es) = free_seen es
-free_seen (Silence moment after wanted ∷ es) = free_seen es
-free_seen (Packet moment number fault ∷ es) = free_seen es
+free_seen (_ ∷ es) = free_seen es
 
 -- entries in the order of their moments, up to one
 abbrev pub IsAscending : (low : ℕ) → List (Entry ℕ) → (now : ℕ) → Type 0
@@ -108,12 +100,9 @@ ascending-put low (d ∷ es) now e at is = (is.0, ascending-put (moment_of d) es
 
 joined_moment : (other : Terms ℕ) (e : Entry ℕ) → moment_of (joined other e) ≡ moment_of e
 joined_moment other (Wanted moment asked terms need is_found) = refl
-joined_moment other (Seen moment asked terms partner is_querier) = refl
-joined_moment other (Interval moment packet after wanted) = refl
-joined_moment other (Silence moment after wanted) = refl
-joined_moment other (Packet moment number fault) = refl
+joined_moment other _ = refl
 
--- what the first entry that passes a test comes to
+-- the terms of the first entry that passes a test, and the entries after it is joined
 pub passed_terms : (test : Entry ℕ → Bool) (e : Entry ℕ) (es : List (Entry ℕ)) → test e ≡ false → first_terms test (e ∷ es) ≡ first_terms test es
 passed_terms test e es is = rw is refl
 
@@ -172,9 +161,7 @@ ahead-holds within moment (Wanted m a t o false ∷ es) (x ∷ xs) holds ahead =
     (rw (kept_ask m a t o x holds.0) ahead.0, ahead-holds within moment es xs holds.1 ahead.1)
 ahead-holds within moment (Seen m a t None q ∷ es) xs holds ahead = ahead-holds within moment es xs holds ahead.1
 ahead-holds within moment (Seen m a t (Some w) q ∷ es) xs holds ahead = ahead-holds within moment es xs holds.1 ahead.1
-ahead-holds within moment (Interval m n a w ∷ es) xs holds ahead = absurd holds
-ahead-holds within moment (Silence m a w ∷ es) xs holds ahead = absurd holds
-ahead-holds within moment (Packet m number fault ∷ es) xs holds ahead = absurd holds
+ahead-holds within moment (_ ∷ es) xs holds ahead = absurd holds
 
 pub ahead-about : (within moment : ℕ) (asked : Asked ℕ) (xs : List Expected) → AllStill within moment xs → AllStill within moment (wanted_about asked xs)
 ahead-about within moment asked [] is = is

@@ -2,8 +2,7 @@
 use Rattle.mq_laws.proofs.Common.{◌≡◌, ◌≤◌, ◌<◌, ◌+◌, ℕ, Bool, true, false, List, [], ◌∷◌, ◌++◌, length, length-drop, take, drop, get_or, refl, sym, ap, subst}
 use Rattle.mq_laws.proofs.Common.{◌∙◌, arith, nat_lt, slice_range, All, ltb-false, ltb-true, get_or_past, length-take-le, take_all, take-append-drop}
 use Rattle.mq_laws.proofs.Common.{drop-append_seam, take-add, take-append_seam, field-append, All-drop, All-take, le_bytes_2, le_bytes_4, be_bytes_2, Big}
-use Rattle.mq_laws.proofs.Common.{Little, field, big_bytes, big_number, little_bytes, little_number}
-use Rattle.mq_pcap.specs.declared.form.Endian.{Endian}
+use Rattle.mq_laws.proofs.Common.{Little, field, big_bytes, big_number, little_bytes, little_number, Endian}
 
 -- these are bytes
 abbrev pub AreBytes : List ℕ → Type 0
@@ -17,20 +16,16 @@ each_byte xs all i = by_place (nat_lt i (length xs)) refl
     by_place false is = let past = get_or_past xs i 0 (ltb-false i (length xs) is) in omega (arith, past)
 
 pub four_back : (xs : List ℕ) → 4 ≤ length xs → AreBytes xs → little_bytes 4 (little_number 4 xs) ≡ take 4 xs
-four_back [] long all = absurd (omega arith)
-four_back (a ∷ []) long all = absurd (omega arith)
-four_back (a ∷ b ∷ []) long all = absurd (omega arith)
-four_back (a ∷ b ∷ c ∷ []) long all = absurd (omega arith)
 four_back (a ∷ b ∷ c ∷ d ∷ rest) long all =
     let xs : List ℕ = a ∷ b ∷ c ∷ d ∷ [] in
     le_bytes_4 xs (little_number 4 (a ∷ b ∷ c ∷ d ∷ rest)) refl (each_byte xs (All-take (λ (byte : ℕ). byte < 256) 4 (a ∷ b ∷ c ∷ d ∷ rest) all)) (omega arith)
+four_back _ long all = absurd (omega arith)
 
 pub two_back : (xs : List ℕ) → 2 ≤ length xs → AreBytes xs → big_bytes 2 (big_number 2 xs) ≡ take 2 xs
-two_back [] long all = absurd (omega arith)
-two_back (a ∷ []) long all = absurd (omega arith)
 two_back (a ∷ b ∷ rest) long all =
     let xs : List ℕ = a ∷ b ∷ [] in
     be_bytes_2 xs (big_number 2 (a ∷ b ∷ rest)) refl (each_byte xs (All-take (λ (byte : ℕ). byte < 256) 2 (a ∷ b ∷ rest) all)) (omega arith)
+two_back _ long all = absurd (omega arith)
 
 -- this fact for numbers at later places
 pub four_at : (place : ℕ) (xs : List ℕ) → place + 4 ≤ length xs → AreBytes xs → little_bytes 4 (field Little place 4 xs) ≡ take 4 (drop place xs)

@@ -1,11 +1,9 @@
 -- The header of a classic capture of Ethernet in nanoseconds, as a block of a file that is converted.
 use Rattle.mq_laws.proofs.Common.{◌≡◌, ◌≤◌, ◌<◌, ◌%◌, ℕ, Bool, true, false, List, ◌++◌, length, take, drop, None, Some, Result, Ok, refl, arith, sym, ◌∙◌, ap}
 use Rattle.mq_laws.proofs.Common.{nat_lt, ◌==◌, eqb-true, ltb-false, ne_eqb, length-take-le, All-drop, take-add, little_bytes, PcapFault, Big, Little, Form}
-use Rattle.mq_laws.proofs.Common.{field, magic_of, block_in, seen_in, at_start, file_header, IsWhole, section_type, looked_at, plain}
-use Rattle.std.specs.Prelude.{◌&&◌}
-use Rattle.mq_pcap.specs.{declared.form.Endian.Endian, declared.form.Fraction.Fraction, declared.form.Fraction.TheVariants.Microseconds}
-use Rattle.mq_pcap.specs.{declared.form.Fraction.TheVariants.Nanoseconds, declared.link_type.LinkType.TheVariants.Ethernet}
-use Rattle.mq_pcap.specs.{declared.link_type.LinkType.TheVariants.RawIp, Capture.header_in, Capture.header_of}
+use Rattle.mq_laws.proofs.Common.{field, magic_of, block_in, seen_in, at_start, file_header, IsWhole, section_type, looked_at, plain, ◌&&◌, Endian, Nanoseconds}
+use Rattle.mq_pcap.specs.declared.form.Fraction.{Fraction, TheVariants.Microseconds}
+use Rattle.mq_pcap.specs.{declared.link_type.LinkType.TheVariants.Ethernet, declared.link_type.LinkType.TheVariants.RawIp, Capture.header_in, Capture.header_of}
 use Rattle.mq_convert.specs.{declared.context.Kind.TheVariants.Start, Blocks.classic_in, Blocks.first_in, Sizes.first_size, Sizes.form_in}
 use Rattle.mq_laws.proofs.KeptBytes.{AreBytes, each_byte, field-take, four_at, low_two_at}
 use Rattle.mq_laws.proofs.KeptRecords.{behind_header, whole_seen}
@@ -70,8 +68,7 @@ plain_header bytes is =
 -- it is no section header
 no_section : (bytes : List ℕ) → AreBytes bytes → (field Little 0 4 bytes == magic_of Nanoseconds) ≡ true → (field Big 0 4 bytes == section_type) ≡ false
 no_section bytes all magic =
-    ne_eqb (field Big 0 4 bytes) section_type
-    (λ section. let is = eqb-true (field Little 0 4 bytes) (magic_of Nanoseconds) magic in
+    ne_eqb (field Big 0 4 bytes) section_type (λ section. let is = eqb-true (field Little 0 4 bytes) (magic_of Nanoseconds) magic in
     omega (arith, section, is, each_byte bytes all 0, each_byte bytes all 1, each_byte bytes all 2, each_byte bytes all 3))
 
 -- it is the first block of the file
@@ -89,8 +86,7 @@ header_whole bytes all h =
 
 both_true : (a b : Bool) → (a && b) ≡ true → (a ≡ true) × (b ≡ true)
 both_true true true is = (refl, refl)
-both_true true false is = absurd (cc)
-both_true false b is = absurd (cc)
+both_true _ _ is = absurd (cc)
 
 form_is : (bytes : List ℕ) → IsPlainHeader bytes → form_in (take 24 bytes) ≡ Some (Little, Nanoseconds)
 unfolding form_in

@@ -2,14 +2,11 @@
 use Rattle.mq_laws.proofs.Common.{◌≡◌, ◌≤◌, ◌<◌, ◌+◌, ◌-◌, ◌*◌, ◌^◌, min, ℕ, Bool, true, false, List, [], ◌∷◌, ◌++◌, length, take, drop, Some, Ok, refl, arith}
 use Rattle.mq_laws.proofs.Common.{◌∙◌, ap, subst, length-append, length-drop, nat_lt, slice_range, le-ltb, lt-ltb, ltb-false, ltb-true, take_all, take_at}
 use Rattle.mq_laws.proofs.Common.{All-drop, div-mul-add, mod-mul-add, drop-append_seam, little_bytes, little_from-lt, Big, Little, field, most_bytes}
-use Rattle.mq_laws.proofs.Common.{field-append, Captured, block_in, seen_in, ContextState, original_of, IsWhole, most_seen, everything, is_untagged}
-use Rattle.std.specs.Prelude.{not}
-use Rattle.mq_pcap.specs.declared.form.Fraction.TheVariants.{Nanoseconds}
-use Rattle.mq_convert.specs.{declared.context.Kind.TheVariants.Classic, Blocks.record_in, Frames.Framed, Frames.Whole, Frames.before_type, Frames.behind_tags}
-use Rattle.mq_convert.specs.{Frames.carried_of, Frames.frame_bytes, Frames.frame_length, Frames.frame_of, Frames.frame_size, Frames.is_tag, Frames.of_ethernet}
-use Rattle.mq_convert.specs.{Frames.untagged, Moments.classic_moment, Moments.placed, Moments.second, Records.record_header, Records.record_of}
-use Rattle.mq_convert.specs.{Sizes.record_size}
-use Rattle.mq_convert.proofs.Seen.{all_seen}
+use Rattle.mq_laws.proofs.Common.{field-append, Captured, block_in, seen_in, ContextState, original_of, IsWhole, most_seen, everything, is_untagged, not}
+use Rattle.mq_laws.proofs.Common.{Nanoseconds, second, record_of}
+use Rattle.mq_convert.specs.{declared.context.Kind.TheVariants.Classic, Moments.classic_moment, Moments.placed, Records.record_header, Sizes.record_size}
+use Rattle.mq_convert.{specs.Blocks.record_in, specs.Frames.untagged, proofs.Seen.all_seen}
+use Rattle.mq_convert.specs.Frames.{Framed, Whole, before_type, behind_tags, carried_of, frame_bytes, frame_length, frame_of, frame_size, is_tag, of_ethernet}
 use Rattle.mq_laws.proofs.KeptBytes.{AreBytes, each_byte, four_at, four_numbers, three_parts, two_at}
 
 -- a block that is seen whole comes to what its bytes come to
@@ -19,10 +16,7 @@ whole_seen context block short = ap (seen_in context (length block)) (all_seen b
 -- no tag
 pub no_tag : (addresses : List ℕ) (kind : ℕ) (payload : List ℕ) → is_tag kind ≡ false → behind_tags addresses kind payload ≡ Whole addresses kind payload
 no_tag addresses kind (a ∷ (b ∷ (c ∷ (d ∷ rest)))) tag = rw tag refl
-no_tag addresses kind [] tag = rw tag refl
-no_tag addresses kind (a ∷ []) tag = rw tag refl
-no_tag addresses kind (a ∷ (b ∷ [])) tag = rw tag refl
-no_tag addresses kind (a ∷ (b ∷ (c ∷ []))) tag = rw tag refl
+no_tag addresses kind _ tag = rw tag refl
 
 -- the context after the header of such a file
 abbrev pub behind_header : ContextState

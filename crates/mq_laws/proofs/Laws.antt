@@ -1,11 +1,10 @@
--- What is found where all was sent, or all but some.
-use Rattle.mq_laws.proofs.Common.{◌≡◌, ℕ, Bool, true, List, [], ◌∷◌, ◌++◌, refl, ap, sym, ◌∙◌, Timing, CheckFlags, Finding, Missing, all_reported, reported}
-use Rattle.mq_laws.proofs.Common.{Ask, Expected, Sent, LeftOut, all_sent, kept_for, missing_of, sent_but, seen_about, CheckEvent, HasRoom, found_by, AreAhead}
+-- The findings if all queries were sent, or all but some.
+use Rattle.mq_laws.proofs.Common.{◌≡◌, ℕ, Bool, List, [], ◌∷◌, ◌++◌, refl, ap, sym, ◌∙◌, Timing, CheckFlags, Finding, Missing, all_reported, reported, Ask}
+use Rattle.mq_laws.proofs.Common.{Expected, Sent, LeftOut, all_sent, kept_for, missing_of, sent_but, seen_about, CheckEvent, HasRoom, found_by, AreAhead}
 use Rattle.mq_laws.proofs.Common.{AreInOrder, IsOnTime, IsAsWanted, AreSeen, AreSeenWithin, TakesOut, all_missing, all_seen_in, all_wanted_in, CheckedCapture}
-use Rattle.mq_laws.proofs.Common.{Tells, TellsWhatHappened, ahead_in, end_in, events_in}
-use Rattle.mq_check.specs.{declared.repeated.LastDifferences.LastDifferences, FindingLines.possible_in}
-use Rattle.mq_laws.proofs.{Found.found_is, Moved.moved_as, Moved.all_pair_up, Moved.all_but_some_pair_up, Moved.asks_of-sent, Moved.asks_of-sent_but}
-use Rattle.mq_laws.proofs.{Moved.missing_of-sent, Moved.missing_of-sent_but, Moved.missed-sent, Moved.missed-sent_but}
+use Rattle.mq_laws.proofs.Common.{IsFromTheBeginning, Tells, TellsWhatHappened, ahead_in, end_in, events_in, LastDifferences}
+use Rattle.mq_laws.proofs.{Found.found_is, Moved.missed-sent_but}
+use Rattle.mq_laws.proofs.Moved.{moved_as, all_pair_up, all_but_some_pair_up, asks_of-sent, asks_of-sent_but, missing_of-sent, missing_of-sent_but, missed-sent}
 
 pub moved_are_found : (within : ℕ) (timing : Timing) (flags : CheckFlags) (end : ℕ) (events : List CheckEvent) → IsOnTime within timing end events →
     AreSeenWithin within (all_wanted_in within timing flags events) events
@@ -17,7 +16,7 @@ moved_are_found within timing flags end events on_time are = record {
   missed = missed-sent flags.strict (kept_for within timing flags) end (all_wanted_in within timing flags events);
 }
 
-pub none_of_moved : (within : ℕ) (timing : Timing) (flags : CheckFlags) (end : ℕ) (events ahead : List CheckEvent) → flags.began ≡ true →
+pub none_of_moved : (within : ℕ) (timing : Timing) (flags : CheckFlags) (end : ℕ) (events ahead : List CheckEvent) → IsFromTheBeginning flags →
     AreInOrder 0 events end → AreAhead within end ahead → IsOnTime within timing end events → HasRoom within timing flags end events ahead
     → AreSeenWithin within (all_wanted_in within timing flags events) events → found_by within timing flags end events ahead ≡ []
 none_of_moved within timing flags end events ahead began order after on_time room are =
@@ -28,8 +27,9 @@ pub seen_are_moved : (within : ℕ) (asks : List Ask) (events : List CheckEvent)
 seen_are_moved within asks events are asked = moved_as within (seen_about asked asks) (seen_about asked (all_seen_in within events)) (are asked)
 
 pub taken_are_missing : (within : ℕ) (timing : Timing) (flags : CheckFlags) (end : ℕ) (events ahead : List CheckEvent) (before taken behind : List Ask) →
-    flags.began ≡ true → AreInOrder 0 events end → AreAhead within end ahead → IsOnTime within timing end events → HasRoom within timing flags end events ahead
-    → all_wanted_in within timing flags events ≡ before ++ taken ++ behind → TakesOut flags.strict (kept_for within timing flags) end taken behind →
+    IsFromTheBeginning flags → AreInOrder 0 events end → AreAhead within end ahead → IsOnTime within timing end events →
+    HasRoom within timing flags end events ahead → all_wanted_in within timing flags events ≡ before ++ taken ++ behind →
+    TakesOut flags.strict (kept_for within timing flags) end taken behind →
     AreSeen within (before ++ behind) events → found_by within timing flags end events ahead ≡ all_missing taken
 taken_are_missing within timing flags end events ahead before taken behind began order after on_time room wanted out are =
     found_is within timing flags end (sent_but before taken behind) events ahead began order after (record {
@@ -37,10 +37,9 @@ taken_are_missing within timing flags end events ahead before taken behind began
       wanted = asks_of-sent_but before taken behind ∙ sym wanted;
       pairs = all_but_some_pair_up within flags.strict (kept_for within timing flags) end before taken behind (all_seen_in within events) are out;
       missed = missed-sent_but flags.strict (kept_for within timing flags) end before taken behind out;
-    }) room
-    ∙ missing_of-sent_but before taken behind
+    }) room ∙ missing_of-sent_but before taken behind
 
--- what is told of it
+-- the findings that a capture's check reports
 pub tells_of : (c : CheckedCapture) (found : List (Finding ℕ)) → TellsWhatHappened c → found_by c.within c.config.timing c.flags (end_in c)
     (events_in c) (ahead_in c) ≡ found → Tells c (all_reported c.additions found)
 tells_of c found told is = rw is at told.tells
@@ -51,9 +50,3 @@ missing_reported once last [] = refl
 missing_reported once last (Sent ask ∷ xs) = missing_reported once last xs
 missing_reported once last (LeftOut ask ∷ xs) =
     ap (λ (l : List (Finding ℕ)). Missing ask.moment ask.terms.packet ask.asked ∷ l) (missing_reported once last xs)
-
--- no finding is possible if all are missing queries
-pub none_possible : (xs : List Expected) → possible_in (missing_of xs) ≡ []
-none_possible [] = refl
-none_possible (Sent ask ∷ xs) = none_possible xs
-none_possible (LeftOut ask ∷ xs) = none_possible xs

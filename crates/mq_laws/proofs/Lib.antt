@@ -21,6 +21,8 @@ pub mod Held
 pub mod Partners
 pub mod Steps
 pub mod Comings
+pub mod RightS
+pub mod Unrefused
 pub mod Rooms
 pub mod Courses
 pub mod AfterTheEnd
@@ -41,6 +43,7 @@ pub mod WrittenAddresses
 pub mod OneCapture
 pub mod OneFile
 pub mod FaultsStay
+pub mod Judged
 pub mod KeptBytes
 pub mod KeptRecords
 pub mod KeptHeader

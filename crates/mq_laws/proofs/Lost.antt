@@ -1,10 +1,9 @@
 -- The packets left out, whose frames are written soon.
 use Rattle.mq_laws.proofs.Common.{◌≡◌, ℕ, ◌-◌, true, false, Bool, List, [], ◌∷◌, ◌++◌, length, take, drop, refl, sym, subst, ap, ◌∙◌, zero, suc, arith}
-use Rattle.mq_laws.proofs.Common.{append_assoc, All, list_any, take-append-drop, All-append, Choice, Captured}
-use Rattle.std.specs.Prelude.{not, ◌&&◌, ◌||◌}
+use Rattle.mq_laws.proofs.Common.{append_assoc, All, list_any, take-append-drop, All-append, Choice, Captured, not, ◌&&◌, ◌||◌, Gone, comes_again, frame_out}
+use Rattle.mq_laws.proofs.Common.{gone_after, going_out, is_again, is_compared, left_out}
 use Rattle.std.proofs.{Math.Bool.or-true, lemmas.List.Folds.list_any-append}
-use Rattle.mq_convert.specs.Choices.{is_chosen_packet}
-use Rattle.mq_convert.specs.Repeats.{Gone, comes_again, frame_out, gone_after, going_out, is_again, is_compared, latest, left_out, most_gone}
+use Rattle.mq_convert.specs.{Choices.is_chosen_packet, Repeats.latest, Repeats.most_gone}
 use Rattle.mq_laws.specs.Conversions.{as_gone, is_written_soon}
 use Rattle.mq_laws.proofs.Sifted.{going_out-again, going_out-first, left_out-again, left_out-first}
 
@@ -28,8 +27,7 @@ one_of false b is other = absurd (cc)
 
 compared_chosen : (once chosen whole : Bool) → (once && (chosen && whole)) ≡ true → chosen ≡ true
 compared_chosen true true whole is = refl
-compared_chosen true false whole is = absurd (cc)
-compared_chosen false chosen whole is = absurd (cc)
+compared_chosen _ _ whole is = absurd (cc)
 
 chosen_of : (choice : Choice) (packet : Captured) → is_compared choice packet ≡ true → is_chosen_packet choice packet ≡ true
 unfolding is_compared
@@ -40,8 +38,7 @@ are_of-more choice gone packets more are = λ p is. any_more _ packets more (are
 
 -- a packet more that is chosen
 are_of-one : (choice : Choice) (gone : List Gone) (packets : List Captured) (packet : Captured) → AreOf choice gone packets →
-    is_chosen_packet choice packet ≡ true
-    → AreOf choice (latest (gone ++ (as_gone packet ∷ []))) (packets ++ (packet ∷ []))
+    is_chosen_packet choice packet ≡ true → AreOf choice (latest (gone ++ (as_gone packet ∷ []))) (packets ++ (packet ∷ []))
 are_of-one choice gone packets packet are chosen = λ p is.
     let all = gone ++ (as_gone packet ∷ []) in
     by_test p (any_dropped p (length all - most_gone) all is) (p (as_gone packet)) refl

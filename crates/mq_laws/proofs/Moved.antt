@@ -3,12 +3,10 @@ use Rattle.mq_laws.proofs.Common.{◌≡◌, ℕ, ◌+◌, Bool, true, false, no
 use Rattle.mq_laws.proofs.Common.{AllByRecursion, eq-eqb, Asked, Finding, Missing, Terms, terms_differ, difference_if, is_unlike, responses_differ}
 use Rattle.mq_laws.proofs.Common.{fields_differ, queriers_differ, is_same, Ask, Expected, Sent, LeftOut, Answers, IsMoved, AreMoved, AllLater, PairUp, ask_of}
 use Rattle.mq_laws.proofs.Common.{asks_of, all_sent, all_left_out, sent_but, seen_about, unnumbered, unnumbered_terms, wanted_about, missing_of, AreMissed}
-use Rattle.mq_laws.proofs.Common.{TakesOut, all_missing}
-use Rattle.std.specs.Prelude.{Option, None, Some}
-use Rattle.mq_check.specs.{declared.finding.Difference.Difference, declared.terms.QuerierTerms.QuerierTerms}
-use Rattle.mq_check.specs.declared.finding.Difference.TheVariants as field
+use Rattle.mq_laws.proofs.Common.{TakesOut, all_missing, Option, None, Some, Difference, QuerierTerms}
 use Rattle.mq_laws.proofs.Same.{same_asked}
 use Rattle.mq_laws.proofs.Held.{wanted_here, wanted_other, wanted_about-append, seen_here, seen_other, seen_about-append}
+use Rattle.mq_check.specs.declared.finding.Difference.TheVariants as field
 
 -- no field differs from itself
 none_if : (n : ℕ) (d : Difference ℕ) → difference_if (not (n == n)) d ≡ []
@@ -52,13 +50,12 @@ moved-self within (w ∷ ws) = (moved_none within w, moved-self within ws)
 -- The same queries in other packets: no comparison reads the number of a packet.
 pub moved_as : (within : ℕ) (ws ss : List Ask) → list_map unnumbered ss ≡ list_map unnumbered ws → AreMoved within ws ss
 moved_as within [] [] same = tt
-moved_as within [] (s ∷ ss) same = absurd (cc)
-moved_as within (w ∷ ws) [] same = absurd (cc)
 moved_as within (w ∷ ws) (s ∷ ss) same =
     let first : unnumbered s ≡ unnumbered w = cc in
     let rest : list_map unnumbered ss ≡ list_map unnumbered ws = cc in
     let at : s.moment ≡ w.moment = ap (λ (a : Ask). a.moment) first in
     (record { not_late = omega arith; not_early = omega arith; terms = ap (λ (a : Ask). a.terms) first }, moved_as within ws ss rest)
+moved_as within _ _ same = absurd (cc)
 
 answers_as : (within : ℕ) (w s t : Ask) → unnumbered t ≡ unnumbered s → Answers within w s → Answers within w t
 answers_as within w s t same is =
@@ -71,13 +68,12 @@ answers_as within w s t same is =
 
 later_as : (moment : ℕ) (ss ts : List Ask) → list_map unnumbered ts ≡ list_map unnumbered ss → AllLater moment ss → AllLater moment ts
 later_as moment [] [] same later = tt
-later_as moment [] (t ∷ ts) same later = absurd (cc)
-later_as moment (s ∷ ss) [] same later = absurd (cc)
 later_as moment (s ∷ ss) (t ∷ ts) same later =
     let first : unnumbered t ≡ unnumbered s = cc in
     let rest : list_map unnumbered ts ≡ list_map unnumbered ss = cc in
     let at : t.moment ≡ s.moment = ap (λ (a : Ask). a.moment) first in
     (rw at later.0, later_as moment ss ts rest later.1)
+later_as moment _ _ same later = absurd (cc)
 
 pairs_as : (within kept : ℕ) (ws : List Expected) (ss ts : List Ask) → list_map unnumbered ts ≡ list_map unnumbered ss → PairUp within kept ws ss →
     PairUp within kept ws ts
@@ -104,9 +100,8 @@ sent_about asked (w ∷ ws) = one (sent_about asked ws) (is_same asked w.asked) 
 
 pairs_moved : (within kept : ℕ) (ws ss : List Ask) → AreMoved within ws ss → PairUp within kept (all_sent ws) ss
 pairs_moved within kept [] [] are = tt
-pairs_moved within kept [] (s ∷ ss) are = absurd are
-pairs_moved within kept (w ∷ ws) [] are = absurd are
 pairs_moved within kept (w ∷ ws) (s ∷ ss) are = (answers_moved within w s are.0, pairs_moved within kept ws ss are.1)
+pairs_moved within kept _ _ are = absurd are
 
 pub all_pair_up : (within kept : ℕ) (wanted seen : List Ask) → ((asked : Asked ℕ) → AreMoved within (seen_about asked wanted) (seen_about asked seen))
     → (asked : Asked ℕ) → PairUp within kept (wanted_about asked (all_sent wanted)) (seen_about asked seen)
@@ -145,7 +140,7 @@ sent_but_about asked before taken behind =
     ∙ (λ i. (sent_about asked before i ++ left_out_about asked taken i) ++ sent_about asked behind i)
     ∙ append_assoc (all_sent (seen_about asked before)) (all_left_out (seen_about asked taken)) (all_sent (seen_about asked behind))
 
--- of those about one thing each is taken out longer before the next than it is kept
+-- about one thing, each query of `behind` comes more than `kept` after each query that was taken out
 later_about : (strict : Bool) (kept end : ℕ) (asked : Asked ℕ) (taken behind : List Ask) → TakesOut strict kept end taken behind →
     AllLaterThan kept (seen_about asked taken) (seen_about asked behind)
 later_about strict kept end asked [] behind out = tt
@@ -162,12 +157,11 @@ pub all_but_some_pair_up : (within : ℕ) (strict : Bool) (kept end : ℕ) (befo
     TakesOut strict kept end taken behind
     → (asked : Asked ℕ) → PairUp within kept (wanted_about asked (sent_but before taken behind)) (seen_about asked seen)
 all_but_some_pair_up within strict kept end before taken behind seen are out asked =
-    rw (sent_but_about asked before taken behind)
-    (pairs_as within kept _ (seen_about asked before ++ seen_about asked behind) (seen_about asked seen)
+    rw (sent_but_about asked before taken behind) (pairs_as within kept _ (seen_about asked before ++ seen_about asked behind) (seen_about asked seen)
     (are asked ∙ ap (list_map unnumbered) (seen_about-append asked before behind))
     (pairs_but within kept (seen_about asked before) (seen_about asked taken) (seen_about asked behind) (later_about strict kept end asked taken behind out)))
 
--- what is wanted of those that were sent and those that weren't
+-- the wanted queries are the same, sent or left out
 pub asks_of-sent : (asks : List Ask) → asks_of (all_sent asks) ≡ asks
 asks_of-sent [] = refl
 asks_of-sent (a ∷ asks) = ap (λ (l : List Ask). a ∷ l) (asks_of-sent asks)
@@ -183,8 +177,7 @@ asks_of-append (x ∷ xs) ys = ap (λ (l : List Ask). ask_of x ∷ l) (asks_of-a
 pub asks_of-sent_but : (before taken behind : List Ask) → asks_of (sent_but before taken behind) ≡ before ++ taken ++ behind
 asks_of-sent_but before taken behind =
     asks_of-append (all_sent before ++ all_left_out taken) (all_sent behind) ∙ ap (λ (l : List Ask). l ++ asks_of (all_sent behind))
-    (asks_of-append (all_sent before) (all_left_out taken))
-    ∙ (λ i. (asks_of-sent before i ++ asks_of-left_out taken i) ++ asks_of-sent behind i)
+    (asks_of-append (all_sent before) (all_left_out taken)) ∙ (λ i. (asks_of-sent before i ++ asks_of-left_out taken i) ++ asks_of-sent behind i)
 
 -- and what is missing
 pub missing_of-sent : (asks : List Ask) → missing_of (all_sent asks) ≡ []

@@ -1,10 +1,11 @@
 -- Exactly where each name of a refusal is given.
 use Rattle.mq_laws.proofs.Common.{◌≡◌, ◌↔◌, ℕ, ◌≤◌, Bool, true, false, cond, ◌||◌, refl, List, [], ◌∷◌, Option, None, Some, sym, ap, ◌∙◌, arith, ltb, not}
-use Rattle.mq_laws.proofs.Common.{length, nat_tests, RecordView, GroupChange, Kind, ScheduledGroup, SentQuery, Configuration, Ignored, Refused, Statement}
-use Rattle.mq_laws.proofs.Common.{RecordOf, limit_passed, Setting, leaving, unless_passed, sent_at_once, changed_by, changed_or_refused, change_in, Entrance}
-use Rattle.mq_laws.proofs.Common.{Stops, GoesOn, entrance, is_repeated, judged_from, entrance_as, kind_named, Groups, sources_of, sources_in, schedules_in}
-use Rattle.mq_laws.proofs.Common.{Refusal, Long, Repeated, TooManyGroups, GroupSources, Sources, Scheduled, Memory, IsGivenWhere, would_be, would_leave}
-use Rattle.mq_link.specs.{Family.is_admitted, Record.stated, Record.Seen, Record.judged, Tests.first_named, declared.configuration.Limits.Limits}
+use Rattle.mq_laws.proofs.Common.{length, nat_tests, RecordView, GroupChange, Kind, ScheduledGroup, SentQuery, Configuration, is_allowed, Denied, Ignored}
+use Rattle.mq_laws.proofs.Common.{Refused, Statement, RecordOf, limit_passed, Setting, leaving, unless_passed, sent_at_once, changed_by, changed_or_refused}
+use Rattle.mq_laws.proofs.Common.{change_in, Entrance, Stops, GoesOn, entrance, is_repeated, judged_from, entrance_as, kind_named, Groups, sources_of}
+use Rattle.mq_laws.proofs.Common.{sources_in, schedules_in, Refusal, Long, Repeated, TooManyGroups, GroupSources, Sources, Scheduled, Memory, IsGivenWhere}
+use Rattle.mq_laws.proofs.Common.{would_be, would_leave, stated, judged}
+use Rattle.mq_link.specs.{Family.is_admitted, Record.Seen, Tests.first_named, declared.configuration.Limits.Limits}
 use Rattle.std.specs.FinMap as map
 use Rattle.std.specs.FinSet as set
 
@@ -45,8 +46,7 @@ named_so : (passed : Option Refusal) (name : Refusal) (before after : Groups) (q
 named_so passed name before after queries = grind arith
 
 pub verdict_names : (at : Setting) (group : ℕ) (st : Statement) (groups : Groups) (change : GroupChange) (name : Refusal)
-    → change_in at group st groups ≡ Some change
-    → ((stated at group st groups).verdict ≡ Refused name) ↔
+    → change_in at group st groups ≡ Some change → ((stated at group st groups).verdict ≡ Refused name) ↔
     (limit_passed at.config.limits (would_leave at group groups change) (would_be at group groups change) ≡ Some name)
 unfolding stated
 verdict_names at group st groups change name is =
@@ -102,28 +102,31 @@ long_given at seen r groups = by_entrance (entrance at.config r)
 
 -- the entrance of a record
 enters : (config : Configuration) (r : RecordView ℕ) (kind : Kind) → kind_named r.kind ≡ Some kind → is_admitted config.family r.group ≡ true
+    → is_allowed config r.group ≡ true
     → entrance config r ≡ cond (ltb config.limits.group_sources (length r.sources)) (Stops (Refused Long)) (GoesOn kind)
-enters config r kind named admitted =
-    ap (entrance_as config r) named
-    ∙ ap (λ b. cond (not b) (Stops Ignored) (cond (ltb config.limits.group_sources (length r.sources)) (Stops (Refused Long)) (GoesOn kind))) admitted
+enters config r kind named admitted allowed =
+    ap (entrance_as config r) named ∙ ap (λ b. cond (not b) (Stops Ignored) (if_allowed (is_allowed config r.group))) admitted ∙ ap if_allowed allowed
+  where
+    if_allowed : Bool → Entrance
+    if_allowed b = cond (not b) (Stops Denied) (cond (ltb config.limits.group_sources (length r.sources)) (Stops (Refused Long)) (GoesOn kind))
 
 stops_if : (b : Bool) (kind : Kind) → (cond b (Stops (Refused Long)) (GoesOn kind) ≡ Stops (Refused Long)) ↔ (b ≡ true)
 stops_if b kind = grind arith
 
 pub too_long : (at : Setting) (seen : Seen) (r : RecordView ℕ) (groups : Groups) (kind : Kind) → kind_named r.kind ≡ Some kind
-    → is_admitted at.config.family r.group ≡ true
+    → is_admitted at.config.family r.group ≡ true → is_allowed at.config r.group ≡ true
     → ((judged at seen r groups).verdict ≡ Refused Long) ↔ (ltb at.config.limits.group_sources (length r.sources) ≡ true)
-too_long at seen r groups kind named admitted =
-    let e = enters at.config r kind named admitted in
+too_long at seen r groups kind named admitted allowed =
+    let e = enters at.config r kind named admitted allowed in
     let given = long_given at seen r groups in
     let stops = stops_if (ltb at.config.limits.group_sources (length r.sources)) kind in
     (λ v. stops.0 (sym e ∙ given.0 v), λ long. given.1 (e ∙ stops.1 long))
 
 pub repeats : (at : Setting) (seen : Seen) (r : RecordView ℕ) (groups : Groups) (kind : Kind) → kind_named r.kind ≡ Some kind
-    → is_admitted at.config.family r.group ≡ true → ltb at.config.limits.group_sources (length r.sources) ≡ false
+    → is_admitted at.config.family r.group ≡ true → is_allowed at.config r.group ≡ true → ltb at.config.limits.group_sources (length r.sources) ≡ false
     → ((judged at seen r groups).verdict ≡ Refused Repeated) ↔ (is_repeated groups seen r.group ≡ true)
-repeats at seen r groups kind named admitted short =
-    repeated_given at seen r groups kind (enters at.config r kind named admitted ∙ ap (λ b. cond b (Stops (Refused Long)) (GoesOn kind)) short)
+repeats at seen r groups kind named admitted allowed short =
+    repeated_given at seen r groups kind (enters at.config r kind named admitted allowed ∙ ap (λ b. cond b (Stops (Refused Long)) (GoesOn kind)) short)
 
 ignored_if : (at : Setting) (seen : Seen) (r : RecordView ℕ) (groups : Groups) → entrance at.config r ≡ Stops Ignored
     → (judged at seen r groups).verdict ≡ Ignored
@@ -140,7 +143,19 @@ unadmitted_ignored at seen r groups apart = ignored_if at seen r groups (by_kind
     by_kind : (kind : Option Kind) → entrance_as at.config r kind ≡ Stops Ignored
     by_kind None = refl
     by_kind (Some kind) =
-        ap (λ b. cond (not b) (Stops Ignored) (cond (ltb at.config.limits.group_sources (length r.sources)) (Stops (Refused Long)) (GoesOn kind))) apart
+        ap (λ b. cond (not b) (Stops Ignored) (cond (not (is_allowed at.config r.group)) (Stops Denied)
+        (cond (ltb at.config.limits.group_sources (length r.sources)) (Stops (Refused Long)) (GoesOn kind)))) apart
+
+-- a record for a group for which hosts may not ask
+pub denied_so : (at : Setting) (seen : Seen) (r : RecordView ℕ) (groups : Groups) (kind : Kind) → kind_named r.kind ≡ Some kind
+    → is_admitted at.config.family r.group ≡ true → is_allowed at.config r.group ≡ false → (judged at seen r groups).verdict ≡ Denied
+unfolding judged
+denied_so at seen r groups kind named admitted denied =
+    ap (λ e. (judged_from at seen r groups e).verdict) (ap (entrance_as at.config r) named
+    ∙ ap (λ b. cond (not b) (Stops Ignored) (if_allowed (is_allowed at.config r.group))) admitted ∙ ap if_allowed denied)
+  where
+    if_allowed : Bool → Entrance
+    if_allowed b = cond (not b) (Stops Denied) (cond (ltb at.config.limits.group_sources (length r.sources)) (Stops (Refused Long)) (GoesOn kind))
 
 -- the refusal for memory never occurs
 pub never_memory : (at : Setting) (seen : Seen) (r : RecordView ℕ) (groups : Groups) → (judged at seen r groups).verdict ≡ Refused Memory → ⊥
@@ -152,12 +167,13 @@ never_memory at seen r groups = by_kind (kind_named r.kind)
     goes_on true kind h = cc
     goes_on false kind h = (stated_names at r.group (RecordOf kind (set.from_list r.sources)) groups Memory h).2 refl
 
-    by_tests : (admitted long : Bool) (kind : Kind) →
-        (judged_from at seen r groups (cond (not admitted) (Stops Ignored) (cond long (Stops (Refused Long)) (GoesOn kind)))).verdict ≡ Refused Memory → ⊥
-    by_tests false long kind h = cc
-    by_tests true true kind h = cc
-    by_tests true false kind h = goes_on (is_repeated groups seen r.group) kind h
+    by_tests : (admitted allowed long : Bool) (kind : Kind) →
+        (judged_from at seen r groups (cond (not admitted) (Stops Ignored) (cond (not allowed) (Stops Denied)
+        (cond long (Stops (Refused Long)) (GoesOn kind))))).verdict ≡ Refused Memory → ⊥
+    by_tests true true false kind h = goes_on (is_repeated groups seen r.group) kind h
+    by_tests _ _ _ kind h = cc
 
     by_kind : (kind : Option Kind) → (judged_from at seen r groups (entrance_as at.config r kind)).verdict ≡ Refused Memory → ⊥
     by_kind None h = cc
-    by_kind (Some kind) h = by_tests (is_admitted at.config.family r.group) (ltb at.config.limits.group_sources (length r.sources)) kind h
+    by_kind (Some kind) h = by_tests (is_admitted at.config.family r.group) (is_allowed at.config r.group)
+        (ltb at.config.limits.group_sources (length r.sources)) kind h

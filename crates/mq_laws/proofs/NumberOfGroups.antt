@@ -1,8 +1,8 @@
 -- The address as the number of its groups of digits.
 use Rattle.mq_laws.proofs.Common.{◌≡◌, ℕ, zero, suc, get_or, ◌+◌, ◌*◌, ◌/◌, ◌%◌, ◌^◌, ◌<◌, List, [], ◌∷◌, refl, ap, ◌∙◌, arith, div-div-eq-div-mul, w128}
-use Rattle.mq_laws.proofs.Common.{to_be_bytes, from_be_bytes, byte_at}
+use Rattle.mq_laws.proofs.Common.{to_be_bytes, from_be_bytes, byte_at, groups_of, number_of}
 use Rattle.std.specs.Net.Addr.{octets_of}
-use Rattle.mq_text.specs.{AddressV6.groups_in, AddressV6.groups_of, Reading.number_of}
+use Rattle.mq_text.specs.AddressV6.{groups_in}
 
 -- pairs of octets
 abbrev pub ArePairs : List ℕ → Type 0

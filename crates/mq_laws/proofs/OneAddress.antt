@@ -1,9 +1,8 @@
 -- The one address of a text.
-use Rattle.mq_laws.proofs.Common.{ap, ◌≡◌, ℕ, List, sym, ◌∙◌, w32, from_be_bytes, from_be_bytes-to_be_bytes_4}
+use Rattle.mq_laws.proofs.Common.{ap, ◌≡◌, ℕ, List, sym, ◌∙◌, w32, from_be_bytes, from_be_bytes-to_be_bytes_4, number_of}
 use Rattle.std.specs.Net.Addr.{ipv4_octets, ipv6_segments}
 use Rattle.std.proofs.NetLemmas.Theorems.{IsIpv4Text_unique, IsIpv6Text_unique}
-use Rattle.mq_text.specs.Reading.{SpellsV4, SpellsV6, number_of}
-use Rattle.mq_text.proofs.Spelled.{spelled_as_std, v4_as_std}
+use Rattle.mq_text.{specs.Reading.SpellsV4, specs.Reading.SpellsV6, proofs.Spelled.spelled_as_std, proofs.Spelled.v4_as_std}
 use Rattle.mq_laws.specs.Texts.{OneAddress}
 
 one_v4 : (text : List ℕ) (a b : ℕ) → SpellsV4 text a → SpellsV4 text b → a ≡ b

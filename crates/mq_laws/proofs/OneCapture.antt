@@ -1,15 +1,10 @@
 -- The one capture of a file, and faults of its first bytes that are faults of the whole.
 use Rattle.mq_laws.proofs.Common.{◌≡◌, ◌≤◌, ◌<◌, ◌+◌, ℕ, List, [], ◌∷◌, ◌++◌, length, take, drop, Option, None, Some, Result, Ok, Err, refl, arith, sym, ◌∙◌}
 use Rattle.mq_laws.proofs.Common.{ap, length-append, append_assoc, subst, le-ltb, lt-ltb, take_at, drop-append_seam, Form, PcapFault, IsRecord, AreRecords}
-use Rattle.mq_laws.proofs.Common.{captured_length, stamp_of, most_bytes, record_fault, nat_lt, nat_tests}
+use Rattle.mq_laws.proofs.Common.{captured_length, stamp_of, most_bytes, record_fault, nat_lt, nat_tests, not}
 use Rattle.mq_pcap.specs.{Capture.Captured, Capture.Captures, Capture.endless, Tests.first_that_holds}
-use Rattle.std.specs.Prelude.{not}
 use Rattle.mq_pcap.proofs.Records.{length_of_header, captured_length-append}
 use Rattle.mq_pcap.specs.declared.fault.PcapFault.TheVariants as fault
-
--- the bytes of a record, by its header's length field
-size_of : Form → List ℕ → ℕ
-size_of form bytes = 16 + captured_length form bytes
 
 -- a record at the front, and what follows, say the size
 front_size : (form : Form) (bytes first rest : List ℕ) (packet : Captured) → bytes ≡ first ++ rest → IsRecord form first packet →
@@ -81,22 +76,16 @@ one_capture_lem bytes (Ok h) (Ok k) ps qs e f a b =
     let headers : h ≡ k = let c = sym a.0 ∙ b.0 in cc in
     let records = same_records k 1 (drop 24 bytes) ps qs e f (subst (λ form. AreRecords form 1 (drop 24 bytes) ps e) headers a.1) b.1 in
     (ap Ok headers, records.0, records.1)
-one_capture_lem bytes (Ok h) (Err k) ps qs e f a b = absurd (let c = sym a.0 ∙ b.0 in cc)
-one_capture_lem bytes (Err h) (Ok k) ps qs e f a b = absurd (let c = sym a.0 ∙ b.0 in cc)
 one_capture_lem bytes (Err h) (Err k) ps qs e f a b =
     let faults : h ≡ k = let c = sym a.0 ∙ b.0 in cc in
     (ap Err faults, a.1 ∙ sym b.1, a.2 ∙ ap Some faults ∙ sym b.2)
+one_capture_lem bytes _ _ ps qs e f a b = absurd (let c = sym a.0 ∙ b.0 in cc)
 
 -- the tests of a record's fault over their numbers
 tests_of : (number : ℕ) (size announced : ℕ) → Option PcapFault
-tests_of number size announced = first_that_holds
-    ((nat_lt size 1, None)
-    ∷ (not (nat_lt number endless), Some fault.Endless)
-    ∷ (nat_lt size 16, Some (fault.CutHeader number))
-    ∷ (nat_lt most_bytes announced, Some (fault.TooLong number))
-    ∷ (nat_lt size (16 + announced), Some (fault.CutData number))
-    ∷ [])
-    None
+tests_of number size announced = first_that_holds ((nat_lt size 1, None) ∷ (not (nat_lt number endless), Some fault.Endless)
+    ∷ (nat_lt size 16, Some (fault.CutHeader number)) ∷ (nat_lt most_bytes announced, Some (fault.TooLong number))
+    ∷ (nat_lt size (16 + announced), Some (fault.CutData number)) ∷ []) None
 
 too_long_grows : (number size more announced later : ℕ) → (16 ≤ size → later ≡ announced) →
     tests_of number size announced ≡ Some (fault.TooLong number) → tests_of number (size + more) later ≡ Some (fault.TooLong number)

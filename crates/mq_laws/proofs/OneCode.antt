@@ -1,7 +1,6 @@
 -- The values of codes, which all differ.
 use Rattle.mq_laws.proofs.Common.{◌≡◌, ℕ, ◌+◌, ◌-◌, ◌*◌, ◌/◌, ◌%◌, ◌^◌, ◌<◌, ◌≤◌, inl, inr, true, false, ap, sym, ◌∙◌, arith, mul-le-mul_left, mul-le-mul_right}
-use Rattle.mq_laws.proofs.Common.{mod-lt, pow-add, pow_pos, div-add-mod', cases_order, nat_tests, leb_tells, value_of}
-use Rattle.std.proofs.Common.{nat_lt}
+use Rattle.mq_laws.proofs.Common.{mod-lt, pow-add, pow_pos, div-add-mod', cases_order, nat_tests, leb_tells, value_of, nat_lt}
 use Rattle.mq_wire.proofs.CodeValues.{half_of, least_composed}
 use Rattle.mq_laws.specs.Messages.{CodesComeBack}
 
@@ -89,10 +88,8 @@ one_code bits c d fits_c fits_d same =
                 let test_d : nat_lt d (2 ^ (bits + 3)) ≡ false = grind (arith, nat_tests, composed_d.0) in
                 let one = same_parts (2 ^ bits) (c % 2 ^ bits) (d % 2 ^ bits) (c / 2 ^ bits % 8) (d / 2 ^ bits % 8) (mod-lt c (pow_pos bits))
                 (mod-lt d (pow_pos bits)) (rw (test_c, test_d) at same) in
-                parts bits c composed_c.1 fits_c
-                ∙ ap (λ (e : ℕ). (8 + e) * 2 ^ bits + c % 2 ^ bits) one.0
-                ∙ ap (λ (m : ℕ). (8 + d / 2 ^ bits % 8) * 2 ^ bits + m) one.1
-                ∙ sym (parts bits d composed_d.1 fits_d)
+                parts bits c composed_c.1 fits_c ∙ ap (λ (e : ℕ). (8 + e) * 2 ^ bits + c % 2 ^ bits) one.0
+                ∙ ap (λ (m : ℕ). (8 + d / 2 ^ bits % 8) * 2 ^ bits + m) one.1 ∙ sym (parts bits d composed_d.1 fits_d)
                 )
           ]
           )

@@ -2,9 +2,8 @@
 use Rattle.mq_laws.proofs.Common.{◌≡◌, ◌≤◌, ◌<◌, ◌+◌, ℕ, false, List, [], ◌∷◌, ◌++◌, length, take, drop, Option, None, Some, Result, Ok, Err, refl, arith, sym}
 use Rattle.mq_laws.proofs.Common.{◌∙◌, ap, inl, inr, length-append, append_assoc, subst, le-ltb, lt-ltb, take_at, take-append-le, drop-append_seam, BlockFault}
 use Rattle.mq_laws.proofs.Common.{Captured, block_in, ContextState, at_start, AreBlocks, Captures, EndsBy, endless, IsWhole, head_size, is_start, size_in}
-use Rattle.mq_laws.proofs.Common.{size_of}
-use Rattle.mq_convert.specs.{declared.context.Kind.Kind, Files.outer_fault}
-use Rattle.mq_convert.proofs.NextBlocks.{some_head}
+use Rattle.mq_laws.proofs.Common.{size_of, outer_fault}
+use Rattle.mq_convert.{specs.declared.context.Kind.Kind, proofs.NextBlocks.some_head}
 
 -- two beginnings of the same bytes that are as long are the same, and so is what follows
 pub same_parts : (xs xs' ys ys' : List ℕ) → xs ++ ys ≡ xs' ++ ys' → length xs ≡ length xs' → (xs ≡ xs') × (ys ≡ ys')
@@ -104,8 +103,7 @@ same_ok context context' held held' x is other =
 
 -- the blocks of a file from one of this number on
 same_blocks : (number : ℕ) (context after after' : ContextState) (front front' rest rest' : List ℕ) (blocks blocks' : List (Option Captured))
-    (end end' : Option BlockFault)
-    → front ++ rest ≡ front' ++ rest' → AreBlocks context front blocks after → AreBlocks context front' blocks' after'
+    (end end' : Option BlockFault) → front ++ rest ≡ front' ++ rest' → AreBlocks context front blocks after → AreBlocks context front' blocks' after'
     → number + length blocks ≤ endless → number + length blocks' ≤ endless
     → EndsBy (number + length blocks) after rest end → EndsBy (number + length blocks') after' rest' end' → (blocks ≡ blocks') × (end ≡ end') × (after ≡ after')
 same_blocks number context after after' front front' rest rest' [] [] end end' is are are' few few' ends ends' =
@@ -143,6 +141,5 @@ one_file_lem bytes blocks blocks' end end' a b =
     let few = a.few in
     let few' = b.few in
     same_blocks 0 at_start a.context b.context a.front b.front a.rest b.rest blocks blocks' end end' (sym a.parts ∙ b.parts) a.are_blocks b.are_blocks
-    (omega (arith, few)) (omega (arith, few'))
-    (subst (λ n. EndsBy n a.context a.rest end) (none_more (length blocks)) a.ends)
+    (omega (arith, few)) (omega (arith, few')) (subst (λ n. EndsBy n a.context a.rest end) (none_more (length blocks)) a.ends)
     (subst (λ n. EndsBy n b.context b.rest end') (none_more (length blocks')) b.ends)

@@ -1,20 +1,18 @@
--- What happens in the check of a capture comes in the order of moments.
+-- The events in the check of a capture, in the order of moments.
 use Rattle.mq_laws.proofs.Common.{◌≡◌, ℕ, zero, suc, ◌+◌, ◌<◌, ◌≤◌, Bool, true, false, not, ◌&&◌, cond, List, [], ◌∷◌, ◌++◌, refl, arith, nat_le, nat_lt}
 use Rattle.mq_laws.proofs.Common.{AllByRecursion, leb-true, leb-false, ltb-true, ltb-false, Form, LinkType, Query, Family, is_querier, Configuration}
 use Rattle.mq_laws.proofs.Common.{IsFaultless, Envelope, receipt_of, answered, Outgoing, outgoing_of, LinkState, IsWellFormed, link_at, Step, tick_of, next_of}
 use Rattle.mq_laws.proofs.Common.{datagram_of, destination_in, faults_in, asked_in, is_general, terms_of, query_seen, Passage, happening_behind, wanted_for}
 use Rattle.mq_laws.proofs.Common.{wanted_of, wanted_by, role_by_tick, role_by_datagram, tick_passage, ticks_through, event_of, fault_events, datagram_passage}
-use Rattle.mq_laws.proofs.Common.{frame_passage, packet_passage, last_of, end_of, events_ahead, events_of, specific_terms, CheckEvent, Comes, Wants, Sees}
-use Rattle.mq_laws.proofs.Common.{SeesGeneral, LosesRole, HasRoleAgain, SeesFault, Changes, AreAhead, AreInOrder, IsOfTick}
-use Rattle.std.specs.Prelude.{◌^◌, Option, None, Some, min, unwrap_or}
-use Rattle.mq_pcap.specs.{Capture.Captured, Frame.carried_in}
-use Rattle.mq_replay.specs.{Listing.moment_of, Report.Datagram, Report.all_sent}
-use Rattle.mq_check.specs.{declared.headers.HeaderFault.HeaderFault, Causes.causes_in}
-use Rattle.mq_laws.specs.Captures.{ticks_passage, packets_passage}
-use Rattle.mq_link.specs.Tick as tick
+use Rattle.mq_laws.proofs.Common.{frame_passage, packet_passage, last_of, end_of, events_ahead, events_of, specific_terms, CheckEvent, Comes, Wants}
+use Rattle.mq_laws.proofs.Common.{Changes, Judges, AreAhead, AreInOrder, IsOfTick, Refuses, refused_by, ◌^◌}
+use Rattle.mq_laws.proofs.Common.{Option, None, Some, min, unwrap_or, carried_in, HeaderFault, causes_in, is_set, ticks_passage, packets_passage}
+use Rattle.mq_pcap.specs.Capture.{Captured}
+use Rattle.mq_walk.specs.{PlacedPackets.moment_of, Datagrams.Datagram, Outlets.all_sent}
 use Rattle.mq_laws.proofs.Followed.{none_passes, one_passes}
+use Rattle.mq_link.specs.Tick as tick
 
--- what is known of links
+-- known facts of links
 pub record KnownOfLinks : Type 0 where
   pub start : (config : Configuration) (start : ℕ) → IsFaultless config → IsWellFormed config (link_at config start)
   pub ticked : (config : Configuration) (now : ℕ) (state : LinkState) → IsFaultless config → IsWellFormed config state →
@@ -34,26 +32,14 @@ counted_formed config answers step h = record { groups = h.groups; within = h.wi
 order-later : (now later : ℕ) (events : List CheckEvent) (end : ℕ) → now ≤ later → AreInOrder later events end → AreInOrder now events end
 order-later now later [] end before order = omega arith
 order-later now later (Comes moment ∷ es) end before order = (omega (arith, order.0), order.1)
-order-later now later (Wants is_again terms asked ∷ es) end before order = order-later now later es end before order
-order-later now later (Sees terms standing asked ∷ es) end before order = order-later now later es end before order
-order-later now later (SeesGeneral terms wanted ∷ es) end before order = order-later now later es end before order
-order-later now later (LosesRole ∷ es) end before order = order-later now later es end before order
-order-later now later (HasRoleAgain ∷ es) end before order = order-later now later es end before order
-order-later now later (SeesFault number fault ∷ es) end before order = order-later now later es end before order
-order-later now later (Changes terms asked ∷ es) end before order = order-later now later es end before order
+order-later now later (_ ∷ es) end before order = order-later now later es end before order
 
 order-append : (now middle : ℕ) (xs ys : List CheckEvent) (end : ℕ) → AreInOrder now xs middle → AreInOrder middle ys end → AreInOrder now (xs ++ ys) end
 order-append now middle [] ys end first second = order-later now middle ys end first second
 order-append now middle (Comes moment ∷ es) ys end first second = (first.0, order-append moment middle es ys end first.1 second)
-order-append now middle (Wants is_again terms asked ∷ es) ys end first second = order-append now middle es ys end first second
-order-append now middle (Sees terms standing asked ∷ es) ys end first second = order-append now middle es ys end first second
-order-append now middle (SeesGeneral terms wanted ∷ es) ys end first second = order-append now middle es ys end first second
-order-append now middle (LosesRole ∷ es) ys end first second = order-append now middle es ys end first second
-order-append now middle (HasRoleAgain ∷ es) ys end first second = order-append now middle es ys end first second
-order-append now middle (SeesFault number fault ∷ es) ys end first second = order-append now middle es ys end first second
-order-append now middle (Changes terms asked ∷ es) ys end first second = order-append now middle es ys end first second
+order-append now middle (_ ∷ es) ys end first second = order-append now middle es ys end first second
 
--- what happens at one moment
+-- the events of one moment
 order-wanted_for : (now packets : ℕ) (family : Family) (by_tick is_returning : Bool) (to : ℕ) (query : Query ℕ) →
     AreInOrder now (wanted_for family packets by_tick is_returning to query) now
 order-wanted_for now packets family by_tick is_returning to query = by_test (is_general query && not is_returning)
@@ -124,8 +110,7 @@ ordered-ticks known (suc most) config now moment packets link faultless formed b
           let first = tick_passage config (next_of link) packets link in
           let one = ordered-tick known config now (next_of link) packets link faultless formed next in
           let after = one.later in
-          rw (one_passes most config (moment + 1) packets link at)
-          (ordered-behind config now (next_of link) moment first _ one.order
+          rw (one_passes most config (moment + 1) packets link at) (ordered-behind config now (next_of link) moment first _ one.order
           (ordered-ticks known most config (next_of link) moment packets first.link faultless one.formed (omega arith) (omega arith) (omega arith)))
       | false ↦ λ reached.
           let beyond : moment + 1 ≤ next_of link = ltb-false (next_of link) (moment + 1) reached in
@@ -166,18 +151,20 @@ ordered-datagram known config moment number to datagram (Some query) faults pack
       later = later;
     }
 ordered-datagram known config moment number to datagram None faults packets link faultless formed later =
-    let step = (receipt_of config datagram.envelope datagram.body moment link).step in
+    let receipt = receipt_of config datagram.envelope datagram.body moment link in
+    let step = receipt.step in
+    let refuses = Refuses (refused_by config.family receipt.answer datagram) ∷ [] in
+    let role = role_by_datagram (is_querier link.election.role) (is_querier step.state.election.role) in
     record {
       order = (
         omega arith,
         order-append moment moment (fault_events number faults)
             (Changes (specific_terms config link.election.timing packets) (causes_in config.family datagram) ∷ wanted_by config packets false link step
-            ++ role_by_datagram (is_querier link.election.role)
-            (is_querier step.state.election.role)) moment (order-faults moment number faults)
-            (order-append moment moment (wanted_by config packets false link step)
-            (role_by_datagram (is_querier link.election.role) (is_querier step.state.election.role)) moment
+            ++ (role ++ refuses)) moment (order-faults moment number faults)
+            (order-append moment moment (wanted_by config packets false link step) (role ++ refuses) moment
             (order-wanted moment packets config false (not (is_querier link.election.role)) (outgoing_of config step))
-            (order-datagram moment (is_querier link.election.role) (is_querier step.state.election.role))),
+            (order-append moment moment role refuses moment
+            (order-datagram moment (is_querier link.election.role) (is_querier step.state.election.role)) (omega arith))),
       );
       formed = counted_formed config (all_sent (outgoing_of config step)) step
           (known.received config datagram.envelope datagram.body moment link faultless formed);
@@ -251,22 +238,24 @@ all_wanted-of_tick : (config : Configuration) (packets : ℕ) (by_tick is_return
 all_wanted-of_tick config packets by_tick is_returning [] = tt
 all_wanted-of_tick config packets by_tick is_returning (message ∷ messages) =
     of_ticks-append (wanted_for config.family packets by_tick is_returning message.to message.query)
-    (wanted_of config packets by_tick is_returning messages)
-    (wanted-of_tick config.family packets by_tick is_returning message.to message.query)
+    (wanted_of config packets by_tick is_returning messages) (wanted-of_tick config.family packets by_tick is_returning message.to message.query)
     (all_wanted-of_tick config packets by_tick is_returning messages)
 
 role-of_tick : (was is : Bool) → AllByRecursion IsOfTick (role_by_tick was is)
-role-of_tick true is = tt
 role-of_tick false true = (tt, tt)
-role-of_tick false false = tt
+role-of_tick _ _ = tt
 
 tick-of_tick : (config : Configuration) (moment packets : ℕ) (link : LinkState) → AllByRecursion IsOfTick (tick_passage config moment packets link).events
 tick-of_tick config moment packets link =
-    let step = tick_of config moment link in (
+    let step = tick_of config moment link in
+    let wanted = all_wanted-of_tick config packets true (not (is_querier link.election.role)) (outgoing_of config step) in
+    let role = role-of_tick (is_querier link.election.role) (is_querier step.state.election.role) in (
       tt,
-      of_ticks-append (wanted_by config packets true link step) (role_by_tick (is_querier link.election.role) (is_querier step.state.election.role))
-          (all_wanted-of_tick config packets true (not (is_querier link.election.role)) (outgoing_of config step))
-          (role-of_tick (is_querier link.election.role) (is_querier step.state.election.role)),
+      (
+        tt,
+        of_ticks-append (wanted_by config packets true link step)
+            (role_by_tick (is_querier link.election.role) (is_querier step.state.election.role)) wanted role,
+      ),
     )
 
 ticks-of_tick : (most : ℕ) (config : Configuration) (limit packets : ℕ) (link : LinkState) →
@@ -287,13 +276,7 @@ ticks-of_tick (suc most) config limit packets link =
 order-until : (now : ℕ) (es : List CheckEvent) (end later : ℕ) → end ≤ later → AreInOrder now es end → AreInOrder now es later
 order-until now [] end later before order = omega (arith, order, before)
 order-until now (Comes moment ∷ es) end later before order = (order.0, order-until moment es end later before order.1)
-order-until now (Wants is_again terms asked ∷ es) end later before order = order-until now es end later before order
-order-until now (Sees terms standing asked ∷ es) end later before order = order-until now es end later before order
-order-until now (SeesGeneral terms wanted ∷ es) end later before order = order-until now es end later before order
-order-until now (LosesRole ∷ es) end later before order = order-until now es end later before order
-order-until now (HasRoleAgain ∷ es) end later before order = order-until now es end later before order
-order-until now (SeesFault number fault ∷ es) end later before order = order-until now es end later before order
-order-until now (Changes terms asked ∷ es) end later before order = order-until now es end later before order
+order-until now (_ ∷ es) end later before order = order-until now es end later before order
 
 -- the ticks behind the end, where the end is in range and where it isn't
 order-ahead : KnownOfLinks → (config : Configuration) (within end limit packets : ℕ) (link : LinkState) → IsFaultless config →
@@ -330,4 +313,6 @@ events_in_order known config until form packets faultless =
     let all = ordered-packets known config form.link None 0 1 packets 0 (link_at config 0) faultless (known.start config 0 faultless) (omega arith) in
     let p = packets_passage config form.link None 0 1 packets 0 (link_at config 0) in
     let ticks = ordered-through known config last (end_of until packets) p.packets p.link faultless all.formed (omega arith) all.next in
-    order-append 0 last p.events _ (end_of until packets) all.order ticks.order
+    let t = ticks_through config (end_of until packets) p.packets p.link in
+    let ended = order-append last (end_of until packets) t.events (Judges None (is_set t.link.groups) ∷ []) (end_of until packets) ticks.order (omega arith) in
+    order-append 0 last p.events _ (end_of until packets) all.order ended

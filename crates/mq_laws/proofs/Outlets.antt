@@ -1,12 +1,10 @@
 -- The outlet's answers, which don't change the next work of a link.
 use Rattle.mq_laws.proofs.Common.{◌≡◌, ℕ, ◌+◌, not, refl, List, [], ◌∷◌, length, Option, None, Some, Result, Ok, Err, sym, ap, ◌∙◌, arith, count_by, list_map}
-use Rattle.mq_laws.proofs.Common.{Message, QueryMessage, OldReport, LeaveMessage, ReportMessage, WireFault, Configuration, Counters, Verdict, Applied, Ignored}
-use Rattle.mq_laws.proofs.Common.{Refused, count_verdict, count_verdicts, Envelope, Receipt, with_outcomes, setting_of, counting_read, taken_or_dropped}
-use Rattle.mq_laws.proofs.Common.{drop_reason, read_of, pseudo_of, OlderJoin, OlderLeave, Outcomes, stated, all_judged, alone, Event, Tick, Datagram, step_of}
-use Rattle.mq_laws.proofs.Common.{answer_to, Happening, Happens, RunFrom, events_alone, outgoing, outgoing_of, LinkState, Step, tick_of, DropReason, unanswered}
-use Rattle.mq_laws.proofs.Common.{DifferInAnswers, HappensAlike, HappenAlike}
-use Rattle.mq_count.specs.Streams.{counted_on}
-use Rattle.mq_link.specs.Receive.{taken_in}
+use Rattle.mq_laws.proofs.Common.{Message, QueryMessage, OldReport, LeaveMessage, ReportMessage, WireFault, Configuration, Counters, Verdict, Applied, Denied}
+use Rattle.mq_laws.proofs.Common.{Ignored, Refused, count_verdict, count_verdicts, Envelope, Receipt, with_outcomes, setting_of, counting_read}
+use Rattle.mq_laws.proofs.Common.{taken_or_dropped, drop_reason, read_of, pseudo_of, OlderJoin, OlderLeave, Outcomes, stated_alone, all_judged, alone, Event}
+use Rattle.mq_laws.proofs.Common.{Tick, Datagram, step_of, answer_to, Happening, Happens, RunFrom, events_alone, outgoing, outgoing_of, LinkState, Step}
+use Rattle.mq_laws.proofs.Common.{tick_of, DropReason, unanswered, DifferInAnswers, HappensAlike, HappenAlike, counted_on, taken_in}
 use Rattle.mq_laws.proofs.Counting.{two_answers}
 use Rattle.std.specs.FinMap as map
 
@@ -31,6 +29,7 @@ verdicts_answers : (vs : List Verdict) (c : Counters) → answers_in (count_verd
 verdicts_answers [] c = refl
 verdicts_answers (Applied ∷ vs) c = verdicts_answers vs (count_verdict Applied c)
 verdicts_answers (Ignored ∷ vs) c = verdicts_answers vs (count_verdict Ignored c)
+verdicts_answers (Denied ∷ vs) c = verdicts_answers vs (count_verdict Denied c)
 verdicts_answers (Refused name ∷ vs) c = verdicts_answers vs (count_verdict (Refused name) c)
 
 -- The state, the queries and the answer, without the counters of sent and unsent queries.
@@ -61,8 +60,9 @@ taken_alike : (config : Configuration) (envelope : Envelope) (message : Message 
 unfolding taken_in
 taken_alike config envelope (QueryMessage query) step = record { state = refl; queries = refl; timing = refl; answer = refl; answers = refl }
 taken_alike config envelope (OldReport version group) step =
-    outcomes_alike step (alone (stated (setting_of config step.state) group (OlderJoin version) step.state.groups))
-taken_alike config envelope (LeaveMessage group) step = outcomes_alike step (alone (stated (setting_of config step.state) group OlderLeave step.state.groups))
+    outcomes_alike step (alone (stated_alone (setting_of config step.state) group (OlderJoin version) step.state.groups))
+taken_alike config envelope (LeaveMessage group) step =
+    outcomes_alike step (alone (stated_alone (setting_of config step.state) group OlderLeave step.state.groups))
 taken_alike config envelope (ReportMessage records) step = outcomes_alike step (all_judged (setting_of config step.state) map.empty records step.state.groups)
 
 decided_alike : (config : Configuration) (envelope : Envelope) (step : Step) (read : Result (Message ℕ) WireFault) (by : Option DropReason)
@@ -110,8 +110,7 @@ together_after : (config : Configuration) (before : LinkState) (h : Happening) �
 together_after config before h is =
     ap (λ (s : LinkState). counted_on s.counters.sent s.counters.unsent) is.hands_out.leaves
     ∙ ap (λ (n : ℕ × ℕ). counted_on (counted_on n.0 (count_by (λ b. b) h.answers)) (counted_on n.1 (count_by not h.answers)))
-    (alike_step config h.event before).1
-    ∙ added before.counters.sent before.counters.unsent (count_by (λ b. b) h.answers) (count_by not h.answers)
+    (alike_step config h.event before).1 ∙ added before.counters.sent before.counters.unsent (count_by (λ b. b) h.answers) (count_by not h.answers)
     ∙ ap (counted_on (counted_on before.counters.sent before.counters.unsent)) (two_answers h.answers ∙ is.hands_out.answered_each)
 
 first_event : (x y : Event) (xs ys : List Event) → x ∷ xs ≡ y ∷ ys → x ≡ y
@@ -141,10 +140,9 @@ happens_alike config s t x y agree event hx hy =
 pub runs_alike : (config : Configuration) (s t : LinkState) (a b : List Happening) → DifferInAnswers s t → RunFrom config s a → RunFrom config t b
     → events_alone a ≡ events_alone b → HappenAlike a b
 runs_alike config s t [] [] agree ha hb same = tt
-runs_alike config s t [] (y ∷ b) agree ha hb same = cc
-runs_alike config s t (x ∷ a) [] agree ha hb same = cc
 runs_alike config s t (x ∷ a) (y ∷ b) agree ha hb same =
     let event = first_event x.event y.event (events_alone a) (events_alone b) same in
     let later = later_events x.event y.event (events_alone a) (events_alone b) same in
     let here = happens_alike config s t x y agree event ha.0 hb.0 in
     (here, runs_alike config x.after y.after a b here.after ha.1 hb.1 later)
+runs_alike config s t _ _ agree ha hb same = cc

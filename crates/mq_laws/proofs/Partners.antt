@@ -1,10 +1,8 @@
 -- The first entry without a partner: whether there is one, and what is left once it has found its partner.
 use Rattle.mq_laws.proofs.Common.{◌≡◌, ℕ, ◌+◌, ◌≤◌, Bool, true, false, List, [], ◌∷◌, refl, ap, sym, ◌∙◌, arith, ◌⊎◌, nat_le, and_left, and_right, and_from}
-use Rattle.mq_laws.proofs.Common.{le-leb, Asked, Entry, Need, Wanted, Seen, Interval, Silence, Packet, Unpaired, Terms, first_terms, first_joined, is_free_seen}
+use Rattle.mq_laws.proofs.Common.{le-leb, Asked, Entry, Need, Wanted, Seen, Terms, first_terms, first_joined, is_free_seen}
 use Rattle.mq_laws.proofs.Common.{is_free_wanted, terms_differ, is_same, Ask, Expected, Sent, LeftOut, ask_of, seen_about, wanted_about, missing_of}
-use Rattle.std.specs.Prelude.{None, Some, ◌&&◌}
-use mathlib.Core.Logic.{inl, inr}
-use Rattle.mq_check.specs.Entries.{moment_of}
+use Rattle.mq_laws.proofs.Common.{SeenVerdict, None, Some, ◌&&◌, inl, inr, moment_of}
 use Rattle.mq_laws.proofs.Same.{other_than}
 use Rattle.mq_laws.proofs.Held.{ask, IsKept, Holds, free_seen, IsAscending, NoneOver, kept_ask, wanted_here, wanted_other, wanted_both, seen_here, seen_other}
 use Rattle.mq_laws.proofs.Held.{seen_both, passed_terms, passed_joined, met_terms, met_joined, none_over-ascending, AllStill, ahead-about, ahead-holds}
@@ -94,8 +92,7 @@ one_behind within keep now asked other e es xs fails holds seen one = record {
 }
 
 either_behind : (within keep now : ℕ) (asked : Asked ℕ) (other : Terms ℕ) (e : Entry ℕ) (es : List (Entry ℕ)) (xs : List Expected) →
-    is_free_wanted asked e ≡ false
-    → ((ds : List (Entry ℕ)) (ys : List Expected) → Holds ds ys → Holds (e ∷ ds) ys)
+    is_free_wanted asked e ≡ false → ((ds : List (Entry ℕ)) (ys : List Expected) → Holds ds ys → Holds (e ∷ ds) ys)
     → ((ds : List (Entry ℕ)) → free_seen ds ≡ free_seen es → free_seen (e ∷ ds) ≡ free_seen (e ∷ es))
     → NoneWanted asked es xs ⊎ OneWanted within keep now asked other es xs → NoneWanted asked (e ∷ es) xs ⊎ OneWanted within keep now asked other (e ∷ es) xs
 either_behind within keep now asked other e es xs fails holds seen (inl none) = inl (none_behind asked e es xs fails none)
@@ -111,10 +108,8 @@ missing_sent (Sent v) xs w is = refl
 missing_sent (LeftOut v) xs w is = cc
 
 either_other : (within keep now : ℕ) (asked asked' : Asked ℕ) (other : Terms ℕ) (moment : ℕ) (terms : Terms ℕ) (need : Need)
-    (es : List (Entry ℕ)) (x : Expected) (xs : List Expected)
-    → is_same asked asked' ≡ false → IsKept moment asked' terms need x
-    → NoneWanted asked es xs ⊎ OneWanted within keep now asked other es xs
-    → NoneWanted asked (Wanted moment asked' terms need false ∷ es) (x ∷ xs) ⊎
+    (es : List (Entry ℕ)) (x : Expected) (xs : List Expected) → is_same asked asked' ≡ false → IsKept moment asked' terms need x
+    → NoneWanted asked es xs ⊎ OneWanted within keep now asked other es xs → NoneWanted asked (Wanted moment asked' terms need false ∷ es) (x ∷ xs) ⊎
     OneWanted within keep now asked other (Wanted moment asked' terms need false ∷ es) (x ∷ xs)
 either_other within keep now asked asked' other moment terms need es x xs differs kept (inl none) =
     let e = Wanted moment asked' terms need false in
@@ -190,9 +185,7 @@ find_wanted low within keep now asked other (Seen moment asked' terms None alone
 find_wanted low within keep now asked other (Seen moment asked' terms (Some wanted) alone ∷ es) xs holds is ahead =
     either_behind within keep now asked other (Seen moment asked' terms (Some wanted) alone) es xs refl (λ ds ys h. (holds.0, h)) (λ ds e. e)
     (find_wanted moment within keep now asked other es xs holds.1 is.1 ahead.1)
-find_wanted low within keep now asked other (Interval moment packet after wanted ∷ es) xs holds is ahead = absurd holds
-find_wanted low within keep now asked other (Silence moment after wanted ∷ es) xs holds is ahead = absurd holds
-find_wanted low within keep now asked other (Packet moment number fault ∷ es) xs holds is ahead = absurd holds
+find_wanted low within keep now asked other (_ ∷ es) xs holds is ahead = absurd holds
 
 -- no query about this that was seen is without a partner
 pub record NoneSeen (asked : Asked ℕ) (es : List (Entry ℕ)) : Type 0 where
@@ -213,8 +206,7 @@ pub record OneSeen (now : ℕ) (asked : Asked ℕ) (other : Terms ℕ) (es : Lis
 
 -- an entry that isn't free, and is no query without a partner that was seen
 seen_behind : (now : ℕ) (asked : Asked ℕ) (other : Terms ℕ) (e : Entry ℕ) (es : List (Entry ℕ)) (xs ys : List Expected) → is_free_seen asked e ≡ false
-    → ((ds : List (Entry ℕ)) → Holds ds ys → Holds (e ∷ ds) xs)
-    → ((ds : List (Entry ℕ)) → free_seen (e ∷ ds) ≡ free_seen ds)
+    → ((ds : List (Entry ℕ)) → Holds ds ys → Holds (e ∷ ds) xs) → ((ds : List (Entry ℕ)) → free_seen (e ∷ ds) ≡ free_seen ds)
     → NoneSeen asked es ⊎ OneSeen now asked other es ys → NoneSeen asked (e ∷ es) ⊎ OneSeen now asked other (e ∷ es) xs
 seen_behind now asked other e es xs ys fails holds plain (inl none) = inl (record {
   terms = passed_terms (is_free_seen asked) e es fails ∙ none.terms;
@@ -237,9 +229,8 @@ seen_behind now asked other e es xs ys fails holds plain (inr one) =
     })
 
 -- a query without a partner about something else
-seen_elsewhere : (now : ℕ) (asked asked' : Asked ℕ) (other : Terms ℕ) (moment : ℕ) (terms : Terms ℕ) (alone : Unpaired ℕ) (es : List (Entry ℕ))
-    (xs : List Expected)
-    → is_same asked asked' ≡ false → NoneSeen asked es ⊎ OneSeen now asked other es xs
+seen_elsewhere : (now : ℕ) (asked asked' : Asked ℕ) (other : Terms ℕ) (moment : ℕ) (terms : Terms ℕ) (alone : SeenVerdict ℕ) (es : List (Entry ℕ))
+    (xs : List Expected) → is_same asked asked' ≡ false → NoneSeen asked es ⊎ OneSeen now asked other es xs
     → NoneSeen asked (Seen moment asked' terms None alone ∷ es) ⊎ OneSeen now asked other (Seen moment asked' terms None alone ∷ es) xs
 seen_elsewhere now asked asked' other moment terms alone es xs differs (inl none) =
     let e = Seen moment asked' terms None alone in
@@ -270,8 +261,8 @@ seen_elsewhere now asked asked' other moment terms alone es xs differs (inr one)
       same = λ from near. same_behind (is_free_seen asked) from e es fails (one.same from near);
     })
 
-seen_found : (now : ℕ) (asked asked' : Asked ℕ) (other : Terms ℕ) (moment : ℕ) (terms : Terms ℕ) (alone : Unpaired ℕ) (es : List (Entry ℕ)) (xs : List Expected)
-    → is_same asked asked' ≡ true → Holds es xs → moment ≤ now
+seen_found : (now : ℕ) (asked asked' : Asked ℕ) (other : Terms ℕ) (moment : ℕ) (terms : Terms ℕ) (alone : SeenVerdict ℕ) (es : List (Entry ℕ))
+    (xs : List Expected) → is_same asked asked' ≡ true → Holds es xs → moment ≤ now
     → OneSeen now asked other (Seen moment asked' terms None alone ∷ es) xs
 seen_found now asked asked' other moment terms alone es xs same holds arrived =
     let e = Seen moment asked' terms None alone in
@@ -313,6 +304,4 @@ find_seen low now asked other (Seen moment asked' terms None alone ∷ es) xs ho
 find_seen low now asked other (Seen moment asked' terms (Some wanted) alone ∷ es) xs holds is =
     seen_behind now asked other (Seen moment asked' terms (Some wanted) alone) es xs xs (and_right _ _ refl) (λ ds h. (holds.0, h)) (λ ds. refl)
     (find_seen moment now asked other es xs holds.1 is.1)
-find_seen low now asked other (Interval moment packet after wanted ∷ es) xs holds is = absurd holds
-find_seen low now asked other (Silence moment after wanted ∷ es) xs holds is = absurd holds
-find_seen low now asked other (Packet moment number fault ∷ es) xs holds is = absurd holds
+find_seen low now asked other (_ ∷ es) xs holds is = absurd holds

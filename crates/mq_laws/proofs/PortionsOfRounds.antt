@@ -1,19 +1,17 @@
 -- The portions in which a round asks for its sources.
 use Rattle.mq_laws.proofs.Common.{◌≡◌, ℕ, ◌<◌, Bool, true, false, cond, List, [], ◌∷◌, ◌++◌, length, refl, sym, ap, ◌∙◌, subst, concat, list_map, is_ahead}
-use Rattle.mq_laws.proofs.Common.{group_deadline, lowered_to, has_sendings, above, ◌∩◌, ◌∖◌, SentQuery, GeneralQuery, GroupQuery, SourcesQuery, is_due}
+use Rattle.mq_laws.proofs.Common.{group_deadline, lowered_to, has_retransmissions, above, ◌∩◌, ◌∖◌, SentQuery, GroupQuery, SourcesQuery, is_due}
 use Rattle.mq_laws.proofs.Common.{group_due, sources_where, sources_queries, group_messages, source_messages, Round, queries_of, set_portions, clear_portions}
 use Rattle.mq_laws.proofs.Common.{set_sources, clear_sources}
-use Rattle.mq_sched.proofs.InPortions.{together, full}
-use Rattle.mq_sched.specs.Portions.{portions_of, AllButLast}
+use Rattle.mq_sched.{proofs.InPortions.together, proofs.InPortions.full, specs.Portions.portions_of, specs.Portions.AllButLast}
 
 -- the portions with S set, and those without
 portions-append : (xs ys : List SentQuery)
     → (set_portions (xs ++ ys) ≡ set_portions xs ++ set_portions ys) × (clear_portions (xs ++ ys) ≡ clear_portions xs ++ clear_portions ys)
 portions-append [] ys = (refl, refl)
-portions-append (GeneralQuery ∷ xs) ys = portions-append xs ys
-portions-append (GroupQuery g f ∷ xs) ys = portions-append xs ys
 portions-append (SourcesQuery g true ss ∷ xs) ys = let rest = portions-append xs ys in (ap (λ rest. ss ∷ rest) rest.0, rest.1)
 portions-append (SourcesQuery g false ss ∷ xs) ys = let rest = portions-append xs ys in (rest.0, ap (λ rest. ss ∷ rest) rest.1)
+portions-append (_ ∷ xs) ys = portions-append xs ys
 
 portions-both : (group : ℕ) (set clear : List (List ℕ)) → (let both = list_map (SourcesQuery group true) set ++ list_map (SourcesQuery group false) clear in
     (set_portions both ≡ set) × (clear_portions both ≡ clear))
@@ -23,10 +21,10 @@ portions-both group (portion ∷ set) clear = let rest = portions-both group set
 
 -- the portions of the sources of either flag, whether they are due or not
 abbrev set_list : Round → List ℕ
-set_list r = sources_where (has_sendings r.before.group ∩ above r.timing r.now r.before.group) r.before.group
+set_list r = sources_where (has_retransmissions r.before.group ∩ above r.timing r.now r.before.group) r.before.group
 
 abbrev clear_list : Round → List ℕ
-clear_list r = sources_where (has_sendings r.before.group ∖ above r.timing r.now r.before.group) r.before.group
+clear_list r = sources_where (has_retransmissions r.before.group ∖ above r.timing r.now r.before.group) r.before.group
 
 abbrev sources_due : Round → Bool
 sources_due r = is_due r.now r.before.schedule.sources_due

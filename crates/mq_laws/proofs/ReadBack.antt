@@ -1,10 +1,8 @@
 -- A query that was written is read again.
 use Rattle.mq_laws.proofs.Common.{◌≡◌, ℕ, suc, ◌+◌, ◌*◌, ◌/◌, ◌%◌, ◌^◌, ◌<◌, ◌≤◌, Bool, true, false, List, [], ◌∷◌, ◌++◌, length, drop, ap, ◌∙◌, refl, arith}
 use Rattle.mq_laws.proofs.Common.{drop-append_seam, flat_map, big_bytes, big_number, length-bytes_high_first, big_number-reads_back, Query, value8, value16}
-use Rattle.mq_laws.proofs.Common.{Igmp, Mld}
-use Rattle.std.proofs.Common.{All}
-use Rattle.mq_wire.specs.{Canon.flags_byte, Fields.addresses, declared.query.QueryVersion.TheVariants.Current, Queries.suppress_of, Queries.robustness_of}
-use Rattle.mq_wire.specs.{Queries.current_query}
+use Rattle.mq_laws.proofs.Common.{Igmp, Mld, All, flags_byte, Current}
+use Rattle.mq_wire.specs.{Fields.addresses, Queries.suppress_of, Queries.robustness_of, Queries.current_query}
 use Rattle.mq_wire.proofs.WrittenParts.{length_sources}
 
 abbrev current : (group response : ℕ) (suppress : Bool) (robustness interval : ℕ) (sources : List ℕ) → Query ℕ

@@ -1,37 +1,19 @@
--- What waits behind each part of a check in which there is room for all that has to wait.
-use Rattle.std.proofs.Common.{◌≡◌, ℕ, ◌^◌, Bool, true, false, ◌&&◌, ◌||◌, not, if◌then◌else◌, List, [], ◌∷◌, ◌++◌, length, refl, ap, sym, ◌∙◌, arith}
-use Rattle.std.proofs.Common.{append-nil}
-use Rattle.std.specs.Prelude.{Option, None, Some, nat_le, nat_lt, is_some}
-use Rattle.std.proofs.lemmas.Bool.{and_left, le-ltb}
-use Rattle.mq_table.specs.declared.timing.Timing.{Timing}
-use Rattle.mq_check.specs.declared.asked.Asked.{Asked}
-use Rattle.mq_check.specs.declared.asked.Asked.TheVariants.{AllGroups, Group, Source}
-use Rattle.mq_check.specs.declared.entry.Entry.{Entry}
-use Rattle.mq_check.specs.declared.entry.Entry.TheVariants.{Wanted, Seen}
-use Rattle.mq_check.specs.declared.entry.Need.{Need}
-use Rattle.mq_check.specs.declared.entry.Need.TheVariants.{Required}
-use Rattle.mq_check.specs.declared.entry.Unpaired.TheVariants.{Extra}
-use Rattle.mq_check.specs.declared.schedules.Repeats.{Repeats}
-use Rattle.mq_check.specs.declared.finding.ExtraReason.TheVariants.{NoChange}
-use Rattle.mq_check.specs.declared.standing.Standing.{Standing}
-use Rattle.mq_check.specs.declared.phase.Phase.TheVariants.{NotQuerier}
-use Rattle.mq_check.specs.declared.terms.Terms.{Terms}
-use Rattle.mq_check.specs.declared.waiting.Side.TheVariants.{OfWanted, OfSeen}
-use Rattle.mq_check.specs.Checking.{CheckingValue, all_changed, alone_in, group_of, is_late, is_querier_in, may_be_missing, may_be_muted, near, need_by}
-use Rattle.mq_check.specs.Checking.{one_changed, paired, partner_of, with_wanted}
-use Rattle.mq_check.specs.Checking.{with_seen, with_general, general_compared, role_lost, role_returned, with_interval, with_silence}
-use Rattle.mq_check.specs.Standing.{plain}
+-- The entries that wait after each part of a check with room for all entries that have to wait.
+use Rattle.mq_laws.proofs.Common.{◌≡◌, ℕ, ◌^◌, Bool, true, false, ◌&&◌, ◌||◌, not, if◌then◌else◌, List, [], ◌∷◌, ◌++◌, length, refl, ap, sym, ◌∙◌, arith}
+use Rattle.mq_laws.proofs.Common.{append-nil, Option, None, Some, nat_le, nat_lt, is_some, take_while, and_left, le-ltb, Timing, Asked, AllGroups, Group}
+use Rattle.mq_laws.proofs.Common.{Source, Entry, Wanted, Seen, Need, Required, Extra, Repeats, NoChange, Standing, NotQuerier, QuerierTerms, Terms}
+use Rattle.mq_laws.proofs.Common.{CheckingValue, all_changed, alone_in, group_of, is_late, is_querier_in, may_be_muted, near, need_by, one_changed, paired}
+use Rattle.mq_laws.proofs.Common.{partner_of, verdict_in, with_wanted, with_seen, with_general, general_compared, role_lost, role_returned, with_interval}
+use Rattle.mq_laws.proofs.Common.{with_silence, as_wanted, first_entry, first_terms, first_joined, is_free_seen, is_free_wanted, is_possible, may_be_left_out}
+use Rattle.mq_laws.proofs.Common.{moment_of, is_over, phase_again, wrong_interval, phase_behind, silence_up_to, SchedulesValue, cause_in, caused, caused_by}
+use Rattle.mq_laws.proofs.Common.{dropped, first_of, followed, is_next, last_in, placed, placed_alone, recent, schedules_changed, schedules_seen}
+use Rattle.mq_laws.proofs.Common.{schedules_wanted, with_cause, with_next, with_s, without_next, WaitingValue, emptied, room, is_free, with_entry, with_partner}
+use Rattle.mq_laws.proofs.Common.{HasToBeSent}
+use Rattle.mq_check.specs.{declared.waiting.Side.TheVariants.OfWanted, declared.waiting.Side.TheVariants.OfSeen, Waiting.nothing, Waiting.told, Waiting.purged}
+use Rattle.mq_check.specs.{Checking.may_be_missing, Standing.plain}
+use Rattle.mq_check.specs.Schedules.{begun, gone_on, is_close, terms_of, unclear, qrv_said, said, with_close}
+use Rattle.mq_laws.proofs.{Comings.told_of, Comings.left_of, Unrefused.judged_all, Partners.SameFrom, Partners.same_all}
 use Rattle.mq_check.specs.Checking as checking
-use Rattle.mq_check.specs.Entries.{first_entry, first_terms, first_joined, is_free_seen, is_free_wanted, is_possible, may_be_left_out, moment_of}
-use Rattle.mq_check.specs.General.{phase_again, wrong_interval, phase_behind, silence_up_to}
-use Rattle.mq_check.specs.Schedules.{SchedulesValue, begun, cause_in, caused, caused_by, dropped, first_of, followed, gone_on, is_close, is_next, last_in}
-use Rattle.mq_check.specs.Schedules.{placed, placed_alone, recent, schedules_changed, schedules_seen, schedules_wanted, terms_of, unclear}
-use Rattle.mq_check.specs.Schedules.{with_cause, with_close, with_next, with_s}
-use Rattle.mq_check.specs.Schedules.{without_next}
-use Rattle.mq_check.specs.Waiting.{WaitingValue, emptied, nothing, room, is_free, with_entry, with_partner, told, settled}
-use Rattle.mq_laws.specs.AsWanted.{HasToBeSent}
-use Rattle.mq_laws.proofs.Comings.{told_of, left_of}
-use Rattle.mq_laws.proofs.Partners.{SameFrom, same_all}
 
 -- there was room for an entry behind others
 pub record Entered (e : Entry ℕ) (w : WaitingValue) : Type 0 where
@@ -53,19 +35,19 @@ entered e w free = elim (nat_lt (length w.entries) room) as (λ b. nat_lt (lengt
   | false ↦ λ is. absurd (let put : true ≡ false = ap (λ (v : WaitingValue). v.is_full) (sym (without_room e w is)) ∙ free in cc)
 ] refl
 
--- what waits no longer when a moment comes
+-- the findings of the entries that no longer wait when a moment comes
 pub told_free : (keep within now : ℕ) (changed : Option ℕ) (w : WaitingValue) → w.is_full ≡ false →
-    told keep within now changed w ≡ told_of keep within now changed w.entries
+    told keep within now changed [] w ≡ told_of keep within now changed w.entries
 unfolding told
-told_free keep within now changed w free = rw free refl
+told_free keep within now changed w free = rw free (judged_all within changed (take_while (is_over keep now) w.entries))
 
-pub settled_free : (keep now : ℕ) (w : WaitingValue) → w.is_full ≡ false → (settled keep now w).entries ≡ left_of keep now w.entries
-unfolding settled
-settled_free keep now w free = rw free refl
+pub purged_free : (keep now : ℕ) (w : WaitingValue) → w.is_full ≡ false → (purged keep now w).entries ≡ left_of keep now w.entries
+unfolding purged
+purged_free keep now w free = rw free refl
 
-pub settled_full : (keep now : ℕ) (w : WaitingValue) → (settled keep now w).is_full ≡ w.is_full
-unfolding settled
-settled_full keep now w = elim w.is_full as (λ b. w.is_full ≡ b → (settled keep now w).is_full ≡ w.is_full) [
+pub purged_full : (keep now : ℕ) (w : WaitingValue) → (purged keep now w).is_full ≡ w.is_full
+unfolding purged
+purged_full keep now w = elim w.is_full as (λ b. w.is_full ≡ b → (purged keep now w).is_full ≡ w.is_full) [
   | true ↦ λ is. rw is refl
   | false ↦ λ is. rw is refl
 ] refl
@@ -74,35 +56,40 @@ settled_full keep now w = elim w.is_full as (λ b. w.is_full ≡ b → (settled 
 pub record IsFresh (s : SchedulesValue) : Type 0 where
   pub held : s.repeats.held_until ≡ 0
   pub first : s.repeats.first_until ≡ 0
+  pub known : s.repeats.above_7 ≡ false
   pub next : s.next ≡ nothing
 
 pub fresh_as : (s t : SchedulesValue) → t.repeats ≡ s.repeats → t.next ≡ s.next → IsFresh s → IsFresh t
 fresh_as s t repeats next is = record {
   held = ap (λ (r : Repeats). r.held_until) repeats ∙ is.held;
   first = ap (λ (r : Repeats). r.first_until) repeats ∙ is.first;
+  known = ap (λ (r : Repeats). r.above_7) repeats ∙ is.known;
   next = next ∙ is.next;
 }
 
-nothing_told : (keep within now : ℕ) (changed : Option ℕ) → told keep within now changed nothing ≡ []
+nothing_told : (keep within now : ℕ) (changed : Option ℕ) (refused : List ℕ) → told keep within now changed refused nothing ≡ []
 unfolding told
-nothing_told keep within now changed = refl
+nothing_told keep within now changed refused = refl
 
-nothing_settled : (keep now : ℕ) → settled keep now nothing ≡ nothing
-unfolding settled
-nothing_settled keep now = refl
+nothing_purged : (keep now : ℕ) → purged keep now nothing ≡ nothing
+unfolding purged
+nothing_purged keep now = refl
 
-pub told_now : (within now : ℕ) (c : CheckingValue) → c.waiting.is_full ≡ false → IsFresh c.schedules →
+pub told_now : (within now : ℕ) (c : CheckingValue) → c.waiting.is_full ≡ false → IsFresh c.schedules → c.refused ≡ [] →
     checking.told within now c ≡ told_of c.schedules.repeats.keep within now c.changed c.waiting.entries
-told_now within now c free fresh =
-    (λ i. told_free c.schedules.repeats.keep within now c.changed c.waiting free i ++ (
-    ap (told c.schedules.repeats.within within now c.changed) fresh.next ∙ nothing_told c.schedules.repeats.within within now c.changed) i)
+told_now within now c free fresh none =
+    (λ i. (ap (λ (refused : List ℕ). told c.schedules.repeats.keep within now c.changed refused c.waiting) none
+    ∙ told_free c.schedules.repeats.keep within now c.changed c.waiting free) i ++ (
+    ap (told c.schedules.repeats.within within now c.changed c.refused) fresh.next
+    ∙ nothing_told c.schedules.repeats.within within now c.changed c.refused) i)
     ∙ append-nil (told_of c.schedules.repeats.keep within now c.changed c.waiting.entries)
 
-pub fresh_settled : (now : ℕ) (c : CheckingValue) → IsFresh c.schedules → IsFresh (checking.settled now c).schedules
-fresh_settled now c fresh = record {
+pub fresh_purged : (now : ℕ) (c : CheckingValue) → IsFresh c.schedules → IsFresh (checking.purged now c).schedules
+fresh_purged now c fresh = record {
   held = fresh.held;
   first = fresh.first;
-  next = ap (settled c.schedules.repeats.within now) fresh.next ∙ nothing_settled c.schedules.repeats.within now;
+  known = fresh.known;
+  next = ap (purged c.schedules.repeats.within now) fresh.next ∙ nothing_purged c.schedules.repeats.within now;
 }
 
 -- the retransmission stays
@@ -164,31 +151,31 @@ close_next false moment terms asked s = refl
 
 changed_repeats : (moment : ℕ) (terms : Terms ℕ) (asked : Asked ℕ) (s : SchedulesValue) → (schedules_changed moment terms asked s).repeats ≡ s.repeats
 unfolding with_cause
-changed_repeats moment terms asked s = close_repeats (is_close moment asked s) moment terms asked s
+changed_repeats moment terms asked s = close_repeats (is_close moment asked s) moment (said true s.repeats terms) asked s
 
 changed_next : (moment : ℕ) (terms : Terms ℕ) (asked : Asked ℕ) (s : SchedulesValue) → (schedules_changed moment terms asked s).next ≡ s.next
 unfolding with_cause
-changed_next moment terms asked s = close_next (is_close moment asked s) moment terms asked s
+changed_next moment terms asked s = close_next (is_close moment asked s) moment (said true s.repeats terms) asked s
 
 -- no change makes a querier send a query that the link doesn't want
-none_caused_by : (repeats : Repeats) (moment : ℕ) (last cause : Option (Entry ℕ)) → repeats.held_until ≡ 0 → caused_by repeats moment last cause ≡ None
-none_caused_by repeats moment last None held = refl
-none_caused_by repeats moment last (Some cause) held = rw (le-ltb (moment_of cause) repeats.held_until (omega (arith, held))) refl
+none_caused_by : (repeats : Repeats) (moment : ℕ) (last cause : Option (Entry ℕ)) → repeats.above_7 ≡ false → repeats.held_until ≡ 0 →
+    caused_by repeats moment last cause ≡ None
+none_caused_by repeats moment last None known held = refl
+none_caused_by repeats moment last (Some cause) known held = rw (known, le-ltb (moment_of cause) repeats.held_until (omega (arith, held))) refl
 
 none_caused : (moment : ℕ) (asked : Asked ℕ) (s : SchedulesValue) → IsFresh s → caused moment asked s ≡ None
 none_caused moment AllGroups s fresh = refl
-none_caused moment (Group group) s fresh = none_caused_by s.repeats moment _ _ fresh.held
+none_caused moment (Group group) s fresh = none_caused_by s.repeats moment _ _ fresh.known fresh.held
 none_caused moment (Source group source) s fresh =
     let asked = Source group source in
     let none : (cause : Option (Entry ℕ)) → caused_by s.repeats moment (last_in asked s) cause ≡ None =
-    λ cause. none_caused_by s.repeats moment (last_in asked s) cause fresh.held in
+    λ cause. none_caused_by s.repeats moment (last_in asked s) cause fresh.known fresh.held in
     λ i. first_of (none (cause_in asked s) i) (none (cause_in (Group group) s) i)
 
 none_followed : (moment : ℕ) (is_above : Bool) (asked : Asked ℕ) (s : SchedulesValue) → IsFresh s → followed moment is_above asked s ≡ None
 none_followed moment is_above asked s fresh =
     ap (λ (n : WaitingValue). let next = first_entry (is_free OfSeen asked 0) n.entries in
-    if is_next s.repeats moment next && not (is_some (caused moment asked s)) then with_s is_above (terms_of next) else None)
-    fresh.next
+    if is_next s.repeats moment next && not (is_some (caused moment asked s)) then with_s is_above (terms_of next) else None) fresh.next
 
 -- so no query begins a schedule from before the capture
 gone_on_repeats : (moment : ℕ) (seen : Terms ℕ) (asked : Asked ℕ) (s : SchedulesValue) → (gone_on moment seen asked s).repeats ≡ s.repeats
@@ -204,7 +191,7 @@ begun_repeats moment wanted asked s =
 alone_repeats : (moment : ℕ) (terms : Terms ℕ) (asked : Asked ℕ) (is_possible : Bool) (cause : Option (Terms ℕ)) (s : SchedulesValue) →
     (placed_alone moment terms asked is_possible cause s).repeats ≡ s.repeats
 alone_repeats moment terms asked false cause s = seen_repeats moment terms asked false s
-alone_repeats moment terms asked true None s = seen_repeats moment terms asked false s
+alone_repeats moment terms asked true None s = seen_repeats moment terms asked s.repeats.above_7 s
 alone_repeats moment terms asked true (Some wanted) s =
     begun_repeats moment wanted asked (schedules_seen moment terms asked true s) ∙ seen_repeats moment terms asked true s
 
@@ -218,7 +205,7 @@ placed_repeats moment terms asked false false is_possible cause s = alone_repeat
 placed_next : (moment : ℕ) (terms : Terms ℕ) (asked : Asked ℕ) (has_partner is_possible : Bool) (s : SchedulesValue)
     → (placed moment terms asked has_partner false is_possible None s).next ≡ s.next
 placed_next moment terms asked true is_possible s = seen_next moment terms asked true s
-placed_next moment terms asked false true s = seen_next moment terms asked false s
+placed_next moment terms asked false true s = seen_next moment terms asked s.repeats.above_7 s
 placed_next moment terms asked false false s = seen_next moment terms asked false s
 
 -- the need of a query, if no host of an older version was there before the capture
@@ -242,13 +229,11 @@ or_false true b fails = refl
 or_false false b fails = fails
 
 never_muted : (now : ℕ) (is_again : Bool) (asked : Asked ℕ) (c : CheckingValue) → IsFresh c.schedules → may_be_muted now is_again asked c ≡ false
-never_muted now is_again AllGroups c fresh = refl
-never_muted now is_again (Group group) c fresh = refl
 never_muted now is_again (Source group source) c fresh = rw (le-ltb now c.schedules.repeats.held_until (omega (arith, fresh.held))) refl
+never_muted now is_again _ c fresh = refl
 
 pub wanted_part : (now : ℕ) (is_again : Bool) (terms : Terms ℕ) (c : CheckingValue) (asked : Asked ℕ)
-    → (with_wanted now is_again terms c asked).waiting.is_full ≡ false →
-    WantedPart now is_again terms c asked
+    → (with_wanted now is_again terms c asked).waiting.is_full ≡ false → WantedPart now is_again terms c asked
 unfolding with_wanted with_partner
 wanted_part now is_again terms c asked free =
     let recently : CheckingValue = record c { schedules = recent now c.schedules } in
@@ -267,21 +252,20 @@ wanted_part now is_again terms c asked free =
       fresh = λ is. record {
         held = ap (λ (r : Repeats). r.held_until) repeats ∙ is.held;
         first = ap (λ (r : Repeats). r.first_until) repeats ∙ is.first;
+        known = ap (λ (r : Repeats). r.above_7) repeats ∙ is.known;
         next = without_fresh asked wanted (wanted_next now terms asked before ∙ (fresh_recent now c.schedules is).next);
       };
-      entries = λ is same. put.entries ∙
-          (λ i. same.joined terms i
+      entries = λ is same. put.entries ∙ (λ i. same.joined terms i
           ++ Wanted now asked terms (need_by (may_be_left_out now asked terms c.waiting.entries)
           (or_false (is_some (unclear asked recently.schedules)) (may_be_muted now is_again asked recently)
-          (never_muted now is_again asked recently (fresh_recent now c.schedules is)) i))
-          (is_some (same.terms i)) ∷ []);
+          (never_muted now is_again asked recently (fresh_recent now c.schedules is)) i)) (is_some (same.terms i)) ∷ []);
     }
 
 -- in a strict check nothing is unclear
 strict_clear : (asked : Asked ℕ) (s : SchedulesValue) → s.repeats.more ≡ 0 → unclear asked s ≡ None
 strict_clear asked s none = rw (le-ltb 0 s.repeats.more (omega (arith, none))) refl
 
--- so one that has to be sent may not be left out
+-- so a query that has to be sent may not be left out
 pub required : (now : ℕ) (asked : Asked ℕ) (terms : Terms ℕ) (c : CheckingValue) → c.schedules.repeats.more ≡ 0 → HasToBeSent asked terms →
     need_now now asked terms c ≡ Required
 required now asked terms c none must =
@@ -340,7 +324,7 @@ pub record SeenPart (now : ℕ) (terms : Terms ℕ) (standing : Standing) (c : C
   pub fresh : IsFresh c.schedules → IsFresh (with_seen now terms standing c asked).schedules
   pub entries : IsFresh c.schedules → SameFrom (is_free_wanted asked) (near now c) c.waiting.entries → (with_seen now terms standing c asked).waiting.entries
       ≡ first_joined (is_free_wanted asked) terms c.waiting.entries ++ Seen now asked terms (first_terms (is_free_wanted asked) c.waiting.entries)
-      (alone_in now terms standing asked c) ∷ []
+      (verdict_in now terms standing asked c) ∷ []
 
 or_none : (o : Option (Terms ℕ)) → first_of o None ≡ o
 or_none None = refl
@@ -352,8 +336,9 @@ unfolding with_seen
 seen_part now terms standing c asked free =
     let before = recent now c.schedules in
     let alone = alone_in now terms standing asked c in
+    let verdict = verdict_in now terms standing asked c in
     let next = followed now standing.is_above asked before in
-    let e = Seen now asked terms (first_of (partner_of now terms asked c) next) alone in
+    let e = Seen now asked terms (first_of (partner_of now terms asked c) next) verdict in
     let put = entered e (paired now terms asked c) free in
     let repeats = placed_repeats now terms asked (is_some (partner_of now terms asked c)) (is_some next) (is_possible alone) (caused now asked before) before ∙
     recent_repeats now c.schedules in
@@ -367,16 +352,16 @@ seen_part now terms standing c asked free =
           record {
             held = ap (λ (r : Repeats). r.held_until) repeats ∙ is.held;
             first = ap (λ (r : Repeats). r.first_until) repeats ∙ is.first;
+            known = ap (λ (r : Repeats). r.above_7) repeats ∙ is.known;
             next = (λ i. (placed now terms asked (is_some (partner_of now terms asked c))
                 (is_some (none_followed now standing.is_above asked before there i)) (is_possible alone) (none_caused now asked before there i) before).next)
-                ∙ placed_next now terms asked (is_some (partner_of now terms asked c)) (is_possible alone) before
-                ∙ there.next;
+                ∙ placed_next now terms asked (is_some (partner_of now terms asked c)) (is_possible alone) before ∙ there.next;
           };
       entries = λ is same.
           let none = none_followed now standing.is_above asked before (fresh_recent now c.schedules is) in
           put.entries ∙
-          (λ i. paired_is now terms asked c same i ++ Seen now asked terms (first_of (partner_is now terms asked c same i) (none i)) alone ∷ []) ∙
-          ap (λ (o : Option (Terms ℕ)). first_joined (is_free_wanted asked) terms c.waiting.entries ++ Seen now asked terms o alone ∷ [])
+          (λ i. paired_is now terms asked c same i ++ Seen now asked terms (first_of (partner_is now terms asked c same i) (none i)) verdict ∷ []) ∙
+          ap (λ (o : Option (Terms ℕ)). first_joined (is_free_wanted asked) terms c.waiting.entries ++ Seen now asked terms o verdict ∷ [])
           (or_none (first_terms (is_free_wanted asked) c.waiting.entries));
     }
 
@@ -386,13 +371,14 @@ pub record GeneralPart (within : ℕ) (timing : Timing) (now : ℕ) (terms wante
   pub phase : (with_general within timing now terms wanted c).phase ≡ phase_behind within timing now c.phase
   pub schedules : (with_general within timing now terms wanted c).schedules ≡ c.schedules
   pub entries : (with_general within timing now terms wanted c).waiting.entries
-      ≡ first_joined (is_free OfWanted AllGroups (near now c)) terms c.waiting.entries ++ Seen now AllGroups terms (Some wanted) (Extra NoChange) ∷ []
+      ≡ first_joined (is_free OfWanted AllGroups (near now c)) terms c.waiting.entries ++ Seen now AllGroups terms (Some wanted) (as_wanted (Extra NoChange))
+      ∷ []
 
 pub general_part : (within : ℕ) (timing : Timing) (now : ℕ) (terms wanted : Terms ℕ) (c : CheckingValue) → wrong_interval within timing now c.phase ≡ None
     → (with_general within timing now terms wanted c).waiting.is_full ≡ false → GeneralPart within timing now terms wanted c
 unfolding with_general with_partner
 general_part within timing now terms wanted c in_time free =
-    let e = Seen now AllGroups terms (Some wanted) (Extra NoChange) in
+    let e = Seen now AllGroups terms (Some wanted) (as_wanted (Extra NoChange)) in
     let put : Entered e (with_partner OfWanted AllGroups (near now c) terms c.waiting) =
     entered e (with_partner OfWanted AllGroups (near now c) terms c.waiting) (rw in_time at free) in
     record { was = put.was; phase = refl; schedules = refl; entries = rw in_time put.entries }
@@ -412,7 +398,7 @@ lost_part within timing now c in_time = record {
   phase = refl;
   last = refl;
   repeats = refl;
-  fresh = λ is. record { held = is.held; first = is.first; next = ap emptied is.next };
+  fresh = λ is. record { held = is.held; first = is.first; known = is.known; next = ap emptied is.next };
 }
 
 -- where there is room at the end, there was at the beginning
@@ -431,9 +417,18 @@ unfolding with_general with_partner
 with_general_free within timing now terms wanted c free = interval_free timing now terms.packet (wrong_interval within timing now c.phase) c.waiting
     (entered _ _ free).was
 
+-- a general query is as in the link if the Robustness Variable is known
+qrv_known : (fields : Option QuerierTerms) → qrv_said false false fields ≡ fields
+qrv_known None = refl
+qrv_known (Some fields) = refl
+
+pub said_known : (repeats : Repeats) (terms : Terms ℕ) → repeats.above_7 ≡ false → said false repeats terms ≡ terms
+said_known repeats terms known =
+    λ i. record terms { querier = (ap (λ (b : Bool). qrv_said b false terms.querier) known ∙ qrv_known terms.querier) i }
+
 -- a general query, where the router is querier, and where it isn't
 pub compared_querier : (within : ℕ) (timing : Timing) (now : ℕ) (terms wanted : Terms ℕ) (c : CheckingValue) → is_querier_in c.phase ≡ true →
-    general_compared within timing now terms wanted c ≡ with_general within timing now terms wanted c
+    general_compared within timing now terms wanted c ≡ with_general within timing now terms (said false c.schedules.repeats wanted) c
 compared_querier within timing now terms wanted c is = rw is refl
 
 pub compared_other : (within : ℕ) (timing : Timing) (now : ℕ) (terms wanted : Terms ℕ) (c : CheckingValue) → is_querier_in c.phase ≡ false →
@@ -443,7 +438,7 @@ compared_other within timing now terms wanted c is = rw is refl
 pub general_free : (within : ℕ) (timing : Timing) (now : ℕ) (terms wanted : Terms ℕ) (c : CheckingValue) →
     (general_compared within timing now terms wanted c).waiting.is_full ≡ false → c.waiting.is_full ≡ false
 general_free within timing now terms wanted c free = elim (is_querier_in c.phase) as (λ b. is_querier_in c.phase ≡ b → c.waiting.is_full ≡ false) [
-  | true ↦ λ is. with_general_free within timing now terms wanted c
+  | true ↦ λ is. with_general_free within timing now terms (said false c.schedules.repeats wanted) c
       (ap (λ (d : CheckingValue). d.waiting.is_full) (sym (compared_querier within timing now terms wanted c is)) ∙ free)
   | false ↦ λ is. (seen_part now terms plain c AllGroups
       (ap (λ (d : CheckingValue). d.waiting.is_full) (sym (compared_other within timing now terms wanted c is)) ∙ free)).was
@@ -458,7 +453,7 @@ pub returned_free : (within now : ℕ) (c : CheckingValue) → (role_returned wi
 unfolding role_returned
 returned_free within now c free = free
 
--- the role is had again
+-- the router has the role again
 pub record ReturnedPart (within now : ℕ) (c : CheckingValue) : Type 0 where
   pub waiting : (role_returned within now c).waiting ≡ c.waiting
   pub phase : (role_returned within now c).phase ≡ phase_again within now c.last_general

@@ -1,7 +1,6 @@
 -- Packets that come again, one packet after the other.
-use Rattle.mq_laws.proofs.Common.{◌≡◌, true, false, Bool, List, [], ◌∷◌, ◌++◌, refl, ap, ◌∙◌, if◌then◌else◌, list_any, Choice, Captured}
-use Rattle.std.specs.Prelude.{not, ◌&&◌}
-use Rattle.mq_convert.specs.Repeats.{Gone, comes_again, frame_out, gone_after, going_out, is_again, is_compared, left_out}
+use Rattle.mq_laws.proofs.Common.{◌≡◌, true, false, Bool, List, [], ◌∷◌, ◌++◌, refl, ap, ◌∙◌, if◌then◌else◌, list_any, Choice, Captured, not, ◌&&◌, Gone}
+use Rattle.mq_laws.proofs.Common.{comes_again, frame_out, gone_after, going_out, is_again, is_compared, left_out}
 
 -- where packets may go out again, all do
 never_again : (choice : Choice) (gone : List Gone) (packet : Captured) → choice.once ≡ false → comes_again choice gone packet ≡ false
@@ -15,9 +14,8 @@ all_go_out choice gone (packet ∷ packets) is =
 
 -- a packet that comes again isn't compared with later ones
 again_kept : (compared any : Bool) → (compared && any) ≡ true → (compared && not any) ≡ false
-again_kept true true is = refl
 again_kept true false is = absurd (cc)
-again_kept false any is = refl
+again_kept _ _ is = refl
 
 pub gone_after-again : (choice : Choice) (gone : List Gone) (packet : Captured) → comes_again choice gone packet ≡ true → gone_after choice gone packet ≡ gone
 gone_after-again choice gone packet is = rw (again_kept (is_compared choice packet) (list_any (is_again packet.moment (frame_out packet)) gone) is) refl

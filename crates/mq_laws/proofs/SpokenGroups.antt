@@ -1,22 +1,19 @@
 -- A message changes no group that it doesn't speak of.
 use Rattle.mq_laws.proofs.Common.{◌≡◌, ℕ, Bool, false, ◌||◌, List, [], ◌∷◌, Option, None, Some, Result, Ok, Err, refl, sym, ap, ◌∙◌, arith, true≢false, eq-eqb}
 use Rattle.mq_laws.proofs.Common.{or_from, or_parts, unwrap_or, list_map, Message, QueryMessage, OldReport, LeaveMessage, ReportMessage, WireFault, RecordView}
-use Rattle.mq_laws.proofs.Common.{changes_filter, unchanged, Configuration, Envelope, read_of, pseudo_of, drop_reason, setting_of, Setting, OlderJoin}
-use Rattle.mq_laws.proofs.Common.{OlderLeave, judged, seen_after, Groups, LinkState, unheld, group_at, tick_of, DropReason, DifferAt}
-use Rattle.std.proofs.Common.{◌==◌}
+use Rattle.mq_laws.proofs.Common.{changes_filter, unchanged, Configuration, Envelope, read_of, pseudo_of, drop_reason, setting_of, Setting, OlderJoin, Denied}
+use Rattle.mq_laws.proofs.Common.{OlderLeave, judged, leaving, seen_after, stated, Groups, LinkState, unheld, group_at, tick_of, DropReason, DifferAt, ◌==◌}
+use Rattle.mq_laws.proofs.Common.{if◌then◌else◌, true, changes, changed_by_tick, changed_by_all, changed_by_message, changed_by_read, is_allowed}
 use Rattle.mq_sets.specs.Ascending.{set_of}
-use Rattle.mq_link.specs.Forwarding.{changes, changed_by_tick, changed_by_all, changed_by_message, changed_by_read, changed_by_datagram}
-use Rattle.mq_link.specs.Record.{Seen}
-use Rattle.mq_laws.specs.Following.{groups_in}
-use Rattle.mq_laws.proofs.Unchanged.{others_judged, others_stated}
+use Rattle.mq_link.specs.{Forwarding.changed_by_datagram, Record.Outcome, Record.Seen}
+use Rattle.mq_laws.{specs.Following.groups_in, proofs.Unchanged.others_judged, proofs.Unchanged.others_stated}
 use Rattle.std.specs.FinMap as map
 
 -- where the groups differ in another one alone, it isn't changed
 other_unchanged : (before left : Groups) (address group : ℕ) → DifferAt address before left → (address == group) ≡ false → changes before left group ≡ false
 other_unchanged before left address group differ apart =
     ap (λ e. changes_filter (group_at before group).group (unwrap_or e unheld).group)
-    (differ group (λ same. true≢false (sym (eq-eqb address group (sym same)) ∙ apart)))
-    ∙ unchanged (group_at before group).group
+    (differ group (λ same. true≢false (sym (eq-eqb address group (sym same)) ∙ apart))) ∙ unchanged (group_at before group).group
 
 others_of_all : (at : Setting) (seen : Seen) (records : List (RecordView ℕ)) (groups : Groups) (group : ℕ)
     → set_of (λ a. a) (list_map (λ r. r.group) records) group ≡ false → changed_by_all at seen records groups group ≡ false
@@ -27,13 +24,21 @@ others_of_all at seen (r ∷ rs) groups group is =
     or_from _ _ (other_unchanged groups left r.group group (others_judged at seen r groups) parts.0)
     (others_of_all at (seen_after at.config r groups seen) rs left group parts.1)
 
+-- the same for a message of an older version, which may be ignored
+alone_unchanged : (allowed : Bool) (outcome : Outcome) (groups : Groups) (address group : ℕ) → DifferAt address groups outcome.groups
+    → (address == group) ≡ false → changes groups (if allowed then outcome else leaving groups Denied).groups group ≡ false
+alone_unchanged true outcome groups address group differ apart = other_unchanged groups outcome.groups address group differ apart
+alone_unchanged false outcome groups address group differ apart = unchanged (group_at groups group).group
+
 others_of_message : (at : Setting) (message : Message ℕ) (groups : Groups) (group : ℕ) → set_of (λ a. a) (groups_in message) group ≡ false
     → changed_by_message at message groups group ≡ false
 others_of_message at (QueryMessage query) groups group is = refl
 others_of_message at (OldReport version joined) groups group is =
-    other_unchanged groups _ joined group (others_stated at joined (OlderJoin version) groups) (or_parts (joined == group) _ is).0
+    alone_unchanged (is_allowed at.config joined) (stated at joined (OlderJoin version) groups) groups joined group
+    (others_stated at joined (OlderJoin version) groups) (or_parts (joined == group) _ is).0
 others_of_message at (LeaveMessage left) groups group is =
-    other_unchanged groups _ left group (others_stated at left OlderLeave groups) (or_parts (left == group) _ is).0
+    alone_unchanged (is_allowed at.config left) (stated at left OlderLeave groups) groups left group
+    (others_stated at left OlderLeave groups) (or_parts (left == group) _ is).0
 others_of_message at (ReportMessage records) groups group is = others_of_all at map.empty records groups group is
 
 others_of_read : (at : Setting) (message : Message ℕ) (reason : Option DropReason) (groups : Groups) (group : ℕ)

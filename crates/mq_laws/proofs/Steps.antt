@@ -1,20 +1,16 @@
 -- One step of a check whose queries pair up: something is wanted, something was seen, or a moment comes.
 use Rattle.mq_laws.proofs.Common.{◌≡◌, ℕ, ◌+◌, ◌-◌, ◌<◌, ◌≤◌, true, false, List, [], ◌∷◌, ◌++◌, refl, ap, sym, ◌∙◌, arith, subst, append_assoc, append-nil, ◌⊎◌}
-use Rattle.mq_laws.proofs.Common.{is_some, nat_lt, and_left, and_right, lt-leb, ltb-true, Asked, AllGroups, Entry, Need, Wanted, Seen, Interval, Silence}
-use Rattle.mq_laws.proofs.Common.{Packet, Unpaired, Terms, first_terms, first_joined, is_free_seen, is_free_wanted, terms_differ, is_same, Ask, Expected, Sent}
-use Rattle.mq_laws.proofs.Common.{LeftOut, Answers, PairUp, ask_of, seen_about, wanted_about, missing_of, Returns, return_seen, return_wanted, general_ask}
-use Rattle.mq_laws.proofs.Common.{general_returned, still_due}
-use Rattle.std.specs.Prelude.{None, Some}
-use mathlib.Core.Logic.{inl, inr}
-use Rattle.mq_check.specs.{declared.entry.Unpaired.TheVariants.Extra, declared.finding.ExtraReason.TheVariants.NoChange, Entries.moment_of}
-use Rattle.mq_laws.proofs.Same.{is_same-self, same_asked}
+use Rattle.mq_laws.proofs.Common.{is_some, nat_lt, and_left, and_right, lt-leb, ltb-true, Asked, AllGroups, Entry, Need, Wanted, Seen}
+use Rattle.mq_laws.proofs.Common.{Terms, first_terms, first_joined, is_free_seen, is_free_wanted, terms_differ, is_same, Ask, Expected, Sent, LeftOut}
+use Rattle.mq_laws.proofs.Common.{Answers, PairUp, ask_of, seen_about, wanted_about, missing_of, Returns, return_seen, return_wanted, general_ask}
+use Rattle.mq_laws.proofs.Common.{general_returned, still_due, SeenVerdict, None, Some, inl, inr, Extra, NoChange, as_wanted, moment_of}
+use Rattle.mq_laws.proofs.{Same.is_same-self, Same.same_asked, Held.moments_wanted, Held.AllStill, Held.all_still, Held.still_put}
 use Rattle.mq_laws.proofs.Held.{ask, IsKept, Holds, free_seen, IsAscending, NoneOver, kept_ask, wanted_here, wanted_other, seen_here, seen_other}
-use Rattle.mq_laws.proofs.Held.{wanted_about-append, seen_about-append, ascending-put, ascending-joined, none_over-joined, none_over-put}
-use Rattle.mq_laws.proofs.Held.{passed_joined, moments_wanted, AllStill, all_still, still_put}
+use Rattle.mq_laws.proofs.Held.{wanted_about-append, seen_about-append, ascending-put, ascending-joined, none_over-joined, none_over-put, passed_joined}
 use Rattle.mq_laws.proofs.Partners.{NoneWanted, OneWanted, NoneSeen, OneSeen, SameFrom, find_wanted, find_seen, test_from}
 
--- What waits at a moment: `free` are the wanted queries without a partner, `wanted` and `seen` those still to come. All
--- pair up, and of each thing asked about only one side waits.
+-- The entries that wait at a moment: `free` are the wanted queries without a partner, `wanted` and `seen` those still to
+-- come. All pair up, and only one side waits for each thing asked about.
 pub record Stands (within keep now : ℕ) (entries : List (Entry ℕ)) (free wanted : List Expected) (seen : List Ask) : Type 0 where
   pub holds : Holds entries free
   pub ascending : IsAscending 0 entries now
@@ -24,12 +20,11 @@ pub record Stands (within keep now : ℕ) (entries : List (Entry ℕ)) (free wan
 
 -- the first ones of those that pair up
 first_sent : (within keep : ℕ) (x : Expected) (xs : List Expected) (s : Ask) (ss : List Ask) → PairUp within keep (x ∷ xs) (s ∷ ss) →
-    s.moment ≤ (ask_of x).moment + keep
-    → (w : Ask) × (x ≡ Sent w) × Answers within w s × PairUp within keep xs ss
+    s.moment ≤ (ask_of x).moment + keep → (w : Ask) × (x ≡ Sent w) × Answers within w s × PairUp within keep xs ss
 first_sent within keep (Sent w) xs s ss pairs near = (w, refl, pairs.0, pairs.1)
 first_sent within keep (LeftOut w) xs s ss pairs near = absurd (omega (arith, pairs.0.0))
 
--- of wanted ones about a thing
+-- wanted queries about a thing
 about_append : (asked : Asked ℕ) (first : Expected) (xs rest more : List Expected) → wanted_about asked xs ≡ first ∷ wanted_about asked rest →
     wanted_about asked (xs ++ more) ≡ first ∷ wanted_about asked (rest ++ more)
 about_append asked first xs rest more here =
@@ -61,9 +56,7 @@ holds-append (Wanted m a t o false ∷ es) ds [] ys holds more = absurd holds
 holds-append (Wanted m a t o false ∷ es) ds (x ∷ xs) ys holds more = (holds.0, holds-append es ds xs ys holds.1 more)
 holds-append (Seen m a t None q ∷ es) ds xs ys holds more = holds-append es ds xs ys holds more
 holds-append (Seen m a t (Some w) q ∷ es) ds xs ys holds more = (holds.0, holds-append es ds xs ys holds.1 more)
-holds-append (Interval m n a w ∷ es) ds xs ys holds more = absurd holds
-holds-append (Silence m a w ∷ es) ds xs ys holds more = absurd holds
-holds-append (Packet m number fault ∷ es) ds xs ys holds more = absurd holds
+holds-append (_ ∷ es) ds xs ys holds more = absurd holds
 
 -- and one more that keeps nothing
 pub holds-put : (es : List (Entry ℕ)) (xs : List Expected) (e : Entry ℕ) → Holds es xs → Holds (e ∷ []) [] → Holds (es ++ e ∷ []) xs
@@ -72,19 +65,15 @@ holds-put es xs e holds good = rw append-nil at (holds-append es (e ∷ []) xs [
 -- the queries without a partner that were seen, with one more entry
 free_seen-append : (es ds : List (Entry ℕ)) → free_seen (es ++ ds) ≡ free_seen es ++ free_seen ds
 free_seen-append [] ds = refl
-free_seen-append (Wanted m a t o f ∷ es) ds = free_seen-append es ds
 free_seen-append (Seen m a t None q ∷ es) ds = ap (λ (l : List Ask). ask m a t ∷ l) (free_seen-append es ds)
-free_seen-append (Seen m a t (Some w) q ∷ es) ds = free_seen-append es ds
-free_seen-append (Interval m n a w ∷ es) ds = free_seen-append es ds
-free_seen-append (Silence m a w ∷ es) ds = free_seen-append es ds
-free_seen-append (Packet m number fault ∷ es) ds = free_seen-append es ds
+free_seen-append (_ ∷ es) ds = free_seen-append es ds
 
 missing_of-append : (xs ys : List Expected) → missing_of (xs ++ ys) ≡ missing_of xs ++ missing_of ys
 missing_of-append [] ys = refl
 missing_of-append (Sent w ∷ xs) ys = missing_of-append xs ys
 missing_of-append (LeftOut w ∷ xs) ys = rw (missing_of-append xs ys) refl
 
--- what holds of the thing asked about, and of each other, holds of all
+-- a property of the thing asked about, and of each other thing, holds of all
 pub by_asked : (P : Asked ℕ → Type 0) (asked : Asked ℕ) → P asked → ((b : Asked ℕ) → is_same b asked ≡ false → P b) → (b : Asked ℕ) → P b
 by_asked P asked here others b = elim (is_same b asked) as (λ t. is_same b asked ≡ t → P b) [
   | true ↦ λ same. subst P (sym (same_asked b asked same)) here
@@ -111,8 +100,8 @@ moments_seen-append : (xs ys : List Ask) → moments_seen (xs ++ ys) ≡ moments
 moments_seen-append [] ys = refl
 moments_seen-append (x ∷ xs) ys = ap (λ (l : List ℕ). x.moment ∷ l) (moments_seen-append xs ys)
 
--- What waits behind a step that is about one thing: `left` are the wanted queries without a partner. No less is missing than
--- before, and of other things nothing else waits.
+-- The entries that wait after a step about one thing: `left` are the wanted queries without a partner. The same queries are
+-- missing as before, and the queries about other things wait as before.
 pub record Stepped (within keep now : ℕ) (asked : Asked ℕ) (step : (due early : List ℕ) → Returns) (old entries : List (Entry ℕ))
     (free before wanted : List Expected) (seen : List Ask) : Type 0 where
   pub left : List Expected
@@ -121,14 +110,14 @@ pub record Stepped (within keep now : ℕ) (asked : Asked ℕ) (step : (due earl
   pub here : returns_of within now asked left entries ≡ step (returns_of within now asked free old).due (returns_of within now asked free old).early
   pub others : (b : Asked ℕ) → is_same b asked ≡ false → returns_of within now b left entries ≡ returns_of within now b free old
 
--- where nothing is wanted, one that was seen waits
+-- if nothing is wanted, a seen query waits
 none_here : (within now : ℕ) (ws : List Expected) (early after : List ℕ) → ws ≡ [] → after ≡ early ++ now ∷ [] →
     record { due = still_due within now (moments_wanted ws); early = after } ≡ return_seen now (still_due within now (moments_wanted ws)) early
 none_here within now ws early after none more = rw none (λ i. record { due = []; early = more i })
 
 -- something was seen, and nothing that is wanted waits for it
-see_none : (within keep now : ℕ) (asked : Asked ℕ) (terms : Terms ℕ) (alone : Unpaired ℕ) (es : List (Entry ℕ)) (free wanted : List Expected) (seen : List Ask)
-    → NoneWanted asked es free → Stands within keep now es free wanted (ask now asked terms ∷ seen)
+see_none : (within keep now : ℕ) (asked : Asked ℕ) (terms : Terms ℕ) (alone : SeenVerdict ℕ) (es : List (Entry ℕ)) (free wanted : List Expected)
+    (seen : List Ask) → NoneWanted asked es free → Stands within keep now es free wanted (ask now asked terms ∷ seen)
     → Stepped within keep now asked (return_seen now) es (es ++ Seen now asked terms None alone ∷ []) free (free ++ wanted) wanted seen
 see_none within keep now asked terms alone es free wanted seen none st =
     let e = Seen now asked terms None alone in
@@ -176,7 +165,7 @@ no_wanted within keep now asked es free wanted seen s rest here st = elim (st.on
   | inr none ↦ absurd (let two : [] ≡ s ∷ rest = sym none ∙ here in cc)
 ]
 
--- the first one that waits is gone
+-- the first waiting query is gone
 first_here : (step : (due early : List ℕ) → Returns) → ((d : ℕ) (due early : List ℕ) → step (d ∷ due) early ≡ record { due = due; early = early })
     → (within now : ℕ) (ws : List Expected) (x : Expected) (rest : List Expected) (early after : List ℕ) → ws ≡ x ∷ rest → after ≡ early →
     now ≤ (ask_of x).moment + within → AllStill within now rest
@@ -203,7 +192,7 @@ partner_near : (within now : ℕ) (asked : Asked ℕ) (terms : Terms ℕ) (x : E
     now ≤ (ask_of x).moment + within
 partner_near within now asked terms x w is answers = let late : now ≤ w.moment + within = answers.not_late in rw is late
 
--- what is seen finds the same partner from the tolerance before it on
+-- a seen query finds the same partner from the tolerance before it on
 pub wanted_near : (within keep now : ℕ) (asked : Asked ℕ) (terms : Terms ℕ) (es : List (Entry ℕ)) (free wanted : List Expected) (seen : List Ask)
     → Stands within keep now es free wanted (ask now asked terms ∷ seen) → SameFrom (is_free_wanted asked) (now - within) es
 wanted_near within keep now asked terms es free wanted seen st = elim (find_wanted 0 within keep now asked terms es free st.holds st.ascending st.none_over) [
@@ -216,9 +205,8 @@ wanted_near within keep now asked terms es free wanted seen st = elim (find_want
 
 -- Something was seen, and is the partner of the first that is wanted; beside it stands what it is compared with.
 see_partner : (step : (due early : List ℕ) → Returns) → ((d : ℕ) (due early : List ℕ) → step (d ∷ due) early ≡ record { due = due; early = early })
-    → (within keep now : ℕ) (asked : Asked ℕ) (terms partner : Terms ℕ) (alone : Unpaired ℕ) (es : List (Entry ℕ)) (free wanted : List Expected)
-    (seen : List Ask)
-    → (one : OneWanted within keep now asked terms es free) →
+    → (within keep now : ℕ) (asked : Asked ℕ) (terms partner : Terms ℕ) (alone : SeenVerdict ℕ) (es : List (Entry ℕ)) (free wanted : List Expected)
+    (seen : List Ask) → (one : OneWanted within keep now asked terms es free) →
     ((w : Ask) → one.first ≡ Sent w → Answers within w (ask now asked terms) → terms_differ terms partner ≡ [])
     → Stands within keep now es free wanted (ask now asked terms ∷ seen)
     → Stepped within keep now asked step es (first_joined (is_free_wanted asked) terms es ++ Seen now asked terms (Some partner) alone ∷ []) free
@@ -250,8 +238,7 @@ see_partner step gone within keep now asked terms partner alone es free wanted s
             ap (λ (l : List Ask). l ++ seen_about asked seen) none)) first.3)
             (λ b differs. to_pairs within keep _ _ _ _ (about_same b free one.rest wanted (one.others b differs))
             (seen_about-append b (free_seen es) (s ∷ seen) ∙ ap (λ (l : List Ask). seen_about b (free_seen es) ++ l) (seen_other b s seen differs)
-            ∙ sym (seen_about-append b (free_seen es) seen) ∙ ap (λ (l : List Ask). seen_about b (l ++ seen)) (sym same))
-            (st.pairs b));
+            ∙ sym (seen_about-append b (free_seen es) seen) ∙ ap (λ (l : List Ask). seen_about b (l ++ seen)) (sym same)) (st.pairs b));
       };
       missing = missing_of-append free wanted ∙ ap (λ (l : List _). l ++ missing_of wanted) (one.missing first.0 first.1) ∙
           sym (missing_of-append one.rest wanted);
@@ -259,15 +246,13 @@ see_partner step gone within keep now asked terms partner alone es free wanted s
           (ap (λ (l : List Ask). moments_seen (seen_about asked l)) same) near (one.later near);
       others = λ b differs. λ i. record {
         due = still_due within now (moments_wanted (sym (one.others b differs) i));
-        early =
-            moments_seen (seen_about b (same i));
+        early = moments_seen (seen_about b (same i));
       };
     }
 
 -- something was seen
-pub see_one : (within keep now : ℕ) (asked : Asked ℕ) (terms : Terms ℕ) (alone : Unpaired ℕ) (es : List (Entry ℕ)) (free wanted : List Expected)
-    (seen : List Ask)
-    → Stands within keep now es free wanted (ask now asked terms ∷ seen)
+pub see_one : (within keep now : ℕ) (asked : Asked ℕ) (terms : Terms ℕ) (alone : SeenVerdict ℕ) (es : List (Entry ℕ)) (free wanted : List Expected)
+    (seen : List Ask) → Stands within keep now es free wanted (ask now asked terms ∷ seen)
     → Stepped within keep now asked (return_seen now) es (first_joined (is_free_wanted asked) terms es ++
     Seen now asked terms (first_terms (is_free_wanted asked) es) alone ∷ []) free (free ++ wanted) wanted seen
 see_one within keep now asked terms alone es free wanted seen st = elim (find_wanted 0 within keep now asked terms es free st.holds st.ascending st.none_over) [
@@ -277,7 +262,7 @@ see_one within keep now asked terms alone es free wanted seen st = elim (find_wa
       (λ w is answers. ap (λ (x : Expected). terms_differ terms (ask_of x).terms) is ∙ answers.alike) st)
 ]
 
--- where none was seen before, one that is wanted waits
+-- if none was seen before, a wanted query waits
 waiting_here : (now : ℕ) (before after : List Ask) (due more : List ℕ) → before ≡ [] → after ≡ [] → more ≡ due ++ now ∷ [] →
     record { due = more; early = moments_seen after } ≡ return_wanted now due (moments_seen before)
 waiting_here now before after due more none still is = rw none (λ i. record { due = is i; early = moments_seen (still i) })
@@ -320,20 +305,18 @@ want_none within keep now asked terms need x es free wanted seen kept none st =
           ∙ moments_wanted-append (wanted_about asked free) (x ∷ []) ∙ ap (λ (a : Ask). moments_wanted (wanted_about asked free) ++ a.moment ∷ []) is)
           ∙ still_put within now (moments_wanted (wanted_about asked free)));
       others = λ b differs. λ i. record {
-        due = still_due within now
-            (moments_wanted ((wanted_about-append b free (x ∷ []) ∙ ap (λ (l : List Expected). wanted_about b free ++ l)
+        due = still_due within now (moments_wanted ((wanted_about-append b free (x ∷ []) ∙ ap (λ (l : List Expected). wanted_about b free ++ l)
             (wanted_other b x [] (ap (λ (a : Ask). is_same b a.asked) is ∙ differs)) ∙ append-nil (wanted_about b free)) i));
         early = moments_seen (seen_about b (same i));
       };
     }
 
--- the first of those that were seen has come by then, and so it is the partner of one that was sent
+-- the first seen query has come by then, and so it is the partner of a sent query
 first_came : (within keep : ℕ) (x : Expected) (xs : List Expected) (s : Ask) (ss : List Ask) → PairUp within keep (x ∷ xs) (s ∷ ss) →
-    s.moment ≤ (ask_of x).moment
-    → (w : Ask) × (x ≡ Sent w) × Answers within w s × PairUp within keep xs ss
+    s.moment ≤ (ask_of x).moment → (w : Ask) × (x ≡ Sent w) × Answers within w s × PairUp within keep xs ss
 first_came within keep x xs s ss pairs came = first_sent within keep x xs s ss pairs (omega arith)
 
--- what is wanted was sent, and is answered by the first query that was seen and has no partner
+-- the wanted query was sent, and the first seen query without a partner answers it
 first_wanted : (within keep now : ℕ) (asked : Asked ℕ) (terms : Terms ℕ) (x : Expected) (es : List (Entry ℕ)) (free wanted : List Expected) (seen : List Ask)
     → ask_of x ≡ ask now asked terms → (one : OneSeen now asked terms es free) → Stands within keep now es free (x ∷ wanted) seen
     → (w : Ask) × (x ≡ Sent w) × Answers within w one.first × PairUp within keep (wanted_about asked wanted)
@@ -344,11 +327,10 @@ first_wanted within keep now asked terms x es free wanted seen is one st =
     let next : wanted_about asked (free ++ x ∷ wanted) ≡ x ∷ wanted_about asked wanted =
     wanted_about-append asked free (x ∷ wanted) ∙ (λ i. none i ++ wanted_here asked x wanted near i) in
     let came : one.first.moment ≤ (ask_of x).moment = rw is one.arrived in
-    first_came within keep x _ one.first _
-    (to_pairs within keep _ _ _ _ next
+    first_came within keep x _ one.first _ (to_pairs within keep _ _ _ _ next
     (seen_append asked one.first (free_seen es) (free_seen (first_joined (is_free_seen asked) terms es)) seen one.here) (st.pairs asked)) came
 
--- what is wanted finds the same partner from the tolerance before it on
+-- a wanted query finds the same partner from the tolerance before it on
 pub seen_near : (within keep now : ℕ) (asked : Asked ℕ) (terms : Terms ℕ) (x : Expected) (es : List (Entry ℕ)) (free wanted : List Expected) (seen : List Ask)
     → ask_of x ≡ ask now asked terms → Stands within keep now es free (x ∷ wanted) seen → SameFrom (is_free_seen asked) (now - within) es
 seen_near within keep now asked terms x es free wanted seen is st = elim (find_seen 0 now asked terms es free st.holds st.ascending) [
@@ -388,8 +370,7 @@ want_partner within keep now asked terms need x es free wanted seen is one st =
         pairs = by_asked (λ b. PairUp within keep (wanted_about b (free ++ wanted)) (seen_about b (free_seen (joined_up ++ e ∷ []) ++ seen))) asked
             (to_pairs within keep _ _ _ _
             (sym (wanted_about-append asked free wanted ∙ ap (λ (l : List Expected). l ++ wanted_about asked wanted) none))
-            (ap (λ (l : List Ask). seen_about asked (l ++ seen)) (sym same)) first.3)
-            (λ b differs.
+            (ap (λ (l : List Ask). seen_about asked (l ++ seen)) (sym same)) first.3) (λ b differs.
             let away : is_same b (ask_of x).asked ≡ false = ap (λ (a : Ask). is_same b a.asked) is ∙ differs in
             to_pairs within keep _ _ _ _
             (wanted_about-append b free (x ∷ wanted) ∙ ap (λ (l : List Expected). wanted_about b free ++ l) (wanted_other b x wanted away) ∙
@@ -402,15 +383,13 @@ want_partner within keep now asked terms need x es free wanted seen is one st =
       here = answered_here now (seen_about asked (free_seen es)) one.first (seen_about asked (free_seen joined_up)) _ _ one.here (ap (seen_about asked) same);
       others = λ b differs. λ i. record {
         due = still_due within now (moments_wanted (wanted_about b free));
-        early =
-            moments_seen ((ap (seen_about b) same ∙ sym (one.others b differs)) i);
+        early = moments_seen ((ap (seen_about b) same ∙ sym (one.others b differs)) i);
       };
     }
 
 -- something is wanted
 pub want_one : (within keep now : ℕ) (asked : Asked ℕ) (terms : Terms ℕ) (need : Need) (x : Expected) (es : List (Entry ℕ))
-    (free wanted : List Expected) (seen : List Ask)
-    → IsKept now asked terms need x → Stands within keep now es free (x ∷ wanted) seen
+    (free wanted : List Expected) (seen : List Ask) → IsKept now asked terms need x → Stands within keep now es free (x ∷ wanted) seen
     → Stepped within keep now asked (return_wanted now) es (first_joined (is_free_seen asked) terms es ++
     Wanted now asked terms need (is_some (first_terms (is_free_seen asked) es)) ∷ []) free (free ++ x ∷ wanted) wanted seen
 want_one within keep now asked terms need x es free wanted seen kept st = elim (find_seen 0 now asked terms es free st.holds st.ascending) [
@@ -473,8 +452,7 @@ none_from within now asked (Wanted m a t o false ∷ es) (x ∷ xs) holds none o
       | false ↦ λ differs.
           let away = wanted_other asked x xs (ap (λ (b : Ask). is_same asked b.asked) is ∙ differs) in
           let fails : test e ≡ false = and_left _ _ (and_left _ _ differs) in
-          passed_joined test other e es fails ∙
-          ap (λ (l : List (Entry ℕ)). e ∷ l)
+          passed_joined test other e es fails ∙ ap (λ (l : List (Entry ℕ)). e ∷ l)
           (none_from within now asked es xs holds.1 (ap (λ (l : List Expected). still_due within now (moments_wanted l)) (sym away) ∙ none) other)
     ] refl
 none_from within now asked (Seen m a t None alone ∷ es) free holds none other =
@@ -483,9 +461,7 @@ none_from within now asked (Seen m a t None alone ∷ es) free holds none other 
 none_from within now asked (Seen m a t (Some w) alone ∷ es) free holds none other =
     passed_joined (test_from (is_free_wanted asked) (now - within)) other (Seen m a t (Some w) alone) es refl ∙
     ap (λ (l : List (Entry ℕ)). Seen m a t (Some w) alone ∷ l) (none_from within now asked es free holds.1 none other)
-none_from within now asked (Interval m n a w ∷ es) free holds none other = absurd holds
-none_from within now asked (Silence m a w ∷ es) free holds none other = absurd holds
-none_from within now asked (Packet m number fault ∷ es) free holds none other = absurd holds
+none_from within now asked (_ ∷ es) free holds none other = absurd holds
 
 -- A general query was seen while the router is querier: it is the partner of the first that is due, if one is, and else
 -- waits for none.
@@ -493,15 +469,15 @@ pub general_one : (within keep now : ℕ) (terms partner : Terms ℕ) (es : List
     → terms_differ terms partner ≡ [] →
     Stands within keep now es free wanted (general_ask true (still_due within now (moments_wanted (wanted_about AllGroups free))) now terms ++ seen)
     → Stepped within keep now AllGroups (general_returned true now) es (first_joined (test_from (is_free_wanted AllGroups) (now - within)) terms es ++
-    Seen now AllGroups terms (Some partner) (Extra NoChange) ∷ []) free (free ++ wanted) wanted seen
+    Seen now AllGroups terms (Some partner) (as_wanted (Extra NoChange)) ∷ []) free (free ++ wanted) wanted seen
 general_one within keep now terms partner es free wanted seen alike st = by_due (still_due within now (moments_wanted (wanted_about AllGroups free))) refl
   where
     by_due : (due : List ℕ) → still_due within now (moments_wanted (wanted_about AllGroups free)) ≡ due
         → Stepped within keep now AllGroups (general_returned true now) es
-        (first_joined (test_from (is_free_wanted AllGroups) (now - within)) terms es ++ Seen now AllGroups terms (Some partner) (Extra NoChange) ∷ [])
-        free (free ++ wanted) wanted seen
+        (first_joined (test_from (is_free_wanted AllGroups) (now - within)) terms es ++ Seen now AllGroups terms (Some partner) (as_wanted (Extra NoChange)) ∷
+        []) free (free ++ wanted) wanted seen
     by_due [] none =
-        let e = Seen now AllGroups terms (Some partner) (Extra NoChange) in
+        let e = Seen now AllGroups terms (Some partner) (as_wanted (Extra NoChange)) in
         let before : Stands within keep now es free wanted seen =
         subst (λ (l : List ℕ). Stands within keep now es free wanted (general_ask true l now terms ++ seen)) none st in
         let same : free_seen (es ++ e ∷ []) ≡ free_seen es = free_seen-append es (e ∷ []) ∙ append-nil (free_seen es) in
@@ -518,7 +494,6 @@ general_one within keep now terms partner es free wanted seen alike st = by_due 
         let near = wanted_near within keep now AllGroups terms es free wanted seen before in
         elim (find_wanted 0 within keep now AllGroups terms es free st.holds st.ascending st.none_over) [
           | inl none ↦ absurd (let two : [] ≡ d ∷ due = ap (λ (l : List Expected). still_due within now (moments_wanted l)) (sym none.none) ∙ some in cc)
-          | inr one ↦ rw (near.joined terms)
-              (see_partner (general_returned true now) (λ d due early. refl) within keep now AllGroups terms partner
-              (Extra NoChange) es free wanted seen one (λ w is answers. alike) before)
+          | inr one ↦ rw (near.joined terms) (see_partner (general_returned true now) (λ d due early. refl) within keep now AllGroups terms partner
+              (as_wanted (Extra NoChange)) es free wanted seen one (λ w is answers. alike) before)
         ]

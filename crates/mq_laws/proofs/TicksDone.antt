@@ -1,8 +1,8 @@
 -- The ticks before a limit leave none.
 use Rattle.mq_laws.proofs.Common.{◌≡◌, ℕ, zero, suc, ◌+◌, ◌<◌, ◌≤◌, true, false, refl, arith, nat_lt, ltb-false, Configuration, IsFaultless, LinkState}
-use Rattle.mq_laws.proofs.Common.{IsWellFormed, moment_of, tick_of, next_of, Replayed, ticked_before}
-use Rattle.mq_replay.specs.{Report.ticked_at, Ticks.ticked_within}
-use Rattle.mq_replay.proofs.Growing.{next_in, tick_in}
+use Rattle.mq_laws.proofs.Common.{IsWellFormed, tick_of, next_of, Replayed, ticked_before, ticked_within}
+use Rattle.mq_link.specs.Tick.{moment_of}
+use Rattle.mq_replay.{specs.Report.ticked_at, proofs.Growing.next_in, proofs.Growing.tick_in}
 
 -- the facts about ticks
 abbrev pub KeepsForm : Type 0

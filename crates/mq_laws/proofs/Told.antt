@@ -1,21 +1,19 @@
 -- A check of a capture that comes to its end tells what is found by what happens in it.
 use Rattle.mq_laws.proofs.Common.{◌≡◌, ℕ, ◌+◌, ◌-◌, ◌^◌, true, false, List, [], ◌∷◌, ◌++◌, length, refl, ap, sym, ◌∙◌, subst, max, min, append_assoc}
 use Rattle.mq_laws.proofs.Common.{append-nil, PcapFault, LinkType, Timing, Configuration, LinkState, link_at, Finding, Checked, Outcome, at_the_start, check_of}
-use Rattle.mq_laws.proofs.Common.{concluded, found_text, looked_ahead, settled_through, ticked_through, totals_of, with_packet, CheckingValue, told}
+use Rattle.mq_laws.proofs.Common.{concluded, found_text, judged_at, looked_ahead, purged_through, ticked_through, totals_of, with_packet, CheckingValue, told}
 use Rattle.mq_laws.proofs.Common.{told_at_end, silence_up_to, all_reported, Passage, packet_passage, ticks_through, last_of, end_of, events_ahead, events_of}
 use Rattle.mq_laws.proofs.Common.{CheckEvent, at_the_end, checked_ahead, checked_by, found_by, found_from, CheckedCapture, CameToItsEnd, TellsWhatHappened}
-use Rattle.std.specs.Prelude.{Option, None, Some, Ok, Err, unwrap_or}
+use Rattle.mq_laws.proofs.Common.{Option, None, Some, Ok, Err, unwrap_or, Basis, Additions, certain_in, finding_lines, possible_in, packets_passage}
 use Rattle.mq_pcap.specs.Capture.{Captured}
-use Rattle.mq_replay.specs.declared.capture_fault.CaptureFault.{CaptureFault}
-use Rattle.mq_replay.specs.declared.capture_fault.CaptureFault.TheVariants.{Gap, Waiting}
-use Rattle.mq_replay.specs.Courses.{Course, Report, broken_off, course_of, last_moment, reported, with_packets}
-use Rattle.mq_replay.specs.PlacedPackets.{Place, at_first, is_gap, place_behind, placed}
-use Rattle.mq_replay.proofs.ReportedOver.{by_gap, by_room}
-use Rattle.mq_check.specs.{declared.basis.Basis.Basis, declared.check_terms.Additions.Additions, declared.check_terms.CheckTerms.CheckTerms}
-use Rattle.mq_check.specs.{declared.totals.Totals.Totals, Check.basis_at_end, Check.ended_at, FindingLines.certain_in, FindingLines.finding_lines}
-use Rattle.mq_check.specs.{FindingLines.last_lines, FindingLines.possible_in}
-use Rattle.mq_laws.specs.{Captures.packets_passage, Verdicts.terms_in}
-use Rattle.mq_laws.proofs.Followed.{Follows, follows-nothing, follows-behind, follows-ticks, follows-packet}
+use Rattle.mq_walk.specs.declared.capture_fault.CaptureFault.{CaptureFault, TheVariants.Gap, TheVariants.Waiting}
+use Rattle.mq_walk.specs.Courses.{Course, Report, broken_off, course_of, last_moment, reported, with_packets}
+use Rattle.mq_walk.specs.PlacedPackets.{Place, at_first, is_gap, place_behind, placed}
+use Rattle.mq_walk.proofs.ReportedOver.{by_gap, by_room}
+use Rattle.mq_check.specs.{declared.check_terms.CheckTerms.CheckTerms, declared.totals.Totals.Totals, Check.basis_at_end, Check.ended_at}
+use Rattle.mq_check.specs.FindingLines.{last_lines}
+use Rattle.mq_laws.specs.{Captures.ticks_to_end, Verdicts.terms_in}
+use Rattle.mq_laws.proofs.Followed.{Follows, follows-nothing, follows-behind, follows-end, follows-ticks, follows-packet}
 
 -- Packets come to what happens by them. There may be findings before theirs.
 record FollowsAll (within : ℕ) (timing : Timing) (p : Passage) (last : ℕ) (r : Checked) (before : List (Finding ℕ)) (course : Course Outcome) : Type 0 where
@@ -102,13 +100,13 @@ concluded_tells config additions totals c rests found room answered =
 -- the findings in the order in which they are found
 abbrev all_found : Configuration → (within moment : ℕ) → (found : List (Finding ℕ)) → Checked → List (Finding ℕ)
 all_found config within moment found r =
-    let done = settled_through config within moment r in
+    let done = purged_through config within moment r in
     let ahead = looked_ahead config within moment done.checked in
     found ++ done.found ++ ahead.found
     ++ told_at_end within config.timing moment (silence_up_to within config.timing moment done.checked.checking.phase) ahead.checked.checking
 
 abbrev at_last : Configuration → (within moment : ℕ) → Checked → CheckingValue
-at_last config within moment r = (looked_ahead config within moment (settled_through config within moment r).checked).checked.checking
+at_last config within moment r = (looked_ahead config within moment (purged_through config within moment r).checked).checked.checking
 
 ended_tells : (config : Configuration) (within : ℕ) (additions : Additions) (moment number : ℕ) (found : List (Finding ℕ)) (r : Checked) (totals : Totals)
     → (ended_at config within additions moment number found r).answer ≡ Ok totals
@@ -116,7 +114,7 @@ ended_tells : (config : Configuration) (within : ℕ) (additions : Additions) (m
     (ended_at config within additions moment number found r).text
 unfolding ended_at
 ended_tells config within additions moment number found r totals answered =
-    let done = settled_through config within moment r in
+    let done = purged_through config within moment r in
     let ahead = looked_ahead config within moment done.checked in
     let c = ahead.checked.checking in
     let all = all_found config within moment found r in
@@ -132,16 +130,13 @@ ended_tells config within additions moment number found r totals answered =
           (concluded_tells config additions totals c (basis_at_end done.checked) all room (ap (λ (v : Report Totals). v.answer) (sym ended) ∙ answered))
     ] refl
 
--- what stands behind the packets
+-- the report after the packets
 behind_packets : (k : CheckedCapture) (course : Course Outcome) (fault : Option CaptureFault) (end : Option PcapFault) (number : ℕ) → course.fault ≡ fault
     → (reported (check_of k.config (terms_in k)) number end fault course).answer ≡ Ok k.totals
     → (let moment = last_moment k.until course.moment in
-    (course.fault ≡ None)
-    × EndTells k.config k.additions k.totals (at_last k.config k.within moment course.state.checked)
+    (course.fault ≡ None) × EndTells k.config k.additions k.totals (at_last k.config k.within moment course.state.checked)
     (all_reported k.additions (all_found k.config k.within moment course.state.found course.state.checked))
     (reported (check_of k.config (terms_in k)) number end fault course).text)
-behind_packets k course (Some fault) end number is answered = absurd (cc)
-behind_packets k course None (Some fault) number is answered = absurd (cc)
 behind_packets k course None None number is answered =
     let work = check_of k.config (terms_in k) in
     let moment = last_moment k.until course.moment in
@@ -159,23 +154,29 @@ behind_packets k course None None number is answered =
                 (ap (λ (v : Report Totals). v.answer) (sym ended) ∙ answered)),
           )
     ] refl
+behind_packets k course _ _ number is answered = absurd (cc)
 
 -- the events of the look-ahead of a check
 abbrev ahead_at : Configuration → (within moment packets : ℕ) → LinkState → List CheckEvent
 ahead_at config within moment packets link = (ticks_through config (min (moment + within) (2 ^ 53)) packets link).events
 
+-- a check at its end, before the entries are removed that have expired then
+abbrev done_at : Configuration → (within moment : ℕ) → Checked → Outcome
+done_at config within moment r =
+    let ticks = ticked_through config within moment r in
+    record ticks { checked = judged_at within None ticks.checked }
+
 -- the look-ahead comes to these events
 record LooksAhead (config : Configuration) (within moment : ℕ) (before : List (Finding ℕ)) (r : Checked) (done : Outcome) : Type 0 where
   last : at_last config within moment r ≡ checked_ahead within config.timing moment
       (ahead_at config within moment done.checked.basis.packets done.checked.link) done.checked.checking
-  found : all_found config within moment before r
-      ≡ (before ++ done.found) ++
+  found : all_found config within moment before r ≡ (before ++ done.found) ++
       found_from within config.timing moment (ahead_at config within moment done.checked.basis.packets done.checked.link) done.checked.checking
 
 looks_ahead : (config : Configuration) (within moment : ℕ) (found : List (Finding ℕ)) (r : Checked) →
-    LooksAhead config within moment found r (ticked_through config within moment r)
+    LooksAhead config within moment found r (done_at config within moment r)
 looks_ahead config within moment found r =
-    let done = ticked_through config within moment r in
+    let done = done_at config within moment r in
     let limit = min (moment + within) (2 ^ 53) in
     let excused = record done.checked { checking = at_the_end within moment done.checked.checking } in
     let ahead = ticked_through config within limit excused in
@@ -206,13 +207,13 @@ tells_what_happened k answered =
     let moment = last_moment k.until course.moment in
     let end = end_of k.until k.packets in
     let at : moment ≡ end = ap (λ (m : ℕ). max m (unwrap_or k.until 0)) all.moment in
-    let t = ticks_through config end p.packets p.link in
-    let done = ticked_through config k.within moment at_packets in
+    let t = ticks_to_end config end p.packets p.link in
+    let done = done_at config k.within moment at_packets in
     let ticks : Follows k.within config.timing t at_packets done =
-    subst (λ (n : ℕ). Follows k.within config.timing (ticks_through config end n p.link) at_packets done) all.follows.packets
-    (subst (λ (l : LinkState). Follows k.within config.timing (ticks_through config end at_packets.basis.packets l) at_packets done) all.follows.link
-    (subst (λ (m : ℕ). Follows k.within config.timing (ticks_through config m at_packets.basis.packets at_packets.link) at_packets done)
-    at (follows-ticks (moment + 1) config k.within (moment + 1) at_packets))) in
+    subst (λ (n : ℕ). Follows k.within config.timing (ticks_to_end config end n p.link) at_packets done) all.follows.packets
+    (subst (λ (l : LinkState). Follows k.within config.timing (ticks_to_end config end at_packets.basis.packets l) at_packets done) all.follows.link
+    (subst (λ (m : ℕ). Follows k.within config.timing (ticks_to_end config m at_packets.basis.packets at_packets.link) at_packets done) at
+    (follows-end k.within config.timing _ at_packets _ (follows-ticks (moment + 1) config k.within (moment + 1) at_packets)))) in
     let before = subst (λ (f : List (Finding ℕ)). Follows k.within config.timing p start (record { checked = at_packets; found = f })) (sym all.all)
     all.follows in
     let both = follows-behind k.within config.timing p t start course.state done before ticks in

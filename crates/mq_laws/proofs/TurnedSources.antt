@@ -1,10 +1,8 @@
 -- Two filters differ exactly where some source is turned: where one of them forwards it alone.
 use Rattle.mq_laws.proofs.Common.{◌≡◌, ◌↔◌, ℕ, ◌+◌, ◌<◌, Bool, true, false, cond, not, ◌&&◌, List, [], ◌∷◌, refl, sym, ap, ◌∙◌, arith, true≢false, or_from}
 use Rattle.mq_laws.proofs.Common.{or_left, or_right, nat_tests, list_all, list_any, sum_by, nat_cmp, eq_by_cmp, forwards_by-filter_of, Filter, filter_of}
-use Rattle.mq_laws.proofs.Common.{forwards_by, are_same, GroupState, forwards_in, alike_after, unchanged}
-use Rattle.std.proofs.lemmas.List.Sums.{sum_by-cons}
+use Rattle.mq_laws.proofs.Common.{forwards_by, are_same, GroupState, forwards_in, alike_after, unchanged, sum_by-cons, changes_filter}
 use Rattle.std.specs.{Bool.beq, Cmp.nat_cmp_total, FinSet.FinSet}
-use Rattle.mq_table.specs.Filter.{changes_filter}
 use Rattle.mq_held.proofs.{RestartedEach.each_passes, Sorted.ties}
 use Rattle.mq_laws.proofs.Following.{same_unless_changed}
 use Rattle.std.specs.FinSet as set
@@ -50,9 +48,6 @@ in_none a b =
 -- which of them is forwarded, by the modes and by who has it
 turned_alike : (m n c d : Bool) → beq m n ≡ true → d ≡ not c → cond n d (not d) ≡ not (cond m c (not c))
 turned_alike m n c d h1 h2 = grind arith
-
-twice : (c : Bool) → c ≡ not (not c)
-twice c = grind arith
 
 turned_apart : (m n c d : Bool) → beq m n ≡ false → d ≡ c → cond n d (not d) ≡ not (cond m c (not c))
 turned_apart m n c d h1 h2 = grind arith

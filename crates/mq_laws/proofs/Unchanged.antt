@@ -5,9 +5,8 @@ use Rattle.mq_laws.proofs.Common.{loses_role, heard, ScheduledGroup, SentQuery, 
 use Rattle.mq_laws.proofs.Common.{group_lowered, query_heard, Envelope, counting_read, taken_or_dropped, Statement, RecordOf, limit_passed, Setting, leaving}
 use Rattle.mq_laws.proofs.Common.{unless_passed, changed_by, after_sending, sent_at_once, changed_or_refused, change_in, Entrance, Stops, GoesOn, entrance}
 use Rattle.mq_laws.proofs.Common.{is_repeated, judged_from, Groups, LinkState, Step, DropReason, Refusal, Repeated, ChangesNothing, IsOnlyCounted, DifferAt}
-use Rattle.mq_link.proofs.Recorded.{get-with_group}
-use Rattle.mq_link.specs.{Heard.groups_lowered, Receive.taken_in, Record.Outcome, Record.stated, Record.Seen, Record.judged, State.with_group}
-use Rattle.mq_link.specs.{declared.answers.Received.TheVariants.Dropped}
+use Rattle.mq_laws.proofs.Common.{alone_by, groups_lowered, taken_in, stated, judged, stated_alone, with_group, Dropped}
+use Rattle.mq_link.{proofs.Recorded.get-with_group, specs.Record.Outcome, specs.Record.Seen}
 use Rattle.std.specs.FinMap as map
 use Rattle.std.specs.FinSet as set
 
@@ -24,10 +23,16 @@ unchanged at group groups (Some change) h =
     let after = with_group groups group left in
     unpassed (limit_passed at.config.limits after left) groups after (sent_at_once at group (changed_by at group groups change)) h
 
-pub unapplied_stated : (at : Setting) (group : ℕ) (st : Statement) (groups : Groups) → is_applied (stated at group st groups).verdict ≡ false
+unapplied_stated : (at : Setting) (group : ℕ) (st : Statement) (groups : Groups) → is_applied (stated at group st groups).verdict ≡ false
     → ChangesNothing groups (stated at group st groups)
 unfolding stated
 unapplied_stated at group st groups h = unchanged at group groups (change_in at group st groups) h
+
+pub unapplied_alone : (at : Setting) (group : ℕ) (st : Statement) (groups : Groups) → is_applied (stated_alone at group st groups).verdict ≡ false
+    → ChangesNothing groups (stated_alone at group st groups)
+unapplied_alone at group st groups =
+    alone_by (λ outcome. is_applied outcome.verdict ≡ false → ChangesNothing groups outcome) at group st groups (unapplied_stated at group st groups)
+    (λ h. record { groups = refl; queries = refl })
 
 -- A record leaves the groups, or has the outcome of a statement.
 pub judged_by : (P : Outcome → Type 0) (at : Setting) (seen : Seen) (r : RecordView ℕ) (groups : Groups) → ((verdict : Verdict) → P (leaving groups verdict))

@@ -1,16 +1,14 @@
 -- The text that is written of an IPv6 address has its groups.
 use Rattle.mq_laws.proofs.Common.{◌≡◌, ℕ, suc, ◌+◌, ◌-◌, ◌/◌, ◌%◌, ◌<◌, ◌≤◌, Bool, true, false, List, [], ◌∷◌, ◌++◌, length, take, drop, replicate, get_or}
 use Rattle.mq_laws.proofs.Common.{codes, inl, inr, refl, ap, sym, ◌∙◌, arith, append-nil, append_assoc, add-one, length-drop, cases_lt, eqb-true, leb-true}
-use Rattle.mq_laws.proofs.Common.{length-take-le, drop-drop, nat_tests, w128, to_be_bytes}
-use Rattle.std.proofs.Common.{nat_le, ◌⊎◌, take-append-drop, if◌then◌else◌, ◌==◌}
+use Rattle.mq_laws.proofs.Common.{length-take-le, drop-drop, nat_tests, w128, to_be_bytes, nat_le, ◌⊎◌, take-append-drop, if◌then◌else◌, ◌==◌, groups_of}
+use Rattle.mq_laws.proofs.Common.{is_first_longest}
 use Rattle.std.proofs.NetLemmas.Texts.{AllSegments-take, AllSegments-drop}
 use Rattle.std.specs.{Char.digit_value, Fmt.digit_glyph, Net.Grammar.IsGroup}
-use Rattle.mq_text.specs.AddressV6.{groups_of, hexadecimal, with_colons, zeros_ahead, longest_zeros, shortened}
+use Rattle.mq_text.specs.AddressV6.{hexadecimal, with_colons, zeros_ahead, longest_zeros, shortened}
 use Rattle.mq_text.specs.Reading.{AreGroupsBehind, AreGroups, AreShortened, HasGroups}
-use Rattle.mq_text.proofs.Hexadecimal.{one_digit, two_digits, three_digits, all_four_digits}
-use Rattle.mq_text.proofs.LongestRun.{is_first_longest, zeros_within}
-use Rattle.mq_laws.specs.Texts.{WrittenIsSpelled}
-use Rattle.mq_laws.proofs.NumberOfGroups.{number_back, groups_fit, octets_are_pairs}
+use Rattle.mq_text.proofs.{Hexadecimal.one_digit, Hexadecimal.two_digits, Hexadecimal.three_digits, Hexadecimal.all_four_digits, LongestRun.zeros_within}
+use Rattle.mq_laws.{specs.Texts.WrittenIsSpelled, proofs.NumberOfGroups.number_back, proofs.NumberOfGroups.groups_fit, proofs.NumberOfGroups.octets_are_pairs}
 
 value_of_glyph : (d : ℕ) → d < 16 → digit_value (digit_glyph false d) ≡ d
 value_of_glyph d small = grind (arith, nat_tests)

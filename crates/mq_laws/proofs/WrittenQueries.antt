@@ -1,14 +1,13 @@
 -- The one encoding of a query.
 use Rattle.mq_laws.proofs.Common.{◌≡◌, ℕ, ◌+◌, ◌*◌, ◌/◌, ◌%◌, ◌<◌, ◌≤◌, List, [], ◌∷◌, ◌++◌, ◌^◌, length, ap, sym, subst, refl, arith, flat_map, big_bytes}
-use Rattle.mq_laws.proofs.Common.{big_number, big_number-reads_back, Query, QueryMessage, value8, value16, code8_of, code16_of, Family, Igmp, Mld}
-use Rattle.std.proofs.Common.{All}
-use Rattle.mq_wire.specs.{declared.query.QuerierFields.QuerierFields, declared.query.QueryVersion.QueryVersion, declared.query.QueryVersion.TheVariants.Current}
-use Rattle.mq_wire.specs.{Canon.canon, Canon.covered_before, Canon.without_checksum, Canon.flags_byte, Checksum.checksum_behind, Checksum.sum_of_words}
-use Rattle.mq_wire.specs.{Checksum.with_field, RoundTrip.response_lowered, Spelling.Spells}
-use Rattle.mq_wire.proofs.{FoundCodes.code_is_greatest, SpelledQueries.spells_query, Sums.sum_of_both, WrittenParts.length_with_checksum}
+use Rattle.mq_laws.proofs.Common.{big_number, big_number-reads_back, Query, QueryMessage, value8, value16, code8_of, code16_of, Family, Igmp, Mld, All, Current}
+use Rattle.mq_laws.proofs.Common.{flags_byte, checksum_behind, sum_of_words, with_field, code_is_greatest, sum_of_both}
+use Rattle.mq_wire.specs.{declared.query.QuerierFields.QuerierFields, declared.query.QueryVersion.QueryVersion, RoundTrip.response_lowered, Spelling.Spells}
+use Rattle.mq_wire.specs.Canon.{canon, covered_before, without_checksum}
+use Rattle.mq_wire.proofs.{SpelledQueries.spells_query, WrittenParts.length_with_checksum}
 use Rattle.mq_laws.specs.Messages.{ChecksumIsBelow, ReadsBack, ValuesOfCodesStay, greatest_code, lowered, response_of_code}
-use Rattle.mq_laws.proofs.{OneCode.come_back, ReadBack.igmp_bytes, ReadBack.mld_bytes, ReadBack.igmp_back, ReadBack.mld_back, ReadBack.length_igmp}
-use Rattle.mq_laws.proofs.{ReadBack.length_mld, CompletedSums.checksum_below, CompletedSums.completed_behind}
+use Rattle.mq_laws.proofs.{OneCode.come_back, CompletedSums.checksum_below, CompletedSums.completed_behind}
+use Rattle.mq_laws.proofs.ReadBack.{igmp_bytes, mld_bytes, igmp_back, mld_back, length_igmp, length_mld}
 
 -- a query of IGMPv3 or MLDv2 of its parts
 abbrev query_with : (group response : ℕ) → QuerierFields ℕ → Query ℕ
@@ -60,15 +59,13 @@ same_version query version = record { group = query.group; response = query.resp
 pub reads_back : ReadsBack
 reads_back Igmp source query w =
     subst (λ (version : QueryVersion ℕ). Spells Igmp [] (canon Igmp source (same_version query version)) (QueryMessage (lowered Igmp query w.fields)))
-    (sym w.current)
-    (igmp_spells source query.group query.response w.fields w.group w.robustness w.counted w.sources)
+    (sym w.current) (igmp_spells source query.group query.response w.fields w.group w.robustness w.counted w.sources)
 reads_back Mld source query w =
     let message = without_checksum Mld query in
     let long : 4 ≤ length message = omega arith in
     let same_length = length_with_checksum (covered_before Mld source query.group (length message)) message long in
     subst (λ (len : ℕ). Spells Mld (covered_before Mld source query.group len) (canon Mld source query) (QueryMessage (lowered Mld query w.fields)))
-    (sym same_length)
-    (subst (λ (version : QueryVersion ℕ). Spells Mld
+    (sym same_length) (subst (λ (version : QueryVersion ℕ). Spells Mld
     (covered_before Mld source query.group (length (without_checksum Mld (same_version query version))))
     (canon Mld source (same_version query version)) (QueryMessage (lowered Mld query w.fields))) (sym w.current)
     (mld_spells source query.group query.response w.fields w.group w.robustness w.counted w.sources))

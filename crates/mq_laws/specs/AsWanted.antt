@@ -31,6 +31,11 @@ AreMissed strict kept end [] = ⊤
 AreMissed strict kept end (Sent ask ∷ xs) = AreMissed strict kept end xs
 AreMissed strict kept end (LeftOut ask ∷ xs) = IsMissed strict kept end ask × AreMissed strict kept end xs
 
+-- The capture begins before the querier, whose Robustness Variable is known: it isn't above 7.
+pub record IsFromTheBeginning (flags : CheckFlags) : Type 0 where
+  pub began : flags.began ≡ true
+  pub known : flags.above_7 ≡ false
+
 -- The queries are as expected. Those that were sent were seen, in order and within the tolerance of their moments, and
 -- no others. The rest was left out.
 pub record IsAsWanted (within : ℕ) (timing : Timing) (flags : CheckFlags) (end : ℕ) (expected : List Expected) (events : List CheckEvent) : Type 0 where

@@ -14,15 +14,17 @@ use Rattle.mq_link.specs.Run.{answered}
 use Rattle.mq_link.specs.Sent.{Outgoing, outgoing_of}
 use Rattle.mq_link.specs.State.{LinkState, link_at}
 use Rattle.mq_link.specs.Tick.{Step, tick_of, next_of}
-use Rattle.mq_replay.specs.Listing.{moment_of}
-use Rattle.mq_replay.specs.Report.{Datagram, datagram_of, all_sent}
+use Rattle.mq_walk.specs.PlacedPackets.{moment_of}
+use Rattle.mq_walk.specs.Datagrams.{Datagram, datagram_of}
+use Rattle.mq_walk.specs.Outlets.{all_sent}
 use Rattle.mq_check.specs.declared.headers.HeaderFault.{HeaderFault}
 use Rattle.mq_check.specs.Causes.{causes_in}
 use Rattle.mq_check.specs.Check.{destination_in, faults_in}
 use Rattle.mq_check.specs.Checking.{counted_up}
 use Rattle.mq_check.specs.Queries.{asked_in, is_general, terms_of, general_terms, query_seen, specific_terms}
-use Rattle.mq_check.specs.Standing.{standing_in}
-use Rattle.mq_laws.specs.Events.{CheckEvent, Comes, Wants, Sees, SeesGeneral, LosesRole, HasRoleAgain, SeesFault, Changes}
+use Rattle.mq_check.specs.Standing.{is_set, standing_in}
+use Rattle.mq_laws.specs.Events.{CheckEvent, Comes, Wants, Sees, SeesGeneral, LosesRole, HasRoleAgain, SeesFault, Changes, Judges, Refuses}
+use Rattle.mq_check.specs.Refused.{refused_by}
 
 -- a link after a part of a capture, the number of packets so far, and the events of the check
 pub record Passage : Type 0 where
@@ -64,6 +66,10 @@ role_by_datagram true false = LosesRole ∷ []
 role_by_datagram false true = HasRoleAgain ∷ []
 role_by_datagram false false = []
 
+-- a moment, before which S is judged of the queries that no Report of the moment can change
+abbrev pub comes : (moment : ℕ) → LinkState → List CheckEvent → List CheckEvent
+comes moment link events = Judges (Some moment) (is_set link.groups) ∷ Comes moment ∷ events
+
 -- a tick at a moment
 abbrev pub tick_passage : Configuration → (moment packets : ℕ) → LinkState → Passage
 tick_passage config moment packets link =
@@ -71,7 +77,9 @@ tick_passage config moment packets link =
     record {
       link = answered (all_sent (outgoing_of config step)) step;
       packets = packets;
-      events = Comes moment ∷ wanted_by config packets true link step ++ role_by_tick (is_querier link.election.role) (is_querier step.state.election.role);
+      events =
+          comes moment link
+          (wanted_by config packets true link step ++ role_by_tick (is_querier link.election.role) (is_querier step.state.election.role));
     }
 
 -- ticks at the link's next moments, while these are before a limit; at most `most`
@@ -89,11 +97,18 @@ ticks_passage (suc most) config limit packets link =
 abbrev pub ticks_through : Configuration → (moment packets : ℕ) → LinkState → Passage
 ticks_through config moment packets link = ticks_passage (moment + 1) config (moment + 1) packets link
 
+-- all ticks up to and including the end of a capture, and then the judgement of S of all seen queries
+abbrev pub ticks_to_end : Configuration → (moment packets : ℕ) → LinkState → Passage
+ticks_to_end config moment packets link =
+    let ticks = ticks_through config moment packets link in
+    record ticks { events = ticks.events ++ Judges None (is_set ticks.link.groups) ∷ [] }
+
 -- faults in the headers of a packet with this number
 abbrev pub fault_events : (number : ℕ) → List HeaderFault → List CheckEvent
 fault_events number faults = list_map (SeesFault number) faults
 
--- A query from the querier's address, or any other datagram, which the link receives. It may have changes of hosts.
+-- A query from the querier's address, or any other datagram, which the link receives. It may have changes of hosts, and
+-- the link may refuse them.
 abbrev pub event_of : Configuration → LinkState → (moment packets to : ℕ) → Query ℕ → CheckEvent
 event_of config link moment packets to query =
     if is_general query
@@ -103,15 +118,18 @@ event_of config link moment packets to query =
 
 abbrev pub datagram_passage : Configuration → (moment to : ℕ) → Datagram → Option (Query ℕ) → (faults : List CheckEvent) → (packets : ℕ) → LinkState → Passage
 datagram_passage config moment to datagram (Some query) faults packets link =
-    record { link = link; packets = packets; events = Comes moment ∷ faults ++ event_of config link moment packets to query ∷ [] }
+    record { link = link; packets = packets; events = comes moment link (faults ++ event_of config link moment packets to query ∷ []) }
 datagram_passage config moment to datagram None faults packets link =
-    let step = (receipt_of config datagram.envelope datagram.body moment link).step in
+    let receipt = receipt_of config datagram.envelope datagram.body moment link in
+    let step = receipt.step in
     record {
       link = answered (all_sent (outgoing_of config step)) step;
       packets = packets;
       events =
-          Comes moment ∷ faults
-          ++ (Changes (specific_terms config link.election.timing packets) (causes_in config.family datagram) ∷ wanted_by config packets false link step ++ role_by_datagram (is_querier link.election.role) (is_querier step.state.election.role));
+          comes moment link
+          (faults ++ (Changes (specific_terms config link.election.timing packets) (causes_in config.family datagram) ∷ wanted_by config packets false link step
+          ++ (role_by_datagram (is_querier link.election.role) (is_querier step.state.election.role)
+          ++ Refuses (refused_by config.family receipt.answer datagram) ∷ [])));
     }
 
 -- a frame, if it carries a datagram; the faults of the headers of a query come first
@@ -151,7 +169,7 @@ end_of until packets = max (last_of None 0 packets) (unwrap_or until 0)
 abbrev pub events_of : Configuration → (until : Option ℕ) → Form → List Captured → List CheckEvent
 events_of config until form packets =
     let all = packets_passage config form.link None 0 1 packets 0 (link_at config 0) in
-    all.events ++ (ticks_through config (end_of until packets) all.packets all.link).events
+    all.events ++ (ticks_to_end config (end_of until packets) all.packets all.link).events
 
 -- The events that are due just after the end, up to the tolerance.
 abbrev pub events_ahead : Configuration → (within : ℕ) → (until : Option ℕ) → Form → List Captured → List CheckEvent

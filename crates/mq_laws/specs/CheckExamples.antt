@@ -13,11 +13,11 @@ use Rattle.mq_laws.specs.OnTime.{AreInOrder, IsOnTime}
 use Rattle.mq_laws.specs.WantedAndSeen.{all_wanted_in}
 
 abbrev pub example_timing : Timing
-example_timing = record { robustness = 2; query_seconds = 125; response_interval = 10000; last_member_interval = 1000 }
+example_timing = record { robustness = 2; query_seconds = 125; response_interval = 10000; last_member_interval = 1000; last_member_query_count = 0 }
 
 -- a strict check from the querier's beginning
 abbrev pub began : CheckFlags
-began = record { began = true; strict = true }
+began = record { began = true; strict = true; above_7 = false }
 
 abbrev pub group_terms : (packet : ℕ) → Terms ℕ
 group_terms packet = record {

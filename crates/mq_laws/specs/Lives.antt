@@ -1,5 +1,5 @@
 -- Lives of a link: runs, and between two of them a configuration that the link is given.
-use Rattle.std.specs.Prelude.{◌≡◌, ℕ, if◌then◌else◌, is_some, List, [], ◌∷◌}
+use Rattle.std.specs.Prelude.{◌≡◌, if◌then◌else◌, is_some, List, [], ◌∷◌}
 use Rattle.mq_link.specs.Configuration.{Configuration, IsFaultless}
 use Rattle.mq_link.specs.Configuring.{config_after, configure_fault, state_configured}
 use Rattle.mq_link.specs.Events.{left_by}

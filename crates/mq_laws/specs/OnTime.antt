@@ -9,7 +9,7 @@ use Rattle.mq_check.specs.declared.terms.Terms.{Terms}
 use Rattle.mq_check.specs.Checking.{is_querier_in}
 use Rattle.mq_check.specs.Entries.{terms_differ}
 use Rattle.mq_check.specs.General.{phase_again, phase_at_start, wrong_interval, phase_behind, silence_up_to}
-use Rattle.mq_laws.specs.Events.{CheckEvent, Comes, Wants, Sees, SeesGeneral, LosesRole, HasRoleAgain, SeesFault, Changes}
+use Rattle.mq_laws.specs.Events.{CheckEvent, Comes, Wants, Sees, SeesGeneral, LosesRole, HasRoleAgain, SeesFault, Changes, Judges, Refuses}
 
 -- moments come in order, up to the end
 abbrev pub AreInOrder : (now : ℕ) → List CheckEvent → (end : ℕ) → Type 0
@@ -22,6 +22,8 @@ AreInOrder now (LosesRole ∷ es) end = AreInOrder now es end
 AreInOrder now (HasRoleAgain ∷ es) end = AreInOrder now es end
 AreInOrder now (SeesFault number fault ∷ es) end = AreInOrder now es end
 AreInOrder now (Changes terms asked ∷ es) end = AreInOrder now es end
+AreInOrder now (Judges moment is_set ∷ es) end = AreInOrder now es end
+AreInOrder now (Refuses groups ∷ es) end = AreInOrder now es end
 
 -- An event of a tick. After the end of a capture there are only these, in order, up to the tolerance after the end.
 abbrev pub IsOfTick : CheckEvent → Type 0
@@ -33,6 +35,8 @@ IsOfTick LosesRole = ⊥
 IsOfTick HasRoleAgain = ⊤
 IsOfTick (SeesFault number fault) = ⊥
 IsOfTick (Changes terms asked) = ⊥
+IsOfTick (Judges moment is_set) = ⊤
+IsOfTick (Refuses groups) = ⊥
 
 pub record AreAhead (within end : ℕ) (ahead : List CheckEvent) : Type 0 where
   pub order : AreInOrder end ahead (end + within)
@@ -45,7 +49,7 @@ IsAsWantedThen true terms wanted = terms_differ terms wanted ≡ []
 IsAsWantedThen false terms wanted = ⊤
 
 -- General queries come at expected intervals, each with the expected fields, until the role is lost or until the end.
--- `last` is the moment of the last one. No query's packet has a fault in its headers.
+-- `last` is the moment of the last one. No query's packet has a fault in its headers. The link refuses no record.
 abbrev pub AreOnTime : (within : ℕ) → Timing → Phase → (last : Option ℕ) → (now : ℕ) → List CheckEvent → (end : ℕ) → Type 0
 AreOnTime within timing phase last now [] end = silence_up_to within timing end phase ≡ None
 AreOnTime within timing phase last now (Comes moment ∷ es) end = AreOnTime within timing phase last moment es end
@@ -59,6 +63,8 @@ AreOnTime within timing phase last now (LosesRole ∷ es) end =
 AreOnTime within timing phase last now (HasRoleAgain ∷ es) end = AreOnTime within timing (phase_again within now last) last now es end
 AreOnTime within timing phase last now (SeesFault number fault ∷ es) end = ⊥
 AreOnTime within timing phase last now (Changes terms asked ∷ es) end = AreOnTime within timing phase last now es end
+AreOnTime within timing phase last now (Judges moment is_set ∷ es) end = AreOnTime within timing phase last now es end
+AreOnTime within timing phase last now (Refuses groups ∷ es) end = (groups ≡ []) × AreOnTime within timing phase last now es end
 
 abbrev pub IsOnTime : (within : ℕ) → Timing → (end : ℕ) → List CheckEvent → Type 0
 IsOnTime within timing end events = AreOnTime within timing (phase_at_start timing) None 0 events end

@@ -3,7 +3,7 @@ use Rattle.std.specs.Prelude.{ℕ, ◌<◌, Bool, if◌then◌else◌, List, [],
 use Rattle.std.specs.List.Sorted.{IsStrictlyIncreasing}
 use Rattle.mq_table.specs.declared.timing.Timing.{Timing}
 use Rattle.mq_table.specs.Sets.{Set, ◌∩◌, ◌∖◌}
-use Rattle.mq_table.specs.Sendings.{has_sendings, above}
+use Rattle.mq_table.specs.Retransmissions.{has_retransmissions, above}
 use Rattle.mq_sched.specs.Schedule.{ScheduledGroup, IsScheduleOf}
 use Rattle.mq_sched.specs.Sending.{SentQuery, GeneralQuery, GroupQuery, SourcesQuery, acted, is_due, sources_where, messages_due, after_round}
 
@@ -41,36 +41,36 @@ IsFitting e = IsScheduleOf e.group e.schedule
 abbrev pub AscendIn : List SentQuery → Type 0
 AscendIn [] = Unit {0}
 AscendIn (GeneralQuery ∷ queries) = AscendIn queries
-AscendIn (GroupQuery group flag ∷ queries) = AscendIn queries
-AscendIn (SourcesQuery group flag sources ∷ queries) =
+AscendIn (GroupQuery group suppress ∷ queries) = AscendIn queries
+AscendIn (SourcesQuery group suppress sources ∷ queries) =
     (0 < length sources) × IsStrictlyIncreasing sources × AscendIn queries
 
 -- the lists of sources of a round's queries with S set, and of those with S clear
 abbrev pub set_portions : List SentQuery → List (List ℕ)
 set_portions [] = []
 set_portions (GeneralQuery ∷ queries) = set_portions queries
-set_portions (GroupQuery group flag ∷ queries) = set_portions queries
-set_portions (SourcesQuery group flag sources ∷ queries) =
-    if flag then sources ∷ set_portions queries else set_portions queries
+set_portions (GroupQuery group suppress ∷ queries) = set_portions queries
+set_portions (SourcesQuery group suppress sources ∷ queries) =
+    if suppress then sources ∷ set_portions queries else set_portions queries
 
 abbrev pub clear_portions : List SentQuery → List (List ℕ)
 clear_portions [] = []
 clear_portions (GeneralQuery ∷ queries) = clear_portions queries
-clear_portions (GroupQuery group flag ∷ queries) = clear_portions queries
-clear_portions (SourcesQuery group flag sources ∷ queries) =
-    if flag then clear_portions queries else sources ∷ clear_portions queries
+clear_portions (GroupQuery group suppress ∷ queries) = clear_portions queries
+clear_portions (SourcesQuery group suppress sources ∷ queries) =
+    if suppress then clear_portions queries else sources ∷ clear_portions queries
 
 -- the sources that a round has to ask for with S set, and with S clear, ascending
 abbrev pub set_sources : Round → List ℕ
 set_sources r =
     let g = r.before.group in
     if is_due r.now r.before.schedule.sources_due
-    then sources_where (has_sendings g ∩ above r.timing r.now g) g
+    then sources_where (has_retransmissions g ∩ above r.timing r.now g) g
     else []
 
 abbrev pub clear_sources : Round → List ℕ
 clear_sources r =
     let g = r.before.group in
     if is_due r.now r.before.schedule.sources_due
-    then sources_where (has_sendings g ∖ above r.timing r.now g) g
+    then sources_where (has_retransmissions g ∖ above r.timing r.now g) g
     else []

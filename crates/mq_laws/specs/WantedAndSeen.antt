@@ -8,7 +8,7 @@ use Rattle.mq_check.specs.declared.terms.Terms.{Terms}
 use Rattle.mq_check.specs.Checking.{CheckingValue, checking_at_start, subject_wanted}
 use Rattle.mq_check.specs.Queries.{is_same}
 use Rattle.mq_check.specs.Schedules.{terms_wanted}
-use Rattle.mq_laws.specs.Events.{CheckEvent, Comes, Wants, Sees, SeesGeneral, LosesRole, HasRoleAgain, SeesFault, Changes, check_by, moment_behind}
+use Rattle.mq_laws.specs.Events.{CheckEvent, Comes, Wants, Sees, SeesGeneral, LosesRole, HasRoleAgain, SeesFault, Changes, Judges, check_by, moment_behind, Refuses}
 use Rattle.mq_laws.specs.Pairing.{Ask}
 
 -- The expected queries by one query of the link, one for each thing that it asks about. A query that a tick sends again
@@ -28,6 +28,8 @@ asks_by now LosesRole c = []
 asks_by now HasRoleAgain c = []
 asks_by now (SeesFault number fault) c = []
 asks_by now (Changes terms asked) c = []
+asks_by now (Judges moment is_set) c = []
+asks_by now (Refuses groups) c = []
 
 -- the expected queries by several events, if `c` is the check before them
 abbrev pub wanted_in : (within : ℕ) → Timing → (now : ℕ) → List CheckEvent → CheckingValue → List Ask
@@ -99,6 +101,8 @@ seen_in within is_querier r now (LosesRole ∷ es) = seen_in within false r now 
 seen_in within is_querier r now (HasRoleAgain ∷ es) = seen_in within true r now es
 seen_in within is_querier r now (SeesFault number fault ∷ es) = seen_in within is_querier r now es
 seen_in within is_querier r now (Changes terms asked ∷ es) = seen_in within is_querier r now es
+seen_in within is_querier r now (Judges moment is_set ∷ es) = seen_in within is_querier r now es
+seen_in within is_querier r now (Refuses groups ∷ es) = seen_in within is_querier r now es
 
 abbrev pub all_seen_in : (within : ℕ) → List CheckEvent → List Ask
 all_seen_in within events = seen_in within true none_returned 0 events

@@ -1,7 +1,7 @@
 //! Laws of the check of a capture: its definition (`mq_check`) means what it is for. The functions have no effect at
 //! run time: each contract is a law, for every configuration and tolerance. Those on findings are about checks from the
-//! querier's beginning (`began`). Nothing is found of a right querier, strict or not. A strict check finds the queries missing
-//! that it leaves out; another one finds them possibly missing if changes come close together.
+//! querier's beginning (`began`) whose link refuses no record. Nothing is found of a right querier, strict or not. A strict
+//! check finds the queries missing that it leaves out; another one finds them possibly missing if changes come close together.
 //!
 //! - The text of a check follows from its events: `checks_tell_what_happened`.
 //! - If the queries of a capture are those of the link at their moments: `nothing_is_found`.
@@ -13,7 +13,8 @@
 //! - The times of general queries: `general_queries_are_on_time_at_these_intervals`.
 //! - The existence of such checks: `a_check_of_two_queries`.
 //! - The findings that are left out if a changed variable is reported once: `only_repeated_differences_are_left_out`.
-ghost use Rattle.std.specs.Prelude.{◌≡◌, ◌↔◌, ℕ, Bool, ◌+◌, ◌-◌, ◌≤◌, List, [], ◌∷◌, ◌++◌, None, false, true};
+//! - Certain and possible findings: `possible_findings_stand_apart`.
+ghost use Rattle.std.specs.Prelude.{◌≡◌, ◌↔◌, ℕ, Bool, ◌+◌, ◌-◌, ◌≤◌, List, [], ◌∷◌, ◌++◌, None, false, length, true};
 ghost use Rattle.mq_table.specs.declared.timing.Timing.{Timing};
 ghost use Rattle.mq_table.specs.Timing.{query_interval};
 ghost use Rattle.mq_check.specs.declared.phase.Phase.TheVariants.{Starting, Heard, Returned};
@@ -24,11 +25,13 @@ ghost use Rattle.mq_check.specs.declared.finding.Difference.{Difference};
 ghost use Rattle.mq_check.specs.declared.finding.Finding.{Finding};
 ghost use Rattle.mq_check.specs.declared.finding.Finding.TheVariants.{Differs};
 ghost use Rattle.mq_check.specs.declared.repeated.LastDifferences.{LastDifferences};
+ghost use Rattle.mq_check.specs.FindingLines.{certain_in, finding_lines, possible_in};
 ghost use Rattle.mq_check.specs.General.{silence_up_to, wrong_interval};
 ghost use Rattle.mq_check.specs.Repeated.{all_reported, repeats, reported, with_finding};
 ghost use Rattle.mq_link.specs.Configuration.{IsFaultless};
+ghost use Rattle.mq_wire.specs.Family.{Family};
 ghost use Rattle.mq_laws.specs.OnTime.{AreAhead, AreInOrder, IsOnTime, IsWantedInterval};
-ghost use Rattle.mq_laws.specs.AsWanted.{AreSeen, AreSeenWithin, IsAsWanted, TakesOut, all_missing};
+ghost use Rattle.mq_laws.specs.AsWanted.{AreSeen, AreSeenWithin, IsAsWanted, IsFromTheBeginning, TakesOut, all_missing};
 ghost use Rattle.mq_laws.specs.Events.{CheckEvent, HasRoom, found_by};
 ghost use Rattle.mq_laws.specs.WantedAndSeen.{all_wanted_in};
 ghost use Rattle.mq_laws.specs.CheckExamples.{IsExample, all_answered, began, example_expected, example_timing, first_ask, last_ask, one_left_out, second_ask};
@@ -72,7 +75,7 @@ pub fn queries_are_kept_for_these_times()
 /// come after the time for which it is kept. Each finding is there once, in the order in which the queries are expected.
 pub fn what_was_left_out_is_missing()
     ensures { (within : ℕ) (timing : Timing) (flags : CheckFlags) (end : ℕ) (expected : List Expected) (events ahead : List CheckEvent)
-        → flags.began ≡ true → AreInOrder 0 events end → AreAhead within end ahead → IsAsWanted within timing flags end expected events
+        → IsFromTheBeginning flags → AreInOrder 0 events end → AreAhead within end ahead → IsAsWanted within timing flags end expected events
         → HasRoom within timing flags end events ahead
         → found_by within timing flags end events ahead ≡ missing_of expected }
 {}
@@ -80,7 +83,7 @@ pub fn what_was_left_out_is_missing()
 /// A lemma: nothing is found if the seen queries are the expected ones, at their moments.
 pub fn nothing_is_found()
     ensures { (within : ℕ) (timing : Timing) (flags : CheckFlags) (end : ℕ) (events ahead : List CheckEvent)
-        → flags.began ≡ true → AreInOrder 0 events end → AreAhead within end ahead → IsOnTime within timing end events
+        → IsFromTheBeginning flags → AreInOrder 0 events end → AreAhead within end ahead → IsOnTime within timing end events
         → HasRoom within timing flags end events ahead
         → AreSeen within (all_wanted_in within timing flags events) events → found_by within timing flags end events ahead ≡ [] }
 {}
@@ -89,7 +92,7 @@ pub fn nothing_is_found()
 /// and the end come after the time for which they are kept.
 pub fn what_is_taken_out_is_missing()
     ensures { (within : ℕ) (timing : Timing) (flags : CheckFlags) (end : ℕ) (events ahead : List CheckEvent) (before taken behind : List Ask)
-        → flags.began ≡ true → AreInOrder 0 events end → AreAhead within end ahead → IsOnTime within timing end events
+        → IsFromTheBeginning flags → AreInOrder 0 events end → AreAhead within end ahead → IsOnTime within timing end events
         → HasRoom within timing flags end events ahead
         → all_wanted_in within timing flags events ≡ before ++ taken ++ behind → TakesOut flags.strict (kept_for within timing flags) end taken behind
         → AreSeen within (before ++ behind) events → found_by within timing flags end events ahead ≡ all_missing taken }
@@ -99,7 +102,7 @@ pub fn what_is_taken_out_is_missing()
 /// keep their order.
 pub fn nothing_is_found_of_moved_queries()
     ensures { (within : ℕ) (timing : Timing) (flags : CheckFlags) (end : ℕ) (events ahead : List CheckEvent)
-        → flags.began ≡ true → AreInOrder 0 events end → AreAhead within end ahead → IsOnTime within timing end events
+        → IsFromTheBeginning flags → AreInOrder 0 events end → AreAhead within end ahead → IsOnTime within timing end events
         → HasRoom within timing flags end events ahead
         → AreSeenWithin within (all_wanted_in within timing flags events) events → found_by within timing flags end events ahead ≡ [] }
 {}
@@ -107,7 +110,7 @@ pub fn nothing_is_found_of_moved_queries()
 /// A lemma: the check of a capture with these queries says that nothing is found, and no more.
 pub fn clean_captures_are_told_so()
     ensures { (c : CheckedCapture)
-        → c.flags.began ≡ true → IsFaultless c.config → CameToItsEnd c → IsOnTime c.within c.config.timing (end_in c) (events_in c)
+        → IsFromTheBeginning c.flags → IsFaultless c.config → CameToItsEnd c → IsOnTime c.within c.config.timing (end_in c) (events_in c)
         → AreSeenWithin c.within (all_wanted_in c.within c.config.timing c.flags (events_in c)) (events_in c) → IsClean c }
 {
     what_happens_comes_in_order();
@@ -116,7 +119,7 @@ pub fn clean_captures_are_told_so()
 /// A lemma: the check says what was left out, and no more.
 pub fn what_was_left_out_is_told()
     ensures { (c : CheckedCapture) (expected : List Expected)
-        → c.flags.began ≡ true → IsFaultless c.config → CameToItsEnd c → IsAsWanted c.within c.config.timing c.flags (end_in c) expected (events_in c)
+        → IsFromTheBeginning c.flags → IsFaultless c.config → CameToItsEnd c → IsAsWanted c.within c.config.timing c.flags (end_in c) expected (events_in c)
         → Tells c (missing_of expected) }
 {
     what_happens_comes_in_order();
@@ -132,6 +135,14 @@ pub fn only_repeated_differences_are_left_out()
     ensures repeated { (moment packet moment' packet' : ℕ) (asked : Asked ℕ) (difference : Difference ℕ) (last : LastDifferences)
         → is_of_variable difference ≡ true
         → repeats (Differs moment' packet' asked difference) (with_finding (Differs moment packet asked difference) last) ≡ true }
+{}
+
+/// A lemma: each finding is either certain or possible. Without `possible`, the text has the lines of the certain ones
+/// alone, whatever is possible.
+pub fn possible_findings_stand_apart()
+    ensures parted { (found : List (Finding ℕ)) → length found ≡ length (certain_in found) + length (possible_in found) }
+    ensures unasked { (family : Family) (additions : Additions) (found : List (Finding ℕ))
+        → additions.possible ≡ false → finding_lines family additions found ≡ finding_lines family additions (certain_in found) }
 {}
 
 /// A lemma: the times of general queries, each within the tolerance. The first comes at most a query interval after the

@@ -8,7 +8,7 @@ ghost use Rattle.mq_table.specs.declared.older_hosts.Hosts.{Hosts};
 ghost use Rattle.mq_table.specs.declared.timing.Timing.{Timing};
 ghost use Rattle.mq_count.specs.declared.versions.OlderVersion.{OlderVersion};
 ghost use Rattle.mq_table.specs.Sets.{Set, ◌∪◌};
-ghost use Rattle.mq_table.specs.Group.{GroupState, running, timer_at, deadline_of, sendings_of, group_deadline, forwards_in, vacant, IsWellFormed, IsAnyGroup};
+ghost use Rattle.mq_table.specs.Group.{GroupState, running, timer_at, deadline_of, retransmissions_of, group_deadline, forwards_in, vacant, IsWellFormed, IsAnyGroup};
 ghost use Rattle.mq_table.specs.Timing.{membership_interval};
 ghost use Rattle.mq_table.specs.Table.{NamedSources};
 ghost use Rattle.mq_table.specs.OlderHosts.{translated, older_report};
@@ -69,10 +69,10 @@ pub fn records_change_what_they_name()
         → (table_row_for r).copy s ≡ true
         → deadline_of (timer_at (group_after r) s) ≡ group_deadline r.group.mode }
 
-    // A source that runs has as many sendings to go as before, and none if it didn't run.
-    ensures sendings { (r : Arrival) (s : ℕ)
+    // A source that runs has as many retransmissions to go as before, and none if it didn't run.
+    ensures retransmissions { (r : Arrival) (s : ℕ)
         → running (group_after r) s ≡ true
-        → sendings_of (timer_at (group_after r) s) ≡ sendings_of (timer_at r.group s) }
+        → retransmissions_of (timer_at (group_after r) s) ≡ retransmissions_of (timer_at r.group s) }
 
     // A source that the record doesn't name is unchanged, or gone.
     ensures unnamed { (r : Arrival) (s : ℕ)

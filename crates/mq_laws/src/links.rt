@@ -23,13 +23,13 @@ ghost use Rattle.mq_link.specs.declared.answers.Refusal.{Refusal};
 ghost use Rattle.mq_link.specs.declared.answers.DropReason.{DropReason};
 ghost use Rattle.mq_link.specs.declared.answers.Received.TheVariants.{Dropped};
 ghost use Rattle.mq_link.specs.Family.{is_admitted};
-ghost use Rattle.mq_link.specs.Configuration.{Configuration, IsFaultless};
+ghost use Rattle.mq_link.specs.Configuration.{Configuration, IsFaultless, is_allowed};
 ghost use Rattle.mq_link.specs.Configuring.{config_after, configure_fault, state_configured};
-ghost use Rattle.mq_link.specs.Counters.{Ignored, Refused, is_applied, counted_at, kind_number};
+ghost use Rattle.mq_link.specs.Counters.{Denied, Ignored, Refused, is_applied, counted_at, kind_number};
 ghost use Rattle.mq_link.specs.State.{Groups, LinkState, IsWellFormed, forwards, link_at, sources_of, sources_in, schedules_in};
 ghost use Rattle.mq_link.specs.Forwarding.{AreThose, changed_by_datagram, changed_by_event, changed_by_tick};
 ghost use Rattle.mq_link.specs.Tick.{Step, moment_of, tick_of, next_of, waited};
-ghost use Rattle.mq_link.specs.Record.{Setting, Statement, Seen, met, kind_named, limit_passed, change_in, stated, judged};
+ghost use Rattle.mq_link.specs.Record.{Setting, Statement, Seen, met, kind_named, leaving, limit_passed, change_in, stated, stated_alone, judged};
 ghost use Rattle.mq_link.specs.Heard.{groups_cleared, query_heard};
 ghost use Rattle.mq_link.specs.Receive.{Envelope, read_of, pseudo_of, kind_of, receipt_of};
 ghost use Rattle.mq_link.specs.Run.{Event, Happening, answered, step_of, answer_to, HandsOut, Run, events_of, events_alone};
@@ -106,8 +106,8 @@ pub fn refused_and_ignored_records_change_nothing()
     ensures record_of { (at : Setting) (seen : Seen) (r : RecordView ℕ) (groups : Groups)
         → is_applied (judged at seen r groups).verdict ≡ false → ChangesNothing groups (judged at seen r groups) }
     ensures statement { (at : Setting) (group : ℕ) (statement : Statement) (groups : Groups)
-        → is_applied (stated at group statement groups).verdict ≡ false
-        → ChangesNothing groups (stated at group statement groups) }
+        → is_applied (stated_alone at group statement groups).verdict ≡ false
+        → ChangesNothing groups (stated_alone at group statement groups) }
 {}
 
 /// A lemma: a dropped datagram has the effect of the tick at its moment, except for the counters.
@@ -203,20 +203,28 @@ pub fn limits_are_named_in_their_order()
         → limit_passed limits groups changed ≡ None }
 {}
 
-/// A lemma: a record of an unknown type or for a group that isn't admitted is ignored. Any other is too long exactly if
-/// it names more sources than a group may have. If it isn't too long, it is repeated exactly if four records of its
+/// A lemma: a record of an unknown type or for a group that isn't admitted is ignored. So is one for a group for which
+/// hosts may not ask, which has a count of its own. Any other is too long exactly if it names more sources than a group
+/// may have. If it isn't too long, it is repeated exactly if four records of its
 /// datagram met its group, which is held. Memory is never named.
 pub fn other_refusals()
     ensures unknown { (at : Setting) (seen : Seen) (r : RecordView ℕ) (groups : Groups)
         → kind_named r.kind ≡ None → (judged at seen r groups).verdict ≡ Ignored }
     ensures not_admitted { (at : Setting) (seen : Seen) (r : RecordView ℕ) (groups : Groups)
         → is_admitted at.config.family r.group ≡ false → (judged at seen r groups).verdict ≡ Ignored }
+    ensures denied { (at : Setting) (seen : Seen) (r : RecordView ℕ) (groups : Groups) (kind : Kind)
+        → kind_named r.kind ≡ Some kind → is_admitted at.config.family r.group ≡ true
+        → is_allowed at.config r.group ≡ false → (judged at seen r groups).verdict ≡ Denied }
+    ensures denied_alone { (at : Setting) (group : ℕ) (statement : Statement) (groups : Groups)
+        → is_allowed at.config group ≡ false → stated_alone at group statement groups ≡ leaving groups Denied }
     ensures long { (at : Setting) (seen : Seen) (r : RecordView ℕ) (groups : Groups) (kind : Kind)
         → kind_named r.kind ≡ Some kind → is_admitted at.config.family r.group ≡ true
+        → is_allowed at.config r.group ≡ true
         → ((judged at seen r groups).verdict ≡ Refused Refusal.Long)
         ↔ (nat_lt at.config.limits.group_sources (length r.sources) ≡ true) }
     ensures repeated { (at : Setting) (seen : Seen) (r : RecordView ℕ) (groups : Groups) (kind : Kind)
         → kind_named r.kind ≡ Some kind → is_admitted at.config.family r.group ≡ true
+        → is_allowed at.config r.group ≡ true
         → nat_lt at.config.limits.group_sources (length r.sources) ≡ false
         → ((judged at seen r groups).verdict ≡ Refused Refusal.Repeated)
         ↔ ((map.contains_key groups r.group && nat_le 4 (met seen r.group)) ≡ true) }

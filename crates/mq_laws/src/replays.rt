@@ -7,7 +7,8 @@ ghost use Rattle.mq_link.specs.Configuration.{Configuration, IsFaultless};
 ghost use Rattle.mq_link.specs.Forwarding.{AreThose, changed_by_datagram, changed_by_tick};
 ghost use Rattle.mq_link.specs.State.{IsWellFormed, LinkState};
 ghost use Rattle.mq_link.specs.Tick.{next_of};
-ghost use Rattle.mq_replay.specs.Report.{Datagram, Replayed, changed_at, those_among, ticked_before};
+ghost use Rattle.mq_replay.specs.Report.{Replayed, changed_at, those_among, ticked_before};
+ghost use Rattle.mq_walk.specs.Datagrams.{Datagram};
 
 use crate::links::{links_keep_form_and_limits, ticks_are_quiet_until_the_next_moment};
 

@@ -2,11 +2,11 @@
 //! group with its schedule, every moment and every timing.
 
 ghost use Rattle.std.specs.Prelude.{◌≡◌, ℕ, ◌+◌, ◌<◌, true, false, ◌&&◌, [], length};
-ghost use Rattle.mq_table.specs.Group.{GroupState, timer_at, deadline_of, sendings_of, group_deadline, IsWellFormed};
+ghost use Rattle.mq_table.specs.Group.{GroupState, timer_at, deadline_of, retransmissions_of, group_deadline, IsWellFormed};
 ghost use Rattle.mq_table.specs.Expiry.{expired};
 ghost use Rattle.mq_laws.specs.Groups.{Arrival, group_after, IsNoLater};
 ghost use Rattle.std.specs.List.{concat};
-ghost use Rattle.mq_table.specs.Sendings.{has_sendings};
+ghost use Rattle.mq_table.specs.Retransmissions.{has_retransmissions};
 ghost use Rattle.mq_sched.specs.Portions.{AllButLast};
 ghost use Rattle.mq_sched.specs.Schedule.{query_sendings, ScheduleState, ScheduledGroup, IsScheduleOf, settled, cleared};
 ghost use Rattle.mq_sched.specs.Sending.{is_due, group_due, messages_due};
@@ -17,15 +17,15 @@ ghost use Rattle.mq_sched.specs.Rounds.{asked_in, asks_group, IsQuietAt};
 
 use mq_table::Timing;
 
-/// A lemma: a round asks for the sources that have a sending to go, if they are due. Afterwards each of them has
+/// A lemma: a round asks for the sources that have a retransmission to go, if they are due. Afterwards each of them has
 /// exactly one fewer, every other timer is unchanged, and no deadline moves.
 pub fn a_round_counts_its_sources_down()
     ensures asked { (r : Round) (s : ℕ)
         → 0 < r.per_query
-        → asked_in (queries_of r) s ≡ (is_due r.now r.before.schedule.sources_due && has_sendings r.before.group s) }
+        → asked_in (queries_of r) s ≡ (is_due r.now r.before.schedule.sources_due && has_retransmissions r.before.group s) }
     ensures fewer { (r : Round) (s : ℕ)
         → 0 < r.per_query → asked_in (queries_of r) s ≡ true
-        → sendings_of (timer_at (state_after r).group s) + 1 ≡ sendings_of (timer_at r.before.group s) }
+        → retransmissions_of (timer_at (state_after r).group s) + 1 ≡ retransmissions_of (timer_at r.before.group s) }
     ensures others { (r : Round) (s : ℕ)
         → 0 < r.per_query → asked_in (queries_of r) s ≡ false
         → timer_at (state_after r).group s ≡ timer_at r.before.group s }

@@ -5,7 +5,7 @@ ghost use Rattle.mq_link.specs.Events.{moment_at};
 
 use crate::family::Written;
 use mq_count::Moment;
-use mq_link::{Config, Event, Family, Limits};
+use mq_link::{Config, Event, Family, GroupRange, Limits, Ranges};
 use std::alloc::{AllocError, Global};
 use std::io::{self, ErrorKind};
 
@@ -33,12 +33,38 @@ impl<F: Family> Given<F> {
     }
 }
 
-/// Reads the words of a configuration, in the order of `Config::new`.
+/// The number of words of a configuration before those of its ranges.
+const FIXED: usize = 11;
+
+/// Reads the words of ranges of groups: for each `allow` or `deny`, an address and a length.
+fn ranges_of<F: Written>(words: &[&str]) -> Option<Ranges> {
+    let mut ranges = Ranges::none();
+    for range in words.chunks(3) {
+        let [rule, address, length] = range else {
+            return None;
+        };
+        let range = GroupRange {
+            address: F::number(F::address(address)?),
+            length: length.parse::<u8>().ok()?,
+            allows: *rule == "allow",
+        };
+        if !ranges.push(range) {
+            return None;
+        }
+    }
+    Some(ranges)
+}
+
+/// Reads the words of a configuration, in the order of C's settings, and then those of its ranges.
 pub fn config_of<F: Written>(words: &[&str]) -> Option<Config<F>> {
-    let [numbers @ .., own, source_specific] = words else {
+    if words.len() < FIXED {
+        return None;
+    }
+    let (fixed, ranges) = words.split_at(FIXED);
+    let [numbers @ .., own, source_specific] = fixed else {
         return None;
     };
-    let mut read = [0; 8];
+    let mut read = [0; 9];
     if numbers.len() != read.len() {
         return None;
     }
@@ -50,6 +76,7 @@ pub fn config_of<F: Written>(words: &[&str]) -> Option<Config<F>> {
         query_seconds,
         response,
         last_member,
+        last_member_query_count,
         groups,
         group_sources,
         sources,
@@ -70,7 +97,10 @@ pub fn config_of<F: Written>(words: &[&str]) -> Option<Config<F>> {
         F::address(own)?,
         *source_specific != "0",
     );
-    config.ok()
+    let counted = config
+        .ok()?
+        .with_last_member_query_count(last_member_query_count);
+    Some(counted.ok()?.with_ranges(ranges_of::<F>(ranges)?))
 }
 
 /// Reads a line: an event.

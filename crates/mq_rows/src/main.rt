@@ -2,14 +2,16 @@
 //! Between them the link gets other configurations. `tools/links` compares that with the link for C.
 //!
 //! ```text
-//! link sent igmp 2 125 10000 1000 1024 366 16384 256 10.0.0.9 0
+//! link sent igmp 2 125 10000 1000 0 1024 366 16384 256 10.0.0.9 0
 //! tick 0
 //! datagram 1000 10.0.0.1 1600f8faef010203
-//! configure 2 20 10000 1000 1024 366 16384 256 10.0.0.9 0
+//! configure 2 20 10000 1000 0 1024 366 16384 256 10.0.0.9 0
 //! ```
 //!
-//! The first line has whether the outlet sends the queries, and the configuration in the order of `Config::new`. A
-//! configuration that is refused changes nothing. The program prints the queries in the form of the library for C, then the groups, the counters and the rest of the state.
+//! The first line has whether the outlet sends the queries. Then it has the configuration in the order of C's settings, and
+//! `allow ADDRESS LENGTH` or `deny ADDRESS LENGTH` for each range of groups. A configuration that is refused changes
+//! nothing. The program prints the queries in the form of the library for C, then the groups, the counters and the rest of
+//! the state.
 #![tactic(auto)]
 
 mod family;

@@ -91,6 +91,7 @@ fn put_counts<W: Write>(counts: &Counts, out: &mut W) -> io::Result<()> {
         counts.refused_by(Refusal::Memory),
         counts.sent(),
         counts.unsent(),
+        counts.denied(),
     ];
     write!(out, "counts")?;
     for number in numbers {

@@ -1,5 +1,5 @@
-//! The effect of a record on a group in each row of the tables: its sources with their sendings to go, and its queries.
-//! RFC 3376 section 6.4, RFC 3810 section 7.4.
+//! The effect of a record on a group in each row of the tables: its sources with their retransmissions to go, and its
+//! queries. RFC 3376 section 6.4, RFC 3810 section 7.4.
 
 ghost use Rattle.std.specs.Prelude.{◌≡◌, ◌≤◌, ◌^◌};
 
@@ -10,7 +10,7 @@ use mq_sets::SourceSet;
 use mq_table::{Change, Group, Kind, SourceTimer, Timing};
 use std::alloc::Global;
 
-/// A source: its letter, with the deadline of its timer and its sendings to go, or None if the timer is stopped.
+/// A source: its letter, with the deadline of its timer and its retransmissions to go, or None if the timer is stopped.
 type Listed = (u8, Option<(u64, u32)>);
 
 /// A group: the deadline of EXCLUDE, and its sources in ascending order.
@@ -221,7 +221,7 @@ fn asked(alloc: Global, group: &Group<Addr4>, at: u64) -> Result<Group<Addr4>, &
         query,
         ..
     } = change;
-    asked.start_sendings(query.as_slice(), now, &timing, &mut m);
+    asked.start_retransmissions(query.as_slice(), now, &timing, &mut m);
     Ok(asked)
 }
 
@@ -238,16 +238,16 @@ fn before(alloc: Global, row: &Row) -> Result<Group<Addr4>, &'static str> {
     asked(alloc, &group, at)
 }
 
-/// Returns whether a timer is that of a listed source, with its sendings to go.
+/// Returns whether a timer is that of a listed source, with its retransmissions to go.
 fn is_timer(timer: SourceTimer, listed: Option<(u64, u32)>) -> bool {
     let Some((deadline, left)) = listed else {
         return timer.deadline().is_none();
     };
-    let sendings = match timer {
+    let retransmissions = match timer {
         SourceTimer::Stopped => 0,
-        SourceTimer::Running(_, sendings) => sendings,
+        SourceTimer::Running(_, retransmissions) => retransmissions,
     };
-    are_equal(timer.deadline(), Moment::from_ms(deadline)) && sendings == left
+    are_equal(timer.deadline(), Moment::from_ms(deadline)) && retransmissions == left
 }
 
 /// Returns what of a group differs from the state of a row.
@@ -267,7 +267,7 @@ fn wrong_group(group: &Group<Addr4>, state: &State) -> Option<&'static str> {
             return Some("a source");
         }
         if !is_timer(source.timer, listed.1) {
-            return Some("a timer or its sendings");
+            return Some("a timer or its retransmissions");
         }
     }
     None

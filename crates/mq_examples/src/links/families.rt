@@ -9,9 +9,10 @@ ghost use Rattle.mq_sched.specs.Examples.{the_group};
 ghost use Rattle.mq_sched.specs.Sending.{GeneralQuery, GroupQuery, SourcesQuery};
 ghost use Rattle.mq_link.specs.Family.{is_admitted, in_source_specific_range, is_link_local, is_router_address};
 ghost use Rattle.mq_link.specs.Configuration.{configuration_fault};
+ghost use Rattle.mq_link.specs.Ranges.{is_allowed_by};
 ghost use Rattle.mq_link.specs.Counters.{Applied, Ignored, Refused};
 ghost use Rattle.mq_link.specs.Sent.{fields_sent, outgoing};
-ghost use Rattle.mq_examples.specs.Links.{igmp, mld, limited, mld_limited, timed, owned, mld_owned, source_specific_mld, host, ipv4, from, mld_from, link_local, a_source, a_group, a_source_specific_group, octets, listed, early, asking, saying, Comes, Becomes};
+ghost use Rattle.mq_examples.specs.Links.{igmp, mld, limited, mld_limited, timed, queried, owned, mld_owned, source_specific_mld, host, ipv4, range, from, mld_from, link_local, a_source, a_group, a_source_specific_group, octets, listed, early, asking, saying, Comes, Becomes};
 
 use mq_link::{ConfigFault, DropReason, LimitName, Received, Refusal};
 
@@ -45,6 +46,25 @@ pub fn source_specific_ranges()
     ensures other_flags { in_source_specific_range Mld a_group ≡ false }
 {}
 
+/// The ranges of groups that hosts may ask for.
+pub fn ranges_of_groups()
+    ensures none { is_allowed_by Igmp [] (ipv4 239 1 2 3) ≡ true }
+    ensures allowed { is_allowed_by Igmp (range (ipv4 239 1 0 0) 16 true ∷ []) (ipv4 239 1 255 255) ≡ true }
+    ensures no_other { is_allowed_by Igmp (range (ipv4 239 1 0 0) 16 true ∷ []) (ipv4 239 2 0 0) ≡ false }
+    ensures denied { is_allowed_by Igmp (range (ipv4 239 1 2 3) 31 false ∷ []) (ipv4 239 1 2 2) ≡ false }
+    ensures below { is_allowed_by Igmp (range (ipv4 239 1 2 3) 31 false ∷ []) (ipv4 239 1 2 1) ≡ true }
+    ensures above { is_allowed_by Igmp (range (ipv4 239 1 2 3) 31 false ∷ []) (ipv4 239 1 2 4) ≡ true }
+    ensures first { is_allowed_by Igmp (range (ipv4 239 1 2 0) 24 false ∷ range (ipv4 239 1 0 0) 16 true ∷ []) (ipv4 239 1 2 3) ≡ false }
+    ensures second { is_allowed_by Igmp (range (ipv4 239 1 2 0) 24 false ∷ range (ipv4 239 1 0 0) 16 true ∷ []) (ipv4 239 1 3 3) ≡ true }
+    ensures neither { is_allowed_by Igmp (range (ipv4 239 1 2 0) 24 false ∷ range (ipv4 239 1 0 0) 16 true ∷ []) (ipv4 239 2 3 3) ≡ false }
+    ensures all { is_allowed_by Igmp (range 0 0 false ∷ []) (ipv4 239 255 255 255) ≡ false }
+    ensures longer { is_allowed_by Igmp (range (ipv4 239 1 2 3) 40 false ∷ []) (ipv4 239 1 2 3) ≡ false }
+    ensures one { is_allowed_by Igmp (range (ipv4 239 1 2 3) 40 false ∷ []) (ipv4 239 1 2 2) ≡ true }
+    ensures mld { is_allowed_by Mld (range (0xff0e * 2 ^ 112) 16 false ∷ []) (0xff0e * 2 ^ 112 + 1) ≡ false }
+    ensures mld_other { is_allowed_by Mld (range (0xff0e * 2 ^ 112) 16 false ∷ []) (0xff0f * 2 ^ 112 + 1) ≡ true }
+    ensures mld_one { is_allowed_by Mld (range (0xff0e * 2 ^ 112) 128 false ∷ []) (0xff0e * 2 ^ 112 + 1) ≡ true }
+{}
+
 /// The addresses that a router may have, and link-local ones.
 pub fn router_addresses()
     ensures zero { is_router_address Igmp (ipv4 0 0 0 0) ≡ false }
@@ -74,6 +94,8 @@ pub fn configuration_faults()
     ensures last_member { configuration_fault (timed 2 125 10000 50) ≡ Some ConfigFault.LastMember }
     ensures least_last_member { configuration_fault (timed 2 125 10000 100) ≡ None }
     ensures greater_last_member { configuration_fault (timed 2 125 10000 3174401) ≡ Some ConfigFault.LastMember }
+    ensures greatest_count { configuration_fault (queried 7) ≡ None }
+    ensures greater_count { configuration_fault (queried 8) ≡ Some ConfigFault.LastMemberCount }
     ensures no_response_of_mld { configuration_fault (record mld { timing = (timed 2 125 0 1000).timing })
         ≡ Some ConfigFault.ResponseInterval }
     ensures units_of_mld { configuration_fault (record mld { timing = (timed 2 125 1 1).timing }) ≡ None }

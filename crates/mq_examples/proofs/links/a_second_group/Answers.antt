@@ -1,6 +1,4 @@
-use Rattle.mq_examples.proofs.Common.{refl}
-use Rattle.mq_wire.specs.Spelling.{fault_of}
-use Rattle.mq_link.specs.Receive.{read_of}
+use Rattle.mq_examples.proofs.Common.{refl, fault_of, read_of}
 use Rattle.mq_examples.proofs.Worked.{comes}
 use Rattle.mq_examples.proofs.links.a_second_group.Goals as goal
 

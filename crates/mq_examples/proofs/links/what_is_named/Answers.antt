@@ -1,6 +1,5 @@
-use Rattle.mq_examples.proofs.Common.{ℕ, List, [], ◌∷◌, refl, Include, until, the_group, ListedLink, early, from, host, igmp, listed, octets, saying}
-use Rattle.mq_wire.specs.Spelling.{fault_of}
-use Rattle.mq_link.specs.Receive.{read_of}
+use Rattle.mq_examples.proofs.Common.{ℕ, List, [], ◌∷◌, refl, Include, until, the_group, ListedLink, early, from, host, igmp, listed, octets, saying, fault_of}
+use Rattle.mq_examples.proofs.Common.{read_of}
 use Rattle.mq_examples.proofs.KnownChanges.{Reports, record_leaves, record_names, tick_names}
 use Rattle.mq_examples.proofs.links.what_is_named.Goals as goal
 

@@ -1,10 +1,6 @@
-use Rattle.mq_examples.proofs.Common.{◌∷◌, [], None, Ok, refl, ap, ◌∙◌, take, drop, arith, igmp, one_report, totals_of}
-use Rattle.mq_wire.specs.{Spelling.fault_of, Codes.code_of}
-use Rattle.mq_pcap.specs.{Capture.header_in, Capture.header_of, Frame.in_ethernet, Frame.in_ipv4, Frame.in_type}
-use Rattle.std.specs.Fmt.{digits}
-use Rattle.hex.specs.Hex.{encode_with}
-use Rattle.mq_replay.specs.{Courses.with_packets, Ticks.ticked_within}
-use Rattle.mq_link.specs.Receive.{read_of}
+use Rattle.mq_examples.proofs.Common.{◌∷◌, [], None, Ok, refl, ap, ◌∙◌, take, drop, arith, igmp, one_report, totals_of, fault_of, code_of, header_in, header_of}
+use Rattle.mq_examples.proofs.Common.{in_ethernet, digits, encode_with, with_packets, ticked_within, read_of}
+use Rattle.mq_pcap.specs.Frame.{in_ipv4, in_type}
 use Rattle.mq_examples.proofs.{KnownReplays.report-known, Captures.the_form, Captures.the_packet}
 use Rattle.mq_examples.proofs.replays.a_report.Goals as goal
 

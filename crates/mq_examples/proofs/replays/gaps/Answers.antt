@@ -1,9 +1,5 @@
-use Rattle.mq_examples.proofs.Common.{◌∷◌, [], None, Some, Ok, refl, ap, ◌∙◌, take, drop, arith, Captured, igmp, two_packets, totals_of}
-use Rattle.mq_pcap.specs.{Capture.header_in, Capture.header_of, Frame.in_ethernet}
-use Rattle.std.specs.Fmt.{digits}
-use Rattle.hex.specs.Hex.{encode_with}
-use Rattle.mq_wire.specs.Codes.{code_of}
-use Rattle.mq_replay.specs.{Courses.with_packets, Ticks.ticked_within}
+use Rattle.mq_examples.proofs.Common.{◌∷◌, [], None, Some, Ok, refl, ap, ◌∙◌, take, drop, arith, Captured, igmp, two_packets, totals_of, header_in, header_of}
+use Rattle.mq_examples.proofs.Common.{in_ethernet, digits, encode_with, code_of, with_packets, ticked_within}
 use Rattle.mq_examples.proofs.{Captures.the_form, KnownReplays.report-known}
 use Rattle.mq_examples.proofs.replays.gaps.Goals as goal
 
@@ -50,6 +46,5 @@ returns-clause-until c =
       end = None;
       capture = (refl, refl);
       text_is = ap (λ r. r.text) is ∙ refl;
-      answer_is =
-          ap (λ r. totals_of r.answer) is ∙ refl;
+      answer_is = ap (λ r. totals_of r.answer) is ∙ refl;
     }

@@ -1,9 +1,6 @@
-use Rattle.mq_examples.proofs.Common.{[], None, Some, Ok, Err, refl, ap, ◌∙◌, igmp, totals_of}
-use Rattle.mq_pcap.specs.{declared.fault.PcapFault.TheVariants.CutHeader, Capture.header_in, Capture.header_of}
-use Rattle.std.specs.Fmt.{digits}
-use Rattle.hex.specs.Hex.{encode_with}
-use Rattle.mq_wire.specs.Codes.{code_of}
-use Rattle.mq_replay.specs.{Courses.with_packets, Ticks.ticked_within}
+use Rattle.mq_examples.proofs.Common.{[], None, Some, Ok, Err, refl, ap, ◌∙◌, igmp, totals_of, header_in, header_of, digits, encode_with, code_of, with_packets}
+use Rattle.mq_examples.proofs.Common.{ticked_within}
+use Rattle.mq_pcap.specs.declared.fault.PcapFault.TheVariants.{CutHeader}
 use Rattle.mq_examples.proofs.{Captures.the_form, KnownReplays.report-known}
 use Rattle.mq_examples.proofs.replays.no_packets.Goals as goal
 
@@ -18,8 +15,7 @@ returns c = record {
         end = None;
         capture = (refl, refl);
         text_is = ap (λ r. r.text) is ∙ refl;
-        answer_is =
-            ap (λ r. totals_of r.answer) is ∙ refl;
+        answer_is = ap (λ r. totals_of r.answer) is ∙ refl;
       };
   until =
       let is = report-known igmp (Some 156250) the_form [] None in
@@ -29,8 +25,7 @@ returns c = record {
         end = None;
         capture = (refl, refl);
         text_is = ap (λ r. r.text) is ∙ refl;
-        answer_is =
-            ap (λ r. totals_of r.answer) is ∙ refl;
+        answer_is = ap (λ r. totals_of r.answer) is ∙ refl;
       };
   cut =
       let is = report-known igmp None the_form [] (Some (CutHeader 1)) in
@@ -40,8 +35,7 @@ returns c = record {
         end = Some (CutHeader 1);
         capture = (refl, refl);
         text_is = ap (λ r. r.text) is ∙ refl;
-        answer_is =
-            ap (λ r. totals_of r.answer) is ∙ refl;
+        answer_is = ap (λ r. totals_of r.answer) is ∙ refl;
       };
   nothing = record { header = Err (CutHeader 0); packets = []; end = Some (CutHeader 0); capture = (refl, refl, refl); text_is = refl; answer_is = refl };
 }

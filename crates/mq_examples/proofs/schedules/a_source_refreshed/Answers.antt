@@ -13,13 +13,11 @@ returns c = record {
   refresh =
       change_leaves 2500 (change_of default_timing 2500 blocked.group Allow (naming (1 ∷ []))) blocked.schedule Include
       ((1, Running 262500 1) ∷ (2, Running 4000 1) ∷ []) false []
-      (same_group _ _ _ _ _ (λ s. grind (arith, nat_tests, get-by_rule, gets, members))) (λ s. grind (arith, nat_tests, gets, members))
-      refl tt;
+      (same_group _ _ _ _ _ (λ s. grind (arith, nat_tests, get-by_rule, gets, members))) (λ s. grind (arith, nat_tests, gets, members)) refl tt;
   second_sending = known_sends 3000 Include ((1, Running 262500 1) ∷ (2, Running 4000 1) ∷ []) None None refreshed.schedule tt tt refl refl;
   end = held_or_vacant-some _ _ None None 1 (Running 262500 0) (simp gets) (λ s. grind (arith, nat_tests, get-kept, gets));
   blocked_again =
       change_leaves 2500 (change_of default_timing 2500 blocked.group Block (naming (1 ∷ 2 ∷ []))) blocked.schedule Include
       ((1, Running 4000 1) ∷ (2, Running 4000 1) ∷ []) false (1 ∷ 2 ∷ [])
-      (same_group _ _ _ _ _ (λ s. grind (arith, nat_tests, get-by_rule, gets, members))) (λ s. grind (arith, nat_tests, gets, members))
-      refl tt;
+      (same_group _ _ _ _ _ (λ s. grind (arith, nat_tests, get-by_rule, gets, members))) (λ s. grind (arith, nat_tests, gets, members)) refl tt;
 }

@@ -1,8 +1,7 @@
--- what the tests of intervals say
+-- The meaning of the tests of intervals.
 use Rattle.mq_laws.proofs.Common.{◌≡◌, ℕ, ◌+◌, ◌-◌, ◌≤◌, not, Bool, true, false, None, refl, ap, nat_lt, and_from, and_parts, le-leb, le-ltb, leb-true, lt-ltb}
 use Rattle.mq_laws.proofs.Common.{ltb-false, ltb-true, or_cases, or_left, or_right, Timing, query_interval, startup_interval, is_within, is_interval}
-use Rattle.mq_laws.proofs.Common.{is_of_start, unless, IsClose, IsWantedInterval}
-use mathlib.Core.Logic.{inl, inr}
+use Rattle.mq_laws.proofs.Common.{is_of_start, unless, IsClose, IsWantedInterval, inl, inr}
 use Rattle.mq_check.specs.General.{is_late}
 use Rattle.mq_laws.proofs.checks.general_queries_are_on_time_at_these_intervals.Goals as goal
 
@@ -27,7 +26,7 @@ tested w timing startup interval is = elim is [
       (and_from _ _ (lt-ltb 0 startup start.0) (is_close w interval (startup_interval timing) start.1))
 ]
 
--- nothing is told exactly where a test passes
+-- a test passes exactly if it reports nothing
 none_told : (b : Bool) (n : ℕ) → unless b n ≡ None → b ≡ true
 none_told true n is = refl
 none_told false n is = cc

@@ -1,12 +1,8 @@
 use Rattle.mq_laws.proofs.Common.{◌≡◌, ℕ, ◌&&◌, Bool, true, false, List, [], ◌∷◌, refl, ap, sym, ◌∙◌, and_from, eq-eqb, AllGroups, Group, Source, Finding}
-use Rattle.mq_laws.proofs.Common.{Missing, PossiblyMissing, PossiblyExtra, Differs, all_reported, has_values, is_left_out, no_differences, repeats, reported}
-use Rattle.mq_laws.proofs.Common.{with_finding, with_values}
-use Rattle.mq_check.specs.declared.finding.Difference.{Difference}
-use Rattle.mq_check.specs.declared.finding.Difference.TheVariants.{Version, Response, Suppress, Robustness, QueryInterval, Destination}
-use Rattle.mq_check.specs.declared.finding.Finding.TheVariants.{Extra, Interval, Silence, Packet}
-use Rattle.mq_check.specs.declared.repeated.LastDifferences.{LastDifferences}
-use Rattle.mq_check.specs.declared.repeated.LastOfKind.{LastOfKind}
-use Rattle.mq_check.specs.Repeated.{unless}
+use Rattle.mq_laws.proofs.Common.{Differs, all_reported, has_values, is_left_out, no_differences, repeats, reported}
+use Rattle.mq_laws.proofs.Common.{with_finding, with_values, Difference, LastDifferences}
+use Rattle.mq_check.specs.declared.finding.Difference.TheVariants.{Version, Response, Robustness, QueryInterval}
+use Rattle.mq_check.specs.{declared.repeated.LastOfKind.LastOfKind, Repeated.unless}
 use Rattle.mq_laws.specs.Reports.{is_of_variable, may_be_left_out, others_in}
 use Rattle.mq_laws.proofs.checks.only_repeated_differences_are_left_out.Goals as goal
 
@@ -25,24 +21,16 @@ returns-clause-all c = all
 
 -- a difference that is none of a variable is never repeated
 never_has : (difference : Difference ℕ) (last : LastOfKind) → is_of_variable difference ≡ false → has_values difference last ≡ false
-never_has (Version seen wanted) last none = refl
 never_has (Response seen wanted) last none = cc
-never_has (Suppress seen wanted) last none = refl
 never_has (Robustness seen wanted) last none = cc
 never_has (QueryInterval seen wanted) last none = cc
-never_has (Destination seen wanted) last none = refl
+never_has _ last none = refl
 
 never_repeats : (f : Finding ℕ) (last : LastDifferences) → may_be_left_out f ≡ false → repeats f last ≡ false
-never_repeats (Missing moment packet asked) last none = refl
-never_repeats (Extra moment packet asked reason) last none = refl
-never_repeats (PossiblyMissing moment packet asked) last none = refl
-never_repeats (PossiblyExtra moment packet asked) last none = refl
 never_repeats (Differs moment packet AllGroups difference) last none = never_has difference last.general none
 never_repeats (Differs moment packet (Group group) difference) last none = never_has difference last.specific none
 never_repeats (Differs moment packet (Source group source) difference) last none = never_has difference last.specific none
-never_repeats (Interval moment packet after wanted) last none = refl
-never_repeats (Silence moment after wanted) last none = refl
-never_repeats (Packet moment number fault) last none = refl
+never_repeats _ last none = refl
 
 -- one finding, left out or not, is one of the others or isn't
 one_more : (b : Bool) (f : Finding ℕ) (fs : List (Finding ℕ)) → may_be_left_out f ≡ true → others_in (unless b f fs) ≡ others_in fs
@@ -66,23 +54,13 @@ returns-clause-others c = others
 -- the first finding repeats none
 first_has : (difference : Difference ℕ) → has_values difference no_differences.general ≡ false
 first_has (Version seen wanted) = refl
-first_has (Response seen wanted) = refl
-first_has (Suppress seen wanted) = refl
-first_has (Robustness seen wanted) = refl
-first_has (QueryInterval seen wanted) = refl
-first_has (Destination seen wanted) = refl
+first_has _ = refl
 
 first_is_new : (f : Finding ℕ) → repeats f no_differences ≡ false
-first_is_new (Missing moment packet asked) = refl
-first_is_new (Extra moment packet asked reason) = refl
-first_is_new (PossiblyMissing moment packet asked) = refl
-first_is_new (PossiblyExtra moment packet asked) = refl
 first_is_new (Differs moment packet AllGroups difference) = first_has difference
 first_is_new (Differs moment packet (Group group) difference) = first_has difference
 first_is_new (Differs moment packet (Source group source) difference) = first_has difference
-first_is_new (Interval moment packet after wanted) = refl
-first_is_new (Silence moment after wanted) = refl
-first_is_new (Packet moment number fault) = refl
+first_is_new _ = refl
 
 none : (once : Bool) (found : List (Finding ℕ)) → reported once no_differences found ≡ [] → found ≡ []
 none once [] is = refl
@@ -95,14 +73,11 @@ pub returns-clause-none : goal.returns-clause-none
 returns-clause-none c additions found = (none additions.once found, λ is. ap (all_reported additions) is)
 
 same_values : (difference : Difference ℕ) (last : LastOfKind) → is_of_variable difference ≡ true → has_values difference (with_values difference last) ≡ true
-same_values (Version seen wanted) last is = cc
 same_values (Response seen wanted) last is = and_from _ _ (eq-eqb seen seen refl) (eq-eqb wanted wanted refl)
-same_values (Suppress seen wanted) last is = cc
 same_values (Robustness seen wanted) last is = and_from _ _ (eq-eqb seen seen refl) (eq-eqb wanted wanted refl)
 same_values (QueryInterval seen wanted) last is = and_from _ _ (eq-eqb seen seen refl) (eq-eqb wanted wanted refl)
-same_values (Destination seen wanted) last is = cc
+same_values _ last is = cc
 
 pub returns-clause-repeated : goal.returns-clause-repeated
 returns-clause-repeated c moment packet moment' packet' AllGroups difference last is = same_values difference last.general is
-returns-clause-repeated c moment packet moment' packet' (Group group) difference last is = same_values difference last.specific is
-returns-clause-repeated c moment packet moment' packet' (Source group source) difference last is = same_values difference last.specific is
+returns-clause-repeated c moment packet moment' packet' _ difference last is = same_values difference last.specific is

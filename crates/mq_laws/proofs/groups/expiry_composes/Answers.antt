@@ -1,4 +1,4 @@
-use Rattle.mq_table.proofs.Composed.{expired-expired}
+use Rattle.mq_laws.proofs.Common.{expired-expired}
 use Rattle.mq_laws.proofs.groups.expiry_composes.Goals as goal
 
 pub returns : goal.returns

@@ -1,4 +1,4 @@
-use Rattle.mq_laws.proofs.ChangedSources.{restarted, copied, sendings_kept, known, deadline_kept, unnamed_as_before}
+use Rattle.mq_laws.proofs.ChangedSources.{restarted, copied, retransmissions_kept, known, deadline_kept, unnamed_as_before}
 use Rattle.mq_laws.proofs.groups.records_change_what_they_name.Goals as goal
 
 pub returns-clause-known : goal.returns-clause-known
@@ -16,5 +16,5 @@ returns-clause-restarted c r = restarted r.timing r.now r.group r.kind r.named
 pub returns-clause-copied : goal.returns-clause-copied
 returns-clause-copied c r = copied r.timing r.now r.group r.kind r.named
 
-pub returns-clause-sendings : goal.returns-clause-sendings
-returns-clause-sendings c r = sendings_kept r.timing r.now r.group r.kind r.named
+pub returns-clause-retransmissions : goal.returns-clause-retransmissions
+returns-clause-retransmissions c r = retransmissions_kept r.timing r.now r.group r.kind r.named

@@ -3,8 +3,7 @@ use Rattle.mq_laws.proofs.Following.{all_followed, at_start}
 use Rattle.mq_laws.proofs.links.a_table_follows.Goals as goal
 
 pub returns-clause-run : goal.returns-clause-run
-returns-clause-run c config start happenings run =
-    all_followed config (link_at config start) nothing_of_any happenings (at_start config start) run
+returns-clause-run c config start happenings run = all_followed config (link_at config start) nothing_of_any happenings (at_start config start) run
 
 pub returns-clause-answered : goal.returns-clause-answered
 returns-clause-answered c config event before after addresses table group those =

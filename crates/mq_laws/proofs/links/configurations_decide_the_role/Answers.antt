@@ -1,8 +1,6 @@
-use Rattle.std.proofs.Common.{◌≡◌, ℕ, ◌+◌, ◌≤◌, Bool, true, false, cond, not, refl, ◌∙◌, arith, ltb}
-use Rattle.mq_table.specs.Timing.{query_interval}
-use Rattle.mq_sched.specs.Election.{ElectionState, Other, Querier, Role, is_querier, next_moment, outranks}
-use Rattle.mq_sched.specs.Election.{reconfigured, role_reconfigured, timing_reconfigured}
-use Rattle.mq_table.specs.declared.timing.Timing.{Timing}
+use Rattle.mq_laws.proofs.Common.{◌≡◌, ℕ, ◌+◌, ◌≤◌, Bool, true, false, cond, not, refl, ◌∙◌, arith, ltb, query_interval, Other, Querier, Role, is_querier}
+use Rattle.mq_laws.proofs.Common.{next_moment, Timing}
+use Rattle.mq_sched.specs.Election.{ElectionState, outranks, reconfigured, role_reconfigured, timing_reconfigured}
 use Rattle.mq_laws.proofs.links.configurations_decide_the_role.Goals as goal
 
 pub returns-clause-querier : goal.returns-clause-querier

@@ -1,4 +1,5 @@
-use Rattle.mq_laws.proofs.Common.{◌≡◌, ℕ, ◌≤◌, max, ap, ◌∙◌, arith, forwards, moment_of, tick_at, tick_of}
+use Rattle.mq_laws.proofs.Common.{◌≡◌, ℕ, ◌≤◌, max, ap, ◌∙◌, arith, forwards, tick_at, tick_of}
+use Rattle.mq_link.specs.Tick.{moment_of}
 use Rattle.mq_laws.proofs.Filters.{same_filters}
 use Rattle.mq_laws.proofs.links.filters_stay_whatever_the_ticks.Goals as goal
 

@@ -1,5 +1,4 @@
-use Rattle.mq_link.proofs.Faultless.{IsWellFormed-link_at}
-use Rattle.mq_link.specs.State.{link_at}
+use Rattle.mq_laws.proofs.Common.{IsWellFormed-link_at, link_at}
 use Rattle.mq_laws.proofs.Forms.{after_all, after_datagram, after_tick}
 use Rattle.mq_laws.proofs.links.links_keep_form_and_limits.Goals as goal
 

@@ -1,13 +1,8 @@
-use Rattle.std.proofs.Common.{◌≡◌, ℕ, List, [], ◌∷◌, Option, None, Some, cond, is_some, refl}
-use Rattle.mq_link.proofs.Faultless.{IsWellFormed-link_at}
-use Rattle.mq_link.proofs.Reconfigured.{IsWellFormed-configured}
-use Rattle.mq_link.specs.declared.configuration.ConfigureFault.{ConfigureFault}
-use Rattle.mq_link.specs.Configuration.{Configuration, IsFaultless}
-use Rattle.mq_link.specs.Configuring.{config_after, configure_fault, state_configured}
-use Rattle.mq_link.specs.{Events.left_by, Run.Happening, Run.RunFrom, State.LinkState, State.IsWellFormed, State.link_at}
-use Rattle.mq_laws.specs.Laws.{AllAfter}
-use Rattle.mq_laws.specs.Lives.{AllThrough, LifeFrom, Stretch, config_next, state_next}
-use Rattle.mq_laws.proofs.Forms.{after_all}
+use Rattle.mq_laws.proofs.Common.{◌≡◌, List, [], ◌∷◌, Option, None, Some, cond, is_some, refl, IsWellFormed-link_at, Configuration, IsFaultless, Happening}
+use Rattle.mq_laws.proofs.Common.{LinkState, IsWellFormed, link_at, AllAfter}
+use Rattle.mq_link.{proofs.Reconfigured.IsWellFormed-configured, specs.declared.configuration.ConfigureFault.ConfigureFault}
+use Rattle.mq_link.specs.{Configuring.config_after, Configuring.configure_fault, Configuring.state_configured, Events.left_by}
+use Rattle.mq_laws.{specs.Lives.AllThrough, specs.Lives.LifeFrom, specs.Lives.Stretch, specs.Lives.config_next, specs.Lives.state_next, proofs.Forms.after_all}
 use Rattle.mq_laws.proofs.links.lives_keep_form.Goals as goal
 
 -- the state after a run is one of those that it passes through
@@ -16,7 +11,7 @@ last_of : (config : Configuration) (before : LinkState) (hs : List Happening) �
 last_of config before [] h all = h
 last_of config before (x ∷ hs) h all = last_of config x.after hs all.0 all.1
 
--- whether a configuration is refused or taken over
+-- a configuration that is refused, or taken over
 after_asked : (config asked : Configuration) (state : LinkState) → IsFaultless config → IsFaultless asked → asked.family ≡ config.family
     → IsWellFormed config state → IsFaultless (config_next config asked state) × IsWellFormed (config_next config asked state) (state_next config asked state)
 after_asked config asked state faultless well family h = by_fault (configure_fault config asked state.groups) refl

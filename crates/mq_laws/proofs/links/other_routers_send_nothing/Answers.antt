@@ -1,5 +1,5 @@
-use Rattle.mq_laws.proofs.Common.{ap, ◌∙◌, is_querier, ticked, timing_in_range, IsWellFormed-tick_at, read_of, pseudo_of, drop_reason, moment_of, tick_of}
-use Rattle.mq_link.proofs.Silent.{silent_tick, silent_decided, other_before, other_decided}
+use Rattle.mq_laws.proofs.Common.{ap, ◌∙◌, is_querier, ticked, timing_in_range, IsWellFormed-tick_at, read_of, pseudo_of, drop_reason, tick_of}
+use Rattle.mq_link.{specs.Tick.moment_of, proofs.Silent.silent_tick, proofs.Silent.silent_decided, proofs.Silent.other_before, proofs.Silent.other_decided}
 use Rattle.mq_laws.proofs.links.other_routers_send_nothing.Goals as goal
 
 pub returns-clause-tick : goal.returns-clause-tick

@@ -1,6 +1,6 @@
 use Rattle.mq_laws.proofs.Common.{◌≡◌, ℕ, ◌<◌, max, ap, ◌∙◌, arith, timing_in_range, IsWellFormed-tick_at, Configuration, IsFaultless, LinkState, IsWellFormed}
-use Rattle.mq_laws.proofs.Common.{moment_of, tick_at, tick_of, next_of}
-use Rattle.mq_link.proofs.{Later.later_after_tick, Quiet.quiet_tick}
+use Rattle.mq_laws.proofs.Common.{tick_at, tick_of, next_of, later_after_tick}
+use Rattle.mq_link.{specs.Tick.moment_of, proofs.Quiet.quiet_tick}
 use Rattle.mq_laws.proofs.links.ticks_are_quiet_until_the_next_moment.Goals as goal
 
 later : (config : Configuration) (now : ℕ) (state : LinkState) → IsFaultless config → IsWellFormed config state

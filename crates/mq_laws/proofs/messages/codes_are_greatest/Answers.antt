@@ -1,4 +1,4 @@
-use Rattle.mq_wire.proofs.FoundCodes.{code_is_greatest}
+use Rattle.mq_laws.proofs.Common.{code_is_greatest}
 use Rattle.mq_laws.proofs.messages.codes_are_greatest.Goals as goal
 
 pub returns-clause-bits8 : goal.returns-clause-bits8

@@ -1,4 +1,4 @@
-use Rattle.mq_text.proofs.LongestRun.{is_first_longest}
+use Rattle.mq_laws.proofs.Common.{is_first_longest}
 use Rattle.mq_laws.proofs.texts.the_first_longest_run_is_replaced.Goals as goal
 
 pub returns : goal.returns

@@ -1,5 +1,4 @@
-use Rattle.mq_examples.proofs.Common.{refl}
-use Rattle.mq_wire.specs.Codes.{code_of}
+use Rattle.mq_examples.proofs.Common.{refl, code_of}
 use Rattle.mq_examples.proofs.links.families.queries_of_many_sources.Goals as goal
 
 pub returns : goal.returns

@@ -1,5 +1,4 @@
-use Rattle.mq_examples.proofs.Common.{ℕ, ◌+◌, true, refl, List, Mld, mld_limited, mld_from, link_local, a_group, a_source, sources_from}
-use Rattle.mq_wire.specs.Codes.{code_of}
+use Rattle.mq_examples.proofs.Common.{ℕ, ◌+◌, true, refl, List, Mld, mld_limited, mld_from, link_local, a_group, a_source, sources_from, code_of}
 use Rattle.mq_examples.proofs.{Alike.Ascend, AlikeLinks.Suits}
 use Rattle.mq_examples.proofs.SeveralMessages.{ascend_from, at_0, at_1000, at_2000, at_3000, at_4000}
 use Rattle.mq_examples.proofs.links.sendings.a_sending_in_two_messages_of_mld.Goals as goal
