@@ -2,7 +2,6 @@
 
 import glob
 import os
-import re
 import shutil
 import subprocess
 import threading
@@ -62,11 +61,6 @@ def unpacked(package, program):
                 if name.endswith(".deb"):
                     subprocess.run(["dpkg", "-x", f"{place}/{name}", place], capture_output=True, check=False)
     return f"{place}{program}" if os.path.exists(f"{place}{program}") else None
-
-
-def version_of(package):
-    found = re.search(r"^Version: (\S+)", run("dpkg", "-s", package, is_checked=False), re.M)
-    return found[1] if found else "?"
 
 
 def put(lab, name, text):

@@ -8,7 +8,7 @@ import subprocess
 import time
 
 from frames import data_frame, report_frame
-from lab import GROUPS, LAST_MEMBER, MANY, MEMBERSHIP, PROGRAM, SOURCES, Wrong, ip, is_true
+from lab import GROUPS, MANY, MEMBERSHIP, PROGRAM, SOURCES, Wrong, ip, is_true
 
 SNOOPING = "mcast_snooping 1 mcast_querier 0 mcast_igmp_version 3 mcast_mld_version 2 mcast_hash_max 65536".split()
 PORT = "p2"

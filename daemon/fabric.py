@@ -24,7 +24,7 @@ from lab import PROGRAM, Wrong, ip, is_true
 LIBC = ctypes.CDLL(None, use_errno=True)
 QUERY_INTERVAL = 4
 SHORT = ["--qi", str(QUERY_INTERVAL), "--qri", "1000", "--lmqi", "500"]
-SETTLED, MEMBERSHIP = 2.5, 9
+MEMBERSHIP = 9
 OWN = {"igmp": "10.0.0.1", "mld": "fe80::1"}
 FAMILIES = ("igmp", "mld")
 PROTOCOL = {"igmp": "211", "mld": "212"}
@@ -46,7 +46,9 @@ def inside(space):
 
 
 def run(space, *words, text=None):
-    ran = subprocess.run(["ip", "netns", "exec", space, *words], input=text, capture_output=True, text=True, check=False)
+    """Runs a command in a namespace, and returns its output."""
+    with inside(space):
+        ran = subprocess.run(words, input=text, capture_output=True, text=True, check=False)
     if ran.returncode:
         raise Wrong(f"{' '.join(words)}: {ran.stderr.strip()[:300]}")
     return ran.stdout
@@ -101,7 +103,9 @@ class Host:
 
 
 class Querier:
-    """A running `mquerier-live bridge`."""
+    """A running `mquerier-live bridge`. PAUSE is the time between two looks at its status, in seconds."""
+
+    PAUSE = 0.1
 
     def __init__(self, fabric, *options, before=(), env=None):
         words = [*before, PROGRAM, "bridge", *fabric.bridges, *SHORT, "--run", fabric.run, *options]
@@ -116,9 +120,10 @@ class Querier:
             self.errors.append(line.rstrip("\n"))
 
     def status(self, bridge="br0"):
-        words = ["ip", "netns", "exec", self.fabric.near, PROGRAM, "status", bridge, "--json", "--run", self.fabric.run]
+        words = [PROGRAM, "status", bridge, "--json", "--run", self.fabric.run]
         for _ in range(100):
-            ran = subprocess.run(words, capture_output=True, text=True, check=False)
+            with inside(self.fabric.near):
+                ran = subprocess.run(words, capture_output=True, text=True, check=False)
             if ran.returncode == 0:
                 return json.loads(ran.stdout)
             if self.process.poll() is not None:
@@ -131,17 +136,13 @@ class Querier:
         while not test(found := self.status(bridge)):
             if time.monotonic() > limit:
                 raise Wrong(f"not {what}: {str(found)[:600]} {self.errors[-5:]}")
-            time.sleep(0.1)
+            time.sleep(self.PAUSE)
         return found
 
-    def settled(self):
+    def gathered(self):
         """Waits until all links that began know what hosts want."""
         for bridge in self.fabric.bridges:
-            self.until(lambda it: all("settles" not in port[of] for port in it["ports"] for of in FAMILIES if port[of]["on"]), "settled", 12, bridge)
-
-    def has_faults(self, **wanted):
-        found = self.status()["faults"]
-        is_true(all(found[name] == count for name, count in wanted.items()), f"{found}")
+            self.until(lambda it: all("settles" not in port[of] for port in it["ports"] for of in FAMILIES if port[of]["on"]), "gathered", 12, bridge)
 
     def end(self, number=signal.SIGTERM):
         self.process.send_signal(number)

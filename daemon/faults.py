@@ -10,9 +10,9 @@ import struct
 import subprocess
 import time
 
-from fabric import FAMILIES, MEMBERSHIP, QUERY_INTERVAL, Fabric, Stream, run
+from fabric import FAMILIES, QUERY_INTERVAL, Fabric, Stream, run
 from frames import igmp_frame, mld_frame, report_frame, summed
-from lab import GROUPS, MANY, SOURCES, TOP, Wrong, ip, is_true
+from lab import GROUPS, MANY, SOURCES, TOP, ip, is_true
 
 IS_IN, IS_EX, ALLOW = 1, 2, 5
 AGAIN = QUERY_INTERVAL + 3  # seconds in which all is right again, on a machine that has other work
@@ -51,7 +51,7 @@ def malformed_frames():
     not heard. Useless messages are counted at their link."""
     with Fabric(2, 1) as fabric:
         querier, host = fabric.querier(), fabric.hosts["b0h1"]
-        querier.settled()
+        querier.gathered()
         begin = querier.status()["faults"]
         igmp, mld = (report_frame(family, IS_EX, GROUPS[family], []) for family in FAMILIES)
 
@@ -98,7 +98,7 @@ def full_queues_and_lost_notifications():
     """A full queue rejects queries, and notifications overrun the socket. The querier reads ports and entries again."""
     with Fabric(4, 1) as fabric:
         querier = fabric.querier()
-        querier.settled()
+        querier.gathered()
         run(fabric.near, "tc", "qdisc", "add", "dev", "b0p2", "root", "tbf", "rate", "1kbit", "burst", "1600", "limit", "1")
         querier.until(lambda it: it["faults"]["queries_unsent"] > 0, "queries that can't be sent", 15)
         run(fabric.near, "tc", "qdisc", "del", "dev", "b0p2", "root")
@@ -118,7 +118,7 @@ def others_change_it():
     """Others remove all rules, end the snooping of a bridge, and remove an entry. The querier corrects all of it."""
     with Fabric(2, 1) as fabric:
         querier = fabric.querier()
-        querier.settled()
+        querier.gathered()
         run(fabric.near, "nft", "flush", "ruleset")
         ip("-n", fabric.near, "link", "set", "br0", "type", "bridge", "mcast_snooping", "0")
         joined(fabric, "b0h2")
@@ -146,7 +146,7 @@ def nft_runs_after_changes_only():
             return os.path.getsize(log) // len("run\n")
 
         querier = fabric.querier(env={"PATH": f"{os.path.dirname(name)}:{os.environ['PATH']}"})
-        querier.settled()
+        querier.gathered()
         time.sleep(QUERY_INTERVAL + 1)
         begin = runs()
         is_true(begin > 0, "nft wasn't run")
@@ -168,7 +168,7 @@ def sockets_without_room():
     with Fabric(4, 1) as fabric:
         kernel = Kernel(fabric)
         querier = fabric.querier(env=kernel.env)
-        querier.settled()
+        querier.gathered()
         kernel.does(each=7)
         wanted = {}
         for _ in range(120):
@@ -200,7 +200,7 @@ def the_clock_jumps():
         cases = {(SOURCES[family][0], GROUPS[family]): {"b0h1", "b0h2"} for family in FAMILIES}
         for family in FAMILIES:
             fabric.hosts["b0h2"].do("allow", GROUPS[family], SOURCES[family][0])
-        querier.settled()
+        querier.gathered()
         fabric.gets("b0h4", cases, 20)
         stream = Stream(fabric, "b0h4", cases)
         try:
@@ -247,7 +247,7 @@ def killed_with_lists(fabric, env):
     until hosts had time to answer."""
     more = {"igmp": "10.9.9.3", "mld": "2001:db8::3"}
     querier = fabric.querier("--qi", "20", env=env)
-    querier.settled()
+    querier.gathered()
     before, during, after = {}, {}, {}
     for family in FAMILIES:
         one, other, third, group = *SOURCES[family], more[family], GROUPS[family]

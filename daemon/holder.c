@@ -67,7 +67,7 @@ static struct {
 } held;
 
 /* Closes the inherited sockets. */
-static void settle(void) {
+static void close_inherited(void) {
     size_t count = held.count;
     held.count = 0;
     for (size_t at = 0; at < count; at++) {
@@ -87,8 +87,8 @@ static bool hold(int from) {
     while (receive(from, &kind, &file)) {
         if (kind == HELD_END)
             return false;
-        if (kind == HELD_SETTLED)
-            settle();
+        if (kind == HELD_GATHERED)
+            close_inherited();
         if (file >= 0 && held.count < GREATEST_HELD) {
             held.kinds[held.count] = kind;
             held.files[held.count++] = file;
@@ -153,9 +153,9 @@ void holder_add(enum held_kind kind, int file) {
         fault(FAULT_JOINS, "holder", "it is gone: after a kill, forwarding would stop");
 }
 
-void holder_settle(void) {
+void holder_gathered(void) {
     if (holder >= 0)
-        pass(holder, HELD_SETTLED, -1);
+        pass(holder, HELD_GATHERED, -1);
 }
 
 void holder_end(void) {

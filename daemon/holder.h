@@ -6,7 +6,7 @@
 #include <stddef.h>
 
 /* The kind of a held socket. Inherited ones are memberships of the run before. */
-enum held_kind { HELD_IGMP_TABLE, HELD_MLD_TABLE, HELD_MEMBERSHIP, HELD_INHERITED, HELD_SETTLED, HELD_END };
+enum held_kind { HELD_IGMP_TABLE, HELD_MLD_TABLE, HELD_MEMBERSHIP, HELD_INHERITED, HELD_GATHERED, HELD_END };
 
 /* Takes the sockets that an earlier run left at a name, and calls `each` for each. It takes none if the words that describe them
    differ, and then they are closed. */
@@ -16,7 +16,7 @@ void holder_start(const char *name, const char *words);
 /* Also holds a socket. */
 void holder_add(enum held_kind kind, int file);
 /* Closes the inherited sockets that it holds. */
-void holder_settle(void);
+void holder_gathered(void);
 /* Ends the process, with what it holds. */
 void holder_end(void);
 

@@ -53,7 +53,7 @@ void inherit_take(struct querier *querier) {
     for (int at = 0; at < 2; at++) {
         route->tables[at] = (struct mroute){.file = left.tables[at], .is_mld = at == 1};
         for (size_t vif = 0; vif < route->downstream && left.tables[at] >= 0; vif++)
-            route->vifs[vif].settles[at] = true;
+            route->vifs[vif].gathers[at] = true;
     }
 }
 
@@ -66,13 +66,13 @@ void inherit_hold(struct querier *querier) {
         holder_add(HELD_INHERITED, left.memberships[at]);
 }
 
-void inherit_settle(struct querier *querier) {
+void inherit_gathered(struct querier *querier) {
     for (size_t at = 0; at < querier->route->downstream; at++)
-        if (querier->route->vifs[at].settles[0] || querier->route->vifs[at].settles[1])
+        if (querier->route->vifs[at].gathers[0] || querier->route->vifs[at].gathers[1])
             return;
     for (; left.count > 0; left.count--)
         close(left.memberships[left.count - 1]);
-    holder_settle();
+    holder_gathered();
 }
 
 /* Returns the number of an interface, or NO_VIF. */

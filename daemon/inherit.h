@@ -12,6 +12,6 @@ void inherit_entries(struct querier *querier);
 /* Reads the entries of a table, inherited or not. */
 void inherit_read(struct querier *querier, bool is_mld);
 /* Ends inherited memberships. */
-void inherit_settle(struct querier *querier);
+void inherit_gathered(struct querier *querier);
 
 #endif

@@ -11,7 +11,7 @@ enum { ROWS_FOR_A_GROUP = 2 };
 bool keeper_open(struct keeper *keeper, size_t groups) {
     size_t room = ROWS_FOR_A_GROUP * groups;
     if (keeper->rows.all == NULL)
-        *keeper = (struct keeper){.rows = {grab(room, sizeof(struct row)), 0, room}, .settles = MQ_NONE};
+        *keeper = (struct keeper){.rows = {grab(room, sizeof(struct row)), 0, room}, .gathers = MQ_NONE};
     return keeper->rows.all != NULL;
 }
 
@@ -21,10 +21,10 @@ void keeper_forget(struct keeper *keeper, const struct place *place) {
     keeper->rows.count = 0;
 }
 
-void keeper_begin(struct keeper *keeper, uint64_t settles, bool inherits_others) {
+void keeper_begin(struct keeper *keeper, uint64_t gathers, bool inherits_others) {
     for (size_t at = 0; at < keeper->rows.count; at++)
         keeper->rows.all[at].is_inherited = true;
-    keeper->settles = settles;
+    keeper->gathers = gathers;
     keeper->inherits_others = inherits_others;
 }
 
@@ -63,7 +63,7 @@ void keeper_update(struct keeper *keeper, const mq_link *link, const struct plac
     struct row *row = rows_find(&keeper->rows, group);
     struct filter filter = wanted_of(keeper, link, place->is_mld, group);
     struct entry entry;
-    bool is_new = row == NULL && keeper->inherits_others && keeper->settles != MQ_NONE && filter.mode != MODE_NONE;
+    bool is_new = row == NULL && keeper->inherits_others && keeper->gathers != MQ_NONE && filter.mode != MODE_NONE;
     bool may_inherit = is_new || (row != NULL && row->is_inherited);
     if (is_always_forwarded(link, group)) {
         if (filter.mode != MODE_NONE)
@@ -106,8 +106,8 @@ void keeper_hand_over(struct keeper *keeper, const mq_link *link, const struct p
     }
 }
 
-void keeper_settle(struct keeper *keeper, const mq_link *link, const struct place *place) {
-    keeper->settles = MQ_NONE;
+void keeper_gathered(struct keeper *keeper, const mq_link *link, const struct place *place) {
+    keeper->gathers = MQ_NONE;
     for (size_t left = keeper->rows.count; left > 0; left--) {
         struct row *row = keeper->rows.all + left - 1; /* from the last one on, because an update may remove a row */
         uint8_t group[LONG_ADDRESS];
@@ -136,7 +136,7 @@ void keeper_note(struct keeper *keeper, const mq_link *link, const struct entry 
     row->is_temporary = entry->is_temporary;
     row->is_right = !row->is_temporary && filter_equal(&wanted, &entry->filter);
     if (!is_known)
-        row->is_inherited = link == NULL || keeper->settles != MQ_NONE;
+        row->is_inherited = link == NULL || keeper->gathers != MQ_NONE;
 }
 
 void keeper_change_statics(struct keeper *keeper, const mq_link *link, const struct place *place, const struct tunings *before) {

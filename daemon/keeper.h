@@ -13,7 +13,7 @@
 
 struct keeper {
     struct rows rows;
-    uint64_t settles;        /* the time until which inherited entries stay, or MQ_NONE */
+    uint64_t gathers;        /* the time until which inherited entries stay, or MQ_NONE */
     bool inherits_others;    /* also entries of the kernel, which are older than the link */
     struct tuned_port tuned; /* the port, for its static groups; `tunings` is NULL if it has none */
 };
@@ -22,9 +22,9 @@ struct keeper {
 bool keeper_open(struct keeper *keeper, size_t groups);
 /* Forgets all entries. The kernel removes them, or they are removed already. */
 void keeper_forget(struct keeper *keeper, const struct place *place);
-/* Makes the present entries inherited: until `settles`, none is removed or made narrower. The kernel's are inherited too if it learns
+/* Makes the present entries inherited: until `gathers`, none is removed or made narrower. The kernel's are inherited too if it learns
    no new ones. */
-void keeper_begin(struct keeper *keeper, uint64_t settles, bool inherits_others);
+void keeper_begin(struct keeper *keeper, uint64_t gathers, bool inherits_others);
 /* Makes the entry of a group forward what the link forwards, and what static groups say. */
 void keeper_update(struct keeper *keeper, const mq_link *link, const struct place *place, const uint8_t *group);
 /* Makes the entries of static groups that changed: `before` has the earlier ones. */
@@ -36,7 +36,7 @@ struct filter keeper_filter(const struct keeper *keeper, const mq_link *link, co
    as above. */
 void keeper_hand_over(struct keeper *keeper, const mq_link *link, const struct place *place, bool with_sources);
 /* Ends inheritance: all entries forward what the link forwards. */
-void keeper_settle(struct keeper *keeper, const mq_link *link, const struct place *place);
+void keeper_gathered(struct keeper *keeper, const mq_link *link, const struct place *place);
 
 /* A repair calls `keeper_forget_seen`, then `keeper_note` for each own entry of a dump, then `keeper_repair`, which corrects the
    entries. `is_whole` says that the dump had all entries. `link` is NULL if the link has not begun: then its entries are inherited.

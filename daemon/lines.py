@@ -6,7 +6,7 @@ import time
 
 from fabric import FAMILIES, PROGRAM, Fabric, run
 from frames import igmp_frame, report_frame, summed
-from lab import GROUPS, MANY, SOURCES, ip, is_true
+from lab import ip, is_true
 
 IS_EX, TO_IN = 2, 3
 GREATEST = "--ports 1024 --groups 65535 --group-sources 1024 --sources 65535 --scheduled 65535".split()
@@ -16,7 +16,7 @@ SMALL = 256 << 20  # bytes
 def leaves_many(fabric, count):
     """A host joins and leaves many groups. Returns the numbers of records that were not applied, by family."""
     querier = fabric.querier(*fabric.words)
-    querier.settled()
+    querier.gathered()
     fronts = {"igmp": lambda it: f"239.9.{it // 200}.{it % 200 + 1}", "mld": lambda it: f"ff0e::9:{it + 1:x}"}
     for kind in (IS_EX, TO_IN):
         for family, front in fronts.items():
@@ -44,7 +44,7 @@ def the_greatest_limits():
     """At the greatest limits the querier runs `nft`, prints its status, and touches less than 256 MB of memory."""
     with Fabric(3, 1) as fabric:
         querier = fabric.querier(*GREATEST)
-        querier.settled()
+        querier.gathered()
         is_true("from_port" in run(fabric.near, "nft", "list", "ruleset"), "no rules")
         with open(f"/proc/{querier.process.pid}/status", encoding="ascii") as status:
             found = {line.split(":")[0]: int(line.split()[1]) << 10 for line in status if line.startswith("Vm")}
@@ -58,7 +58,7 @@ def settings_have_lines():
         for words in ("fastleave on", "mcast_to_unicast on"):
             run(fabric.near, "bridge", "link", "set", "dev", "b0p1", *words.split())
         querier = fabric.querier("--router-port", "nosuchport")
-        querier.settled()
+        querier.gathered()
         names = "mcast_igmp_version mcast_mld_version mcast_hash_max mcast_querier mcast_router mcast_fast_leave mcast_to_unicast nosuchport".split()
         missing = [name for name in names if not any(name in line for line in querier.errors)]
         is_true(not missing, f"no line: {missing}: {querier.errors}")
@@ -66,7 +66,7 @@ def settings_have_lines():
         ip("-n", fabric.near, "link", "set", "b0p2", "type", "bridge_slave", "mcast_router", "2")
         fabric.options = ["--setup"]
         querier = fabric.querier()
-        querier.settled()
+        querier.gathered()
         shown = ip("-n", fabric.near, "-d", "link", "show", "b0p2")
         is_true("mcast_router 2 " in shown and any("b0p2: mcast_router is 2 and stays" in line for line in querier.errors), f"{querier.errors}")
         fabric.hosts["b0h3"].put(igmp_frame("9.0.0.1", "224.0.0.1", summed(bytes.fromhex("11640000 00000000"))))
@@ -88,7 +88,7 @@ def names_and_files():
         fabric.bridges += ["br-0", "br.0"]
         queriers = [one.querier() for one in (fabric, other)]
         for querier in queriers:
-            querier.settled()
+            querier.gathered()
         rules = run(fabric.near, "nft", "list", "tables")
         is_true(rules.count("table bridge mquerier_") == 3, rules)
         is_true(len(queriers[1].status()["ports"]) == 1 and not queriers[1].errors, f"{queriers[1].errors}")

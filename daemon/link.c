@@ -23,6 +23,7 @@ void link_retime(mq_config *it, const mq_config *next) {
     it->query_interval = next->query_interval;
     it->response_interval = next->response_interval;
     it->last_member_interval = next->last_member_interval;
+    it->last_member_query_count = next->last_member_query_count;
 }
 
 size_t link_changed(const mq_link *link, uint8_t (*groups)[LONG_ADDRESS]) {

@@ -162,7 +162,7 @@ static void look_around(struct querier *querier, uint64_t now) {
     next = now + EVERY;
     if (querier->is_stale)
         refresh(querier);
-    setup_settle(querier, now);
+    setup_gathered(querier, now);
     if (!querier->options->is_interface)
         ports_watch_topology(querier, now);
     if (interval != 0 && now >= next_word) {
@@ -179,7 +179,9 @@ void loop_run(struct querier *querier, int count, char **words) {
         if (querier_filters(querier) && ports_read_news(querier)) /* first, because they say whose VLAN a frame without a tag has */
             refresh(querier);
         querier_hear(querier, now); /* before ticks: a Report that is read late still counts */
+        mdb_restore();              /* at once, because datagrams may be lost until then */
         querier_tick(querier, now);
+        mdb_restore();
         look_around(querier, now);
         mdb_restore();
         if (is_asked && querier->options->is_interface) {

@@ -65,7 +65,7 @@ def restarts(kernel):
 def started(fabric):
     """Starts the querier. Returns it when the links know what hosts want, and the kernel floods no more."""
     querier = fabric.querier()
-    querier.settled()
+    querier.gathered()
     time.sleep(2.5)
     return querier
 
@@ -84,7 +84,7 @@ def a_slow_start():
         os.chmod(name, 0o755)
         stream = Stream(fabric, "b0h4", wanted)
         first.end(signal.SIGKILL)
-        fabric.querier(env={"PATH": f"{os.path.dirname(name)}:{os.environ['PATH']}"}).settled()
+        fabric.querier(env={"PATH": f"{os.path.dirname(name)}:{os.environ['PATH']}"}).gathered()
         time.sleep(1)
         stream.end()
 
@@ -124,7 +124,7 @@ def without_an_address(kernel):
         stream = Stream(fabric, "b0h4", wanted)
         ip("-n", fabric.near, "address", "add", "10.0.0.3/24", "dev", "br0")
         querier.until(lambda it: all(port["igmp"]["on"] for port in it["ports"]), "IGMP begun")
-        querier.settled()
+        querier.gathered()
         time.sleep(2.5)
         stream.end()
         fabric.gets("b0h4", wanted)
@@ -139,7 +139,7 @@ def without_ipv6():
         wanted = members(fabric)
         fabric.ready = lambda: None
         querier = fabric.querier()
-        querier.settled()
+        querier.gathered()
         igmp = {case: hosts for case, hosts in wanted.items() if case[1] == GROUPS["igmp"]}
         fabric.gets("b0h4", igmp)
         fabric.gets("b0h4", {case: hosts if case in igmp else {"b0h1", "b0h2", "b0h3"} for case, hosts in wanted.items()})
@@ -147,7 +147,7 @@ def without_ipv6():
         stream = Stream(fabric, "b0h4", wanted)
         run(fabric.near, "sh", "-c", "echo 0 > /proc/sys/net/ipv6/conf/br0/disable_ipv6")
         querier.until(lambda it: all(port["mld"]["on"] for port in it["ports"]), "MLD begun")
-        querier.settled()
+        querier.gathered()
         time.sleep(2.5)
         stream.end()
         fabric.gets("b0h4", wanted)
@@ -186,7 +186,7 @@ def the_tree_moves(root):
             is_blocked = "state blocking" in run(fabric.near, "bridge", "link", "show", "dev", "b0p2")
             asked = sum(is_query(frame) for frame in waiting(ears))
         is_true(is_blocked == (root == "sw") and (asked == 0 or not is_blocked), f"{asked} queries at a blocked port")
-        querier.settled()
+        querier.gathered()
         host, cases = Host(fabric, "host"), {(SOURCES[family][0], GROUPS[family]): {"host"} for family in FAMILIES}
         for family in FAMILIES:
             host.do("join", GROUPS[family])
@@ -220,7 +220,7 @@ def a_source_goes():
     EXCLUDE entries get these sources, until their entries are made again. They miss nothing."""
     with Fabric(6, 1) as fabric:
         querier = fabric.querier("--qi", "20")
-        querier.settled()
+        querier.gathered()
         for family in FAMILIES:
             one, other, group = *SOURCES[family], GROUPS[family]
 

@@ -121,6 +121,7 @@ static void run(int count, char **words) {
         fprintf(stderr, "mquerier-live: %s\n", why);
         exit(STATUS_USAGE);
     }
+    prctl(PR_SET_THP_DISABLE, 1, 0, 0, 0); /* links use little of their memory until hosts come: no huge pages for it */
     querier_open(&querier, &options);
     ports_open(&querier);
     for (size_t at = 0; at < options.count; at++)

@@ -29,8 +29,8 @@ enum { PROTOCOL_IGMP = 211, PROTOCOL_MLD = 212 };
 enum { PROTOCOL_NOBODY = 213 };
 /* The most entries that one dump finds to be removed. */
 enum { FOUND = 256 };
-/* The most groups that wait for `mdb_restore`. */
-enum { LOST = 256 };
+/* The most groups that wait for `mdb_restore`. Few, so that none waits long. */
+enum { LOST = 16 };
 const struct filter filter_of_all = {.mode = MODE_EXCLUDE};
 /* The kernel is one of 6.2 to 6.7. It lacks the request that removes all entries of a maker, and before 6.7 also that which
    reads an entry. Dumps serve there. */
@@ -137,8 +137,7 @@ static void find_own(void *context, const struct entry *entry) {
     memcpy(found->groups[found->count++], entry->group, LONG_ADDRESS);
 }
 
-/* Removes our entries one by one. */
-static void remove_each(const struct place *place) {
+void mdb_remove_each(const struct place *place) {
     static struct found found;
     bool is_done = true;
     do {
@@ -157,7 +156,7 @@ void mdb_remove_all(const struct place *place) {
     struct request request;
     struct answer answer;
     if (is_older) {
-        remove_each(place);
+        mdb_remove_each(place);
         return;
     }
     begin(place, &request, RTM_DELMDB, NLM_F_BULK, NULL, place->port, 0);
@@ -294,11 +293,16 @@ bool mdb_dump(int netlink, mdb_each *each, void *context) {
     return error == 0;
 }
 
+static void begin_entry(const struct place *place, struct request *request, const uint8_t *group, const struct filter *filter,
+                        uint16_t flag, uint8_t state) {
+    begin(place, request, RTM_NEWMDB, NLM_F_CREATE | flag, group, place->port, state);
+    put_beside(place, request, filter);
+}
+
 static int put_entry(const struct place *place, const uint8_t *group, const struct filter *filter, uint16_t flag, uint8_t state,
                      struct answer *answer) {
     struct request request;
-    begin(place, &request, RTM_NEWMDB, NLM_F_CREATE | flag, group, place->port, state);
-    put_beside(place, &request, filter);
+    begin_entry(place, &request, group, filter, flag, state);
     return netlink_ask(place->netlink, &request, answer);
 }
 
@@ -352,40 +356,37 @@ void mdb_note_removal(const struct place *place, const uint8_t *group) {
     memcpy(lost[lost_count++].group, group, LONG_ADDRESS);
 }
 
-/* The ports with EXCLUDE entries of a group. */
+/* The requests that make the EXCLUDE entries of a group again. */
 struct excluding {
     const struct lost *lost;
     bool has_sources; /* an entry of the group lists some */
-    size_t count;
-    int ports[GREATEST_PORTS];
+    struct batch batch;
 };
 
 static void find_excluding(void *context, const struct entry *entry) {
     struct excluding *found = context;
-    const struct place *its = &found->lost->place;
-    bool is_its =
-        entry->vlan == its->vlan && entry->is_mld == its->is_mld && memcmp(entry->group, found->lost->group, LONG_ADDRESS) == 0;
+    struct place its = found->lost->place;
+    struct request request;
+    if (entry->vlan != its.vlan || entry->is_mld != its.is_mld || memcmp(entry->group, found->lost->group, LONG_ADDRESS) != 0)
+        return;
+    found->has_sources |= entry->filter.count > 0;
     bool excludes = entry->maker == MAKER_US && !entry->is_temporary && entry->filter.mode == MODE_EXCLUDE;
-    found->has_sources |= is_its && entry->filter.count > 0;
-    if (is_its && excludes && found->count < GREATEST_PORTS)
-        found->ports[found->count++] = entry->port;
+    if (!excludes || entry->filter.count > GREATEST_LIST)
+        return;
+    its.port = entry->port;
+    begin_entry(&its, &request, entry->group, &entry->filter, NLM_F_REPLACE, MDB_PERMANENT);
+    batch_put(its.netlink, &found->batch, &request);
 }
 
-/* Makes the EXCLUDE entries of a group again, as they are. */
+/* Makes the EXCLUDE entries of a group again, as they are: all at once, because datagrams may be lost until then. */
 static void restore(const struct lost *one) {
     static struct excluding found;
-    struct answer answer;
-    struct entry entry;
     found.lost = one;
-    found.count = 0;
     found.has_sources = false;
+    found.batch.length = 0;
     read_group(&one->place, one->group, find_excluding, &found);
-    for (size_t at = 0; found.has_sources && at < found.count; at++) {
-        struct place place = one->place;
-        place.port = found.ports[at];
-        if (mdb_read(&place, one->group, &entry) == 0 && entry.filter.count <= GREATEST_LIST)
-            put_entry(&place, one->group, &entry.filter, NLM_F_REPLACE, MDB_PERMANENT, &answer);
-    }
+    if (found.has_sources)
+        batch_send(one->place.netlink, &found.batch);
 }
 
 void mdb_restore(void) {

@@ -54,6 +54,8 @@ void mdb_restore(void);
 bool mdb_remove(const struct place *place, const uint8_t *group);
 /* Removes all our entries, of all VLANs if `vlan` is 0. */
 void mdb_remove_all(const struct place *place);
+/* Removes them one by one, so that `mdb_restore` knows their groups. */
+void mdb_remove_each(const struct place *place);
 /* Reads the entry of a group. Returns 0, ENOENT if there is none, or another error of <errno.h>. */
 int mdb_read(const struct place *place, const uint8_t *group, struct entry *entry);
 /* Passes each entry of all bridges to `each`, which makes no call here. Returns whether these were all entries. */

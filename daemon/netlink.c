@@ -148,6 +148,24 @@ int netlink_ask(int netlink, struct request *request, struct answer *answer) {
     }
 }
 
+void batch_put(int netlink, struct batch *batch, const struct request *request) {
+    struct nlmsghdr header = request->header;
+    size_t length = NLMSG_ALIGN(header.nlmsg_len);
+    header.nlmsg_flags &= (uint16_t)~NLM_F_ACK;
+    header.nlmsg_seq = 0; /* no request that waits for an answer has this number */
+    if (batch->length + length > sizeof batch->requests)
+        batch_send(netlink, batch);
+    memcpy(batch->requests + batch->length, request, length);
+    memcpy(batch->requests + batch->length, &header, sizeof header);
+    batch->length += length;
+}
+
+void batch_send(int netlink, struct batch *batch) {
+    if (batch->length > 0)
+        send(netlink, batch->requests, batch->length, 0);
+    batch->length = 0;
+}
+
 /* Reads the messages of one part of a dump. Returns whether it was the last part, and sets `*error` if something failed. */
 static bool read_part(const uint8_t *bytes, size_t length, netlink_each *each, void *context, struct answer *answer, int *error) {
     const struct nlmsghdr *message = (const void *)bytes;

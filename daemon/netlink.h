@@ -34,6 +34,17 @@ void request_end_nest(struct request *request, size_t nest);
 /* Sends a request, and waits for its answer, which stands until the next call. Returns 0 or an error of <errno.h>. */
 int netlink_ask(int netlink, struct request *request, struct answer *answer);
 
+/* Requests that are sent together. The kernel handles them without a pause, and their answers are not read. */
+struct batch {
+    size_t length;
+    uint8_t requests[GREATEST_ANSWER];
+};
+
+/* Adds a request. If there is no room for it, those before are sent. */
+void batch_put(int netlink, struct batch *batch, const struct request *request);
+/* Sends the requests, and empties the batch. The kernel has handled them when it returns. */
+void batch_send(int netlink, struct batch *batch);
+
 /* Sends a request for a dump, and passes each message to `each`, which sends no request. Returns 0 or an error of <errno.h>. EINTR
    means that the dump may be incomplete. */
 typedef void netlink_each(void *context, const struct nlmsghdr *message);

@@ -52,6 +52,8 @@ enum {
     LIMIT,
     FAST_LEAVE,
     STATIC,
+    ALLOW,
+    DENY,
     SETUP,
     ROUTER_PORT,
     REPORT,
@@ -80,6 +82,8 @@ static const struct option OTHERS[] = {
     {"limit", required_argument, NULL, LIMIT},
     {"fast-leave", required_argument, NULL, FAST_LEAVE},
     {"static", required_argument, NULL, STATIC},
+    {"allow", required_argument, NULL, ALLOW},
+    {"deny", required_argument, NULL, DENY},
     {"setup", no_argument, NULL, SETUP},
     {"router-port", required_argument, NULL, ROUTER_PORT},
     {"report", no_argument, NULL, REPORT},
@@ -217,7 +221,7 @@ static const char *read_ports(struct options *options, const char *text) {
 static const char *read_tuning(struct options *options, enum tuned kind, const char *text) {
     static char why[120];
     if (options->is_route)
-        return wrong("--limit, --fast-leave and --static are for bridge: ", text);
+        return wrong("--limit, --fast-leave, --static, --allow and --deny are for bridge: ", text);
     const char *fault_of = tunings_read(&options->tunings, kind, text);
     if (fault_of == NULL)
         return NULL;
@@ -253,6 +257,8 @@ static const char *read_option(struct options *options, int found, int count, ch
     case LIMIT: return read_tuning(options, TUNED_LIMIT, optarg);
     case FAST_LEAVE: return read_tuning(options, TUNED_FAST_LEAVE, optarg);
     case STATIC: return read_tuning(options, TUNED_STATIC, optarg);
+    case ALLOW: return read_tuning(options, TUNED_ALLOW, optarg);
+    case DENY: return read_tuning(options, TUNED_DENY, optarg);
     case SETUP: options->sets_up = true; break;
     case ROUTER_PORT: return read_router(options, optarg);
     case REPORT: options->reports = true; break;

@@ -253,16 +253,16 @@ static bool has_addresses(const struct querier *querier, const struct bridge *br
 
 /* Sets when the links of a bridge know what hosts want, after a family got an address. `had` says which families had one before. A
    VLAN that comes later does not have the kernel flood the others. */
-static void set_settling(struct querier *querier, struct bridge *bridge, const bool had[2], uint64_t now) {
+static void set_gathering(struct querier *querier, struct bridge *bridge, const bool had[2], uint64_t now) {
     const bool *serves = querier->options->serves;
-    bool is_new = bridge->settles == MQ_NONE;
+    bool is_new = bridge->gathers == MQ_NONE;
     for (int at = 0; at < 2 && !bridge->filters; at++)
         is_new |= serves[at] && bridge->has_own[at] && !had[at];
     if (!is_new || !has_addresses(querier, bridge))
         return;
-    bridge->settles = now + querier_settling(querier);
-    bridge->is_late |= bridge->is_settled;
-    bridge->is_settled = false;
+    bridge->gathers = now + querier_gathering(querier);
+    bridge->is_late |= bridge->has_gathered;
+    bridge->has_gathered = false;
 }
 
 /* Begins the links of a bridge again after it began or ended to filter VLANs: no entry is right any longer. The kernel floods while
@@ -274,7 +274,7 @@ static void change_filtering(struct querier *querier, struct bridge *bridge) {
     for (size_t at = 0; at < querier->room; at++)
         if (querier->ports[at].index != 0 && querier->ports[at].bridge == bridge)
             ports_lose(querier, querier->ports + at);
-    bridge->settles = MQ_NONE;
+    bridge->gathers = MQ_NONE;
 }
 
 /* Reads the ports and addresses of a bridge. Returns whether the kernel's lists were whole. */
@@ -282,14 +282,14 @@ static bool read_all(struct querier *querier, struct bridge *bridge, uint64_t no
     const bool had[2] = {bridge->has_own[0], bridge->has_own[1]};
     if (!bridge->filters) {
         bool has_all = owns_read(querier, bridge);
-        set_settling(querier, bridge, had, now);
+        set_gathering(querier, bridge, had, now);
         return read_ports(querier, bridge, now) && has_all;
     }
     seen_count = 0;
     bool has_all = read_ports(querier, bridge, now);
     has_all &= vlans_read(querier, bridge, seen_ports, seen_count, has_all);
     has_all &= owns_read_vlans(querier, bridge);
-    set_settling(querier, bridge, had, now);
+    set_gathering(querier, bridge, had, now);
     vlans_begin(querier, bridge, now);
     return has_all;
 }
@@ -299,8 +299,8 @@ static bool take_bridge(struct querier *querier, struct bridge *bridge, const st
     const struct nlattr *mac = attribute_find(found->at, found->end, IFLA_ADDRESS);
     bool filters = !bridge->is_port && is_filtering(found), is_other = bridge->index == found->index && bridge->filters != filters;
     if (bridge->index != found->index) {
-        bridge->settles = MQ_NONE;
-        bridge->is_settled = false;
+        bridge->gathers = MQ_NONE;
+        bridge->has_gathered = false;
         has_changed(bridge, found);
     }
     bridge->index = found->index;

@@ -70,7 +70,7 @@ void querier_open(struct querier *querier, struct options *options) {
     querier->vlans = take(querier->vlans_room, sizeof *querier->vlans);
     deadlines_open(&querier->deadlines, 2 * querier->room + DEADLINES_BESIDE);
     for (size_t at = 0; at < querier->room; at++) {
-        querier->ports[at].served[0].keeper.settles = querier->ports[at].served[1].keeper.settles = MQ_NONE;
+        querier->ports[at].served[0].keeper.gathers = querier->ports[at].served[1].keeper.gathers = MQ_NONE;
         if (at < options->ports && !querier_equip(querier, querier->ports + at))
             fail(STATUS_FAILED, "memory for --ports, --groups and --sources", strerror(errno));
     }
@@ -237,8 +237,8 @@ static void print_ends(const struct querier *querier, const struct port *port, c
 static void set_deadline(struct querier *querier, const struct port *port, bool is_mld) {
     const struct served *served = &port->served[is_mld];
     uint64_t next = served->is_on ? mq_link_next_deadline(&served->link) : MQ_NONE;
-    if (served->is_on && served->keeper.settles < next)
-        next = served->keeper.settles;
+    if (served->is_on && served->keeper.gathers < next)
+        next = served->keeper.gathers;
     deadlines_set(&querier->deadlines, 2 * (size_t)(port - querier->ports) + is_mld, next);
 }
 
@@ -255,7 +255,7 @@ static const mq_config *configuration_of(const struct querier *querier, const st
 
 /* Returns the milliseconds after which a link knows what hosts want. They have answered a startup query then, even if all but the
    last were lost (RFC 3376 sections 8.6 and 8.7, RFC 3810 sections 9.6 and 9.7). */
-static uint64_t settling(const mq_config *it) {
+static uint64_t gathering(const mq_config *it) {
     uint64_t interval = SECOND * (uint64_t)it->query_interval / 4;
     return (it->robustness - 1) * interval + it->response_interval + LATE;
 }
@@ -267,7 +267,7 @@ static void send_queries(struct querier *querier, struct port *port, bool is_mld
     for (size_t at = 0; mq_link_next_query(&served->link, answer, &at, &query);)
         send_query(querier, port, is_mld, &query, now);
     if (answer.sent > 0 && served->is_first) /* much may have delayed the first query since the link began */
-        served->keeper.settles = now + settling(configuration_of(querier, port, is_mld));
+        served->keeper.gathers = now + gathering(configuration_of(querier, port, is_mld));
     served->is_first &= answer.sent == 0;
 }
 
@@ -290,11 +290,11 @@ static void follow(struct querier *querier, struct port *port, bool is_mld, uint
     set_deadline(querier, port, is_mld);
 }
 
-uint64_t querier_settling(const struct querier *querier) {
+uint64_t querier_gathering(const struct querier *querier) {
     uint64_t longest = 0;
     for (int at = 0; at < 2; at++)
-        if (querier->options->serves[at] && settling(&querier->families[at].configuration) > longest)
-            longest = settling(&querier->families[at].configuration);
+        if (querier->options->serves[at] && gathering(&querier->families[at].configuration) > longest)
+            longest = gathering(&querier->families[at].configuration);
     return longest;
 }
 
@@ -340,7 +340,7 @@ void querier_begin(struct querier *querier, struct port *port, bool is_mld, uint
     memcpy(served->own, port->vlan->own.address[is_mld], sizeof served->own);
     if (!served->is_on)
         fault(FAULT_MISSING, port->bridge->name, mq_status_text(status));
-    keeper_begin(&served->keeper, now + settling(&configuration), querier->options->sets_up);
+    keeper_begin(&served->keeper, now + gathering(&configuration), querier->options->sets_up);
     size_t first = 0;
     querier->is_stale |= tunings_next_static(&served->keeper.tuned, is_mld, &first) != NULL; /* a repair makes its static entries */
     set_deadline(querier, port, is_mld);
@@ -458,11 +458,11 @@ static void tick(struct querier *querier, struct port *port, bool is_mld, uint64
     struct place place;
     send_queries(querier, port, is_mld, mq_link_tick(&served->link, now), now);
     follow(querier, port, is_mld, now);
-    if (served->keeper.settles <= now && querier_place(querier, port, is_mld, &place)) {
-        keeper_settle(&served->keeper, &served->link, &place);
+    if (served->keeper.gathers <= now && querier_place(querier, port, is_mld, &place)) {
+        keeper_gathered(&served->keeper, &served->link, &place);
         upstream_note_all(querier, port->bridge, now);
-    } else if (served->keeper.settles <= now) {
-        served->keeper.settles = MQ_NONE;
+    } else if (served->keeper.gathers <= now) {
+        served->keeper.gathers = MQ_NONE;
     }
     set_deadline(querier, port, is_mld);
 }

@@ -47,8 +47,8 @@ struct bridge {
     bool lacks_own[2];     /* a VLAN has none */
     bool is_configured[2]; /* it has a configuration of its own */
     mq_config configuration[2];
-    uint64_t settles;   /* when its links know what hosts want, or MQ_NONE while they wait for an address */
-    bool is_settled;    /* that time is over */
+    uint64_t gathers;   /* when its links know what hosts want, or MQ_NONE while they wait for an address */
+    bool has_gathered;  /* that time is over */
     bool is_late;       /* a family got an address after that, and the kernel has to flood again */
     uint32_t change[3]; /* flags and a timer of the last change of the spanning tree */
     int before;         /* the file of the settings before --setup, or -1 */
@@ -133,7 +133,7 @@ void querier_begin(struct querier *querier, struct port *port, bool is_mld, uint
 /* Gives a link that has begun the configuration and the own address of its port. It keeps what it holds. */
 void querier_configure(struct querier *querier, struct port *port, bool is_mld);
 /* Returns the milliseconds after which links that begin know what hosts want. */
-uint64_t querier_settling(const struct querier *querier);
+uint64_t querier_gathering(const struct querier *querier);
 /* Returns the Query Interval in milliseconds. Both families have the same. */
 uint64_t querier_interval(const struct querier *querier);
 /* Begins again each link of a family that has begun. */

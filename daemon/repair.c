@@ -20,7 +20,7 @@ static void note_stray(const struct querier *querier, const struct entry *entry)
 static void remove_strays(struct querier *querier) {
     for (size_t at = 0; at < strays_count; at++)
         if (strays[at].vlan != 0)
-            mdb_remove_all(&strays[at]);
+            mdb_remove_each(&strays[at]);
     querier->is_stale |= strays_count == STRAYS;
     strays_count = 0;
 }

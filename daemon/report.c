@@ -11,14 +11,15 @@
 static const char *const family_names[2] = {"igmp", "mld"};
 
 /* The counters of a link, by name. */
-enum { COUNTERS = 7 };
-static const char *const counter_names[COUNTERS] = {"received", "dropped", "applied", "ignored", "refused", "sent", "unsent"};
+enum { COUNTERS = 8 };
+static const char *const counter_names[COUNTERS] = {"received", "dropped", "applied", "ignored",
+                                                    "refused",  "sent",    "unsent",  "denied"};
 
 static void counters_of(const mq_link *link, uint64_t counters[COUNTERS]) {
     mq_counts counts;
     mq_link_counts(link, &counts, sizeof counts);
     const uint64_t found[COUNTERS] = {counts.received, counts.dropped, counts.applied, counts.ignored,
-                                      counts.refused,  counts.sent,    counts.unsent};
+                                      counts.refused,  counts.sent,    counts.unsent,  counts.denied};
     memcpy(counters, found, sizeof found);
 }
 
@@ -109,8 +110,8 @@ static void text_link(const struct port *port, bool is_mld, uint64_t now, FILE *
     }
     text_role(&served->link, now, to);
     fprintf(to, ", own %s, entries %zu, ", address_text(&served->link, served->own), served->keeper.rows.count);
-    if (served->keeper.settles != MQ_NONE)
-        fprintf(to, "settles in %" PRIu64 " ms, ", left(served->keeper.settles, now));
+    if (served->keeper.gathers != MQ_NONE)
+        fprintf(to, "settles in %" PRIu64 " ms, ", left(served->keeper.gathers, now));
     counters_of(&served->link, counters);
     for (int at = 0; at < COUNTERS; at++)
         fprintf(to, "%s %" PRIu64 "%s", counter_names[at], counters[at], at + 1 < COUNTERS ? " " : "\n");
@@ -230,7 +231,7 @@ static void json_link(const struct port *port, bool is_mld, uint64_t now, FILE *
         const char *is_querier = mq_link_is_querier(&served->link) ? "true" : "false";
         fprintf(to, ",\"own\":\"%s\",\"querier\":%s,\"entries\":%zu", address_text(&served->link, served->own), is_querier,
                 served->keeper.rows.count);
-        json_moment("settles", served->keeper.settles, now, to);
+        json_moment("settles", served->keeper.gathers, now, to);
         json_moment("other_left", other, now, to);
         if (other != MQ_NONE)
             fprintf(to, ",\"other\":\"%s\"", address_text(&served->link, address));

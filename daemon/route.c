@@ -166,38 +166,38 @@ static void renew(struct querier *querier, bool is_mld, uint64_t now) {
 }
 
 /* Returns whether hosts may not have answered the first queries of a link at an interface. */
-static bool settles(const struct querier *querier, size_t vif, bool is_mld) {
+static bool gathers(const struct querier *querier, size_t vif, bool is_mld) {
     for (size_t at = 0; at < querier->room; at++) {
         const struct port *port = querier->ports + at;
         if (port->index != 0 && route_vif_of(querier, port) == vif && port->served[is_mld].is_on
-            && port->served[is_mld].keeper.settles != MQ_NONE)
+            && port->served[is_mld].keeper.gathers != MQ_NONE)
             return true;
     }
     return false;
 }
 
 /* Ends inheritance at the interfaces where hosts have answered. */
-static void settle(struct querier *querier, bool is_mld) {
+static void end_gathering(struct querier *querier, bool is_mld) {
     struct route *route = querier->route;
-    uint32_t settled = 0;
+    uint32_t gathered = 0;
     bool is_any = false;
     for (size_t vif = 0; vif < route->downstream; vif++) {
-        bool was = route->vifs[vif].settles[is_mld], is = settles(querier, vif, is_mld);
-        route->vifs[vif].settles[is_mld] = is;
+        bool was = route->vifs[vif].gathers[is_mld], is = gathers(querier, vif, is_mld);
+        route->vifs[vif].gathers[is_mld] = is;
         is_any |= is;
         if (was && !is)
-            settled |= UINT32_C(1) << vif;
+            gathered |= UINT32_C(1) << vif;
     }
-    if (settled == 0)
+    if (gathered == 0)
         return;
     struct route_entry *entry;
     for (size_t at = 0; (entry = entries_at(&route->entries, at)) != NULL; at++)
         if (entry->flow.is_mld == is_mld)
-            entry->kept &= ~settled;
+            entry->kept &= ~gathered;
     if (!is_any)
-        wishes_settle(querier, is_mld);
+        wishes_gathered(querier, is_mld);
     route->is_stale[is_mld] = true;
-    inherit_settle(querier);
+    inherit_gathered(querier);
 }
 
 /* Does the duties of each second. */
@@ -206,7 +206,7 @@ static void look_around(struct querier *querier, uint64_t now) {
     route->next_second = now + SECOND_MS;
     route_refresh(querier);
     for (int at = 0; at < 2; at++)
-        settle(querier, at == 1);
+        end_gathering(querier, at == 1);
     for (int at = 0; at < 2; at++)
         if (route->is_stale[at])
             renew(querier, at == 1, now);
@@ -270,7 +270,7 @@ void route_inherit(struct querier *querier, const struct port *port, bool is_mld
     for (size_t at = 0; (entry = entries_at(&route->entries, at)) != NULL; at++)
         if (entry->flow.is_mld == is_mld)
             entry->kept |= entry->to & UINT32_C(1) << route_vif_of(querier, port);
-    route->vifs[route_vif_of(querier, port)].settles[is_mld] = true;
+    route->vifs[route_vif_of(querier, port)].gathers[is_mld] = true;
 }
 
 void route_forget(struct querier *querier) {

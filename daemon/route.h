@@ -12,7 +12,7 @@ struct vif {
     const char *name;
     int index;       /* 0 while there is no interface of the name */
     bool is_on[2];   /* the tables of the kernel that have it: one for each family */
-    bool settles[2]; /* hosts may not have answered first queries of a link there */
+    bool gathers[2]; /* hosts may not have answered first queries of a link there */
 };
 
 struct route {
@@ -62,7 +62,7 @@ void wishes_merge(const struct querier *querier, bool is_mld, const uint8_t *gro
 void wishes_update(struct querier *querier, bool is_mld, const uint8_t *group);
 /* Merges all groups of a family again. */
 void wishes_renew(struct querier *querier, bool is_mld);
-void wishes_settle(struct querier *querier, bool is_mld);
+void wishes_gathered(struct querier *querier, bool is_mld);
 
 /* The entries (forward.c). Corrects where the entries of a group forward to a port's interface; or all entries of a family. */
 void forward_group(struct querier *querier, const struct port *port, bool is_mld, const uint8_t *group, uint64_t now);

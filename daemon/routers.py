@@ -57,7 +57,7 @@ def an_older_router_behind_a_port():
     """A router of IGMPv2 and MLDv1 behind a port gets Reports, Leaves and Dones of its version, and lines tell of its queries."""
     with Fabric(3, 1) as fabric:
         querier = fabric.querier("--router-port", "b0p3", "--report")
-        querier.settled()
+        querier.gathered()
         with inside(fabric.far), socket.socket(socket.AF_PACKET, socket.SOCK_RAW, socket.htons(3)) as ears:
             ears.bind(("b0h3", 3))
             ears.setblocking(False)
@@ -92,7 +92,7 @@ def a_router_on_the_machine():
     other port hears them."""
     with Fabric(3, 1) as fabric:
         querier = fabric.querier()
-        querier.settled()
+        querier.gathered()
         with inside(fabric.near):
             ears = [socket.socket(socket.AF_INET, socket.SOCK_RAW, 2), socket.socket(socket.AF_INET6, socket.SOCK_RAW, 58)]
             members = [joined(fabric, group) for group in ("224.0.0.22", "ff02::16")]

@@ -52,7 +52,7 @@ static uint32_t wanted(const struct querier *querier, const struct bridge *bridg
     switch (which) {
     case IGMP_VERSION: return serves[false] ? 3 : 0;
     case MLD_VERSION: return serves[true] ? 2 : 0;
-    case QUERIER: return !options->is_interface && (bridge->is_settled || !options->sets_up);
+    case QUERIER: return !options->is_interface && (bridge->has_gathered || !options->sets_up);
     case HASH_MAX: return entries > UINT32_MAX ? UINT32_MAX : (uint32_t)entries;
     default: return entries > 0;
     }
@@ -232,12 +232,12 @@ void setup_apply(struct querier *querier) {
     }
 }
 
-void setup_settle(struct querier *querier, uint64_t now) {
+void setup_gathered(struct querier *querier, uint64_t now) {
     for (size_t at = 0; at < querier->bridges_count; at++) {
         struct bridge *bridge = &querier->bridges[at];
-        if (bridge->is_port || bridge->index == 0 || bridge->is_settled || now < bridge->settles)
+        if (bridge->is_port || bridge->index == 0 || bridge->has_gathered || now < bridge->gathers)
             continue;
-        bridge->is_settled = true;
+        bridge->has_gathered = true;
         if (querier->options->sets_up)
             apply_to_bridge(querier, bridge, bridge->name, false);
     }

@@ -9,7 +9,7 @@ void setup_open(struct querier *querier);
 /* Sets bridges, ports and rules as --setup and --router-port require. Without these options it prints the wrong settings. */
 void setup_apply(struct querier *querier);
 /* Ends the kernel's flooding at each bridge whose links know what hosts want since the last call. */
-void setup_settle(struct querier *querier, uint64_t now);
+void setup_gathered(struct querier *querier, uint64_t now);
 /* Makes the next `setup_apply` make the rules again if somebody changed them. */
 void setup_check(const struct querier *querier);
 /* Ends service at a bridge without a loss. The kernel's own snooping hears hosts again, gets the entries, and the settings from

@@ -18,6 +18,7 @@ AUXDATA, RCVBUFFORCE, PACKET_OUTGOING = 8, 33, 4
 VLAN_VALID = 1 << 4
 ETH_P_8021Q, ETH_P_8021AD = 0x8100, 0x88A8
 SECONDS = 1.2  # in which a frame arrives, on the slow machine
+PAUSE = 0.5  # seconds between two looks at a state. Idle time of the machine takes no time here, and a look does.
 
 
 def tagged(frame, vlan, protocol=ETH_P_8021Q):
@@ -61,8 +62,19 @@ def own_of_query(frame):
 class Patient(Querier):
     """A querier on a slow machine."""
 
-    def settled(self):
-        self.until(lambda it: all("settles" not in port[of] for port in it["ports"] for of in FAMILIES if port[of]["on"]), "settled", 60)
+    PAUSE = PAUSE
+
+    def gathered(self):
+        """Waits until all links that began know what hosts want: as long as the status says, and then until it is so."""
+        limit = time.monotonic() + 60
+        while left := [port[of]["settles"] for port in self.status()["ports"] for of in FAMILIES if "settles" in port[of]]:
+            is_true(time.monotonic() < limit, f"still gathering: {max(left)} ms are left; {self.errors[-5:]}")
+            time.sleep(max(left) / 1000 + PAUSE / 10)
+
+    def resident(self):
+        """Returns the bytes of its memory that are in use."""
+        with open(f"/proc/{self.process.pid}/statm", encoding="ascii") as it:
+            return int(it.read().split()[1]) * os.sysconf("SC_PAGE_SIZE")
 
 
 class Trunks:
@@ -76,24 +88,13 @@ class Trunks:
         self.near, self.far = f"{name}-near", f"{name}-far"
         self.folder = tempfile.TemporaryDirectory()  # pylint: disable=consider-using-with
         self.run, self.bridges, self.protocol = self.folder.name, ["br0"], ETH_P_8021Q
+        os.chmod(self.run, 0o755)
         self.options, self.queriers, self.streams = ["--setup", *options], [], []
         self.members, self.hosts = {}, {}
         for space in (self.near, self.far):
             ip("netns", "add", space)
-            run(space, "sh", "-c", "for it in all default; do echo 0 > /proc/sys/net/ipv6/conf/$it/accept_dad; done")
-        run(self.far, "sh", "-c", "echo 1000 > /proc/sys/net/ipv4/igmp_max_memberships")
-        ip("-n", self.near, "link", "add", "br0", "type", "bridge", "vlan_filtering", "1", "vlan_default_pvid", "0", *bridge)
-        ip("-n", self.near, "link", "set", "br0", "up")
-        lines = []
-        for port in range(1, len(members) + 1):
-            lines += [f"link add p{port} type veth peer name h{port} netns {self.far}", f"link set p{port} master br0 up"]
-        run(self.near, "ip", "-batch", "-", text="\n".join(lines) + "\n")
-        run(self.far, "ip", "-batch", "-", text="".join(f"link set h{port} up\n" for port in range(1, len(members) + 1)))
-        for port, vlans in enumerate(members, 1):
-            self.members[f"p{port}"] = {}
-            self.joins(f"p{port}", vlans)
-        for vlan in sorted({abs(it) for vlans in members for it in vlans}):
-            self.has_interface(vlan)
+            run(space, "sh", "-c", "for it in all default; do echo 0 > /proc/sys/net/ipv6/conf/$it/accept_dad; done; echo 1000 > /proc/sys/net/ipv4/igmp_max_memberships")
+        self.makes(members, bridge)
         with inside(self.far):
             self.wire = socket.socket(socket.AF_PACKET, socket.SOCK_RAW, 0)
         self.ears = listen(self.far)
@@ -112,26 +113,41 @@ class Trunks:
             subprocess.run(["ip", "netns", "del", space], check=False)
         self.folder.cleanup()
 
+    def makes(self, members, bridge):
+        """Makes the bridge, its ports with their VLANs, and the interfaces of VLANs. Few commands do it, because each takes its time."""
+        lines = [f"link add br0 type bridge vlan_filtering 1 vlan_default_pvid 0 {' '.join(bridge)}", "link set br0 up"]
+        for port in range(1, len(members) + 1):
+            lines += [f"link add p{port} type veth peer name h{port} netns {self.far}", f"link set p{port} master br0 up"]
+        run(self.near, "ip", "-batch", "-", text="\n".join(lines) + "\n")
+        run(self.far, "ip", "-batch", "-", text="".join(f"link set h{port} up\n" for port in range(1, len(members) + 1)))
+        self.members = {f"p{port}": {} for port in range(1, len(members) + 1)}
+        self.bridge(*(line for port, vlans in enumerate(members, 1) for line in self.joining(f"p{port}", vlans)))
+        self.has_interfaces(*sorted({abs(it) for vlans in members for it in vlans}))
+
     def bridge(self, *lines):
         """Runs lines of the command `bridge`."""
         run(self.near, "bridge", "-batch", "-", text="\n".join(lines) + "\n")
 
+    def joining(self, port, vlans):
+        """Notes that a port joins VLANs. Returns the lines for that."""
+        self.members[port] |= {abs(vlan): vlan > 0 for vlan in vlans}
+        return [f"vlan add dev {port} vid {abs(vlan)}{' pvid untagged' if vlan < 0 else ''}" for vlan in vlans]
+
     def joins(self, port, vlans):
-        lines = []
-        for vlan in vlans:
-            self.members[port][abs(vlan)] = vlan > 0
-            lines.append(f"vlan add dev {port} vid {abs(vlan)}{' pvid untagged' if vlan < 0 else ''}")
-        self.bridge(*lines)
+        self.bridge(*self.joining(port, vlans))
 
     def leaves(self, port, vlan):
         del self.members[port][vlan]
         self.bridge(f"vlan del dev {port} vid {vlan}")
 
-    def has_interface(self, vlan):
-        """Makes the interface of a VLAN, with addresses."""
-        self.bridge(f"vlan add dev br0 vid {vlan} self")
-        lines = [f"link add link br0 name br0.{vlan} type vlan id {vlan}", f"address add {self.own('igmp', vlan)}/24 dev br0.{vlan}"]
-        run(self.near, "ip", "-batch", "-", text="\n".join([*lines, f"link set br0.{vlan} up"]) + "\n")
+    def has_interfaces(self, *vlans):
+        """Makes the interfaces of VLANs, with addresses."""
+        self.bridge(*(f"vlan add dev br0 vid {vlan} self" for vlan in vlans))
+        lines = []
+        for vlan in vlans:
+            name = f"br0.{vlan}"
+            lines += [f"link add link br0 name {name} type vlan id {vlan}", f"address add {self.own('igmp', vlan)}/24 dev {name}", f"link set {name} up"]
+        run(self.near, "ip", "-batch", "-", text="\n".join(lines) + "\n")
 
     @staticmethod
     def own(family, vlan):
@@ -153,10 +169,9 @@ class Trunks:
         """Returns a host at a far end, in a VLAN or without a tag."""
         name = end if vlan is None else f"{end}.{vlan}"
         if name not in self.hosts:
-            if vlan is not None:
-                run(self.far, "sh", "-c", f"ip link add link {end} name {name} type vlan id {vlan}; ip link set {name} up")
-            number = len(self.hosts) + 1
-            run(self.far, "ip", "address", "add", f"10.200.{number}.9/24", "dev", name)
+            lines = [] if vlan is None else [f"link add link {end} name {name} type vlan id {vlan}", f"link set {name} up"]
+            lines += [f"address add 10.200.{len(self.hosts) + 1}.9/24 dev {name}"]
+            run(self.far, "ip", "-batch", "-", text="\n".join(lines) + "\n")
             self.hosts[name] = Host(self, name)
         return self.hosts[name]
 
@@ -171,7 +186,7 @@ class Trunks:
 
     def received(self, sender, cases, quiet=0.05):
         """Sends a datagram of each (VLAN, source, group) from a far end. Returns for each the places (far end, tag) that received it until
-        nothing came for `quiet` seconds."""
+        nothing came for `quiet` seconds. A second one at a place is named `twice`."""
         self.forget()
         found = {case: set() for case in cases}
         for case in cases:  # one after the other, because a datagram is the same in two VLANs
@@ -180,7 +195,7 @@ class Trunks:
             limit = time.monotonic() + SECONDS
             while heard := next_frame(self.ears, min(limit, time.monotonic() + quiet)):
                 if heard[2] == frame:
-                    found[case].add(heard[:2])
+                    found[case].add(heard[:2] if heard[:2] not in found[case] else (*heard[:2], "twice"))
         return found
 
     def forget(self):
@@ -206,7 +221,7 @@ class Trunks:
             if time.monotonic() > limit:
                 wrong = {case: (found[case] - wanted[case], wanted[case] - found[case]) for case in wanted if found[case] != wanted[case]}
                 raise Wrong(f"too much and missing: {str(wrong)[:800]}; {[it.errors[-5:] for it in self.queriers]}")
-            time.sleep(0.2)
+            time.sleep(PAUSE)
 
     def entries(self):
         """Returns the querier's permanent entries: (port, VLAN, group) with a mode and sources."""
@@ -224,7 +239,7 @@ class Trunks:
         limit = time.monotonic() + seconds
         while (found := self.entries().get((port, vlan, group))) != wanted:
             is_true(time.monotonic() < limit, f"{port} {vlan} {group}: {found}, not {wanted}; {[it.errors[-5:] for it in self.queriers]}")
-            time.sleep(0.1)
+            time.sleep(PAUSE)
 
     def shown(self, *words):
         """Returns the settings of the bridge."""

@@ -1,4 +1,4 @@
-/* Options of single ports, or of a port in a VLAN: limits, fast leave and static groups. */
+/* Options of single ports, or of a port in a VLAN: limits, fast leave, static groups, and ranges of groups that hosts may ask for. */
 #ifndef TUNINGS_H
 #define TUNINGS_H
 
@@ -10,15 +10,16 @@
 #include <stdint.h>
 
 enum { GREATEST_TUNINGS = 1024 };
-enum tuned { TUNED_LIMIT, TUNED_FAST_LEAVE, TUNED_STATIC };
+enum tuned { TUNED_LIMIT, TUNED_FAST_LEAVE, TUNED_STATIC, TUNED_ALLOW, TUNED_DENY };
 
 struct tuning {
     enum tuned kind;
-    char port[IF_NAMESIZE];
+    char port[IF_NAMESIZE];   /* empty for all ports */
     uint16_t vlan;            /* 0 for all VLANs of the port */
     uint32_t groups, sources; /* a limit; `sources` is 0 if it is for groups alone */
     bool is_mld, has_source;  /* a static group, for one source or for all */
     uint8_t group[LONG_ADDRESS], source[LONG_ADDRESS];
+    uint8_t length; /* the bits of a range */
 };
 
 struct tunings {
@@ -33,7 +34,8 @@ struct tuned_port {
     uint16_t vlan;
 };
 
-/* Reads PORT[:VLAN]=GROUPS[,SOURCES], PORT[:VLAN], or PORT[:VLAN]=GROUP[,SOURCE]. Returns NULL, or the fault as text. */
+/* Reads PORT[:VLAN]=GROUPS[,SOURCES], PORT[:VLAN], PORT[:VLAN]=GROUP[,SOURCE], or [PORT[:VLAN]=]PREFIX/LENGTH. Returns NULL, or the
+   fault as text. */
 const char *tunings_read(struct tunings *tunings, enum tuned kind, const char *text);
 /* Returns whether a limit exceeds those of all links. */
 bool tunings_exceed(const struct tunings *tunings, const mq_config *configuration);

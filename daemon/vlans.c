@@ -116,6 +116,7 @@ static void lose(struct querier *querier, struct port *port) {
         if (querier->options->serves[family] && querier_place(querier, port, family == 1, &place))
             mdb_remove_all(&place);
     ports_lose(querier, port);
+    mdb_restore(); /* at once, because the rest of a refresh takes its time */
 }
 
 /* Compares the ports in VLANs with what was seen of their interfaces. Those whose VLAN is gone are lost. */

@@ -66,7 +66,7 @@ void wishes_renew(struct querier *querier, bool is_mld) {
     }
 }
 
-void wishes_settle(struct querier *querier, bool is_mld) {
+void wishes_gathered(struct querier *querier, bool is_mld) {
     struct table *joins = &querier->route->joins.table;
     for (size_t at = 0; at < joins->count; at++) {
         struct join *join = table_at(joins, at);

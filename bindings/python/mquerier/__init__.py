@@ -11,7 +11,7 @@ from ._program import Conversion
 from ._types import Address, Answer, Counts, Dropped, FamilyName, Group, Parsed, Query, Refused, Source
 from ._version import __version__
 from .captures import check, convert, replay, show
-from .faults import CaptureFault, Error, Fault
+from .faults import CaptureFault, Error, Fault, NothingJudged
 from .objects import (
     Change, Converted, DroppedMessage, End, Event, FaultyMessage, Finding, HeldGroup, HeldSource, KindCounts, LeaveMessage, LinkType,
     Message, Packet, PacketCounts, QueryMessage, Received, Record, ReportMessage, Roles, Sent, Skipped, Summary, Taken, Totals, Variables,
@@ -20,7 +20,7 @@ from .objects import (
 __all__ = [
     "Address", "AddressLike", "Answer", "Capture", "CaptureFault", "Change", "Conversion", "Converted", "Counts", "Dropped",
     "DroppedMessage", "End", "Error", "Event", "FamilyName", "Fault", "FaultyMessage", "Finding", "Group", "HeldGroup", "HeldSource",
-    "KindCounts", "LeaveMessage", "Link", "LinkType", "Message", "Packet", "PacketCounts", "Parsed", "Query", "QueryMessage",
-    "Received", "Record", "Refused", "ReportMessage", "Roles", "Sent", "Skipped", "Source", "Summary", "Taken", "Totals", "Variables",
-    "__version__", "check", "convert", "message", "message_line", "replay", "show",
+    "KindCounts", "LeaveMessage", "Link", "LinkType", "Message", "NothingJudged", "Packet", "PacketCounts", "Parsed", "Query",
+    "QueryMessage", "Received", "Record", "Refused", "ReportMessage", "Roles", "Sent", "Skipped", "Source", "Summary", "Taken", "Totals",
+    "Variables", "__version__", "check", "convert", "message", "message_line", "replay", "show",
 ]  # fmt: skip

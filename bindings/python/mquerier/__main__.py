@@ -8,7 +8,7 @@ import os
 import sys
 from typing import Any, Dict, List, Optional, get_args
 
-from . import CaptureFault, Fault, Finding, Summary, Taken, __version__, check
+from . import CaptureFault, Fault, Finding, NothingJudged, Summary, Taken, __version__, check
 from ._library import VARIABLES
 from .junit import Case, Suite, junit
 from .objects import FindingKind, fields_of
@@ -20,7 +20,7 @@ def arguments(words: Optional[List[str]]) -> argparse.Namespace:
     commands = parser.add_subparsers(dest="command", required=True)
     text = "prints an object of JSON for each finding, and a summary; the status is 3 if a finding is certain, 4 if a check judged nothing, 1 if a capture has a fault"
     of_check = commands.add_parser("check", help=text, description=text)
-    of_check.add_argument("files", nargs="+", metavar="FILE", help="a classic capture")
+    of_check.add_argument("files", nargs="+", metavar="FILE", help="a capture")
     whose = of_check.add_mutually_exclusive_group(required=True)
     whose.add_argument("--querier", metavar="ADDR", help="the querier's address, which says the family")
     whose.add_argument("--auto", choices=("igmp", "mld"), help="the capture names the querier of this family")
@@ -30,9 +30,9 @@ def arguments(words: Optional[List[str]]) -> argparse.Namespace:
     of_check.add_argument("--began", action="store_true", help="the capture begins before the querier")
     of_check.add_argument("--strict", action="store_true", help="only one reading of the standards is accepted")
     of_check.add_argument("--possible", action="store_true", help="also what another reading or a state from before may explain")
-    of_check.add_argument("--interface", metavar="WHICH", help="converts the packets of this interface first")
-    of_check.add_argument("--vlan", type=int, metavar="ID", help="converts the packets of this network first")
-    of_check.add_argument("--once", action="store_true", help="converts first, and leaves out packets that come again")
+    of_check.add_argument("--interface", metavar="WHICH", help="only packets of this interface")
+    of_check.add_argument("--vlan", type=int, metavar="ID", help="only packets of this network")
+    of_check.add_argument("--once", action="store_true", help="leaves out packets that come again")
     for name in VARIABLES:
         of_check.add_argument(f"--{name.replace('_', '-')}", type=int, metavar="N", help="as of a link (default: the standards')")
     of_check.add_argument("--source-specific", action="store_true", default=None, help="the range for it is kept")
@@ -45,12 +45,13 @@ class Checked:
     def __init__(self, file: str, given: Dict[str, Any]) -> None:
         self.file, self.findings, self.fault = file, [], ""  # type: str, List[Finding], str
         self.summary: Optional[Summary] = None
+        self.has_ended = False
         try:
             for it in check(file, **given):
                 self.take(it)
                 print(json.dumps({"file": file, **fields_of(it)}, default=str), flush=True)
         except CaptureFault as fault:
-            self.fault = str(fault)
+            self.fault, self.has_ended = str(fault), isinstance(fault, NothingJudged)
         except BrokenPipeError:
             raise
         except OSError as why:
@@ -70,9 +71,9 @@ class Checked:
 
     @property
     def status(self) -> int:
-        if self.fault:
+        if self.fault and not self.has_ended:
             return 1
-        return 4 if self.unjudged else 3 if any(it.certain for it in self.findings) else 0
+        return 4 if self.fault or self.unjudged else 3 if any(it.certain for it in self.findings) else 0
 
     def suite(self) -> Suite:
         """A case that the file was judged, and one for each kind of finding."""

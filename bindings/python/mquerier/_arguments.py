@@ -5,13 +5,16 @@ from __future__ import annotations
 import ctypes
 import ipaddress
 import operator
-from typing import Any, Dict, Mapping, Union
+from typing import Any, Dict, Iterable, Literal, Mapping, Tuple, Union
 
-from ._library import LATEST, VARIABLES, Family, Handle, Units, families
+from ._library import ALLOW, DENY, LATEST, LINK_VARIABLES, RANGES, Family, Handle, Units, families
 from ._types import Address
 from .faults import MEMORY, Fault
 
 AddressLike = Union[str, bytes, Address]
+NetworkLike = Union[str, ipaddress.IPv4Network, ipaddress.IPv6Network]
+Ranges = Iterable[Tuple[Literal["allow", "deny"], NetworkLike]]
+RULES = {"allow": ALLOW, "deny": DENY}
 
 
 def not_a(field: str, wanted: str, value: Any) -> TypeError:
@@ -77,25 +80,52 @@ def octets(field: str, value: Any, wanted: str = "bytes") -> bytes:
 
 
 def fitting(number: int) -> int:
-    """Returns a number for a field of the configuration. 0 stands for those that no field holds, since it too is out of each range."""
-    return number if 0 <= number < 2**32 else 0
+    """Returns a number for a field of the configuration. The greatest stands for those that no field holds, since it too is out of each
+    range."""
+    return number if 0 <= number < 2**32 else 2**32 - 1
 
 
 def given(arguments: Mapping[str, Any]) -> Dict[str, Any]:
     """Returns the variables of a querier among the arguments of a call. None stands for the default."""
-    return {name: arguments[name] for name in (*VARIABLES, "source_specific") if arguments[name] is not None}
+    names = (*LINK_VARIABLES, "source_specific", "ranges")
+    return {name: arguments[name] for name in names if arguments.get(name) is not None}
 
 
-def set_variables(config: Any, variables: Mapping[str, Any]) -> None:
+def range_of(family: Family, value: Any) -> Any:
+    """Returns a range of groups: a rule and a network of this family."""
+    if not isinstance(value, tuple) or len(value) != 2 or value[0] not in RULES:
+        raise Fault("ranges", f"expected ('allow', network) or ('deny', network), and it is {value!r}")
+    try:
+        network = ipaddress.ip_network(value[1], strict=False)
+    except ValueError as why:
+        raise Fault("ranges", str(why)) from None
+    address = packed(family, "ranges", network.network_address)
+    return family.RawRange(type(family.RawRange().address)(*address), network.prefixlen, RULES[value[0]])
+
+
+def ranges_of(family: Family, value: Any) -> Any:
+    """Returns the ranges of a configuration, in their order."""
+    if isinstance(value, (str, bytes)) or not hasattr(value, "__iter__"):
+        raise not_a("ranges", "a list of ranges", value)
+    listed = [range_of(family, it) for it in value]
+    if len(listed) > RANGES:
+        raise Fault("ranges", f"there are more than {RANGES}")
+    return (family.RawRange * RANGES)(*listed)
+
+
+def set_variables(family: Family, config: Any, variables: Mapping[str, Any]) -> None:
     for name, value in variables.items():
-        setattr(config, name, flag(name, value) if name == "source_specific" else fitting(whole(name, value)))
+        if name == "ranges":
+            config.ranges = ranges_of(family, value)
+        else:
+            setattr(config, name, flag(name, value) if name == "source_specific" else fitting(whole(name, value)))
 
 
 def config_of(family: Family, field: str, own: AddressLike, variables: Mapping[str, Any]) -> Any:
     """Returns the configuration with these variables. To check it, this makes a link without memory. That call always fails, and its
     status names the first fault of the configuration, if there is one."""
     config = family.defaults(packed(family, field, own))
-    set_variables(config, variables)
+    set_variables(family, config, variables)
     status = family.init_units(config, 0, Units(16, 0), ctypes.byref(Handle()))
     if status != MEMORY:
         fault = Fault.of_status(status)

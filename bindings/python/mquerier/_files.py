@@ -47,5 +47,5 @@ def path_of(capture: Capture) -> Iterator[str]:
 def kind_of(begin: bytes, command: str) -> Iterator[str]:
     """Yields the kind of a file that the command doesn't read, by its first bytes."""
     for first, kind in KINDS.items():
-        if begin.startswith(first) and (first, command) != (PCAPNG, "convert"):
+        if begin.startswith(first) and (first != PCAPNG or command not in ("check", "convert")):
             yield kind

@@ -11,12 +11,16 @@ from typing import Any, Dict, List, Tuple, Type
 
 from ._types import FamilyName
 
-VERSION = 2
+VERSION = 3
 NONE, LATEST = 2**64 - 1, 2**53
 VARIABLES = (
     "robustness", "query_interval", "response_interval", "last_member_interval", "groups", "group_sources", "sources", "scheduled",
 )  # fmt: skip
-COUNTERS, UNIT = 29, 16
+# Those of a link, in the order of the header.
+LINK_VARIABLES = (*VARIABLES[:4], "last_member_query_count", *VARIABLES[4:])
+COUNTERS, UNIT, RANGES = 30, 16, 16
+# The rules of ranges of groups; 0 is an unused place.
+ALLOW, DENY = 1, 2
 NATIVE = os.path.join(os.path.dirname(os.path.abspath(__file__)), "native")
 
 
@@ -105,8 +109,10 @@ class Family:
     def __init__(self, library: Any, name: FamilyName, width: int, address: Any) -> None:
         self.name, self.width, self.address = name, width, address
         octets = c_uint8 * width
-        numbers = [(it, c_uint32) for it in VARIABLES]
-        self.Config = structure("Config", [*numbers, ("own", octets), ("source_specific", c_uint8)])
+        numbers = [(it, c_uint32) for it in LINK_VARIABLES]
+        self.RawRange = structure("RawRange", [("address", octets), ("length", c_uint8), ("rule", c_uint8)])
+        flags = [("source_specific", c_uint8), ("ranges", self.RawRange * RANGES)]
+        self.Config = structure("Config", [*numbers, ("own", octets), *flags])
         hosts = [("v1", c_uint64), ("v2", c_uint64)][: 2 if width == 4 else 1]
         self.RawGroup = structure("RawGroup", [("address", octets), ("sources", c_uint32), ("deadline", c_uint64), *hosts])
         self.RawSource = structure("RawSource", [("address", octets), ("deadline", c_uint64)])

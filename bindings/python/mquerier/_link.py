@@ -9,7 +9,7 @@ import threading
 import weakref
 from typing import Any, List, Optional, Tuple, Union
 
-from ._arguments import AddressLike, config_of, family_named, flag, given, moment, octets, packed, set_variables, within
+from ._arguments import AddressLike, Ranges, config_of, family_named, flag, given, moment, octets, packed, set_variables, within
 from ._library import COUNTERS, LATEST, NONE, Family, Handle
 from ._memory import Memory, give_back, taken
 from ._types import Address, Answer, Counts, Dropped, FamilyName, Group, Parsed, Query, Refused, Source
@@ -38,8 +38,10 @@ class Link:
     """A querier on one interface. It begins at `start`, as querier: its first query is due then, and a tick sends it.
 
     `own` is the source address of queries. `query_interval` is in seconds, `response_interval` and `last_member_interval` are in
-    milliseconds; `groups`, `group_sources`, `sources` and `scheduled` are limits. None stands for the standards' default. Threads may
-    share a link: it serves one call at a time. After a fork the new process has a copy of its own.
+    milliseconds; a `last_member_query_count` of 0 is the Robustness Variable in force. `groups`, `group_sources`, `sources` and
+    `scheduled` are limits. None stands for the standards' default. `ranges` are up to 16 pairs of `"allow"` or `"deny"` and a
+    network. The first that has a group says whether hosts may ask for it. A group in no range is allowed unless some range allows.
+    Threads may share a link: it serves one call at a time. After a fork the new process has a copy of its own.
     """
 
     def __init__(
@@ -52,11 +54,13 @@ class Link:
         query_interval: Optional[int] = None,
         response_interval: Optional[int] = None,
         last_member_interval: Optional[int] = None,
+        last_member_query_count: Optional[int] = None,
         groups: Optional[int] = None,
         group_sources: Optional[int] = None,
         sources: Optional[int] = None,
         scheduled: Optional[int] = None,
         source_specific: Optional[bool] = None,
+        ranges: Optional[Ranges] = None,
     ) -> None:
         variables = given(locals())
         self._family = it = family_named(family)
@@ -104,11 +108,13 @@ class Link:
         query_interval: Optional[int] = None,
         response_interval: Optional[int] = None,
         last_member_interval: Optional[int] = None,
+        last_member_query_count: Optional[int] = None,
         groups: Optional[int] = None,
         group_sources: Optional[int] = None,
         sources: Optional[int] = None,
         scheduled: Optional[int] = None,
         source_specific: Optional[bool] = None,
+        ranges: Optional[Ranges] = None,
     ) -> None:
         """Sets other variables, limits and another own address while the link runs. None leaves one as it is. Groups, timers and
         schedules stay, and later calls use the new values; `next_deadline` may be earlier afterwards. Raises a fault of `memory` if a
@@ -117,7 +123,7 @@ class Link:
         address = None if own is None else packed(it, "own", own)
         with self._lock:
             config = type(self._config).from_buffer_copy(self._config)
-            set_variables(config, variables)
+            set_variables(it, config, variables)
             if address is not None:
                 config.own = type(config.own)(*address)
             self._made(it.configure(ctypes.byref(self._link), config))
@@ -230,9 +236,9 @@ class Link:
         received, dropped, *rest = numbers
         by_reason, rest = dict(zip(Dropped, rest)), rest[len(Dropped) :]
         parsed, rest = dict(zip(Parsed, rest)), rest[len(Parsed) :]
-        applied, ignored, refused, *by_limit, sent, unsent = rest
+        applied, ignored, refused, *by_limit, sent, unsent, denied = rest
         limits = dict(zip(Refused, by_limit))
-        return Counts(received, dropped, by_reason, parsed, applied, ignored, refused, limits, sent, unsent)
+        return Counts(received, dropped, by_reason, parsed, applied, ignored, refused, limits, sent, unsent, denied)
 
 
 LINKS: "weakref.WeakSet[Link]" = weakref.WeakSet()

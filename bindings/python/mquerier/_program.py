@@ -14,7 +14,7 @@ from typing import Any, Callable, Dict, Iterable, Iterator, List, Optional
 
 from ._files import Capture, file_of, kind_of, path_of, reader_of
 from ._library import NATIVE, VERSION
-from .faults import CaptureFault, Error, words_of
+from .faults import CaptureFault, Error, NothingJudged, words_of
 from .objects import Converted, object_of
 
 PIECE = 1 << 16
@@ -94,13 +94,14 @@ class Run:
         if self.feeder and self.feeder.why:
             raise self.feeder.why
         if status == FAULTY:
-            raise self.fault(said)
+            raise CaptureFault(self.words_for(said))
         if status not in ENDED:
             raise Error(f"mquerier {' '.join(self.words[1:])}: status {status}: {said.strip()}")
         return said
 
-    def fault(self, said: str) -> CaptureFault:
-        return CaptureFault(": ".join([*path_of(self.capture), words_of(said), *kind_of(self.begin(), self.words[1])]))
+    def words_for(self, said: str) -> str:
+        """Returns the words for what is on standard error, after the path of the capture."""
+        return ": ".join([*path_of(self.capture), words_of(said), *kind_of(self.begin(), self.words[1])])
 
     def begin(self) -> bytes:
         """Returns the first bytes of the capture. A pipe with a path doesn't have them any longer."""
@@ -142,7 +143,7 @@ def objects_in(run: Run) -> Iterator[Any]:
         said = run.end()
         # A check that found no querier has neither an object nor a fault.
         if said and it is None:
-            raise run.fault(said)
+            raise NothingJudged(run.words_for(said))
     finally:
         run.stop()
 

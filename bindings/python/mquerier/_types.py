@@ -112,3 +112,4 @@ class Counts:
     refused_by: Dict[Refused, int]
     sent: int
     unsent: int
+    denied: int

@@ -1,3 +1,3 @@
 """The version. tools/wheel adds the date and hash of the commit."""
 
-__version__ = "2.1.0"
+__version__ = "3.0.0"

@@ -88,12 +88,14 @@ def check(
     source_specific: Optional[bool] = None,
 ) -> Iterator[Union[Finding, Summary, Taken]]:
     """Checks the querier at an address: a `Finding` for each difference from the standards that exceeds the tolerance in milliseconds, and
-    a `Summary` at the end. With `auto`, a family, the capture names the querier and its variables, and `Taken` follows with these.
+    a `Summary` at the end. With `auto`, a family, the capture names the querier and its variables, and `Taken` follows with these. If
+    nothing came from the querier, but another router sends queries, or no router does with `auto`, it raises `NothingJudged`.
 
     `possible` adds findings that another reading or a state from before the capture may explain. With `began` the capture begins before the
     querier. With `strict` only one reading of the standards is accepted. The variables are those of a `Link`,
     but limits are the greatest by default. `until` is the end of the check in milliseconds after the first packet, by default the time of the
-    last one. With `interface`, `vlan` or `once`, the capture is converted first."""
+    last one. The capture may be of any kind that `convert` reads. `interface`, `vlan` and `once` choose packets, as for `convert`: a capture
+    with messages of several networks has a fault without them."""
     variables = given(locals())
     if (querier is None) == (auto is None):
         raise TypeError("querier: expected either it or auto")
@@ -105,12 +107,11 @@ def check(
         words = [family.name, "--querier", "auto"]
     flags = {"began": began, "strict": strict, "possible": possible}
     words += ["--within", str(within("tolerance", tolerance, 2**32 - 1)), *options(variables, until, flags)]
-    chosen = choice_of(interface, vlan, once)
-    return objects(["check", *words], Conversion(chosen, capture) if chosen else capture)
+    return objects(["check", *words, *choice_of(interface, vlan, once)], capture)
 
 
 def choice_of(interface: Union[int, str, None], vlan: Optional[int], once: bool) -> List[str]:
-    """Returns the words for the packets to convert."""
+    """Returns the words for the chosen packets."""
     words: List[str] = []
     if isinstance(interface, str):
         if not 0 < len(interface.encode("utf-8", "surrogateescape")) <= LONGEST_NAME or not interface.isprintable():

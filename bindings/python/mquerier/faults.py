@@ -20,6 +20,7 @@ STATUSES = [
     ("now", "the time is later than 2^53 milliseconds"),
     ("workspace", "the workspace is too small for the link"),
     ("held", "the link holds more than the configuration allows"),
+    ("last_member_query_count", "the last member query count is not within 0 to 7"),
 ]
 FIELDS = [field for field, _ in STATUSES]
 MEMORY, MOMENT = FIELDS.index("memory") + 1, FIELDS.index("now") + 1
@@ -48,6 +49,10 @@ class CaptureFault(Error, ValueError):
     """The reason why a capture was not read to its end."""
 
 
+class NothingJudged(CaptureFault):
+    """The reason why a check has no `Summary`: the capture has no query of its querier, or names none."""
+
+
 # A line of the program on standard error, and the words for it. A second line has them too, after some commands.
 LINE = re.compile(r"mquerier: (.+?)(?: (?:at|before) ((?:record|block) \d+))?")
 WORDS = {
@@ -65,10 +70,15 @@ WORDS = {
 
 def words_of(said: str) -> str:
     """Returns the words for a fault on standard error, as `record 46: the file ends within a packet`."""
-    first, second = [*said.splitlines(), "", ""][:2]
+    lines = said.splitlines()
+    # A check that judged nothing can have a second line: its capture has several networks.
+    last = max((at for at, line in enumerate(lines) if line.startswith("mquerier: ")), default=0)
+    first, second = [*lines[last:], "", ""][:2]
     match = LINE.fullmatch(first)
     if match is None:
         return said.strip()
     fault, place = match.groups()
+    if fault.startswith("more than one network"):
+        return f"{fault}; choose one by interface or vlan, or take all for one by once"
     words = WORDS.get(fault) or second.strip().partition(";")[0] or fault
     return f"{place}: {words}" if place else words

@@ -283,7 +283,7 @@ class Variables:
 
 @dataclasses.dataclass(frozen=True)
 class Summary:
-    """The end of a check. `why` is the reason if nothing was judged, as for a mistyped address. `general` and `specific` count the queries
+    """The end of a check. `why` is the reason if nothing was judged. `general` and `specific` count the queries
     of the router, `findings` the certain ones, `possible` the others."""
 
     judged: bool
@@ -301,14 +301,16 @@ class Summary:
 
 @dataclasses.dataclass(frozen=True)
 class Taken:
-    """The querier and the variables that a check took from the capture, and the next querier."""
+    """The querier and the variables that a check took from the capture, and the other queriers: at most 8, and whether there are more.
+    `rv` is 0 if it is above 7."""
 
     querier: Address
     rv: Optional[int]
     qi: Optional[int]
     qri: Optional[int]
     lmqi: Optional[int]
-    beside: Optional[Address]
+    beside: Tuple[Address, ...]
+    more: bool
 
 
 @dataclasses.dataclass(frozen=True)

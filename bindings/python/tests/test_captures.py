@@ -21,7 +21,7 @@ from xml.etree import ElementTree
 import mquerier
 import pytest
 from conftest import TOP, used
-from mquerier import CaptureFault, Fault, _program, objects
+from mquerier import CaptureFault, Fault, NothingJudged, _program, objects
 
 PROGRAM = _program.program()
 SAMPLE = f"{TOP}/samples/igmp.pcap"
@@ -31,6 +31,11 @@ DATA = pathlib.Path(SAMPLE).read_bytes()
 CAPTURES = sorted(glob.glob(f"{TOP}/vectors/*.pcap") + glob.glob(f"{TOP}/samples/*.pcap*"))
 QUERIERS = ("10.9.0.1", "10.0.0.9", "fe80::9")
 SCHEMA = json.loads(pathlib.Path(f"{TOP}/docs/mquerier.schema.json").read_text(encoding="utf-8"))["definitions"]
+# The captures whose first interface has two networks.
+TWO_NETWORKS = {
+    "mixed.pcap": "interface 0 untagged, interface 0 vlan 100",
+    "igmp-frames-tag.pcap": "interface 0 vlan 5, interface 0 untagged",
+}
 
 
 def converted(file):
@@ -66,10 +71,12 @@ def taken(found):
 
 
 def is_as_printed(data, words, found):
-    """True if a call returns the objects that the program prints, and fails exactly if the program fails."""
+    """True if a call returns the objects that the program prints, and fails exactly if the program fails or prints none since nothing is
+    judged."""
     wanted, status, _ = printed(data, *words)
     them, fault = taken(found)
-    assert (fault is not None) == (status == 1)
+    assert (fault is not None) == (status == 1 or status == 4 and not wanted)
+    assert isinstance(fault, NothingJudged) == (status == 4 and not wanted)
     return [without(as_json(it)) for it in them] == [without(it) for it in wanted]
 
 
@@ -124,7 +131,7 @@ def test_a_querier_that_the_capture_names():
             assert [without(as_json(it)) for it in found] == [without(it) for it in printed(pathlib.Path(file).read_bytes(), *words)[0]]
             assert isinstance(found[-1], mquerier.Taken) and isinstance(found[-2], mquerier.Summary)
             assert found[-1].querier == found[-2].querier
-    with pytest.raises(CaptureFault, match="nothing judged: there is no general query of this family"):
+    with pytest.raises(NothingJudged, match="nothing judged: there is no general query of this family"):
         list(mquerier.check(SAMPLE, auto="mld"))
     for both in ({}, {"querier": "10.9.0.1", "auto": "igmp"}):
         with pytest.raises(TypeError, match="querier"):
@@ -145,7 +152,13 @@ def test_conversion_of_a_choice(words, choice):
         if "samples" in file or "tag" in file:
             ran = subprocess.run([PROGRAM, "convert", *words.split(), file], stdout=subprocess.PIPE, check=True)
             assert mquerier.convert(file, **choice).read() == ran.stdout
-            assert [*mquerier.check(file, "10.0.0.9", **choice)] == [*mquerier.check(ran.stdout, "10.0.0.9")]
+            networks = TWO_NETWORKS.get(os.path.basename(file)) if choice == {"interface": 0} else None
+            if networks is not None:
+                with pytest.raises(CaptureFault, match=f"more than one network: {networks};"):
+                    list(mquerier.check(file, "10.0.0.9", **choice))
+            else:
+                chosen, of_converted = (taken(mquerier.check(it, "10.0.0.9", **of)) for it, of in ((file, choice), (ran.stdout, {})))
+                assert chosen[0] == of_converted[0] and type(chosen[1]) is type(of_converted[1])
 
 
 def cooked(packets):
@@ -174,6 +187,8 @@ def test_a_router_with_two_links():
     for index in (3, 4):
         (summary,) = mquerier.check(cooked(heard), f"10.{index}.0.1", until=9000, interface=index)
         assert (summary.findings, summary.judged) == (0, True)
+    both = "more than one network: interface 3 untagged, interface 4 untagged; choose one by interface or vlan, or take all for one by once"
+    assert fault_of(lambda it: mquerier.check(it, "10.3.0.1", until=9000), cooked(heard)) == both
 
 
 def ipv4(source, destination, message, ttl=1):
@@ -387,13 +402,15 @@ def test_fault_names_another_kind_of_file():
     with open(f"{TOP}/samples/igmp.pcapng", "rb") as file:
         pcapng = file.read()
     unknown = "it is no classic capture file"
-    for call in (mquerier.show, lambda it: mquerier.replay(it, "10.0.0.9"), lambda it: mquerier.check(it, "10.0.0.9")):
+    for call in (mquerier.show, lambda it: mquerier.replay(it, "10.0.0.9")):
         assert fault_of(call, pcapng) == f"{unknown}: the file is pcapng, which convert() reads"
         path = f"{TOP}/samples/igmp.pcapng"
         assert fault_of(call, path) == f"{path}: {unknown}: the file is pcapng, which convert() reads"
         assert fault_of(call, gzip.compress(DATA)) == f"{unknown}: the file is compressed by gzip"
         assert fault_of(call, b"\x28\xb5\x2f\xfd" + DATA) == f"{unknown}: the file is compressed by zstd"
         assert fault_of(call, b"text" * 9) == unknown
+    assert fault_of(lambda it: mquerier.check(it, "10.0.0.9"), gzip.compress(DATA)) == f"{unknown}: the file is compressed by gzip"
+    assert list(mquerier.check(pcapng, "10.9.0.1")) == list(mquerier.check(mquerier.convert(pcapng), "10.9.0.1"))
     assert fault_of(mquerier.convert, gzip.compress(DATA)).endswith(": the file is compressed by gzip")
     assert "pcapng" not in fault_of(mquerier.convert, pcapng[:-1])
 
@@ -405,6 +422,9 @@ def test_findings_of_nothing():
     assert why(SAMPLE, "10.9.0.1") is None
     assert why(SAMPLE, "fe80::1") == "no message"
     assert why(f"{TOP}/vectors/igmp-startup.pcap", "10.0.0.77", until=1000) == "no query"
+    with pytest.raises(NothingJudged, match=f"{SAMPLE}: nothing judged: no query from this address was seen"):
+        why(SAMPLE, "10.8.0.1")
+    assert why(SAMPLE, "10.8.0.1", began=True) == "no query"
 
 
 def test_findings_are_counted():
@@ -510,6 +530,9 @@ def test_command_line_with_faults(tmp_path):
     assert it.stderr.splitlines() == why
     nothing = ran("check", SAMPLE, "--querier", "fe80::1")
     assert (nothing.returncode, nothing.stderr) == (4, f"{SAMPLE}: nothing judged: no message\n")
+    unseen = ran("check", SAMPLE, "--querier", "10.8.0.1")
+    assert (unseen.returncode, unseen.stdout) == (4, "")
+    assert unseen.stderr == f"{SAMPLE}: nothing judged: no query from this address was seen\n"
     assert ran("check", SAMPLE, "--querier", "0.0.0.0").returncode == 2 and ran("check", SAMPLE).returncode == 2
 
 

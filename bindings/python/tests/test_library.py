@@ -45,9 +45,9 @@ def test_no_library(folder):
 
 
 def test_library_of_another_version(folder, monkeypatch):
-    shutil.copy(os.path.join(_library.NATIVE, NAME), folder / "libmquerier.so.3")
-    monkeypatch.setattr(_library, "VERSION", 3)
-    assert why(link) == f"{folder}/libmquerier.so.3 has version 2, and this package is for version 3"
+    shutil.copy(os.path.join(_library.NATIVE, NAME), folder / "libmquerier.so.4")
+    monkeypatch.setattr(_library, "VERSION", 4)
+    assert why(link) == f"{folder}/libmquerier.so.4 has version 3, and this package is for version 4"
 
 
 def test_program_of_the_package(folder):
@@ -61,4 +61,4 @@ def test_program_of_the_path(folder, monkeypatch):
     assert [*mquerier.show(EMPTY)] == [] and _program.program() == str(folder / "mquerier")
     _program.program.cache_clear()
     (folder / "mquerier").write_text("#!/bin/sh\necho mquerier 1.9.0\n")
-    assert why(lambda: mquerier.show(EMPTY)) == f"{folder}/mquerier is of another version than this package, 2"
+    assert why(lambda: mquerier.show(EMPTY)) == f"{folder}/mquerier is of another version than this package, 3"

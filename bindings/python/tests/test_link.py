@@ -79,6 +79,14 @@ def test_another_querier():
     assert link.receive("fe80::2", query, 5, destination="ff02::1", alert=False).dropped is Dropped.NO_ALERT
 
 
+def test_one_query_for_a_group_that_is_left():
+    link = made(last_member_query_count=1)
+    link.tick(0)
+    link.receive(HOST, JOIN, 40)
+    assert len(link.receive(HOST, bytes.fromhex("1700f7faef010203"), 100).queries) == 1 and link.next_deadline == 1100
+    assert link.tick(1100).queries == () and link.groups() == []
+
+
 def test_another_configuration():
     link = made(groups=10, last_member_interval=2000)
     link.tick(0)
@@ -98,6 +106,24 @@ def test_another_configuration():
     assert fault.value.field == "held"
 
 
+def test_ranges_of_groups():
+    link = made(ranges=[("deny", "239.1.2.3/32"), ("allow", ipaddress.ip_network("239.1.0.0/16"))])
+    for body, applied in ((JOIN, 0), (bytes.fromhex("1600f8f9ef010204"), 1), (bytes.fromhex("1600f8f9ef000205"), 0)):
+        answer = link.receive(HOST, body, 40)
+        assert (answer.dropped, answer.applied, answer.ignored) == (None, applied, 1 - applied)
+    assert link.counts.denied == link.counts.ignored == 2 and [str(it.address) for it in link.groups()] == ["239.1.2.4"]
+    link.configure(ranges=[])
+    assert link.receive(HOST, JOIN, 50).applied == 1
+    for ranges in ([("deny", "ff00::/8")], [("deny", "239.1.2.3/33")], [("refuse", "239.1.2.3/32")], [("deny", "239.0.0.0/8")] * 17, ["deny"]):
+        with pytest.raises(Fault) as fault:
+            link.configure(ranges=ranges)
+        assert fault.value.field == "ranges" and link.receive(HOST, JOIN, 60).applied == 1
+    with pytest.raises(TypeError, match="ranges"):
+        link.configure(ranges="239.0.0.0/8")
+    link = Link("mld", "fe80::9", ranges=[("deny", "ff00::/8")])
+    assert link.counts.denied == 0
+
+
 def ip(text):
     return ipaddress.ip_address(text).packed
 
@@ -108,6 +134,7 @@ def ip(text):
         ("robustness", 0), ("robustness", 8), ("robustness", -1), ("query_interval", 31745), ("response_interval", 125000),
         ("last_member_interval", 99), ("groups", 0), ("groups", 65536), ("group_sources", 1025), ("sources", 0), ("scheduled", 2**32),
         ("own", "0.0.0.0"), ("own", "224.0.0.1"), ("own", "fe80::9"), ("own", "10.0.0"), ("own", b"123"), ("start", 2**53 + 1),
+        ("last_member_query_count", 8), ("last_member_query_count", -1), ("last_member_query_count", 2**32),
         ("own", "10.0.0.9/24"), ("own", "host"), ("own", b"10.0.0.9"), ("start", -1), ("family", "ipv4"), ("family", "IGMP"),
     ],
 )  # fmt: skip

@@ -1,6 +1,6 @@
 //! The configuration of a link.
 
-use crate::raw::{self, mq_version, VERSION};
+use crate::raw::{self, mq_version, ALLOW, DENY, UNUSED, VERSION};
 use crate::{Family, IntoAddress};
 
 /// The configuration of a link: the standards' defaults, unless a call of the builder sets another value. What is out of range is
@@ -56,6 +56,8 @@ impl<F: Family> Config<F> {
         response_interval
         /// Sets the Last Member Query Interval in milliseconds, 100 to 3174400, for MLD 1 to 8387584.
         last_member_interval
+        /// Sets the Last Member Query Count, 1 to 7; 0 stands for the Robustness Variable in force.
+        last_member_query_count
         /// Sets how many groups the link may have, 1 to 65535.
         groups
         /// Sets how many sources a group may have, 1 to 1024.
@@ -70,6 +72,40 @@ impl<F: Family> Config<F> {
     #[must_use]
     pub fn source_specific(mut self, is_kept: bool) -> Self {
         self.raw.source_specific = is_kept.into();
+        self
+    }
+
+    /// Adds a range of groups for which hosts may ask: those that share the first `length` bits of `address`. The first range that has
+    /// a group decides. A group in no range may be asked for, unless some range allows its groups.
+    ///
+    /// # Panics
+    ///
+    /// If there are 16 ranges already.
+    #[must_use]
+    pub fn allow(self, address: impl IntoAddress<F>, length: u8) -> Self {
+        self.with_range(address.into_address(), length, ALLOW)
+    }
+
+    /// Adds a range of groups for which hosts may not ask: records for them are ignored, and counted as `denied`.
+    ///
+    /// # Panics
+    ///
+    /// If there are 16 ranges already.
+    #[must_use]
+    pub fn deny(self, address: impl IntoAddress<F>, length: u8) -> Self {
+        self.with_range(address.into_address(), length, DENY)
+    }
+
+    /// Removes all ranges, so that hosts may ask for every group.
+    #[must_use]
+    pub fn without_ranges(mut self) -> Self {
+        self.raw.ranges.iter_mut().for_each(|it| it.rule = UNUSED);
+        self
+    }
+
+    fn with_range(mut self, address: F::Address, length: u8, rule: u8) -> Self {
+        let place = self.raw.ranges.iter_mut().find(|it| it.rule == UNUSED);
+        *place.expect("a link has at most 16 ranges") = raw::Range { address, length, rule };
         self
     }
 

@@ -25,6 +25,8 @@ pub struct Counts {
     pub sent: u64,
     /// Queries that did not fit, and are lost.
     pub unsent: u64,
+    /// Ignored records for groups that the ranges do not allow.
+    pub denied: u64,
 }
 
 const _: () = assert!(core::mem::size_of::<Counts>() == 8 * COUNTERS);
@@ -51,7 +53,7 @@ impl Counts {
 pub enum Parsed {
     /// A query of IGMPv3 or MLDv2.
     Query,
-    /// A query of an older version.
+    /// A query of IGMPv1, IGMPv2 or MLDv1.
     OlderQuery,
     /// A Report of an older version.
     OlderReport,

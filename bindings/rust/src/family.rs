@@ -142,7 +142,7 @@ impl Igmp {
 
     /// Returns a size that suffices for a link, for arrays: at most 1/20 and 150 bytes more than [`Config::size`](crate::Config::size).
     pub const fn size(groups: usize, sources: usize) -> usize {
-        1920 + 200 * groups + 80 * sources
+        2480 + 204 * groups + 80 * sources
     }
 
     /// Returns a size that suffices for a workspace.
@@ -157,7 +157,7 @@ impl Mld {
 
     /// Returns a size that suffices for a link, for arrays: at most 1/20 and 150 bytes more than [`Config::size`](crate::Config::size).
     pub const fn size(groups: usize, sources: usize) -> usize {
-        1968 + 244 * groups + 120 * sources
+        2528 + 248 * groups + 120 * sources
     }
 
     /// Returns a size that suffices for a workspace.

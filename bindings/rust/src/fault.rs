@@ -32,12 +32,14 @@ pub enum Fault {
     Workspace,
     /// The link holds more than the configuration allows.
     Held,
+    /// `last_member_query_count` is out of range.
+    LastMemberQueryCount,
     /// A status that this crate does not know.
     Unknown,
 }
 
 impl Fault {
-    const ALL: [Fault; 13] = [
+    const ALL: [Fault; 14] = [
         Fault::Robustness,
         Fault::QueryInterval,
         Fault::ResponseInterval,
@@ -51,6 +53,7 @@ impl Fault {
         Fault::Moment,
         Fault::Workspace,
         Fault::Held,
+        Fault::LastMemberQueryCount,
     ];
 
     /// Returns what a status of the header says.
@@ -78,6 +81,7 @@ impl fmt::Display for Fault {
             Fault::Moment => "the time is later than 2^53 milliseconds",
             Fault::Workspace => "the workspace is too small for the link",
             Fault::Held => "the link holds more than the configuration allows",
+            Fault::LastMemberQueryCount => "the last member query count is not within 0 to 7",
             Fault::Unknown => "not a status",
         })
     }

@@ -2,10 +2,14 @@
 
 use core::ffi::c_void;
 
-pub(crate) const VERSION: u32 = 2;
+pub(crate) const VERSION: u32 = 3;
 pub(crate) const DONE: u32 = 0;
+pub(crate) const RANGES: usize = 16;
+pub(crate) const UNUSED: u8 = 0;
+pub(crate) const ALLOW: u8 = 1;
+pub(crate) const DENY: u8 = 2;
 pub(crate) const NONE: u64 = u64::MAX;
-pub(crate) const COUNTERS: usize = 29;
+pub(crate) const COUNTERS: usize = 30;
 
 /// A link, or a workspace.
 #[repr(C)]
@@ -19,6 +23,15 @@ pub struct Units {
     pub(crate) units: usize,
 }
 
+/// A range of groups; a rule of 0 is an unused place.
+#[repr(C)]
+#[derive(Clone, Copy, Debug)]
+pub struct Range<A> {
+    pub(crate) address: A,
+    pub(crate) length: u8,
+    pub(crate) rule: u8,
+}
+
 #[repr(C)]
 #[derive(Clone, Copy, Debug)]
 pub struct Config<A> {
@@ -26,12 +39,14 @@ pub struct Config<A> {
     pub(crate) query_interval: u32,
     pub(crate) response_interval: u32,
     pub(crate) last_member_interval: u32,
+    pub(crate) last_member_query_count: u32,
     pub(crate) groups: u32,
     pub(crate) group_sources: u32,
     pub(crate) sources: u32,
     pub(crate) scheduled: u32,
     pub(crate) own: A,
     pub(crate) source_specific: u8,
+    pub(crate) ranges: [Range<A>; RANGES],
 }
 
 #[repr(C)]

@@ -63,6 +63,28 @@ fn another_configuration() {
 }
 
 #[test]
+fn ranges_of_groups() {
+    let config = Config::<Igmp>::new(OWN).deny([239, 1, 2, 4], 32);
+    let (mut link, mut workspace) = (Link::new(&config, 0).unwrap(), Workspace::new(&config).unwrap());
+    let answer = link.receive(&mut workspace, HOST, &REPORT, 40, &mut []).unwrap();
+    assert_eq!((answer.applied, answer.ignored, link.counts().denied, link.len()), (1, 1, 1, 1));
+    assert_eq!(link.configure(&config.without_ranges().allow([239, 1, 2, 4], 31)), Ok(()));
+    let answer = link.receive(&mut workspace, HOST, &REPORT, 50, &mut []).unwrap();
+    assert_eq!((answer.applied, answer.ignored, link.counts().denied, link.len()), (1, 1, 2, 2));
+
+    let first = Config::<Igmp>::new(OWN).allow(Ipv4Addr::new(239, 1, 2, 3), 32).deny(Ipv4Addr::UNSPECIFIED, 0);
+    assert_eq!(link.configure(&first), Ok(()));
+    let answer = link.receive(&mut workspace, HOST, &REPORT, 60, &mut []).unwrap();
+    assert_eq!((answer.applied, answer.ignored, link.counts().denied, link.len()), (1, 1, 3, 2));
+}
+
+#[test]
+#[should_panic(expected = "at most 16 ranges")]
+fn too_many_ranges() {
+    let _ = (0..17).fold(Config::<Igmp>::new(OWN), |config, at| config.deny([239, at, 0, 0], 16));
+}
+
+#[test]
 fn another_querier() {
     let (mut link, mut workspace) = made();
     let query = [0x11, 0x64, 0xec, 0x1e, 0, 0, 0, 0, 2, 125, 0, 0];
@@ -98,6 +120,7 @@ fn faults() {
         (good.query_interval(0), Fault::QueryInterval),
         (good.response_interval(125_000), Fault::ResponseInterval),
         (good.last_member_interval(99), Fault::LastMemberInterval),
+        (good.last_member_query_count(8), Fault::LastMemberQueryCount),
         (good.groups(0), Fault::Groups),
         (good.group_sources(1025), Fault::GroupSources),
         (good.sources(u32::MAX), Fault::Sources),
@@ -158,6 +181,7 @@ fn texts_are_those_of_the_header() {
         Fault::Moment,
         Fault::Workspace,
         Fault::Held,
+        Fault::LastMemberQueryCount,
     ] {
         at += statuses[at..].find(&quoted(fault.to_string())).expect("the header has the text, in this order");
     }
@@ -176,7 +200,7 @@ fn texts_are_those_of_the_header() {
     ] {
         at += reasons[at..].find(&quoted(reason.to_string())).expect("the header has the text, in this order");
     }
-    assert_eq!((statuses.matches('"').count(), reasons.matches('"').count()), (2 * 14, 2 * 11));
+    assert_eq!((statuses.matches('"').count(), reasons.matches('"').count()), (2 * 15, 2 * 11));
 }
 
 /// What a comment of `// SAFETY:` quotes of the header, for each such comment of a file.
