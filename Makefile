@@ -81,7 +81,7 @@ try:
 	@tools/try $(ARGS)
 
 # The links as a library for C, whose header is include/mquerier.h: the archive lib/libmquerier.a, and beside it the shared library
-# lib/libmquerier.so.2 for languages that load one. `make lib TARGET=aarch64-unknown-linux-gnu` makes them for that processor, of the
+# lib/libmquerier.so.3 for languages that load one. `make lib TARGET=aarch64-unknown-linux-gnu` makes them for that processor, of the
 # same proofs, in lib/aarch64-unknown-linux-gnu.
 lib: $(ARCHIVE) $(SHARED)
 
@@ -183,7 +183,7 @@ live-soak: needs-live live-checked bin/mquerier
 # The querier at bridges with VLANs, in a virtual machine with a kernel of Debian. It installs what it needs, wants to be root, and
 # takes at most ten minutes. VLANS=quick is what the gate runs.
 VLANS :=
-MACHINE := qemu-system-x86_64 busybox cpio depmod mke2fs xz ip bridge nft chrt python3
+MACHINE := qemu-system-x86_64 busybox cpio depmod xz ip bridge nft chrt python3
 vlan-test: live
 	@tools/needs --install $(MACHINE)
 	@daemon/machine daemon/vlans $(VLANS)
@@ -197,8 +197,8 @@ vlan-conform: live bin/mquerier
 VLAN_SOAK := 600
 vlan-soak: live bin/mquerier
 	@tools/needs --install $(MACHINE)
-	@daemon/machine daemon/vlan-soak planted
-	@MACHINE_SECONDS=$$(($(VLAN_SOAK) * 2 + 300)) daemon/machine daemon/vlan-soak $(VLAN_SOAK)
+	@MACHINE_SECONDS=1800 daemon/machine daemon/vlan-soak planted
+	@MACHINE_SECONDS=$$(($(VLAN_SOAK) * 5 + 600)) daemon/machine daemon/vlan-soak $(VLAN_SOAK)
 
 # conform, which holds any router to the standards (docs/CONFORM.md), held to routers here: faulty ones of its own, each of which
 # has to be found by the cases that name its fault, and bin/mquerier-live, a bridge of the kernel and routers of Debian, which are

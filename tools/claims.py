@@ -36,7 +36,7 @@ OWN = [
     ("mq_link/events: run walks", False),
     ("mq_link/lonk", False),
     ("mq_held/group_edits: HeldGroups", True),
-    ("Link::receive spent", True),
+    ("Link::receive costs", True),
     ("Link::receive spends", False),
     ("Refusal::Memory", True),
     ("Refusal::Memories", False),

@@ -8,7 +8,7 @@ import sys
 from repository import TOP
 
 # The limits of a run: seconds, and kilobytes of address space. A check has a link with the greatest limits.
-SECONDS, ROOM, ROOM_OF_CHECKS = 20, 73728, 180224
+SECONDS, ROOM, ROOM_OF_CHECKS = 20, 73728, 188416
 
 
 def run(program, words, data):

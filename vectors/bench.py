@@ -3,7 +3,7 @@
 import dataclasses
 
 import wire
-from wire import IGMP, KINDS, MLD, address, text_of
+from wire import IGMP, KINDS, address, text_of
 
 IS_IN, IS_EX, TO_IN, TO_EX, ALLOW, BLOCK = range(1, 7)
 

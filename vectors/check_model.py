@@ -69,6 +69,10 @@ class Asked:
     def is_general(self):
         return not any(self.group) and self.source is None
 
+    def judged_group(self):
+        """The group whose refused records leave out what is found on the query. A general query has none."""
+        return None if self.is_general() else self.group
+
     def sending(self):
         """The sections that say when the query is sent."""
         if self.is_general():
@@ -96,11 +100,15 @@ class Wanted(Asked):
 @dataclasses.dataclass
 class Seen(Asked):
     """A seen query. Without a partner it is extra, unless another reading, or a querier that held something before the capture, may send it
-    with the fields `possible`. `is_muted` says that an older host mutes what asks for the query, and `s` is S by the timers of the link."""
+    with the fields `possible`. `is_muted` says that an older host mutes what asks for the query, and `s` is S by the timers of the link. If a
+    Report sets the timer at most a millisecond before or after, it runs to `set_from` or longer. If `s_is_right`, the partner may have another
+    S."""
 
     in_role: bool = True
     is_muted: bool = False
     s: bool = False
+    set_from: int = 0
+    s_is_right: bool = False
     possible: Terms | None = None
 
     def extra(self):
@@ -143,7 +151,8 @@ def with_s_of(seen, wanted):
 class Rules:
     """What a check accepts: the tolerance, the interval of retransmissions, how many of them a schedule has, and how many a schedule has that
     counts from the query before. A change counts for `span`. A query waits for its partner for the time `keep`. Until `held_until` the
-    querier may hold something since before the capture, and until `first_until` a schedule may have begun before it."""
+    querier may hold something since before the capture, and until `first_until` a schedule may have begun before it. If it is
+    `above_7`, any number of queries may follow a first one, and the querier holds its groups for longer than the link."""
 
     within: int
     interval: int
@@ -153,6 +162,7 @@ class Rules:
     keep: int
     held_until: int
     first_until: int
+    above_7: bool
 
     def is_near(self, one, other):
         return abs(one - other) <= self.within
@@ -214,7 +224,7 @@ class Subject:
     def caused(self, now, cause):
         """Whether a record may ask for a query that is seen now, for the first time."""
         is_unused = cause and (not self.last or self.last.at < cause[0])
-        return bool(is_unused) and cause[0] < self.rules.held_until and now <= cause[0] + self.rules.within
+        return bool(is_unused) and (self.rules.above_7 or cause[0] < self.rules.held_until) and now <= cause[0] + self.rules.within
 
     def find(self, it, wanted, partner):
         it.partner, wanted.partner = partner, it.terms
@@ -228,7 +238,8 @@ class Subject:
         rules = self.rules
         follows = bool(self.dues) and rules.is_near(self.dues[0][0], it.at)
         cause = next((cause for cause in causes if self.caused(it.at, cause)), None)
-        if it.possible is None and (cause or it.at < rules.first_until):
+        is_unforeseen = it.at < rules.first_until or rules.above_7 and follows
+        if it.possible is None and (cause or is_unforeseen):
             it.possible = with_s_of(it.terms, cause[1]) if cause else it.terms
         if other := self.first_near(it.at, self.wanted):
             self.find(it, other, other.terms)
@@ -243,7 +254,7 @@ class Subject:
             self.go_on(it, follows, True)
             self.seen.append(it)
             return
-        self.go_on(it, follows, it.partner is not None)
+        self.go_on(it, follows, it.partner is not None or rules.above_7 and it.in_role and it.possible is not None)
         if it.partner is None:
             self.seen.append(it)
 
@@ -272,6 +283,12 @@ class Subject:
 # The latest moment, and the longest time for which a query waits for its partner.
 LATEST, LONGEST = 2**53, 2**32 - 1
 
+# The greatest Robustness Variable that is allowed for, if it is above 7.
+GREATEST_VARIABLE = 255
+
+# The most groups with refused records that are kept apart.
+MOST_REFUSED = 256
+
 # Types of Ethernet behind which an IP packet may stand that no check looks into: tags, MPLS, PPPoE, MACsec; and that of `convert`
 # for a link type that it doesn't read.
 WRAPPING = {0x8100, 0x88A8, 0x9100, 0x8847, 0x8848, 0x8864, 0x88E5, 0xFFFF}
@@ -292,7 +309,7 @@ class Basis:
         self.family, self.own = family, own
         self.packets, self.messages, self.malformed, self.cut, self.unread, self.back, self.refused = 0, 0, 0, 0, 0, 0, 0
         self.lost, self.lost_at, self.other, self.again = 0, 0, None, None
-        self.is_heard, self.has_higher = False, False
+        self.is_heard, self.has_higher, self.is_crowded = False, False, False
 
     def count(self, kind, frame, packet, goes_back):
         self.packets += 1
@@ -332,16 +349,16 @@ class Basis:
             return "there is no message of this family"
         if self.is_unseen() or not (general or specific or findings):
             return "no query from this address was seen"
-        return "the limits refuse records, and may cause what is found" if self.refused and findings else None
+        return "the limits refuse records about too many groups" if self.is_crowded and not findings else None
 
 
 class Observed(Querier):
     """A querier whose queries are wanted, in place of sent: `want` takes each."""
 
-    def __init__(self, family, options, want):
+    def __init__(self, family, options, want, above_7):
         super().__init__(family, options)
         self.want, self.is_back, self.order, self.heard, self.packet = want, False, 0, None, 0
-        self.is_ticking = False
+        self.is_ticking, self.above_7 = False, above_7
 
     def next_order(self):
         self.order += 1
@@ -361,12 +378,18 @@ class Observed(Querier):
         said = unit * value_of(code_of(response // unit, bits), bits)
         interval = value_of(code_of(self.qi // 1000, 8), 8)
         to = group if any(group) else self.family.everyone
-        return Terms(self.family.version, said, (int(s), self.rv, interval), to)
+        # (S isn't judged if the Robustness Variable is above 7. So a query for sources may be left out beside one for the group.)
+        querier = (int(any(group)), 0, interval) if self.above_7 else (int(s), self.rv, interval)
+        return Terms(self.family.version, said, querier, to)
+
+    def timer(self, group, source):
+        """The deadline of a group, or of a source of it, or None."""
+        held = self.groups.get(group)
+        return None if held is None else held.until if source is None else held.sources.get(source, (None, 0))[0]
 
     def is_above(self, group, source):
         """Whether the timer of a group, or of a source of it, exceeds the Last Member Query Time."""
-        held = self.groups.get(group)
-        timer = None if held is None else held.until if source is None else held.sources.get(source, (None, 0))[0]
+        timer = self.timer(group, source)
         return timer is not None and timer > self.now + self.asking_time()
 
     def mutes(self, group, source):
@@ -406,7 +429,7 @@ VARIABLES = ("response", "qrv", "interval")
 class Flags:
     """What a check is asked for. With `strict` no other readings are accepted, and with `began` the capture begins before the querier. With
     `possible` the lines have the possible findings, with `packets` each line has the number of its packet, and with `cite` its section. With
-    `once` a changed variable is reported once."""
+    `once` a changed variable is reported once. If it is `above_7`, the Robustness Variable of the querier is above 7."""
 
     strict: bool = False
     began: bool = False
@@ -414,6 +437,7 @@ class Flags:
     packets: bool = False
     once: bool = False
     cite: bool = False
+    above_7: bool = False
 
 
 @dataclasses.dataclass
@@ -434,20 +458,28 @@ class Check:
 
     def __init__(self, family, options, within, flags):
         self.family, self.it, self.within, self.flags = family, options, within, flags
-        self.link = Observed(family, options, self.want)
-        self.wanted, self.seen, self.changes, self.findings, self.settled = [], [], [], [], []
+        self.link = Observed(family, options, self.want, flags.above_7)
+        self.wanted, self.seen, self.changes, self.findings, self.purges = [], [], [], [], []
         # The state of each subject, what was missed of schedules from before the capture, and the groups that no older host mutes.
         self.subjects, self.missed, self.unmuted = {}, [], set()
+        # The seen queries whose S isn't judged yet.
+        self.open = []
+        # The groups that aren't judged any more, each with the moment since when.
+        self.refused = {}
         count = options.rv - 1
-        first = count * options.lmqi + within + 1
-        lasts, span = options.rv * 1000 * options.qi + options.qri + within + 1, options.rv * options.lmqi + within
+        # The most queries of a schedule.
+        most = GREATEST_VARIABLE if flags.above_7 else options.rv
+        more = 0 if flags.strict and not flags.above_7 else most - 1
+        first = 0 if flags.began else (most - 1) * options.lmqi + within + 1
+        lasts = 0 if flags.began else LATEST + 1 if flags.above_7 else options.rv * 1000 * options.qi + options.qri + within + 1
+        span = most * options.lmqi + within
         # The time for which a query waits for its partner.
         self.keep = within if flags.strict else max(within, min(within + options.lmqi, LONGEST))
-        self.rules = Rules(within, options.lmqi, count, 0 if flags.strict else count, span, self.keep, 0 if flags.began else lasts, 0 if flags.began else first)
+        self.rules = Rules(within, options.lmqi, count, more, span, self.keep, lasts, first, flags.above_7)
         self.general, self.specific = 0, 0
         self.basis = Basis(family, options.own)
         # The last general query in this time as querier; None where there was none, or where it isn't known of any.
-        self.before, self.is_known, self.startup = 0, False, options.rv - 1
+        self.before, self.is_known, self.startup = 0, False, most - 1
         self.last_general = None
 
     def is_near(self, one, other):
@@ -479,7 +511,8 @@ class Check:
 
     def tick_to(self, moment):
         while self.link.next() <= moment:
-            self.settled.append(self.link.next())
+            self.purges.append(self.link.next())
+            self.judge_s(self.link.next())
             self.step(self.link.tick, self.link.next())
 
     def query_in(self, packet):
@@ -575,8 +608,19 @@ class Check:
         subject, own = self.subject(it.thing()), self.subject(it.thing()).cause
         causes = [own, self.subject((it.group, None)).cause] if it.source is not None else [own]
         subject.see(it, causes, self.link.next_order())
+        it.s_is_right = self.flags.above_7 or bool(it.terms.querier and it.terms.querier[0]) == it.s
+        it.set_from = max(it.at - 1, 0) + self.link.interval()
+        if not it.s_is_right and any(it.group):
+            self.open.append(it)
         if it.in_role and it.source is not None and own and it.at <= own[0] + self.within and not unclear:
             self.unmuted.add(it.group)
+
+    def judge_s(self, moment):
+        """Judges S of the queries that no Report of this moment can change. At the end of a capture there is none: then all are judged."""
+        while self.open and (moment is None or self.open[0].at + min(self.within, 1) < moment):
+            it = self.open.pop(0)
+            timer = self.link.timer(it.group, it.source)
+            it.s_is_right = timer is not None and timer >= it.set_from
 
     def unclear(self, now, group, source):
         """The fields of a query that some reading may want, if changes of the group, or of its sources, came close together."""
@@ -619,6 +663,28 @@ class Check:
             for source in subjects if self.link.is_admitted(group) else []:
                 self.subject((group, source)).change(moment, self.link.terms(group, False, self.it.lmqi), self.link.packet)
 
+    def receive(self, moment, packet):
+        """The link receives a packet. If it refuses a record, the groups of the message aren't judged any more."""
+        before = self.link.counts[2]
+        self.step(self.link.receive, packet, moment)
+        if self.link.counts[2] == before:
+            return
+        message = read(self.family, packet.body, packet.source, packet.to)
+        for group in [record[1] for record in message.records] or [message.group]:
+            if len(self.refused) < MOST_REFUSED:
+                self.refused.setdefault(group, moment)
+
+    def is_crowded(self):
+        """Whether no group is judged any more, since the link refused records about too many."""
+        return len(self.refused) == MOST_REFUSED
+
+    def is_unjudged(self, group, until):
+        """Whether a finding on a group is left out that is printed after a moment."""
+        since = self.refused.get(group)
+        if since is None and self.is_crowded():
+            since = max(self.refused.values())
+        return since is not None and since <= until
+
     # Findings.
 
     def is_near_change(self, moment, waits):
@@ -626,19 +692,23 @@ class Check:
         changes = [it for it in self.changes if it <= moment + waits]
         return bool(changes) and self.is_near(moment, changes[-1])
 
-    def find(self, order, at, line, sections, packet=0, difference=None, is_possible=False, is_next=False):
-        """Adds a finding. A silence has no packet, and the line of a packet's headers names it already."""
+    def find(self, order, at, line, sections, packet=0, difference=None, is_possible=False, is_next=False, group=None):
+        """Adds a finding, unless it is on a group that isn't judged. A silence has no packet, and the line of a packet's headers names it
+        already."""
+        until = at + (self.within if is_next else self.keep)
+        if group is not None and self.is_unjudged(group, until):
+            return
         line = f"{at} possible {line}" if is_possible else f"{at} {line}"
         line += f" packet {packet}" if self.flags.packets and packet else ""
         standard, section = ("3376", sections[0]) if self.family is IGMP else ("3810", sections[1])
         line += f" (RFC {standard} section {section})" if self.flags.cite else ""
-        self.findings.append(Finding(at + (self.within if is_next else self.keep), is_next, order, line, difference, is_possible))
+        self.findings.append(Finding(until, is_next, order, line, difference, is_possible))
 
     def reported(self):
         """Returns the findings in order. With `once`, those are omitted that repeat the last difference of a variable in
         queries of one kind, general or not."""
         found, last = [], {}
-        for it in sorted(self.findings, key=lambda it: (bisect.bisect_right(self.settled, it.until), it.is_next, it.order)):
+        for it in sorted(self.findings, key=lambda it: (bisect.bisect_right(self.purges, it.until), it.is_next, it.order)):
             kind, values = (it.difference[:2], it.difference[2:]) if it.difference else (None, None)
             if not (self.flags.once and kind and last.get(kind) == values):
                 found.append(it)
@@ -650,10 +720,11 @@ class Check:
         """Finds each field of a seen query that differs from its partner, or from a possible query. If the query is possible, another S
         makes it possibly extra."""
         seen, wanted = it.terms, it.partner or it.possible
+        wanted = with_s_of(seen, wanted) if it.partner and it.s_is_right else wanted
         has_other_s = None not in (seen.querier, wanted.querier) and seen.querier[0] != wanted.querier[0]
         if it.in_role and it.possible and has_other_s:
             wanted = with_s_of(seen, wanted)
-            self.find(it.order, it.at, f"extra {it.text()}", it.sending(), it.packet, is_possible=True)
+            self.find(it.order, it.at, f"extra {it.text()}", it.sending(), it.packet, is_possible=True, group=it.judged_group())
         named = [("version", seen.version, wanted.version)]
         if None not in (seen.response, wanted.response):
             named.append(("response", seen.response, wanted.response))
@@ -663,7 +734,7 @@ class Check:
         for name, one, other in named:
             if one != other:
                 line = f"differs {it.text()}: {name} {one}, wanted {other}"
-                self.find(it.order, it.at, line, it.differing(name), it.packet, (any(it.group), name, one, other))
+                self.find(it.order, it.at, line, it.differing(name), it.packet, (any(it.group), name, one, other), group=it.judged_group())
 
     def judge(self, end):
         """All lines, where the capture ends at a moment. The partner of a wanted query may come after the end: then it isn't missing. The
@@ -672,14 +743,15 @@ class Check:
         if self.link.other is None:
             self.silence(end, self.link.next_order())
         basis = copy.copy(self.basis)
-        basis.refused = self.link.counts[2]
-        self.settled.append(end)
+        basis.refused, basis.is_crowded = self.link.counts[2], self.is_crowded()
+        self.purges.append(end)
+        self.judge_s(None)
         for it in self.subjects.values():
             it.end(end)
         self.tick_to(min(end + self.within, LATEST))
         for it in self.wanted:
             if not it.partner and it.need != OPTIONAL and not it.may_come_later and it.at + self.within < end:
-                self.find(it.order, it.at, f"missing {it.text()}", it.sending(), it.packet, is_possible=it.need == POSSIBLE)
+                self.find(it.order, it.at, f"missing {it.text()}", it.sending(), it.packet, is_possible=it.need == POSSIBLE, group=it.judged_group())
         for it in self.seen:
             if it.partner:
                 self.differences(it)
@@ -687,7 +759,7 @@ class Check:
                 self.alone(it)
         for it in self.missed:
             if not self.is_near_change(it.at, self.within):
-                self.find(it.order, it.at, f"missing {it.text()}", it.sending(), it.packet, is_possible=True, is_next=True)
+                self.find(it.order, it.at, f"missing {it.text()}", it.sending(), it.packet, is_possible=True, is_next=True, group=it.judged_group())
         found = self.reported()
         lines, possible = [it.line for it in found if not it.is_possible], [it.line for it in found if it.is_possible]
         totals = [f"checked general {self.general} specific {self.specific}: {len(lines)} findings"]
@@ -700,7 +772,7 @@ class Check:
         """Finds what is wrong with a seen query without a partner. A change of the role near it excuses it."""
         is_possible = it.in_role and it.possible is not None
         sections = it.sending() if is_possible else it.extra()
-        self.find(it.order, it.at, f"extra {it.text()}", sections, it.packet, is_possible=is_possible)
+        self.find(it.order, it.at, f"extra {it.text()}", sections, it.packet, is_possible=is_possible, group=it.judged_group())
         if is_possible:
             self.differences(it)
 
@@ -764,7 +836,7 @@ def shown(passed, unit, announced, said, most):
 
 def taken(data, family):
     """The querier of a capture and the variables that its first queries have, or None and why there is none. The lowest source of
-    general queries is elected. `beside` is the next one."""
+    general queries is elected. `beside` are the others."""
     queries = list(routers_queries(data, family))
     fault = queries.pop()[2] if queries and queries[-1][0] is None else None
     is_general = [not any(query.group) and not query.sources for _, _, query in queries]
@@ -787,11 +859,17 @@ def taken(data, family):
         if last == (query.group, len(query.sources)):
             lmqi = shown(moment - at, 100, lmqi, lambda ms: unit * value_of(code_of(ms // unit, bits), bits), 3174400)
         last, at = (query.group, len(query.sources)), moment
-    found = {"rv": robustness, "qi": interval // 1000, "qri": general[0][1].response, "lmqi": lmqi}
+    found = {"qi": interval // 1000, "qri": general[0][1].response, "lmqi": lmqi}
     found = {name: value for name, value in found.items() if value}
+    if general[0][1].fields:
+        found = {"rv": robustness, **found}
     if len(sources) > 1:
-        found["beside"] = sources[1]
+        found["beside"] = sources[1:]
     return querier, found
+
+
+# The most routers that are named beside the querier.
+MOST_OTHERS = 8
 
 
 def check_taking(data, family, given, within=100, flags=Flags()):
@@ -799,20 +877,42 @@ def check_taking(data, family, given, within=100, flags=Flags()):
     querier, found = taken(data, family)
     if querier is None:
         return None, found
-    beside = found.pop("beside", None)
-    options = CheckOptions(querier, **{**found, **given})
+    beside, above_7 = found.pop("beside", None), found.get("rv") == 0 and "rv" not in given
+    options = CheckOptions(querier, **{**found, **({"rv": 7} if above_7 else {}), **given})
     if options.qri >= 1000 * options.qi:
         return None, "configuration fault 3"
-    verdict, fault = check(data, family, options, within, dataclasses.replace(flags, once=True))
+    verdict, fault = check(data, family, options, within, dataclasses.replace(flags, once=True, above_7=above_7))
     if verdict:
         words = [f" {name} {found[name]}" for name in ("rv", "qi", "qri", "lmqi") if name in found and name not in given]
-        words += [f", beside {text_of(beside)}"] if beside else []
+        words = [" rv above 7", *words[1:]] if above_7 else words
+        words += [f", beside {', '.join(map(text_of, beside[:MOST_OTHERS]))}"] if beside else []
+        words += [" and more"] if beside and len(beside) > MOST_OTHERS else []
+        words += ["; what depends on rv is not judged"] if above_7 else []
         verdict.lines.append(f"taken from the capture: querier {text_of(querier)}{''.join(words)}")
     return verdict, fault
 
 
+def is_unseen(data, family, own):
+    """Whether nothing of the family comes from a router in a capture without a fault, though a router with a higher address sends queries."""
+    has_higher = False
+    try:
+        kind, records = opened(data)
+        for _, _, _, frame in placed(records):
+            packet = unwrap(kind, frame)
+            if isinstance(packet, str) or packet.family is not family:
+                continue
+            if packet.source == own:
+                return False
+            has_higher |= packet.source > own and routers_query(packet, family) is not None
+    except CaptureFault:
+        return False
+    return has_higher
+
+
 def check(data, family, options, within=100, flags=Flags()):
-    """The verdict of a whole capture, or None and what it says where a fault or a gap ends it."""
+    """The verdict of a whole capture, or None and what it says: a fault or a gap ends it, or the querier is unseen."""
+    if not flags.began and is_unseen(data, family, options.own):
+        return None, "nothing judged: no query from this address was seen"
     it, last, number = Check(family, options, within, flags), 0, 0
     try:
         kind, records = opened(data)
@@ -826,14 +926,15 @@ def check(data, family, options, within=100, flags=Flags()):
             it.basis.count(kind, frame, packet, goes_back)
             if isinstance(packet, str) or packet.family is not family:
                 continue
-            it.settled.append(moment)
+            it.purges.append(moment)
             it.headers(moment, number, kind, frame, packet)
             message = it.query_in(packet)
             if message:
                 it.see(moment, message, destination(kind, frame, packet))
             else:
+                it.judge_s(moment)
                 it.change(moment, packet)
-                it.step(it.link.receive, packet, moment)
+                it.receive(moment, packet)
     except CaptureFault as fault:
         return None, fault.text
     ending = max(last, options.until or 0)

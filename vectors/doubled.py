@@ -5,7 +5,7 @@ import struct
 NANOSECONDS = 0xA1B23C4D
 LATER = 40_000  # ns
 PORT, BRIDGE = 3, 7
-TO_ALL, IN, OUT = 2, 0, 4
+TO_ALL, OUT = 2, 4
 
 
 def packets(data):

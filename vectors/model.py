@@ -44,7 +44,7 @@ def options_of(words, kind=Options):
 @dataclasses.dataclass
 class Group:
     """A group: INCLUDE where `until` is None, else EXCLUDE up to then. A source has its deadline, None where its timer is
-    stopped, and how many sendings are left for it. `asked` is how often the group is to be asked for, and when next."""
+    stopped, and how many retransmissions are left for it. `asked` is how often the group is to be asked for, and when next."""
 
     until: int | None = None
     sources: dict = dataclasses.field(default_factory=dict)

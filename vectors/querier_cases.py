@@ -21,7 +21,7 @@ import functools
 import wire
 from wire import IGMP
 
-TO_IN, TO_EX, ALLOW, BLOCK = 3, 4, 5, 6
+IS_EX, TO_IN, TO_EX, ALLOW, BLOCK = 2, 3, 4, 5, 6
 GENERAL, LEFT, BLOCKED = "general", "left", "blocked"
 WITHIN, AGAIN = 100, 1000
 ROUTER_ALERT = b"\x94\x04\0\0"
@@ -169,6 +169,17 @@ def as_it_is(queries):
     return queries
 
 
+def beside_reports(b):
+    """Retransmissions beside a Report that sets the timer: the moment of the query, its subject, S, the Report and its moment, and whether S is right.
+    A stamp may be a millisecond off."""
+    for at, subject, record in ((41000, (b.A,), (IS_EX, b.A, ())), (51000, (b.B, b.S), (ALLOW, b.B, (b.S,)))):
+        for later, s, is_right in ((0.4, True, True), (1.4, True, True), (2, True, False), (-0.4, False, True), (-1, False, True), (-1.4, False, False)):
+            with_s = lambda queries, at=at, s=s: [dataclasses.replace(it, s=s) if it.at == at else it for it in queries]
+            how = f"{'sets' if s else 'clears'} S {abs(later)} ms {'before' if later > 0 else 'after'} a Report for {' '.join(map(wire.text_of, subject))}"
+            found = () if is_right else differing((at,), " ".join(map(wire.text_of, subject)), f"s {int(s)}, wanted {int(not s)}")
+            yield is_right, Case(how, with_s, found, hosts=((at + later, b.report(record)),))
+
+
 def differing(moments, what, *fields):
     return tuple(f"{at} differs {what}: {field}" for at in moments for field in fields)
 
@@ -212,6 +223,7 @@ def wrong(b):
         general=5,
         specific=2,
     )
+    yield from (case for is_right, case in beside_reports(b) if not is_right)
     # For a source that is blocked.
     yield Case("doesn't ask for a blocked source at once", without(50000), (f"50000 missing {s}",), specific=3)
     yield Case("doesn't ask again for a blocked source", without(51000), (f"51000 missing {s}",), specific=3)
@@ -320,6 +332,11 @@ def right(b):
     yield Case("is as late as the tolerance allows", both(*(each(why, later=WITHIN) for why in (GENERAL, LEFT, BLOCKED))))
     yield Case("answers before the leave is captured", moved(m40000=39900, m41000=40900))
     yield Case("is late at a leave and early behind it", moved(m40000=40100, m41000=40900))
+    yield from (case for is_right, case in beside_reports(b) if is_right)
+    for at, when, to in ((41030, "late query after", 41060), (40970, "early query before", 40940)):
+        for what, s in (("sets", True), ("clears", False)):
+            moved_to = lambda queries, s=s, to=to: [dataclasses.replace(it, at=to, s=s) if it.at == 41000 else it for it in queries]
+            yield Case(f"{what} S in a {when} a Report that comes meanwhile", moved_to, hosts=((at, b.report((IS_EX, b.A, ()))),))
     yield Case("sends nothing but its start", without(156250), general=2)
     yield Case("starts with the capture under way", without(0), general=2)
     yield Case("is silent for an interval at the start of the capture", moved(m0=125000, m31250=250000, m156250=375000))
@@ -344,6 +361,50 @@ def right(b):
     yield Case("is captured with frames that are cut", as_it_is, hosts=tuple((at, b.report((TO_EX, b.C, ()))[:30]) for at in (12000, 40500)))
     yield Case("hears a group of a higher querier asked for", as_it_is, hosts=((20000, b.query(Query(20000, LEFT, b.C), b.higher)),))
     yield Case("names its interval by --lmqi", both(each(LEFT, response=500), each(BLOCKED, response=500), moved(m41000=40500, m51000=50500)), words=("--lmqi", "500"))
+
+
+# A Report names so many further groups that a check which refuses them judges no group.
+MANY = 256
+
+
+def limited(b):
+    """Queriers beside a check whose limits refuse records on which the querier acts."""
+    text = wire.text_of
+    a, t, other = text(b.A), f"{text(b.B)} {text(b.T)}", text(b.C)
+    two, three = ("--groups", "2"), ("--groups", "3")
+    joins, leaves = b.report((TO_EX, b.C, ())), b.report((TO_IN, b.C, ()))
+    there, asked = ((8000, joins), (60000, leaves)), having(Query(60000, LEFT, b.C), Query(61000, LEFT, b.C))
+    yield Case("asks for a group that the check refuses", asked, hosts=there, words=two, specific=6)
+    yield Case("asks for a group that the check doesn't refuse", asked, hosts=there, words=three, specific=6)
+    # Another group is judged, and so are the general queries and the headers.
+    beside = both(asked, having(Query(80000, LEFT, b.A)), moved(m156250=156400))
+    found = (f"80000 extra {a}", "156400 general after 125150, wanted 125000")
+    yield Case("asks for another group out of nothing", beside, found, hosts=there, words=two, specific=7)
+    yield Case("doesn't ask at a leave of another group", both(asked, without(40000)), (f"40000 missing {a}",), hosts=there, words=two, specific=5)
+    yield Case("asks for a source of another group", both(asked, having(Query(80000, BLOCKED, b.B, (b.T,)))), (f"80000 extra {t}",), hosts=there, words=two, specific=7)
+    if b.family is IGMP:
+        hops = both(asked, having(Query(70000, LEFT, b.C, hops=2)))
+        yield Case("sends a query for the refused group with another TTL", hops, ("70000 packet 15 ttl 2, wanted 1",), hosts=there, words=two, specific=7)
+    # The group is judged up to the record, but for what is pending then. Afterwards it isn't, though it is accepted later.
+    before = both(asked, having(Query(3000, LEFT, b.C), Query(7950, LEFT, b.C)))
+    yield Case("asked for the group before", before, (f"3000 extra {other}",), hosts=there, words=two, specific=8)
+    gone = (270000, b.report((TO_EX, b.C, ()))), (290000, leaves)
+    later = having(Query(290000, LEFT, b.C), b.general(281250))
+    yield Case("doesn't ask again for the group when there is room", later, hosts=((8000, joins), *gone), words=(*two, "--until", "300000"), general=4, specific=5)
+    yield Case("does the same in a check without that limit", later, (f"291000 missing {other}",), hosts=((8000, joins), *gone), words=("--until", "300000"), general=4, specific=5)
+    # Sources, and the groups of one Report.
+    more = b.report((ALLOW, b.B, (b.A[:-1] + b"\x07", b.A[:-1] + b"\x08")))
+    yield Case("asks for a source of a group with more sources than the check takes", having(Query(80000, BLOCKED, b.B, (b.T,))), hosts=((8500, more),), words=("--group-sources", "3"), specific=5)
+    five = b.report(*[(TO_EX, b.C, ())] * 6)
+    yield Case("asks for a group that a Report repeats", both(asked, having(Query(80000, LEFT, b.C))), hosts=((8000, five), (60000, leaves)), specific=7)
+    together = b.report((TO_EX, b.C, ()), (TO_EX, b.A, ()))
+    yield Case("asks for a group of the refused Report", having(Query(80000, LEFT, b.A)), hosts=((8000, together),), words=two, specific=5)
+    # So many groups that no group is judged.
+    groups = [b.C[:-2] + (0x0300 + number).to_bytes(2, "big") for number in range(MANY)]
+    most, fewer = b.report(*[(TO_EX, group, ()) for group in groups]), b.report(*[(TO_EX, group, ()) for group in groups[1:]])
+    alone = both(having(Query(80000, LEFT, b.A)), moved(m156250=156400))
+    yield Case("asks out of nothing beside many refused groups", alone, found, hosts=((8000, fewer),), words=two, specific=5)
+    yield Case("asks out of nothing beside too many", both(alone, having(Query(3000, LEFT, b.A))), (f"3000 extra {a}", found[1]), hosts=((8000, most),), words=two, specific=6)
 
 
 def possibly(*lines):
@@ -556,8 +617,11 @@ def crowds(b):
     beside = [(5000, b.report((TO_EX, group, ()))) for group in (first, second)] + [(9999, b.report((TO_IN, first, ())))]
     leave, query = b.report((TO_IN, second, ())), b.query(Query(0, LEFT, second))
     more = [(10000 + 80 * n // CROWD, frame) for n in range(CROWD) for frame in (leave, query)]
+    query = b.query(Query(0, LEFT, second, s=True))
+    with_s = [(10000 + 80 * n // CROWD, frame) for n in range(CROWD) for frame in (leave, query)]
     return {
         "many leaves of a group, and queries after the tolerance": wire.capture(starts + leaves + late),
         "many leaves without a query, and then many with one": wire.capture(starts + leaves + pairs),
         "a pending query beside many of another group": wire.capture(starts + beside + more),
+        "a Report beside many queries with S set": wire.capture(starts + beside + with_s),
     }

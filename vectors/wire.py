@@ -374,11 +374,12 @@ def in_ethernet(packet, to, kind=None, tag=b""):
 
 
 def capture(frames, link=1, order="<", nanoseconds=False):
-    """A capture of frames, each with its moment in milliseconds."""
-    unit = 1000000 if nanoseconds else 1000
+    """A capture of frames, each with its moment in milliseconds, which may have a fraction."""
+    unit = 1000 if nanoseconds else 1
     said = struct.pack(order + "IHHIIII", 0xA1B23C4D if nanoseconds else 0xA1B2C3D4, 2, 4, 0, 0, 262144, link)
     for moment, frame in frames:
-        said += struct.pack(order + "IIII", moment // 1000, moment % 1000 * unit, len(frame), len(frame)) + frame
+        seconds, fraction = divmod(round(1000 * moment), 1000000)
+        said += struct.pack(order + "IIII", seconds, fraction * unit, len(frame), len(frame)) + frame
     return said
 
 

@@ -112,7 +112,7 @@ def quick_gate(top, *words):
 def begin_repository(top):
     """Makes a repository with all crates proved and everything committed."""
     names = names_of_the_gate()
-    for command, counts in [*names["FIRST"], *names["RUNS"], ("tools/compiled", True), ("make", False)]:
+    for command, counts in [*names["FIRST"], *names["runs_of"]("bin/mquerier"), ("tools/compiled", True), ("make", False)]:
         stand_in(top, command, counts)
     put(f"{top}/.gitignore", "out/\nbin/\nlib/\norder\nruns\nkit/\n")
     for name in ("low", "left", "right", "beside", "mquerier", "mq_c"):
