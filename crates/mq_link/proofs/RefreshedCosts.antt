@@ -13,6 +13,11 @@ use Rattle.mq_link.specs.declared.statement.StatementKind.TheVariants.{Record, O
 use Rattle.mq_link.specs.State.{Groups, group_at, sources_of}
 use Rattle.mq_link.proofs.{LeastCosts.few_members, LeastCosts.merge_spends, OneNamed.names-one}
 
+-- the kind of a statement that sets timers anew
+pub restart_kind : (said : StatementKind) → is_restart said ≡ true → (kind : Kind) × (said ≡ Record kind) × (restarts kind ≡ true)
+restart_kind (Record kind) is = (kind, refl, is)
+restart_kind _ is = absurd (true≢false (sym is))
+
 -- no older host mutes such a record
 pub restart_as : (mutes muted : Bool) (hosts : Hosts) (kind : Kind) (named : NamedSources) → restarts kind ≡ true →
     translated mutes muted hosts kind named ≡ with_sources named (cond muted None (Some (kind, false)))
@@ -193,15 +198,6 @@ twice_bitlen n =
     below : (m n : ℕ) → n < 2 * m + 2 → n < 2 ^ (m + 1)
     below m n few = let rest = above m in let twice : 2 ^ (m + 1) ≡ 2 * 2 ^ m = ap (λ k. 2 ^ k) (add-one m) ∙ double m in omega (arith, rest, few, twice)
 
--- The comparisons to find whether a statement can be applied in place are few.
-tried_few : (said : StatementKind) (sources named : ℕ) → most_tried said sources named ≤ 2 + 2 * sources
-tried_few said sources named = by_test (is_restart said) (named == 1)
-  where
-    by_test : (b c : Bool) → cond b (2 + cond c (bitlen sources) (sources + bitlen sources)) 0 ≤ 2 + 2 * sources
-    by_test true true = let n = bitlen-few sources in omega (arith, n)
-    by_test true false = let n = bitlen-few sources in omega (arith, n)
-    by_test false c = omega arith
-
 -- A statement tried in place, and then done on a copy, takes at most six comparisons for each source, and so on.
 pub tried_and_copied : (said : StatementKind) (sources named groups : ℕ) →
     most_tried said sources named + (most_blocked said sources named + most_copied said sources named groups)
@@ -237,21 +233,16 @@ tried_and_copied said sources named groups = by_said said
 
 -- A BLOCK done in place takes no more than that either.
 pub blocked_few : (said : StatementKind) (sources named groups : ℕ) →
-    most_tried said sources named + (most_blocked said sources named + 3 * sources + 5 + bitlen groups)
-    ≤ 6 * (sources + named) + 17 + bitlen groups
-blocked_few said sources named groups = by_said said (tried_few said sources named)
+    most_blocked said sources named + 3 * sources + 5 + bitlen groups ≤ 6 * (sources + named) + 17 + bitlen groups
+blocked_few said sources named groups = by_said said
   where
     by_test : (c : Bool) → cond c (bitlen sources) 0 ≤ sources
     by_test true = bitlen-few sources
     by_test false = omega arith
 
-    by_said : (said : StatementKind) → most_tried said sources named ≤ 2 + 2 * sources
-        → most_tried said sources named + (most_blocked said sources named + 3 * sources + 5 + bitlen groups)
-        ≤ 6 * (sources + named) + 17 + bitlen groups
-    by_said (Record IsIn) tried = omega (arith, tried)
-    by_said (Record Allow) tried = omega (arith, tried)
-    by_said (Record Block) tried = omega (arith, by_test (named == 1))
-    by_said _ tried = omega (arith, tried)
+    by_said : (said : StatementKind) → most_blocked said sources named + 3 * sources + 5 + bitlen groups ≤ 6 * (sources + named) + 17 + bitlen groups
+    by_said (Record Block) = omega (arith, by_test (named == 1))
+    by_said _ = omega arith
 
 -- and more digits are no fewer comparisons
 pub set-mono : (sources named few digits : ℕ) → few ≤ digits → most_set sources named few ≤ most_set sources named digits

@@ -2,29 +2,23 @@
 use Rattle.std.specs.Prelude.{◌≡◌, ℕ, ◌≤◌, Bool, true, false, ◌||◌, nat_lt, is_some}
 use Rattle.std.specs.FinMap as map
 use Rattle.mq_table.specs.declared.kind.Kind.{Kind}
-use Rattle.mq_table.specs.declared.kind.Kind.TheVariants.{IsIn, IsEx, ToIn, ToEx, Allow, Block}
+use Rattle.mq_table.specs.AtSource.{asks_for_named, named_effect}
 use Rattle.mq_table.specs.OlderHosts.{hosts_of}
 use Rattle.mq_sched.specs.Rounds.{is_due_at}
 use Rattle.mq_sched.specs.Schedule.{ScheduledGroup}
 use Rattle.mq_link.specs.declared.configuration.Limits.{Limits}
 use Rattle.mq_link.specs.declared.statement.StatementKind.{StatementKind}
-use Rattle.mq_link.specs.declared.statement.StatementKind.TheVariants.{Record, OlderJoin, OlderLeave}
+use Rattle.mq_link.specs.Changing.{effect_of}
 use Rattle.mq_link.specs.Record.{Setting}
 use Rattle.mq_link.specs.State.{Groups, group_at, schedules_in}
 
+-- a record of this kind asks for the sources that it names, and leaves the others alone
 abbrev pub blocks : Kind → Bool
-blocks IsIn = false
-blocks IsEx = false
-blocks ToIn = false
-blocks ToEx = false
-blocks Allow = false
-blocks Block = true
+blocks kind = asks_for_named (named_effect kind)
 
 -- the statement is a BLOCK
 abbrev pub is_block : StatementKind → Bool
-is_block (Record kind) = blocks kind
-is_block (OlderJoin version) = false
-is_block OlderLeave = false
+is_block said = asks_for_named (effect_of said)
 
 -- hosts of an older version are in the group
 abbrev pub has_older_hosts : ScheduledGroup → (now : ℕ) → Bool

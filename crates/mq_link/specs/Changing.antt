@@ -5,7 +5,9 @@ use Rattle.std.specs.FinSet as set
 use Rattle.mq_sets.specs.Ascending.{set_of}
 use Rattle.mq_table.specs.declared.kind.Kind.{Kind}
 use Rattle.mq_table.specs.declared.kind.Kind.TheVariants.{IsEx, ToIn}
+use Rattle.mq_table.specs.declared.kind.NamedEffect.{NamedEffect}
 use Rattle.mq_table.specs.declared.older_hosts.Hosts.{Hosts}
+use Rattle.mq_table.specs.AtSource.{named_effect}
 use Rattle.mq_table.specs.Group.{GroupState}
 use Rattle.mq_table.specs.Table.{NamedSources, GroupChange}
 use Rattle.mq_table.specs.OlderHosts.{translated}
@@ -18,6 +20,12 @@ abbrev pub statement_of : StatementKind → NamedSources → Statement
 statement_of (Record kind) named = RecordOf kind named
 statement_of (SaidJoin version) named = OlderJoin version
 statement_of SaidLeave named = OlderLeave
+
+-- the effect of the statement on the sources that it names, if it leaves the other sources of its group alone
+abbrev pub effect_of : StatementKind → Option NamedEffect
+effect_of (Record kind) = named_effect kind
+effect_of (SaidJoin version) = None
+effect_of SaidLeave = None
 
 -- The record as which a statement acts while these older hosts are there: its kind and its sources. It is None if the
 -- statement is ignored.

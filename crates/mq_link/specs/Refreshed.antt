@@ -6,25 +6,18 @@ use Rattle.mq_sched.specs.Rounds.{is_due_at}
 use Rattle.mq_held.specs.Groups.{Groups, group_at}
 use Rattle.mq_held.specs.Restarted.{has_each, most_looked}
 use Rattle.mq_table.specs.declared.kind.Kind.{Kind}
-use Rattle.mq_table.specs.declared.kind.Kind.TheVariants.{IsIn, IsEx, ToIn, ToEx, Allow, Block}
+use Rattle.mq_table.specs.AtSource.{named_effect, sets_anew}
 use Rattle.mq_link.specs.declared.statement.StatementKind.{StatementKind}
-use Rattle.mq_link.specs.declared.statement.StatementKind.TheVariants.{Record, OlderJoin, OlderLeave}
 use Rattle.mq_link.specs.Blocked.{is_block}
+use Rattle.mq_link.specs.Changing.{effect_of}
 
 -- a record of this kind sets the timers of its sources anew, leaves the others alone, and asks for nothing
 abbrev pub restarts : Kind → Bool
-restarts IsIn = true
-restarts IsEx = false
-restarts ToIn = false
-restarts ToEx = false
-restarts Allow = true
-restarts Block = false
+restarts kind = sets_anew (named_effect kind)
 
 -- the statement is a record that sets timers anew
 abbrev pub is_restart : StatementKind → Bool
-is_restart (Record kind) = restarts kind
-is_restart (OlderJoin version) = false
-is_restart OlderLeave = false
+is_restart said = sets_anew (effect_of said)
 
 -- The most comparisons to find whether older hosts mute a statement.
 abbrev pub most_hosts : StatementKind → ℕ

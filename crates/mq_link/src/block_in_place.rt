@@ -38,19 +38,9 @@ use crate::status::Status;
 use crate::storage::{GroupLookup, Storage};
 use mq_count::{Key, Meter, Moment};
 use mq_sched::Sink;
-use mq_table::{Head, Kind, timer_among};
+use mq_table::{Head, timer_among};
 use mq_wire::WireKey;
 use std::alloc::Allocator;
-
-/// Returns whether a statement is a BLOCK.
-fn is_block(said: StatementKind) -> bool
-    ensures { result ≡ blocked.is_block said }
-{
-    match said {
-        StatementKind::Record(kind) => matches!(kind, Kind::Block),
-        StatementKind::OlderJoin(_) | StatementKind::OlderLeave => false,
-    }
-}
 
 /// Returns whether hosts of an older version are in a group.
 fn has_older_hosts(head: &Head, now: Moment, m: &mut Meter) -> bool
@@ -62,25 +52,23 @@ fn has_older_hosts(head: &Head, now: Moment, m: &mut Meter) -> bool
 }
 
 impl<F: Family> Status<F> {
-    /// Returns the number of the group of a BLOCK that can be applied where the group's row is stored. Returns None for
-    /// any other statement, or if a condition of `CanBlock` fails.
+    /// Returns the number of the group of a BLOCK that can be applied where the group's row is stored. Returns None if a
+    /// condition of `CanBlock` fails.
     fn number_blocked<A: Allocator>(
         &self,
         storage: &mut Storage<F::Address, A>,
         named: &[F::Address],
         lookup: GroupLookup<F::Address>,
-        said: StatementKind,
     ) -> Option<u16>
         requires lookup { IsLookup F.Address.number storage.old.held lookup }
         ensures found { IfSome result (HasNumber storage.old.held (F.Address.number lookup.address)) }
         ensures held { OnSome result (is_ok lookup.found ≡ true) }
-        ensures kind { OnSome result (blocked.is_block said ≡ true) }
         ensures can { OnSome result (CanBlock self.now (F.Address.number lookup.address) (length named.now) storage.old.held.groups) }
-        ensures done { blocked.is_block said ≡ true → is_ok lookup.found ≡ true → CanBlock self.now (F.Address.number lookup.address) (length named.now) storage.old.held.groups → is_some result ≡ true }
+        ensures done { is_ok lookup.found ≡ true → CanBlock self.now (F.Address.number lookup.address) (length named.now) storage.old.held.groups → is_some result ≡ true }
         ensures left { storage.new ≡ has_counted storage.old storage.new.meter }
-        ensures spent { Spends 0 (if blocked.is_block said then 4 else 0) storage.old.meter storage.new.meter }
+        ensures spent { Spends 0 4 storage.old.meter storage.new.meter }
     {
-        if !is_block(said) || named.len() > 1 {
+        if named.len() > 1 {
             return None;
         }
         let Ok(number) = lookup.found else {
@@ -172,6 +160,7 @@ impl<F: Family> Status<F> {
     ) -> bool
         requires sound { AreSound self.now storage.old.held.groups }
         requires lookup { IsLookup F.Address.number storage.old.held lookup }
+        requires block { blocked.is_block said ≡ true }
         ensures outcome { let said_so = statement_of said (named_in F.Address.number named.now) in
             let outcome = stated self.now (F.Address.number lookup.address) said_so storage.old.held.groups in
             result ≡ true → HasOutcome S.takes outcome counters.Applied storage.new.held.groups sink.old sink.new }
@@ -182,7 +171,7 @@ impl<F: Family> Status<F> {
         ensures none { result ≡ false → storage.new ≡ has_counted storage.old storage.new.meter }
         ensures unsent { result ≡ false → sink.new ≡ sink.old }
         ensures done { let e = group_at storage.old.held.groups (F.Address.number lookup.address) in
-            blocked.is_block said ≡ true → is_ok lookup.found ≡ true → CanBlock self.now (F.Address.number lookup.address) (length named.now) storage.old.held.groups
+            is_ok lookup.found ≡ true → CanBlock self.now (F.Address.number lookup.address) (length named.now) storage.old.held.groups
             → ((source : F.Address) → named.now ≡ source ∷ [] → (is_include e.group.mode || is_some (timer_at e.group (F.Address.number source))) ≡ true) → result ≡ true }
         ensures spent { let size = sources_of (group_at storage.old.held.groups (F.Address.number lookup.address)) in
             let most = most_blocked said size (length named.now) in
@@ -190,7 +179,7 @@ impl<F: Family> Status<F> {
         ensures moved { let size = sources_of (group_at storage.old.held.groups (F.Address.number lookup.address)) in
             MovesWithin (size + moved_by_edit) storage.old storage.new }
     {
-        let Some(number) = self.number_blocked(storage, named, lookup, said) else {
+        let Some(number) = self.number_blocked(storage, named, lookup) else {
             return false;
         };
         storage.held.lemma_is_numbered();

@@ -18,7 +18,7 @@ ghost use Rattle.mq_link.specs.Counters as counters;
 ghost use Rattle.mq_link.specs.Forwarding.{changes};
 ghost use Rattle.mq_link.specs.Moved.{MovesWithin, moved_by_edit};
 ghost use Rattle.mq_link.specs.Record.{stated};
-ghost use Rattle.mq_link.specs.Refreshed.{IsHeardAgain, is_restart, most_blocked, most_tried, restarts};
+ghost use Rattle.mq_link.specs.Refreshed.{IsHeardAgain, is_restart, most_blocked, most_tried};
 ghost use Rattle.mq_link.specs.Router.{HasOutcome};
 ghost use Rattle.mq_link.specs.Sound.{AreSound};
 ghost use Rattle.mq_link.specs.Storage.{IsLookup, has_counted};
@@ -30,22 +30,8 @@ use crate::storage::{GroupLookup, Storage};
 use mq_count::Key;
 use mq_held::SourceRoom;
 use mq_sched::Sink;
-use mq_table::Kind;
+use mq_table::NamedEffect;
 use std::alloc::Allocator;
-
-/// Returns the kind of a record that only sets the timers of its sources anew, or None for any other statement. The
-/// record leaves the other sources alone, and asks for nothing.
-pub(crate) fn restarting(said: StatementKind) -> Option<Kind>
-    ensures { MatchOption result (is_restart said ≡ false) (λ kind. (said ≡ StatementKind.Record kind) × (restarts kind ≡ true)) }
-{
-    match said {
-        StatementKind::Record(kind) => match kind {
-            Kind::IsIn | Kind::Allow => Some(kind),
-            Kind::IsEx | Kind::ToIn | Kind::ToEx | Kind::Block => None,
-        },
-        StatementKind::OlderJoin(_) | StatementKind::OlderLeave => None,
-    }
-}
 
 impl<F: Family> Status<F> {
     /// Returns the most sources that the limits allow.
@@ -63,7 +49,7 @@ impl<F: Family> Status<F> {
     ///
     /// Nothing is due for the group. It has each source that the record names, or it lacks the only named source and the
     /// limits allow another. Their timers are set anew, and their retransmissions stay. Returns whether the group's
-    /// filter changed. For any other statement or group, it returns None and changes nothing.
+    /// filter changed. For any other group, it returns None and changes nothing.
     pub(crate) fn refresh<A: Allocator>(
         &self,
         storage: &mut Storage<F::Address, A>,
@@ -75,6 +61,7 @@ impl<F: Family> Status<F> {
         requires lookup { IsLookup F.Address.number storage.old.held lookup }
         requires source_room { storage.old.held.source_room ≡ self.now.config.room.sources }
         requires named { IsAscending F.Address.number named.now }
+        requires restart { is_restart said ≡ true }
         ensures outcome { let said_so = statement_of said (named_in F.Address.number named.now) in
             OnSome result (stated self.now (F.Address.number lookup.address) said_so storage.old.held.groups ≡ record { verdict = counters.Applied; groups = storage.new.held.groups; queries = [] }) }
         ensures held { OnSome result (is_ok lookup.found ≡ true) }
@@ -95,7 +82,6 @@ impl<F: Family> Status<F> {
         ensures moves { IsHeardAgain self.now.now said (list_map F.Address.number named.now) storage.old.held.groups (F.Address.number lookup.address) →
             Spends 0 (length named.now + 2 + bitlen (map.len storage.old.held.groups)) storage.old.moves storage.new.moves }
     {
-        let _kind = restarting(said)?;
         self.lemma_is_sound();
         storage.held.lemma_is_numbered();
         let Ok(number) = lookup.found else {
@@ -119,8 +105,8 @@ impl<F: Family> Status<F> {
 
     /// Applies a statement where its group's row is stored, if it can be applied there.
     ///
-    /// It is applied by `refresh` or `block`. Returns whether the group's filter changed. If it can't be applied
-    /// there, it returns None and changes nothing.
+    /// The effect on the sources that it names decides whether `refresh` or `block` applies it. Returns whether the group's
+    /// filter changed. If it can't be applied there, it returns None and changes nothing.
     pub(crate) fn apply_in_place<A: Allocator, S: Sink<F::Address>>(
         &self,
         storage: &mut Storage<F::Address, A>,
@@ -160,15 +146,16 @@ impl<F: Family> Status<F> {
             IsHeardAgain self.now.now said (list_map F.Address.number named.now) storage.old.held.groups (F.Address.number lookup.address) →
             Spends 0 (2 + most_set size count digits) storage.old.meter storage.new.meter × Spends 0 (count + 2 + digits) storage.old.moves storage.new.moves }
     {
-        match self.refresh(storage, named, lookup, said) {
-            Some(changes) => Some(changes),
-            None => {
+        match said.named_effect() {
+            Some(NamedEffect::Restart) => self.refresh(storage, named, lookup, said),
+            Some(NamedEffect::Ask) => {
                 if self.block(storage, named, lookup, said, sink) {
                     Some(false)
                 } else {
                     None
                 }
             }
+            None => None,
         }
     }
 }

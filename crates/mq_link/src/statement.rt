@@ -19,7 +19,7 @@ ghost use Rattle.mq_sched.specs.Sending.{after_change};
 ghost use Rattle.mq_held.specs.Groups.{group_at, one_if, sources_of};
 ghost use Rattle.mq_held.specs.Restarted.{most_set};
 ghost use Rattle.mq_link.specs.Applying.{CanApply, HasEffect};
-ghost use Rattle.mq_link.specs.Changing.{statement_of, acts_as, change_written};
+ghost use Rattle.mq_link.specs.Changing.{statement_of, acts_as, change_written, effect_of};
 ghost use Rattle.mq_link.specs.Family.{is_admitted};
 ghost use Rattle.mq_link.specs.LeastCost.{least_merge, least_work};
 ghost use Rattle.mq_link.specs.Record as record_spec;
@@ -30,7 +30,6 @@ ghost use Rattle.mq_link.specs.Storage.{HasRoomFor, group_stored, KeepsRoom};
 
 use crate::answers::Refusal;
 use crate::family::Family;
-use crate::in_place::restarting;
 use crate::limits::Change;
 use crate::record_counts::RecordCounts;
 use crate::status::{QuerierContext, Status};
@@ -38,7 +37,7 @@ use crate::storage::{GroupLookup, Scratch, Storage, look};
 use mq_count::{Key, Meter, Moment};
 use mq_held::HeldGroup;
 use mq_sched::{Schedule, Sink};
-use mq_table::{Head, Hosts, Kind, Loaded, OlderVersion, translate};
+use mq_table::{Head, Hosts, Kind, Loaded, NamedEffect, OlderVersion, translate};
 use mq_wire::WireKey;
 use std::alloc::Allocator;
 
@@ -51,6 +50,19 @@ pub(crate) enum StatementKind {
     OlderJoin(OlderVersion),
     /// A Leave or Done of an older version.
     OlderLeave,
+}
+
+impl StatementKind {
+    /// Returns the effect of a record on the sources that it names, if it leaves the other sources of its group alone.
+    /// Returns None for any other statement.
+    pub(crate) fn named_effect(self) -> Option<NamedEffect>
+        ensures { result ≡ effect_of self }
+    {
+        match self {
+            StatementKind::Record(kind) => kind.named_effect(),
+            StatementKind::OlderJoin(_) | StatementKind::OlderLeave => None,
+        }
+    }
 }
 
 /// The verdict on a statement.
@@ -91,6 +103,13 @@ fn unless_muted(kind: Kind, is_muted: bool) -> Option<(Kind, bool)>
     if is_muted { None } else { Some((kind, false)) }
 }
 
+/// Returns whether a record of this kind only sets timers anew.
+fn restarts(kind: Kind) -> bool
+    ensures { result ≡ restarts kind }
+{
+    matches!(kind.named_effect(), Some(NamedEffect::Restart))
+}
+
 /// Returns the record as which a record acts in its group. No older host mutes a record that only sets timers anew, so
 /// it takes no comparison.
 fn record_as(
@@ -105,13 +124,11 @@ fn record_as(
     ensures restarts { restarts kind ≡ true → IfSome result (λ acts. acts ≡ (kind, false)) }
     ensures spent { Spends 0 (if restarts kind then 0 else 2) m.old m.new }
 {
-    match restarting(StatementKind::Record(kind)) {
-        Some(_kind) => unless_muted(kind, muting.is_muted),
-        None => {
-            let hosts = head.compat(now, m);
-            translate(kind, hosts, muting.v1_mutes_leave, muting.is_muted)
-        }
+    if restarts(kind) {
+        return unless_muted(kind, muting.is_muted);
     }
+    let hosts = head.compat(now, m);
+    translate(kind, hosts, muting.v1_mutes_leave, muting.is_muted)
 }
 
 /// Returns the record as which a statement acts in its group, and whether without its named sources. Returns None if

@@ -1,6 +1,9 @@
 -- The effect of a record on one source. The tables see the source's timer, and whether the record names it.
-use Rattle.std.specs.Prelude.{ℕ, Bool, false, not, Option}
+use Rattle.std.specs.Prelude.{ℕ, Bool, true, false, not, Option, None, Some}
 use Rattle.mq_table.specs.declared.kind.Kind.{Kind}
+use Rattle.mq_table.specs.declared.kind.Kind.TheVariants.{IsIn, IsEx, ToIn, ToEx, Allow, Block}
+use Rattle.mq_table.specs.declared.kind.NamedEffect.{NamedEffect}
+use Rattle.mq_table.specs.declared.kind.NamedEffect.TheVariants.{Restart, Ask}
 use Rattle.std.specs.Bool.{beq}
 use Rattle.mq_table.specs.Group.{FilterMode, SourceTimer, is_include, is_running, is_stopped}
 use Rattle.mq_table.specs.Table.{TableRow, table_row, timer_by}
@@ -30,3 +33,24 @@ changes_mode gmi mode kind = not (beq (is_include mode) (is_include (mode_after 
 
 abbrev pub asks_group_after : ℕ → FilterMode → Kind → Bool
 asks_group_after gmi mode kind = let l = table_row gmi mode kind (λ _. false) (λ _. false) (λ _. false) in l.query_group
+
+-- the effect of a record of this kind on the sources that it names, if it leaves the others alone
+abbrev pub named_effect : Kind → Option NamedEffect
+named_effect IsIn = Some Restart
+named_effect IsEx = None
+named_effect ToIn = None
+named_effect ToEx = None
+named_effect Allow = Some Restart
+named_effect Block = Some Ask
+
+-- the group membership interval begins anew for the named sources
+abbrev pub sets_anew : Option NamedEffect → Bool
+sets_anew None = false
+sets_anew (Some Restart) = true
+sets_anew (Some Ask) = false
+
+-- the named sources are asked for
+abbrev pub asks_for_named : Option NamedEffect → Bool
+asks_for_named None = false
+asks_for_named (Some Restart) = false
+asks_for_named (Some Ask) = true

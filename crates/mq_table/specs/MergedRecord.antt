@@ -6,11 +6,10 @@ use Rattle.std.specs.List.{All, list_any}
 use Rattle.mq_count.specs.Spending.{Spends}
 use Rattle.mq_sets.specs.Search.{bitlen}
 use Rattle.mq_table.specs.declared.kind.Kind.{Kind}
-use Rattle.mq_table.specs.declared.kind.Kind.TheVariants.{IsIn, IsEx, ToIn, ToEx, Allow, Block}
 use Rattle.mq_table.specs.declared.rules.Rule.{Rule}
 use Rattle.mq_table.specs.declared.sources.Source.{Source}
 use Rattle.mq_table.specs.Group.{SourceTimer, FilterMode, is_include, is_stopped}
-use Rattle.mq_table.specs.AtSource.{timer_after, is_asked_after}
+use Rattle.mq_table.specs.AtSource.{timer_after, is_asked_after, named_effect}
 use Rattle.mq_table.specs.Filter.{names}
 
 -- a source with a timer, if there is one
@@ -50,12 +49,7 @@ item_is_stopped x = is_stopped (Some x.timer)
 
 -- a record of this kind removes no source that it doesn't name
 abbrev pub takes_none_away : Kind → Bool
-takes_none_away IsIn = true
-takes_none_away IsEx = false
-takes_none_away ToIn = false
-takes_none_away ToEx = false
-takes_none_away Allow = true
-takes_none_away Block = true
+takes_none_away kind = is_some (named_effect kind)
 
 -- The record leaves these sources of a group alone if it doesn't name them. It removes none and asks for none, and in
 -- INCLUDE none is stopped.

@@ -16,3 +16,12 @@ pub enum Kind {
     /// BLOCK_OLD_SOURCES: the host no longer wants these sources.
     Block,
 }
+
+/// The effect of a record on the sources that it names, if it leaves the other sources of its group alone.
+#[derive(Clone, Copy)]
+pub enum NamedEffect {
+    /// Sets their timers to the group membership interval, and asks for none.
+    Restart,
+    /// Asks for them.
+    Ask,
+}

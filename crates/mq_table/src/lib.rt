@@ -22,7 +22,7 @@ pub mod timing;
 pub use changes::{Change, Loaded};
 pub use group::Group;
 pub use heads::Head;
-pub use kind::Kind;
+pub use kind::{Kind, NamedEffect};
 pub use mq_count::OlderVersion;
 pub use older_hosts::{Hosts, translate};
 pub use retransmission_places::{

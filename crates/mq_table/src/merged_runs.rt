@@ -11,7 +11,6 @@ ghost use Rattle.mq_sets.specs.Search.{IsPlaceFor, bitlen};
 ghost use Rattle.mq_table.specs.Stored.{number_in};
 ghost use Rattle.mq_table.specs.MergedRecord.{source_made, source_asked, source_turned, item_is_stopped, keeps_unnamed, LeavesAlone, LooksByHalves};
 
-use crate::kind::Kind;
 use crate::merged_records::{push_changes, push_if_some, source_asked, source_made, source_turned};
 use crate::rules::Rule;
 use crate::sources::{Source, rest_of};
@@ -66,13 +65,13 @@ fn leaves_alone<K: Key>(rule: &Rule, held: &[Source<K>]) -> bool
     ensures told { result ≡ keeps_unnamed rule.now.kind rule.now.mode held.now }
     ensures alone { result ≡ true → LeavesAlone rule.now held.now }
 {
-    match rule.kind {
-        Kind::IsEx | Kind::ToEx | Kind::ToIn => false,
-        Kind::IsIn | Kind::Allow | Kind::Block => match rule.mode {
-            FilterMode::Exclude(_) => true,
-            // No source of INCLUDE is stopped.
-            FilterMode::Include => !any_is_stopped(held),
-        },
+    if rule.kind.named_effect().is_none() {
+        return false;
+    }
+    match rule.mode {
+        FilterMode::Exclude(_) => true,
+        // No source of INCLUDE is stopped.
+        FilterMode::Include => !any_is_stopped(held),
     }
 }
 

@@ -2,10 +2,10 @@
 
 ghost use Rattle.std.specs.Prelude.{◌≡◌, true, false};
 ghost use Rattle.mq_table.specs.Group.{Include, Exclude, retransmissions_of};
-ghost use Rattle.mq_table.specs.AtSource.{timer_after, is_asked_after, mode_after, asks_group_after};
+ghost use Rattle.mq_table.specs.AtSource.{timer_after, is_asked_after, mode_after, asks_group_after, named_effect};
 ghost use Rattle.mq_table.specs.MergedRecord.{turns};
 
-use crate::kind::Kind;
+use crate::kind::{Kind, NamedEffect};
 use crate::timers::{FilterMode, SourceTimer};
 use mq_count::Moment;
 
@@ -16,6 +16,20 @@ pub(crate) fn retransmissions_of(timer: Option<SourceTimer>) -> u32
     match timer {
         Some(SourceTimer::Running(_, retransmissions)) => retransmissions,
         _ => 0,
+    }
+}
+
+impl Kind {
+    /// Returns the effect of a record of this kind on the sources that it names. Returns None if it may change or ask for
+    /// others too.
+    pub fn named_effect(self) -> Option<NamedEffect>
+        ensures { result ≡ named_effect self }
+    {
+        match self {
+            Kind::IsIn | Kind::Allow => Some(NamedEffect::Restart),
+            Kind::Block => Some(NamedEffect::Ask),
+            Kind::IsEx | Kind::ToIn | Kind::ToEx => None,
+        }
     }
 }
 

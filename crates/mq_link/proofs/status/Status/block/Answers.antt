@@ -43,7 +43,7 @@ done_empty g c =
     let facts = c.in-Some.ensures in
     let none = nil_from_length c.args.named.now (eqb-true (length c.args.named.now) 0 (sym c.is_empty.ensures ∙ c.if-is_empty.true)) in
     done_unnamed number g.S.Sink.takes c.args.self.now (number c.args.lookup.address) c.args.said c.args.named.now c.args.storage.now.held
-    c.number_blocked.new.storage.held c.requires.sound facts.can facts.kind (ap (λ (s : Storage _ _). s.held) facts.left)
+    c.number_blocked.new.storage.held c.requires.sound facts.can c.requires.block (ap (λ (s : Storage _ _). s.held) facts.left)
     none c.args.sink.now
 
 -- the case that the group has the named source
@@ -68,7 +68,7 @@ done_then g c =
     let has = has_so g c.before.before in
     let facts = c.in-Some.ensures in
     done_named number g.S.Sink.takes c.args.self.now a c.args.said c.args.named.now c.args.storage.now.held c.number_blocked.new.storage.held
-    c.requires.sound facts.can facts.kind (same_so g c.before.before)
+    c.requires.sound facts.can c.requires.block (same_so g c.before.before)
     c.index-named-0.result (list_so g c.before.before) (there_then g c) c.ask-there.new.storage.held (c.ask-there.ensures.groups a has)
     c.args.sink.now c.ask-there.new.sink (c.ask-there.ensures.sent a has)
 
@@ -92,7 +92,7 @@ done_else g c include =
     let facts = c.in-Some.ensures in
     let there = ap (λ b. b || is_some (timer_at e.group (number c.index-named-0.result))) (sym (include_so g c) ∙ include) in
     done_named number g.S.Sink.takes c.args.self.now a c.args.said c.args.named.now c.args.storage.now.held c.number_blocked.new.storage.held
-    c.requires.sound facts.can facts.kind (same_so g c.before.before)
+    c.requires.sound facts.can c.requires.block (same_so g c.before.before)
     c.index-named-0.result (list_so g c.before.before) there c.ask-there.new.storage.held (c.ask-there.ensures.groups a has)
     c.args.sink.now c.ask-there.new.sink (c.ask-there.ensures.sent a has)
 
@@ -145,7 +145,7 @@ returns-then-there-clause-moved g c =
     let has = has_so g c.before.before in
     let same = same_so g c.before.before in
     let kept_by = rows_named number g.S.Sink.takes at a c.args.said c.args.named.now held c.number_blocked.new.storage.held c.requires.sound facts.can
-    facts.kind same c.index-named-0.result (list_so g c.before.before) (there_then g c) next.held (c.ask-there.ensures.groups a has) in
+    c.requires.block same c.index-named-0.result (list_so g c.before.before) (there_then g c) next.held (c.ask-there.ensures.groups a has) in
     let few = c.requires.sound.within.group_count in
     let most = few_groups at.config c.lemma_is_sound.ensures.faultless in
     let sixteen = few_digits (map.len groups) (omega (arith, few, most)) in
@@ -156,7 +156,7 @@ returns-then-there-clause-moved g c =
     (paid_by (sources_of (group_at groups a) + moved_by_edit) (c.ask-there.ensures.moved a has) (omega (arith, kept_by, size, digits, sixteen)))
 
 pub returns-else-there-clause-done : goal.returns-else-there-clause-done
-returns-else-there-clause-done g c block ok can_it there =
+returns-else-there-clause-done g c ok can_it there =
     let number = g.F.Address.Key.number in
     let a = number c.args.lookup.address in
     let e = group_at c.args.storage.now.held.groups a in
@@ -178,15 +178,15 @@ returns-else-there-clause-spent g c =
     let some = some_so g c.before.before in
     let size = sources_of (group_at groups a) in
     let size_is = ap (λ (h : HeldState). sources_of (group_at h.groups a)) same in
-    let first : Spends 0 4 c.args.storage.now.meter c.number_blocked.new.storage.meter =
-    subst (λ b. Spends 0 (cond b 4 0) c.args.storage.now.meter c.number_blocked.new.storage.meter) facts.kind c.number_blocked.ensures.spent in
+    let first = c.number_blocked.ensures.spent in
     let second = c.ask-there.ensures.spent a (has_so g c.before.before) in
     let gone = ap (λ b. cond b
     (3 * sources_of (group_at c.number_blocked.new.storage.held.groups a) + 5 + bitlen (map.len c.number_blocked.new.storage.held.groups)) 0)
     c.if-there.false in
     let digits = ap bitlen size_is in
     let counted = eq-eqb (length c.args.named.now) 1 some in
-    let most : most_blocked c.args.said size (length c.args.named.now) ≡ 4 + bitlen size = λ i. cond (facts.kind i) (4 + cond (counted i) (bitlen size) 0) 0 in
+    let most : most_blocked c.args.said size (length c.args.named.now) ≡ 4 + bitlen size =
+    λ i. cond (c.requires.block i) (4 + cond (counted i) (bitlen size) 0) 0 in
     by_test c.is_include-is_include.result first second size (length c.args.named.now)
     (most_blocked c.args.said size (length c.args.named.now)) some size_is digits most gone
   where

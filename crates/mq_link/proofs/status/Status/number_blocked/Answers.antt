@@ -5,7 +5,7 @@ use Rattle.mq_link.proofs.status.Status.number_blocked.Goals.{then-is_due-via-th
 use Rattle.mq_link.proofs.status.Status.number_blocked.Goals.{else-is_some}
 
 pub returns-then-is_due-clause-done : goal.returns-then-is_due-clause-done
-returns-then-is_due-clause-done g c block ok can =
+returns-then-is_due-clause-done g c ok can =
     let number = g.F.Address.Key.number in
     let a = number c.args.lookup.address in
     let has = rw c.in-Ok.is at c.requires.lookup in

@@ -3,9 +3,10 @@ use Rattle.mq_link.proofs.Common.{timer_at, eqb-true, and_parts, size-added, tru
 use Rattle.mq_link.proofs.Common.{false, ◌&&◌, ◌||◌, ◌==◌, None, Option, is_some, cond, length, refl, sym, ap, ◌∙◌, subst, arith, list_map}
 use Rattle.mq_link.proofs.Common.{nat_cmp_total, Spends-join_within, Spends-within, bitlen, bitlen-mono, changes_filter, named_in, membership_interval}
 use Rattle.mq_link.proofs.Common.{IsQuietAt, ScheduledGroup, quiet_by, HasNumber, HeldState, has_each, most_looked, restarted_each, IsWellFormed-restarted_each}
-use Rattle.mq_link.proofs.Common.{QuerierContext, statement_of, Applied, changes, moved_by_edit, Outcome, stated, is_restart, few-running, common_steps}
+use Rattle.mq_link.proofs.Common.{QuerierContext, statement_of, Applied, changes, moved_by_edit, Outcome, stated, restarts, Kind, few-running, common_steps}
 use Rattle.mq_held.proofs.OrderedAmounts.{absent-get}
 use Rattle.std.specs.Option.{OnSome}
+use Rattle.mq_link.specs.declared.statement.StatementKind.TheVariants.{Record}
 use Rattle.mq_held.specs.Restarted.{has_room}
 use Rattle.mq_held.specs.declared.timers_in_place.SourceRoom.{SourceRoom}
 use Rattle.std.specs.FinMap as map
@@ -14,6 +15,7 @@ use Rattle.mq_table.specs.Group.{IsWellFormed}
 use Rattle.mq_held.specs.Groups.{group_at, kept_as, running_in, sources_in, sources_of, with_group}
 use Rattle.mq_link.proofs.{Faultless.few_groups, KeptGroups.group_found, KeptGroups.is_number, PaidEdits.put_paid, Quiet.not_vacant}
 use Rattle.mq_link.proofs.{RefreshedEach.filter-added, Moved.paid_by, Moved.paid_none, Moved.paid_within, PaidEdits.few_digits}
+use Rattle.mq_link.proofs.{RefreshedCosts.restart_kind}
 use Rattle.mq_link.proofs.{RefreshedCosts.set-mono, RefreshedEach.filter-restarted_each, RefreshedEach.size-restarted_each, RefreshedStates.by_option}
 use Rattle.mq_link.proofs.{RefreshedStates.group_put, RefreshedStates.held_as, RefreshedStates.if_some, RefreshedStates.match_option}
 use Rattle.mq_link.proofs.{RefreshedStates.no_stopped, RefreshedStates.on_some, RefreshedStates.put_by_same, RefreshedStates.put_is}
@@ -46,11 +48,15 @@ names_so g c = list_map g.F.Address.Key.number c.args.named.now
 abbrev after_so : (g : Over) → After-restart_each g → ScheduledGroup
 after_so g c = restarted_each c.after-deadline.result (names_so g c) (before_so g c)
 
+-- the kind of the record
+kind_so : (g : Over) (c : After-restart_each g) → (kind : Kind) × (c.args.said ≡ Record kind) × (restarts kind ≡ true)
+kind_so g c = restart_kind c.args.said c.requires.restart
+
 formed_so : (g : Over) (c : After-restart_each g) → IsWellFormed (before_so g c).group
 formed_so g c =
     let number = g.F.Address.Key.number in
-    let h = held_as c.args.self.now (number c.args.lookup.address) c.in_ok-_kind._kind
-    (named_in number c.args.named.now) c.args.storage.now.held.groups c.in_ok-_kind.ensures.1 c.requires.sound (held_so g c) (quiet_so g c) in
+    let h = held_as c.args.self.now (number c.args.lookup.address) (kind_so g c).0
+    (named_in number c.args.named.now) c.args.storage.now.held.groups (kind_so g c).2 c.requires.sound (held_so g c) (quiet_so g c) in
     h.held
 
 formed_then : (g : Over) (c : After-restart_each g) → IsWellFormed (after_so g c).group
@@ -188,8 +194,8 @@ returns-clause-outcome g c = on_some c.restart_each.result (λ some.
     let deadline : c.after-deadline.result ≡ at.now + membership_interval at.election.timing = c.after-deadline.ensures.later ∙
     (λ i. (in_force i).moment + c.membership_interval.ensures i) ∙ (λ i. at.now + membership_interval (in_force i).timing) in
     let few = few_so g c some in
-    ap (λ said. stated at a (statement_of said (named_in number c.args.named.now)) groups) c.in_ok-_kind.ensures.0
-    ∙ stated-set at a c.in_ok-_kind._kind (named_in number c.args.named.now) groups c.in_ok-_kind.ensures.1 c.requires.sound (held_so g c)
+    ap (λ said. stated at a (statement_of said (named_in number c.args.named.now)) groups) (kind_so g c).1
+    ∙ stated-set at a (kind_so g c).0 (named_in number c.args.named.now) groups (kind_so g c).2 c.requires.sound (held_so g c)
     (quiet_so g c) sources (set.contains-from_list nat_cmp_total sources)
     (subst (λ d. sources_of (restarted_each d sources (group_at groups a)) ≤ at.config.limits.group_sources) deadline few.own)
     (subst (λ d. sources_in groups + sources_of (restarted_each d sources (group_at groups a)) ≤ at.config.limits.sources + sources_of (group_at groups a))
@@ -211,8 +217,8 @@ filter_so g c some = by_there (has_each (names_so g c) (before_so g c)) refl
     by_there true there =
         let number = g.F.Address.Key.number in
         sym (filter-restarted_each c.after-deadline.result (names_so g c) (before_so g c) there
-        (no_stopped c.args.self.now (number c.args.lookup.address) c.in_ok-_kind._kind (named_in number c.args.named.now) c.args.storage.now.held.groups
-        c.in_ok-_kind.ensures.1 c.requires.sound (held_so g c) (quiet_so g c)))
+        (no_stopped c.args.self.now (number c.args.lookup.address) (kind_so g c).0 (named_in number c.args.named.now) c.args.storage.now.held.groups
+        (kind_so g c).2 c.requires.sound (held_so g c) (quiet_so g c)))
     by_there false lacks =
         let added = added_so g c some lacks in
         sym (filter-added c.after-deadline.result added.source (before_so g c) added.absent)
@@ -256,7 +262,7 @@ returns-clause-spent g c =
     let groups = c.args.storage.now.held.groups in
     let size = sources_of (group_at groups a) in
     let count = length c.args.named.now in
-    let tried = ap (λ b. cond b (2 + most_looked size count) 0) (ap is_restart c.in_ok-_kind.ensures.0 ∙ c.in_ok-_kind.ensures.1) in
+    let tried = ap (λ b. cond b (2 + most_looked size count) 0) c.requires.restart in
     let most = set-mono size count (bitlen (running_in groups - 1)) (bitlen (map.len groups)) (digits_so g c) in
     match_option c.restart_each.result
     (λ none. let spent = rw none at c.restart_each.ensures.spent a (has_so g c) in Spends-join_within _ _ c.is_due.ensures.spent spent (omega arith)
