@@ -127,6 +127,10 @@ impl<K: Key, A: Allocator> HeldGroups<K, A> {
             let size = sources_of (group_at self.old.groups address) in
             let others = running_in self.old.groups - 1 in
             Spends (min 1 size) (bitlen size + (if result then 3 * size + 5 + bitlen others else 0)) m.old m.new }
+        ensures spent_alone { (address : ℕ) → HasNumber self.old address number →
+            let e = group_at self.old.groups address in
+            let others = running_in self.old.groups - 1 in
+            is_some e.schedule.sources_due ≡ false → Spends 0 (bitlen (sources_of e) + 2 * sources_of e + 2 + bitlen others) m.old m.new }
         ensures moved { (address : ℕ) → HasNumber self.old address number →
             let e = group_at self.old.groups address in
             let others = running_in self.old.groups - 1 in

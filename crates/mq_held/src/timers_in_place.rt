@@ -78,6 +78,7 @@ pub(crate) fn earliest_stored<K: Key>(
 
 /// Returns the earliest moment of a group after timers of its sources were set to a deadline, or None if it stays. It
 /// was `earliest` before. If each of these timers expired later than that, it is the earlier of the two.
+#[inline(always)]
 pub(crate) fn earliest_then<K: Key>(
     item: &ScheduledHead,
     row: &[Source<K>],
@@ -91,6 +92,7 @@ pub(crate) fn earliest_then<K: Key>(
     requires later { was_later ≡ true → earliest_of (moments_of (group_of K.number item.now row.now)) ≡ Some (min earliest deadline) }
     ensures earliest { earliest_of (moments_of (group_of K.number item.now row.now)) ≡ Some (unwrap_or result earliest) }
     ensures spent { Spends (if was_later then 1 else 0) (length row.now + 4) m.old m.new }
+    ensures spent_later { was_later ≡ true → Spends 1 1 m.old m.new }
 {
     if was_later {
         earlier_than(earliest, deadline, m)

@@ -1,6 +1,7 @@
 use Rattle.mq_held.proofs.Common.{count_by, count_by-le-length, list_map, ◌≡◌, cond, ℕ, ◌+◌, ◌-◌, ◌≤◌, Bool, true, false, [], ◌∷◌, Option, length, get_or}
 use Rattle.mq_held.proofs.Common.{set, None, Some, not, refl, is_some, min, unwrap_or, sym, ap, ◌∙◌, subst, arith, true≢false, length-set, Spends-join}
 use Rattle.mq_held.proofs.Common.{Spends-join_within, Spends-within, IsAscending, set_of, PoolState, bitlen, source_if_asked, deadline_of, is_ahead, timer_at}
+use Rattle.mq_held.proofs.Common.{get_or_default, no_head}
 use Rattle.mq_held.proofs.Common.{Source, lowered_to, item_has_retransmissions, above, last_member_count, number_in, timers_in, get-absent, DeadlinesState}
 use Rattle.mq_held.proofs.Common.{ScheduledGroup, waiting_messages, Sends, ScheduledHead, group_at, one_if, HasNumber, IsStored, common_steps}
 use Rattle.mq_held.proofs.{AskedInPlace.IsAsked, AskedInPlace.IsCounted, AskedInPlace.IsUnasked, AskedInPlace.asked-above, AskedInPlace.formed_counted}
@@ -269,6 +270,35 @@ returns-clause-spent g c address has =
     let looked = Spends-join c.find.ensures.spent c.runs_on.ensures.spent in
     let told = Spends-join (Spends-join looked c.send_waiting-places.ensures.spent) c.earliest_then-due.ensures.spent in
     Spends-join_within _ _ told c.change.ensures.spent (omega (arith, size)) (omega (arith, asked, then, ap bitlen size, a.at.others))
+
+pub returns-in_default-clause-spent_alone : goal.returns-in_default-clause-spent_alone
+returns-in_default-clause-spent_alone g c address has alone =
+    let size = ap length c.row-row.ensures.cells ∙ sym ((absent_so g c).at.size has) in
+    Spends-within _ _ c.find.ensures.spent (omega arith) (omega (arith, ap bitlen size))
+
+pub returns-then-not-runs_on-clause-spent_alone : goal.returns-then-not-runs_on-clause-spent_alone
+returns-then-not-runs_on-clause-spent_alone g c address has alone =
+    let size = ap length c.row-row.ensures.cells ∙ sym ((below_so g c).at.size has) in
+    Spends-join_within _ _ c.find.ensures.spent c.runs_on.ensures.spent (omega arith) (omega (arith, ap bitlen size))
+
+is_true : (b : Bool) → not b ≡ false → b ≡ true
+is_true true is = refl
+is_true false is = absurd (true≢false is)
+
+pub returns-clause-spent_alone : goal.returns-clause-spent_alone
+returns-clause-spent_alone g c address has alone =
+    let a = asked_so g (goal.at.returns-clause-spent_alone g c).After-ask_in_row in
+    let head : c.index.result.now ≡ get_or c.self.inside.heads.items c.args.number no_head = c.index.ensures ∙
+    get_or_default c.self.inside.heads.items c.args.number c.index.result.now no_head a.at.in_heads in
+    let due : c.index.result.now.schedule.sources_due ≡ (group_at c.args.self.now.groups address).schedule.sources_due =
+    ap (λ (h : ScheduledHead). h.schedule.sources_due) head ∙ ap (λ (e : ScheduledGroup). e.schedule.sources_due) (sym (a.at.group has)) in
+    let none = is_true c.is_none-none_waited.result (sym c.is_none-none_waited.ensures ∙ ap is_some (c.sources_due.ensures ∙ due) ∙ alone) in
+    let had = sym (a.at.size has) in
+    let size = ap length c.row-row.ensures.cells ∙ had in
+    let asked = size-asked a c.row-row-2.ensures.cells ∙ had in
+    let looked = Spends-join c.find.ensures.spent c.runs_on.ensures.spent in
+    let told = Spends-join (Spends-join looked c.send_waiting-places.ensures.spent) (c.earliest_then-due.ensures.spent_later none) in
+    Spends-join_within _ _ told c.change.ensures.spent (omega arith) (omega (arith, asked, ap bitlen size, a.at.others))
 
 -- the source that is asked for and the group's moment are moved
 at_most : (b : Bool) (n : ℕ) → cond b n 0 ≤ n
