@@ -49,8 +49,8 @@ class Crate:
     def below(self):
         return list(dict.fromkeys(it for dep in self.deps for it in [*dep.below(), dep]))
 
-    def words(self, flags):
-        return ["--crate-name", self.name, "--logic-built", "logic", *flags]
+    def words(self, flags, as_source=False):
+        return ["--crate-name", self.name, "--logic-built", "logic", *["--lib"] * as_source, *flags]
 
     def text(self):
         files = [f"{at}/{name}" for part in ("src", "specs", "proofs") for at, _, names in os.walk(f"{self.folder}/{part}") for name in names]
@@ -148,6 +148,13 @@ if "--generated" in words:
     sys.exit()
 if "--only" in words:
     asked = [path.split("::")[-1] for flag, path in zip(words, words[1:]) if flag == "--only"]
+    if asked == [""]:
+        ill = [at for at, line in enumerate(text.splitlines(), 1) if "ill typed" in line]
+        print("".join(f"src/lib.rt:{{at}}:5: error[mismatched-types]: ill\\n" for at in ill), end="")
+        print("rattle: error: elsewhere\\n" * ("stray" in text) + "only=0 proved=0\\n" * ("silent" not in text), end="")
+        with open(f"{{TOP}}/order", "a") as order:
+            order.write(f"{{name}} compiled{{' by sources' * ('--lib' in words)}}\\n")
+        sys.exit()
     with open(f"{{TOP}}/checks", "a") as checks:
         checks.write(f"{{len(asked)}} {{os.path.isdir('out/incremental')}}\\n")
     for it in asked:
