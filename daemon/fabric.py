@@ -142,7 +142,7 @@ class Querier:
     def gathered(self):
         """Waits until all links that began know what hosts want."""
         for bridge in self.fabric.bridges:
-            self.until(lambda it: all("settles" not in port[of] for port in it["ports"] for of in FAMILIES if port[of]["on"]), "gathered", 12, bridge)
+            self.until(lambda it: all("gathers" not in port[of] for port in it["ports"] for of in FAMILIES if port[of]["on"]), "gathered", 12, bridge)
 
     def end(self, number=signal.SIGTERM):
         self.process.send_signal(number)

@@ -260,7 +260,7 @@ def killed_with_lists(fabric, env):
         fabric.comes(*place, wanted)
     querier.end(signal.SIGKILL)
     querier = fabric.querier("--qi", "20", env=env)
-    querier.until(lambda it: all("settles" in port[of] for port in it["ports"] for of in FAMILIES) and len(it["ports"]) == 4, "begun")
+    querier.until(lambda it: all("gathers" in port[of] for port in it["ports"] for of in FAMILIES) and len(it["ports"]) == 4, "begun")
     for family in FAMILIES:
         for number in range(1, 5):
             fabric.hosts[f"b0h{number}"].put(report_frame(family, ALLOW, GROUPS[family], [more[family]]))

@@ -111,7 +111,7 @@ static void text_link(const struct port *port, bool is_mld, uint64_t now, FILE *
     text_role(&served->link, now, to);
     fprintf(to, ", own %s, entries %zu, ", address_text(&served->link, served->own), served->keeper.rows.count);
     if (served->keeper.gathers != MQ_NONE)
-        fprintf(to, "settles in %" PRIu64 " ms, ", left(served->keeper.gathers, now));
+        fprintf(to, "gathers for %" PRIu64 " ms, ", left(served->keeper.gathers, now));
     counters_of(&served->link, counters);
     for (int at = 0; at < COUNTERS; at++)
         fprintf(to, "%s %" PRIu64 "%s", counter_names[at], counters[at], at + 1 < COUNTERS ? " " : "\n");
@@ -231,7 +231,7 @@ static void json_link(const struct port *port, bool is_mld, uint64_t now, FILE *
         const char *is_querier = mq_link_is_querier(&served->link) ? "true" : "false";
         fprintf(to, ",\"own\":\"%s\",\"querier\":%s,\"entries\":%zu", address_text(&served->link, served->own), is_querier,
                 served->keeper.rows.count);
-        json_moment("settles", served->keeper.gathers, now, to);
+        json_moment("gathers", served->keeper.gathers, now, to);
         json_moment("other_left", other, now, to);
         if (other != MQ_NONE)
             fprintf(to, ",\"other\":\"%s\"", address_text(&served->link, address));

@@ -67,7 +67,7 @@ class Patient(Querier):
     def gathered(self):
         """Waits until all links that began know what hosts want: as long as the status says, and then until it is so."""
         limit = time.monotonic() + 60
-        while left := [port[of]["settles"] for port in self.status()["ports"] for of in FAMILIES if "settles" in port[of]]:
+        while left := [port[of]["gathers"] for port in self.status()["ports"] for of in FAMILIES if "gathers" in port[of]]:
             is_true(time.monotonic() < limit, f"still gathering: {max(left)} ms are left; {self.errors[-5:]}")
             time.sleep(max(left) / 1000 + PAUSE / 10)
 

@@ -102,7 +102,7 @@ def vlans_are_read_again():
         def keeps(vlan):
             trunks.comes("p1", vlan, GROUPS["igmp"], ("exclude",), 1)
             link = next(port["igmp"] for port in querier.status()["ports"] if (port["port"], port["vlan"]) == ("p1", vlan))
-            is_true("settles" not in link and [it["group"] for it in link["groups"]] == [GROUPS["igmp"]], f"VLAN {vlan} began again: {link}")
+            is_true("gathers" not in link and [it["group"] for it in link["groups"]] == [GROUPS["igmp"]], f"VLAN {vlan} began again: {link}")
 
         put(trunks, "vlans 10")
         querier = trunks.querier("--config", trunks.run, *SLOW)
