@@ -303,10 +303,12 @@ def settings_are_told(lab):
         f"br0: {name} is {version - 1}, and should be {version}: it looks at no source",
         "br0: mcast_hash_max is 4096, and should be 4097: with more entries it snoops no more",
     ]
-    querier = keeper(lab, "--groups", "97", "--sources", "4000")
-    is_true(querier.end() == 0 and querier.errors == [f"mquerier-live: {line}" for line in told], f"{querier.errors}")
-    querier = keeper(lab, "--groups", "96", "--sources", "4000")
-    is_true(querier.end() == 0 and querier.errors == [f"mquerier-live: {line}" for line in told[:2]], f"{querier.errors}")
+    for groups, lines in (("97", told), ("96", told[:2])):
+        querier = keeper(lab, "--groups", groups, "--sources", "4000")
+        is_true(querier.end() == 0, f"{querier.errors}")
+        # The bridge takes no entry for the group of the host's own address, which the host reports at any time.
+        said = [line for line in querier.errors if not line.startswith("mquerier-live: mdb ff02::1:ff")]
+        is_true(said == [f"mquerier-live: {line}" for line in lines], f"{querier.errors}")
 
 
 def only_one_privilege(lab):
